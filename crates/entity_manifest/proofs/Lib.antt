@@ -1,0 +1,4 @@
+pub mod Covering
+pub mod Asking
+pub mod Keeping
+pub mod Conforming

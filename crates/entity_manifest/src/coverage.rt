@@ -1,0 +1,9 @@
+//! Coverage.
+
+ghost use Rattle.entity_manifest.specs.Cover.{RestrictedCovers};
+
+/// Coverage: where request and store conform to a schema, the store restricted to what policies over ids read is enough.
+/// On it, and on each store between it and the whole one, every policy has the outcome that it has on the whole one.
+pub fn restricted_covers()
+    ensures { RestrictedCovers }
+{}

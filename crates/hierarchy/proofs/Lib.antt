@@ -1,0 +1,12 @@
+pub mod Ascending
+pub mod Back
+pub mod Closed
+pub mod Covers
+pub mod Keyed
+pub mod LeastOf
+pub mod SameSorted
+pub mod SameValues
+pub mod Search
+pub mod Seen
+pub mod Subset
+pub mod Turns

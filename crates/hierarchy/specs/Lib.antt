@@ -1,0 +1,5 @@
+pub mod Covered
+pub mod Keyed
+pub mod Least
+pub mod Reaches
+pub mod Repeated

@@ -1,0 +1,91 @@
+// What a hierarchy has to keep: the least key that breaks it, in the order of the keys.
+ghost use Rattle.std.specs.Prelude.{◌≡◌, false, Contains, MatchBool, IsTrue, ◌↔◌, is_some};
+ghost use Rattle.std.specs.Option.{option_copied};
+ghost use Rattle.std.specs.BTreeMap.{get};
+ghost use Rattle.hierarchy.specs.Reaches.{Leads, IsUnlisted, IsOutside, IsNotClosed};
+ghost use Rattle.hierarchy.specs.Least.{IsLeastIfAny, lower_of};
+
+use crate::cover::is_seen_closed;
+use crate::{Key, Steps};
+use std::collections::{BTreeMap, BTreeSet};
+
+/// The least key that is led to and has no entry.
+pub fn least_unlisted<K: Key>(steps: &Steps<K>) -> Option<&K>
+    ensures { IsLeastIfAny K.cmp (IsUnlisted K.cmp steps.now.entries) (option_copied result) }
+{
+    least_outside(steps, steps)
+}
+
+/// The least key that stands in a set of the map and has no entry in the steps.
+pub fn least_outside<'a, A: Key, K: Key>(
+    steps: &Steps<K>,
+    sets: &'a BTreeMap<A, BTreeSet<K>>,
+) -> Option<&'a K>
+    ensures { IsLeastIfAny K.cmp (IsOutside A.cmp K.cmp steps.now.entries sets.now.entries) (option_copied result) }
+{
+    let mut least = None;
+    for (_, set) in sets {
+        least = lower(least, first_unlisted(steps, set));
+    }
+    least
+}
+
+// The least key of the set that has no entry.
+fn first_unlisted<'a, K: Key>(steps: &Steps<K>, next: &'a BTreeSet<K>) -> Option<&'a K>
+    ensures { IsLeastIfAny K.cmp (λ q. (is_some (get K.cmp steps.now q) ≡ false) × Contains next.now.keys q) (option_copied result) }
+{
+    for key in next {
+        if !steps.contains_key(key) {
+            return Some(key);
+        }
+    }
+    None
+}
+
+/// The lower of the two that there are; of two that are equal, the first.
+pub fn lower<'a, K: Key>(a: Option<&'a K>, b: Option<&'a K>) -> Option<&'a K>
+    ensures { option_copied result ≡ lower_of K.cmp (option_copied a.entry) (option_copied b.entry) }
+{
+    match (a, b) {
+        (Some(a), Some(b)) => Some(if b < a { b } else { a }),
+        (None, b) => b,
+        (a, None) => a,
+    }
+}
+
+/// The least key from which two steps lead where no step does.
+pub fn first_not_closed<K: Key>(steps: &Steps<K>) -> Option<&K>
+    ensures { IsLeastIfAny K.cmp (IsNotClosed K.cmp steps.now.entries) (option_copied result) }
+{
+    if is_seen_closed(steps) {
+        return None;
+    }
+    least_not_closed(steps)
+}
+
+// The same, by a look at all that stand in two sets that follow one another.
+fn least_not_closed<K: Key>(steps: &Steps<K>) -> Option<&K>
+    ensures { IsLeastIfAny K.cmp (IsNotClosed K.cmp steps.now.entries) (option_copied result) }
+{
+    for (key, next) in steps {
+        if !is_closed(steps, next) {
+            return Some(key);
+        }
+    }
+    None
+}
+
+// Whether the steps from keys of the set lead into it.
+pub(crate) fn is_closed<K: Key>(steps: &Steps<K>, next: &BTreeSet<K>) -> bool
+    ensures { MatchBool result ((y z : K) → Contains next.now.keys y → Leads K.cmp steps.now.entries y z → Contains next.now.keys z)
+        ((y : K) × (z : K) × Contains next.now.keys y × Leads K.cmp steps.now.entries y z × (¬ Contains next.now.keys z)) }
+{
+    for key in next {
+        if let Some(far) = steps.get(key) {
+            if !far.is_subset(next) {
+                return false;
+            }
+        }
+    }
+    true
+}

@@ -1,0 +1,53 @@
+// Keys that stand twice in a list.
+ghost use Rattle.std.specs.Prelude.{◌≡◌, ◌↔◌, IfOk, IsSome, slice_get};
+ghost use Rattle.std.specs.Ordering.{nat_cmp};
+ghost use Rattle.hierarchy.specs.Least.{IsLeastIfAny};
+ghost use Rattle.hierarchy.specs.Repeated.{IsRepeated, StandsEarlier};
+
+use crate::Key;
+use crate::checks::lower;
+use std::alloc::{AllocError, Global};
+use std::collections::BTreeSet;
+
+/// The least key that stands at two places of the list; none exactly where all keys differ.
+pub fn least_repeated<K: Key>(alloc: Global, keys: &[K]) -> Result<Option<K>, AllocError>
+    ensures { IfOk result (IsLeastIfAny K.cmp (IsRepeated keys.now)) }
+{
+    let mut seen = BTreeSet::new(alloc);
+    let mut least = None;
+    for key in keys {
+        if !seen.insert(key)? {
+            least = lower(least, Some(key));
+        }
+    }
+    match least {
+        Some(key) => Ok(Some(key.clone()?)),
+        None => Ok(None),
+    }
+}
+
+/// The first place of the list whose key stands at an earlier place too; none exactly where all keys differ.
+pub fn first_repeated<K: Key>(alloc: Global, keys: &[K]) -> Result<Option<usize>, AllocError>
+    ensures place { IfOk result (IsLeastIfAny nat_cmp (StandsEarlier keys.now)) }
+    ensures repeated { IfOk result (λ found. IsSome found ↔ ((k : K) × IsRepeated keys.now k)) }
+{
+    let mut seen = BTreeSet::new(alloc);
+    for (i, key) in keys.iter().enumerate() {
+        if !seen.insert(key)? {
+            return Ok(Some(i));
+        }
+    }
+    Ok(None)
+}
+
+/// The first place of the list that has the key; none exactly where no place has it.
+pub fn position_of<K: Key>(keys: &[K], key: &K) -> Option<usize>
+    ensures { IsLeastIfAny nat_cmp (λ i. slice_get keys.now i ≡ Some key.now) result }
+{
+    for (i, other) in keys.iter().enumerate() {
+        if other == key {
+            return Some(i);
+        }
+    }
+    None
+}

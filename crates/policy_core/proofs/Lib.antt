@@ -1,0 +1,4 @@
+pub mod EvalSteps
+pub mod IdSteps
+pub mod ShapeSteps
+pub mod TreeSteps

@@ -1,0 +1,26 @@
+use Rattle.std.proofs.Common.{◌≡◌, ◌≤◌, ◌+◌, ◌*◌, ◌++◌, drop}
+use Rattle.std.specs.Map.{keys_of}
+use Rattle.policy_core.specs.Tree.{depth_of, deepest, deepest_named, trees_of, named_of}
+use Rattle.policy_core.specs.Eval.{result_map, eval_all, eval_named}
+use Rattle.policy_core.proofs.eval.+evaluate.Given as goal
+
+abbrev pub decreases-evaluate : goal.decreases-evaluate
+decreases-evaluate g l = 2 * depth_of l.expr.now
+
+abbrev pub decreases-evaluate_all : goal.decreases-evaluate_all
+decreases-evaluate_all g l = 2 * deepest (trees_of l.items.now.items) + 1
+
+abbrev pub decreases-evaluate_named : goal.decreases-evaluate_named
+decreases-evaluate_named g l = 2 * deepest_named (named_of l.fields.now.entries) + 1
+
+-- the values so far, and then those of what is left
+abbrev pub invariant-evaluate_all-loop-item : goal.invariant-evaluate_all-loop-item
+invariant-evaluate_all-loop-item g l =
+    result_map (λ vs. l.values.items ++ vs) (eval_all (trees_of (drop l.item-index l.items.items)) l.request l.entities) ≡ eval_all (trees_of l.items.items) l.request l.entities
+
+abbrev pub invariant-evaluate_named-loop-name : goal.invariant-evaluate_named-loop-name
+invariant-evaluate_named-loop-name g l = record {
+  so_far : result_map (λ vs. l.values.entries ++ vs) (eval_named (named_of l.name-iterator) l.request l.entities) ≡ eval_named (named_of l.fields.entries) l.request l.entities;
+  keys : keys_of l.fields.entries ≡ keys_of l.values.entries ++ keys_of l.name-iterator;
+  depth : deepest_named (named_of l.name-iterator) ≤ deepest_named (named_of l.fields.entries);
+}

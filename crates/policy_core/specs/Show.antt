@@ -1,0 +1,19 @@
+-- How errors print.
+use Rattle.std.specs.Prelude.{ℕ, List, ◌++◌, codes}
+use Rattle.policy_names.specs.Show.{uid_text}
+use Rattle.policy_core.specs.declared.expr.BuildError.{BuildError}
+use Rattle.policy_core.specs.declared.expr.BuildError.TheVariants.{Nested, OutOfMemory}
+use Rattle.policy_core.specs.declared.outcome.EvalError.{EvalError}
+use Rattle.policy_core.specs.declared.outcome.EvalError.TheVariants.{MissingEntity, MissingAttribute, TypeFault, IntegerOverflow}
+
+-- the message of an error of evaluation
+abbrev pub error_text : EvalError → List ℕ
+error_text (MissingEntity u) = codes "entity `" ++ uid_text u.entity_type u.eid ++ codes "` does not exist"
+error_text MissingAttribute = codes "attribute does not exist"
+error_text TypeFault = codes "operand of a wrong type"
+error_text IntegerOverflow = codes "integer overflow"
+
+-- why an expression was not built
+abbrev pub build_error_text : BuildError → List ℕ
+build_error_text Nested = codes "nested deeper than 400"
+build_error_text OutOfMemory = codes "out of memory"

@@ -1,0 +1,266 @@
+//! Evaluation.
+
+ghost use Rattle.std.specs.Prelude.{◌≡◌, IfOk, IsSome};
+ghost use Rattle.policy_values.specs.Value.{entity, rec};
+ghost use Rattle.policy_store.specs.Request.{IsWhole, known};
+ghost use Rattle.policy_core.specs.Tree.{trees_of, named_of};
+ghost use Rattle.policy_core.specs.Eval.{eval, eval_all, eval_named, result_map, known_fields, literal_value, variable_value, truth_of, truth_outcome, with_value};
+ghost use Rattle.policy_core.specs.Operators.{unary_value, binary_value, attr_value, has_value};
+
+use crate::operators::{apply, apply_two, attribute, has_attribute};
+use crate::{
+    BinaryOp, Context, Entities, EntityUID, EvalError, Expr, ExprKind, Literal, Outcome, Request,
+    Text, UnaryOp, Value, ValueKind, Var, push_entry, try_clone_fields,
+};
+use std::alloc::{AllocError, Global};
+use std::collections::BTreeMap;
+
+/// Evaluates an expression on a whole request and a store: its value, or its first error.
+///
+/// `if`, `&&` and `||` evaluate their left operand and stop early; each operand that they use must be a boolean.
+/// Every other operator evaluates its operands from the left, and then asks what kinds they are. Errs where memory
+/// runs out.
+#[cycle(evaluate)]
+pub fn evaluate<T>(
+    alloc: Global,
+    expr: &Expr<T>,
+    request: &Request,
+    entities: &Entities,
+) -> Result<Outcome, AllocError>
+    requires { IsWhole request.now }
+    ensures { IfOk result (λ o. o ≡ eval expr.now request.now entities.now) }
+{
+    match expr.kind() {
+        ExprKind::Lit(value) => Ok(Outcome::Value(literal(value)?)),
+        ExprKind::Var(value) => Ok(Outcome::Value(variable(alloc, *value, request)?)),
+        ExprKind::If(x, y, z) => match truth(evaluate(alloc, x, request, entities)?) {
+            Ok(true) => evaluate(alloc, y, request, entities),
+            Ok(false) => evaluate(alloc, z, request, entities),
+            Err(error) => Ok(Outcome::Error(error)),
+        },
+        ExprKind::And(x, y) => match truth(evaluate(alloc, x, request, entities)?) {
+            Ok(true) => Ok(as_truth(evaluate(alloc, y, request, entities)?)),
+            Ok(false) => Ok(Outcome::Value(Value::bool(false))),
+            Err(error) => Ok(Outcome::Error(error)),
+        },
+        ExprKind::Or(x, y) => match truth(evaluate(alloc, x, request, entities)?) {
+            Ok(true) => Ok(Outcome::Value(Value::bool(true))),
+            Ok(false) => Ok(as_truth(evaluate(alloc, y, request, entities)?)),
+            Err(error) => Ok(Outcome::Error(error)),
+        },
+        ExprKind::UnaryApp(op, x) => {
+            let x = evaluate(alloc, x, request, entities)?;
+            Ok(applied(*op, x))
+        }
+        ExprKind::BinaryApp(op, x, y) => match evaluate(alloc, x, request, entities)? {
+            Outcome::Value(x) => {
+                let y = evaluate(alloc, y, request, entities)?;
+                Ok(applied_to_both(*op, x, y, entities))
+            }
+            Outcome::Error(error) => Ok(Outcome::Error(error)),
+        },
+        ExprKind::GetAttr(x, name) => {
+            let x = evaluate(alloc, x, request, entities)?;
+            attribute_of(alloc, x, name, entities)
+        }
+        ExprKind::HasAttr(x, name) => {
+            let x = evaluate(alloc, x, request, entities)?;
+            Ok(has_attribute_of(x, name, entities))
+        }
+        ExprKind::Set(items) => match evaluate_all(alloc, items, request, entities)? {
+            Ok(values) => Ok(Outcome::Value(Value::set(alloc, values)?)),
+            Err(error) => Ok(Outcome::Error(error)),
+        },
+        ExprKind::Record(fields) => match evaluate_named(alloc, fields, request, entities)? {
+            Ok(values) => Ok(Outcome::Value(Value::record(values))),
+            Err(error) => Ok(Outcome::Error(error)),
+        },
+    }
+}
+
+#[cycle(evaluate)]
+#[tactic(auto, using(crate::proofs::TreeSteps::depth_in))]
+fn evaluate_all<T>(
+    alloc: Global,
+    items: &Vec<Expr<T>>,
+    request: &Request,
+    entities: &Entities,
+) -> Result<Result<Vec<Value>, EvalError>, AllocError>
+    requires { IsWhole request.now }
+    ensures { IfOk result (λ r. result_map (λ v. v.items) r ≡ eval_all (trees_of items.now.items) request.now entities.now) }
+{
+    let mut values = Vec::new(alloc);
+    for item in items {
+        match evaluate(alloc, item, request, entities)? {
+            Outcome::Value(value) => values.push(value)?,
+            Outcome::Error(error) => return Ok(Err(error)),
+        }
+    }
+    Ok(Ok(values))
+}
+
+#[cycle(evaluate)]
+fn evaluate_named<T>(
+    alloc: Global,
+    fields: &BTreeMap<Text, Expr<T>>,
+    request: &Request,
+    entities: &Entities,
+) -> Result<Result<BTreeMap<Text, Value>, EvalError>, AllocError>
+    requires { IsWhole request.now }
+    ensures { IfOk result (λ r. result_map (λ m. m.entries) r ≡ eval_named (named_of fields.now.entries) request.now entities.now) }
+{
+    let mut values = BTreeMap::new(alloc);
+    for (name, item) in fields.iter() {
+        match evaluate(alloc, item, request, entities)? {
+            Outcome::Value(value) => {
+                let name = name.try_clone()?;
+                push_entry(&mut values, name, value)?;
+            }
+            Outcome::Error(error) => return Ok(Err(error)),
+        }
+    }
+    Ok(Ok(values))
+}
+
+fn literal(literal: &Literal) -> Result<Value, AllocError>
+    ensures { IfOk result (λ v. v ≡ literal_value literal.now) }
+{
+    match literal {
+        Literal::Bool(b) => Ok(Value::bool(*b)),
+        Literal::Long(n) => Ok(Value::long(*n)),
+        Literal::String(text) => Ok(Value::string(text.try_clone()?)),
+        Literal::EntityUID(uid) => Ok(Value::entity_uid(uid.try_clone()?)),
+    }
+}
+
+fn variable(alloc: Global, var: Var, request: &Request) -> Result<Value, AllocError>
+    requires { IsWhole request.now }
+    ensures { IfOk result (λ v. v ≡ variable_value var request.now) }
+{
+    match var {
+        Var::Principal => known(&request.principal),
+        Var::Action => known(&request.action),
+        Var::Resource => known(&request.resource),
+        Var::Context => context(alloc, &request.context),
+    }
+}
+
+// The id of an entry that is known.
+fn known(uid: &Option<EntityUID>) -> Result<Value, AllocError>
+    requires { IsSome uid.now }
+    ensures { IfOk result (λ v. v ≡ entity (known uid.now)) }
+{
+    match uid {
+        Some(uid) => Ok(Value::entity_uid(uid.try_clone()?)),
+        None => unreachable!(),
+    }
+}
+
+// The record that a known context is.
+fn context(alloc: Global, context: &Option<Context>) -> Result<Value, AllocError>
+    requires { IsSome context.now }
+    ensures { IfOk result (λ v. v ≡ rec (known_fields context.now)) }
+{
+    match context {
+        Some(context) => Ok(Value::record(try_clone_fields(alloc, context.fields())?)),
+        None => unreachable!(),
+    }
+}
+
+// The truth value, or the error that stands for another outcome.
+fn truth(outcome: Outcome) -> Result<bool, EvalError>
+    ensures { result ≡ truth_of outcome }
+{
+    match outcome {
+        Outcome::Value(value) => {
+            let result = truth_of_value(&value);
+            drop(value);
+            result
+        }
+        Outcome::Error(error) => Err(error),
+    }
+}
+
+fn truth_of_value(value: &Value) -> Result<bool, EvalError>
+    ensures { result ≡ truth_of (Outcome.Value value.now) }
+{
+    match value.kind() {
+        ValueKind::Bool(b) => Ok(*b),
+        _ => Err(EvalError::TypeFault),
+    }
+}
+
+// The outcome that has to be a boolean.
+fn as_truth(outcome: Outcome) -> Outcome
+    ensures { result ≡ truth_outcome (truth_of outcome) }
+{
+    match truth(outcome) {
+        Ok(b) => Outcome::Value(Value::bool(b)),
+        Err(error) => Outcome::Error(error),
+    }
+}
+
+// An operator applied to its operand's value; an error stays.
+fn applied(op: UnaryOp, x: Outcome) -> Outcome
+    ensures { result ≡ with_value x (λ v. unary_value op v) }
+{
+    match x {
+        Outcome::Value(x) => {
+            let outcome = apply(op, &x);
+            drop(x);
+            outcome
+        }
+        Outcome::Error(error) => Outcome::Error(error),
+    }
+}
+
+// An operator applied to the values of both operands; an error stays.
+fn applied_to_both(op: BinaryOp, x: Value, y: Outcome, entities: &Entities) -> Outcome
+    ensures { result ≡ with_value y (λ w. binary_value op x w entities.now) }
+{
+    match y {
+        Outcome::Value(y) => {
+            let outcome = apply_two(op, &x, &y, entities);
+            drop(x);
+            drop(y);
+            outcome
+        }
+        Outcome::Error(error) => {
+            drop(x);
+            Outcome::Error(error)
+        }
+    }
+}
+
+// The attribute or field of a value; an error stays.
+fn attribute_of(
+    alloc: Global,
+    x: Outcome,
+    name: &Text,
+    entities: &Entities,
+) -> Result<Outcome, AllocError>
+    ensures { IfOk result (λ o. o ≡ with_value x (λ v. attr_value v name.now entities.now)) }
+{
+    match x {
+        Outcome::Value(x) => {
+            let outcome = attribute(alloc, &x, name, entities);
+            drop(x);
+            outcome
+        }
+        Outcome::Error(error) => Ok(Outcome::Error(error)),
+    }
+}
+
+// Whether a value has an attribute or field; an error stays.
+fn has_attribute_of(x: Outcome, name: &Text, entities: &Entities) -> Outcome
+    ensures { result ≡ with_value x (λ v. has_value v name.now entities.now) }
+{
+    match x {
+        Outcome::Value(x) => {
+            let outcome = has_attribute(&x, name, entities);
+            drop(x);
+            outcome
+        }
+        Outcome::Error(error) => Outcome::Error(error),
+    }
+}

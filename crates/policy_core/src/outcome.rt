@@ -1,0 +1,42 @@
+//! What evaluation gives.
+
+use crate::{EntityUID, Value};
+use std::fmt;
+
+/// Why an expression has no value.
+#[derive(Debug, Drop, PartialEq, Eq)]
+pub enum EvalError {
+    /// An attribute was asked of an entity that the store does not hold.
+    MissingEntity(EntityUID),
+    /// The entity or the record has no such attribute.
+    MissingAttribute,
+    /// An operand is not of the kind that its operator asks for.
+    TypeFault,
+    /// A number does not fit 64 bits.
+    IntegerOverflow,
+}
+
+impl fmt::Display for EvalError {
+    ghost use Rattle.std.specs.Prelude.{Some};
+    ghost use Rattle.policy_core.specs.Show.{error_text};
+
+    ghost output = { λ e. Some (error_text e) };
+
+    fn fmt<W: fmt::Write>(&self, f: &mut fmt::Formatter<W>) -> fmt::Result {
+        match self {
+            EvalError::MissingEntity(uid) => write!(f, "entity `{uid}` does not exist"),
+            EvalError::MissingAttribute => f.write_str("attribute does not exist"),
+            EvalError::TypeFault => f.write_str("operand of a wrong type"),
+            EvalError::IntegerOverflow => f.write_str("integer overflow"),
+        }
+    }
+}
+
+/// What an expression evaluates to: its value, or its first error.
+#[derive(Debug, Drop, PartialEq, Eq)]
+pub enum Outcome {
+    /// The value.
+    Value(Value),
+    /// The first error.
+    Error(EvalError),
+}

@@ -1,0 +1,3 @@
+mod evaluation;
+mod expressions;
+mod samples;

@@ -1,0 +1,151 @@
+use super::samples::{
+    Built, attribute, both, branch, either, has, id, long, one, pair, record, request, store,
+    string, truth, two, var,
+};
+use crate::{BinaryOp, Expr, Outcome, UnaryOp, ValueKind, Var, evaluate};
+use std::alloc::{AllocError, Global};
+
+// A boolean, a long or an error, as it prints.
+fn printed(alloc: Global, outcome: &Outcome) -> Result<String, AllocError> {
+    match outcome {
+        Outcome::Value(value) => match value.kind() {
+            ValueKind::Bool(b) => format!(in alloc; "{b}"),
+            ValueKind::Long(n) => format!(in alloc; "{n}"),
+            _ => format!(in alloc; "another value"),
+        },
+        Outcome::Error(error) => format!(in alloc; "{error}"),
+    }
+}
+
+fn outcome(alloc: Global, expr: &Expr<()>) -> Result<String, AllocError> {
+    let request = request(alloc)?;
+    match store(alloc) {
+        Ok(store) if request.is_whole() => {
+            let outcome = evaluate(alloc, expr, &request, &store)?;
+            let text = printed(alloc, &outcome);
+            drop(outcome);
+            text
+        }
+        _other => Err(AllocError),
+    }
+}
+
+fn gives(alloc: Global, expr: Built, wanted: &str) -> bool {
+    match expr {
+        Ok(expr) => {
+            let text = outcome(alloc, &expr);
+            drop(expr);
+            match text {
+                Ok(text) => text.as_str() == wanted,
+                Err(_error) => false,
+            }
+        }
+        Err(_error) => false,
+    }
+}
+
+const KIND: &str = "operand of a wrong type";
+
+const ABSENT: &str = "attribute does not exist";
+
+const OVERFLOW: &str = "integer overflow";
+
+const NO_PHOTO: &str = "entity `App::Thing::\"photo\"` does not exist";
+
+// The age of the photo, which is not stored.
+fn fault(alloc: Global) -> Built {
+    attribute(alloc, var(Var::Resource), "age")
+}
+
+#[test]
+fn early_stops(rt: HostRuntime) {
+    let a = rt.alloc();
+    assert!(rt; gives(a, both(a, truth(false), fault(a)), "false"));
+    assert!(rt; gives(a, both(a, truth(true), truth(true)), "true"));
+    assert!(rt; gives(a, both(a, truth(true), long(1)), KIND));
+    assert!(rt; gives(a, both(a, long(1), fault(a)), KIND));
+    assert!(rt; gives(a, both(a, fault(a), truth(false)), NO_PHOTO));
+    assert!(rt; gives(a, either(a, truth(true), fault(a)), "true"));
+    assert!(rt; gives(a, either(a, truth(false), long(1)), KIND));
+    assert!(rt; gives(a, either(a, truth(false), truth(false)), "false"));
+    assert!(rt; gives(a, branch(a, truth(true), long(1), fault(a)), "1"));
+    assert!(rt; gives(a, branch(a, truth(false), fault(a), long(2)), "2"));
+    assert!(rt; gives(a, branch(a, long(1), long(1), long(2)), KIND));
+}
+
+#[test]
+fn arithmetic(rt: HostRuntime) {
+    let a = rt.alloc();
+    assert!(rt; gives(a, one(a, UnaryOp::Not, truth(true)), "false"));
+    assert!(rt; gives(a, one(a, UnaryOp::Not, long(1)), KIND));
+    assert!(rt; gives(a, one(a, UnaryOp::Neg, long(3)), "-3"));
+    assert!(rt; gives(a, one(a, UnaryOp::Neg, long(i64::MIN)), OVERFLOW));
+    assert!(rt; gives(a, two(a, BinaryOp::Add, long(2), long(3)), "5"));
+    assert!(rt; gives(a, two(a, BinaryOp::Add, long(i64::MAX), long(1)), OVERFLOW));
+    assert!(rt; gives(a, two(a, BinaryOp::Add, truth(true), fault(a)), NO_PHOTO));
+    assert!(rt; gives(a, two(a, BinaryOp::Less, long(2), long(3)), "true"));
+    assert!(rt; gives(a, two(a, BinaryOp::Less, long(2), truth(true)), KIND));
+}
+
+#[test]
+fn equality(rt: HostRuntime) {
+    let a = rt.alloc();
+    let up = pair(a, long(1), long(2));
+    let down = pair(a, long(2), long(1));
+    assert!(rt; gives(a, two(a, BinaryOp::Eq, up, down), "true"));
+    assert!(rt; gives(a, two(a, BinaryOp::Eq, long(1), truth(true)), "false"));
+    assert!(rt;
+        gives(
+            a,
+            two(a, BinaryOp::Eq, var(Var::Principal), id(a, "ann")),
+            "true"
+        )
+    );
+    assert!(rt;
+        gives(
+            a,
+            two(a, BinaryOp::Eq, var(Var::Action), id(a, "ann")),
+            "false"
+        )
+    );
+    assert!(rt;
+        gives(
+            a,
+            two(a, BinaryOp::Eq, string(a, "a"), string(a, "b")),
+            "false"
+        )
+    );
+}
+
+#[test]
+fn hierarchy(rt: HostRuntime) {
+    let a = rt.alloc();
+    let ann = Var::Principal;
+    let photo = Var::Resource;
+    let mixed = pair(a, id(a, "staff"), long(1));
+    let some = pair(a, id(a, "look"), id(a, "staff"));
+    assert!(rt; gives(a, two(a, BinaryOp::In, var(ann), id(a, "staff")), "true"));
+    assert!(rt; gives(a, two(a, BinaryOp::In, id(a, "staff"), var(ann)), "false"));
+    assert!(rt; gives(a, two(a, BinaryOp::In, var(photo), id(a, "photo")), "true"));
+    assert!(rt; gives(a, two(a, BinaryOp::In, var(photo), id(a, "staff")), "false"));
+    assert!(rt; gives(a, two(a, BinaryOp::In, var(ann), some), "true"));
+    assert!(rt; gives(a, two(a, BinaryOp::In, var(ann), mixed), KIND));
+    assert!(rt; gives(a, two(a, BinaryOp::In, long(1), id(a, "staff")), KIND));
+}
+
+#[test]
+fn attributes(rt: HostRuntime) {
+    let a = rt.alloc();
+    assert!(rt; gives(a, attribute(a, var(Var::Principal), "age"), "40"));
+    assert!(rt; gives(a, attribute(a, var(Var::Principal), "name"), ABSENT));
+    assert!(rt; gives(a, fault(a), NO_PHOTO));
+    assert!(rt; gives(a, attribute(a, var(Var::Context), "tries"), "3"));
+    assert!(rt; gives(a, attribute(a, long(1), "age"), KIND));
+    assert!(rt; gives(a, has(a, var(Var::Principal), "age"), "true"));
+    assert!(rt; gives(a, has(a, var(Var::Resource), "age"), "false"));
+    assert!(rt; gives(a, has(a, var(Var::Context), "times"), "false"));
+    assert!(rt; gives(a, has(a, long(1), "age"), KIND));
+    assert!(rt; gives(a, attribute(a, record(a, "of", long(7)), "of"), "7"));
+    assert!(rt; gives(a, record(a, "of", fault(a)), NO_PHOTO));
+    assert!(rt; gives(a, pair(a, long(1), fault(a)), NO_PHOTO));
+}

@@ -1,0 +1,5 @@
+pub mod Bytes
+pub mod NameTest
+pub mod Steps
+pub mod SameId
+pub mod Once

@@ -1,0 +1,85 @@
+-- The types of a schema in JSON have the names of its members, so no name stands twice.
+use Rattle.std.proofs.Common.{◌≡◌, ℕ, zero, suc, ◌<◌, List, [], ◌∷◌, length, take, map, Option, Some, None, Global, ap, sym, subst, ◌∙◌, refl, arith, string_bytes}
+use Rattle.std.specs.Prelude.{Contains, slice_get, option_map, option_and_then, String, Bool, true, false, if◌then◌else◌, codes}
+use Rattle.std.specs.List.{AllByRecursion}
+use Rattle.std.specs.List.Sorted.{IsStrictlySortedBy}
+use Rattle.std.specs.Cmp.{tied_itself}
+use Rattle.std.specs.String.{string_cmp}
+use Rattle.std.specs.Cmp.Lexicographic.{nat_list_cmp_total}
+use Rattle.std.specs.declared.cmp.Ordering.TheVariants.{Less}
+use Rattle.std.proofs.lemmas.Map.Keys.{sorted_head, sorted_tail}
+use Rattle.std.proofs.lemmas.Option.{cond_some}
+use Rattle.policy_names.specs.Uid.{text_cmp}
+use Rattle.hierarchy.specs.Repeated.{IsRepeated}
+use Rattle.serde_json.specs.Data.{Data, Members}
+use Rattle.serde_json.specs.View.{view, members_view}
+use Rattle.serde_json.specs.declared.value.Value.{Value}
+use Rattle.serde_json.specs.Find.{get, as_object}
+use Rattle.schema_core.specs.Entries.{TypeEntry}
+use Rattle.schema_core.specs.Faults.{IsOnce}
+use Rattle.policy_documents.specs.Json.{◌>>=◌, has_only}
+use Rattle.policy_documents.specs.Names.{is_name, name_of_text, names_of}
+use Rattle.policy_documents.specs.Schema.{types_of_members, type_of}
+
+below : (x k : List ℕ) (xs : List (List ℕ)) (i : ℕ) → AllByRecursion (λ y. text_cmp x y ≡ Less) xs → slice_get xs i ≡ Some k → text_cmp x k ≡ Less
+below x k [] i all at = cc
+below x k (y ∷ xs) zero all at = let e : y ≡ k = cc in subst (λ (z : List ℕ). text_cmp x z ≡ Less) e all.0
+below x k (y ∷ xs) (suc i) all at = below x k xs i all.1 at
+
+once_from_sorted : (ks : List (List ℕ)) → IsStrictlySortedBy text_cmp ks → IsOnce ks
+once_from_sorted [] sorted k (i, at, earlier) = cc
+once_from_sorted (x ∷ xs) sorted k (zero, at, (j, lt, is)) = absurd (omega arith)
+once_from_sorted (x ∷ xs) sorted k (suc i, at, (zero, lt, is)) =
+    let less : text_cmp x k ≡ Less = below x k xs i (sorted_head text_cmp x xs sorted) at in
+    let tied = tied_itself nat_list_cmp_total k in
+    cc (subst (λ (z : List ℕ). text_cmp z k ≡ Less) is less, tied)
+once_from_sorted (x ∷ xs) sorted k (suc i, at, (suc j, lt, is)) = once_from_sorted xs (sorted_tail text_cmp x xs sorted) k (i, at, (j, (omega arith), is))
+
+made : (key name : List ℕ) (member_of : List (List ℕ)) (b : Bool) (t : TypeEntry) → name ≡ key → (if b then Some (record { name = name; member_of = member_of }) else None) ≡ Some t → t.name ≡ key
+made key name member_of true t e h = let is : record { name = name; member_of = member_of } ≡ t = cc in sym (ap (λ (t : TypeEntry). t.name) is) ∙ e
+made key name member_of false t e h = cc
+
+read_so : (key : List ℕ) (n : Option (List ℕ)) (ms : Option Members) (ns : Option (List (List ℕ))) (b : Members → Bool) (t : TypeEntry)
+    → ((name : List ℕ) → n ≡ Some name → name ≡ key)
+    → (n >>= λ name. ms >>= λ members. ns >>= λ member_of. if b members then Some (record { name = name; member_of = member_of }) else None) ≡ Some t → t.name ≡ key
+read_so key None ms ns b t named e = cc
+read_so key (Some name) None ns b t named e = cc
+read_so key (Some name) (Some ms) None b t named e = cc
+read_so key (Some name) (Some ms) (Some member_of) b t named e = made key name member_of (b ms) t (named name refl) e
+
+type_named : (key : List ℕ) (d : Data) (t : TypeEntry) → type_of key d ≡ Some t → t.name ≡ key
+unfolding type_of
+type_named key d t e = read_so key (name_of_text key) (as_object d) (names_of (get (codes "memberOf") d)) (has_only (codes "memberOf" ∷ [])) t
+    (λ name h. sym (cond_some (is_name key) key name h).1) e
+
+and_names : (key : List ℕ) (o : Option TypeEntry) (os : Option (List TypeEntry)) (ts : List TypeEntry) (keys : List (List ℕ))
+    → ((t : TypeEntry) → o ≡ Some t → t.name ≡ key) → ((us : List TypeEntry) → os ≡ Some us → map (λ t. t.name) us ≡ keys)
+    → option_and_then (λ t. option_map (λ us. t ∷ us) os) o ≡ Some ts → map (λ t. t.name) ts ≡ key ∷ keys
+and_names key None os ts keys one more e = cc
+and_names key (Some t) None ts keys one more e = cc
+and_names key (Some t) (Some us) ts keys one more e =
+    let is : t ∷ us ≡ ts = cc in
+    ap (map (λ (t : TypeEntry). t.name)) (sym is) ∙ (λ i. one t refl i ∷ more us refl i)
+
+-- the types have the names of the members
+names_of_types : (es : List (String Global × Value)) (ts : List TypeEntry) → types_of_members (members_view es) ≡ Some ts → map (λ t. t.name) ts ≡ map (λ e. string_bytes e.0) es
+names_of_types [] ts e = let is : [] ≡ ts = cc in ap (map (λ (t : TypeEntry). t.name)) (sym is)
+names_of_types (m ∷ es) ts e = and_names (string_bytes m.0) (type_of (string_bytes m.0) (view m.1)) (types_of_members (members_view es)) ts _ (type_named (string_bytes m.0) (view m.1)) (names_of_types es) e
+
+texts_below : (k : String Global) (ks : List (String Global)) → AllByRecursion (λ l. string_cmp k l ≡ Less) ks → AllByRecursion (λ l. text_cmp (string_bytes k) l ≡ Less) (map string_bytes ks)
+texts_below k [] all = tt
+texts_below k (l ∷ ks) all = (all.0, texts_below k ks all.1)
+
+-- the texts of strings that ascend do
+texts_sorted : (ks : List (String Global)) → IsStrictlySortedBy string_cmp ks → IsStrictlySortedBy text_cmp (map string_bytes ks)
+unfolding IsStrictlySortedBy
+texts_sorted [] s = tt
+texts_sorted (k ∷ ks) s = (texts_below k ks s.0, texts_sorted ks s.1)
+
+-- the types of members that ascend have each name once
+pub names_once : (es : List (String Global × Value)) (ts : List TypeEntry) → types_of_members (members_view es) ≡ Some ts → IsStrictlySortedBy string_cmp (map (λ e. e.0) es) → IsOnce (map (λ t. t.name) ts)
+names_once es ts e s = subst IsOnce (sym (names_of_types es ts e ∙ by_keys es)) (once_from_sorted (map string_bytes (map (λ e. e.0) es)) (texts_sorted (map (λ e. e.0) es) s))
+  where
+    by_keys : (es : List (String Global × Value)) → map (λ e. string_bytes e.0) es ≡ map string_bytes (map (λ e. e.0) es)
+    by_keys [] = refl
+    by_keys (e ∷ es) = ap (λ r. string_bytes e.0 ∷ r) (by_keys es)

@@ -1,0 +1,12 @@
+pub mod Json
+pub mod Names
+pub mod Schema
+pub mod Entities
+pub mod Faults
+pub mod Request
+pub mod Parts
+pub mod Policy
+pub mod Store
+pub mod Policies
+pub mod PlaceText
+pub mod Reading

@@ -1,0 +1,93 @@
+//! Entities in JSON.
+
+ghost use Rattle.std.specs.Prelude.{◌≡◌, [], IfOk, option_map};
+ghost use Rattle.serde_json.specs.View.{view, items_view};
+ghost use Rattle.policy_documents.specs.Entities.{entities_of, entity_of, index_from, with_uids};
+ghost use Rattle.policy_store.specs.FromParents.{ids_of};
+ghost use Rattle.policy_documents.specs.Faults.{Gives};
+
+use crate::members::{has_only, list_items};
+use crate::names::read_uid;
+use crate::place::{DocumentFault, Place};
+use policy_names::EntityUID;
+use policy_store::Entity;
+use serde_json::Value;
+use std::alloc::{AllocError, Global};
+use std::collections::{BTreeMap, BTreeSet};
+
+fn read_uid_set(alloc: Global, items: &[Value]) -> Result<Option<BTreeSet<EntityUID>>, AllocError>
+    ensures { IfOk result (λ o. option_map (λ s. s.keys) o ≡ with_uids [] (items_view items.now)) }
+{
+    let mut set = BTreeSet::new(alloc);
+    for item in items {
+        let Some(uid) = read_uid(alloc, item)? else {
+            return Ok(None);
+        };
+        set.insert(uid)?;
+    }
+    Ok(Some(set))
+}
+
+#[tactic(auto, unfolding(crate::specs::Entities::entity_of))]
+fn read_entity(alloc: Global, value: &Value) -> Result<Option<Entity>, AllocError>
+    ensures { IfOk result (λ o. o ≡ entity_of (view value.now)) }
+{
+    let Some(members) = value.as_object() else {
+        return Ok(None);
+    };
+    let Some(id) = value.get("id") else {
+        return Ok(None);
+    };
+    let Some(uid) = read_uid(alloc, id)? else {
+        return Ok(None);
+    };
+    let Some(items) = list_items(value.get("parents")) else {
+        return Ok(None);
+    };
+    let Some(parents) = read_uid_set(alloc, items)? else {
+        return Ok(None);
+    };
+    if !has_only(&["id", "parents"], members) {
+        return Ok(None);
+    }
+    Ok(Some(Entity::new(uid, BTreeMap::new(alloc), parents, BTreeMap::new(alloc))))
+}
+
+/// The entities of the items; else the place of the first item that is none.
+pub fn read_entities(alloc: Global, items: &[Value]) -> Result<Vec<Entity>, DocumentFault>
+    ensures { Gives (λ v. v.items) result (entities_of [] (items_view items.now)) }
+{
+    let mut entities = Vec::new(alloc);
+    for item in items {
+        let Some(entity) = read_entity(alloc, item)? else {
+            return Err(DocumentFault::Place(Place::Entity(entities.len())));
+        };
+        entities.push(entity)?;
+    }
+    Ok(entities)
+}
+
+/// The ids of the entities, in their order.
+pub(crate) fn ids_of(alloc: Global, entities: &Vec<Entity>) -> Result<Vec<EntityUID>, AllocError>
+    ensures { IfOk result (λ v. v.items ≡ ids_of entities.now.items) }
+{
+    let mut ids = Vec::new(alloc);
+    for entity in entities {
+        ids.push(entity.uid().try_clone()?)?;
+    }
+    Ok(ids)
+}
+
+/// The index of the first id that is this one; how many there are where none is.
+pub(crate) fn index_of(uid: &EntityUID, ids: &Vec<EntityUID>) -> usize
+    ensures { result ≡ index_from 0 uid.now ids.now.items }
+{
+    let mut index = 0;
+    for id in ids {
+        if uid == id {
+            return index;
+        }
+        index += 1;
+    }
+    index
+}

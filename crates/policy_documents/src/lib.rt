@@ -1,0 +1,26 @@
+//! Documents in JSON: the schema, the policies, the entities and the request that they declare.
+#![tactic(auto)]
+
+mod document;
+mod entities;
+mod json;
+mod members;
+mod names;
+mod parts;
+mod place;
+mod policies;
+mod policy;
+mod request;
+mod schema;
+mod store;
+
+pub use document::{Document, read_document};
+pub use entities::read_entities;
+pub use json::parse_json;
+pub use names::read_uid;
+pub use place::{DocumentFault, Place};
+pub use policies::read_policies;
+pub use policy::{PolicyParts, read_policy};
+pub use request::read_request;
+pub use schema::{read_declarations, read_schema};
+pub use store::read_store;

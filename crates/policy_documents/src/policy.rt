@@ -1,0 +1,179 @@
+//! A policy in JSON.
+
+ghost use Rattle.std.specs.Prelude.{◌≡◌, IfOk, option_map};
+ghost use Rattle.serde_json.specs.View.{view, members_view};
+ghost use Rattle.policy_documents.specs.Policy.{action_constraint_of, action_form, action_form_of, constraint_form, constraint_form_of, constraint_of, effect_of, effect_of_text, policy_of, policy_parts_of};
+ghost use Rattle.policy_documents.specs.Names.{uid_of};
+
+use crate::members::{has_only, only_member};
+use crate::names::read_uid;
+use policy_names::Text;
+use policy_set::{ActionConstraint, Effect, EntityReference, PrincipalOrResourceConstraint};
+use serde_json::{Map, Value};
+use std::alloc::{AllocError, Global};
+
+/// The parts of a policy, as a document gives them.
+#[derive(Drop)]
+pub struct PolicyParts {
+    /// Its id.
+    pub id: Text,
+    /// What it does where its condition is true.
+    pub effect: Effect,
+    /// What its scope asks of the principal.
+    pub principal: PrincipalOrResourceConstraint,
+    /// What its scope asks of the action.
+    pub action: ActionConstraint,
+    /// What its scope asks of the resource.
+    pub resource: PrincipalOrResourceConstraint,
+}
+
+fn effect_of_text(text: &str) -> Option<Effect>
+    ensures { result ≡ effect_of_text text.now }
+{
+    match text {
+        "permit" => Some(Effect::Permit),
+        "forbid" => Some(Effect::Forbid),
+        _ => None,
+    }
+}
+
+fn read_effect(value: &Value) -> Option<Effect>
+    ensures { result ≡ effect_of (view value.now) }
+{
+    effect_of_text(value.as_str()?)
+}
+
+fn read_constraint_form(
+    alloc: Global,
+    key: &str,
+    value: &Value,
+) -> Result<Option<PrincipalOrResourceConstraint>, AllocError>
+    ensures { IfOk result (λ o. o ≡ constraint_form key.now (uid_of (view value.now))) }
+{
+    let Some(uid) = read_uid(alloc, value)? else {
+        return Ok(None);
+    };
+    match key {
+        "==" => Ok(Some(PrincipalOrResourceConstraint::Eq(EntityReference::EUID(uid)))),
+        "in" => Ok(Some(PrincipalOrResourceConstraint::In(EntityReference::EUID(uid)))),
+        _ => Ok(None),
+    }
+}
+
+fn read_constraint_members(
+    alloc: Global,
+    members: &Map<String, Value>,
+) -> Result<Option<PrincipalOrResourceConstraint>, AllocError>
+    ensures { IfOk result (λ o. o ≡ constraint_form_of (members_view members.now.entries)) }
+{
+    match only_member(members) {
+        Some((key, value)) => read_constraint_form(alloc, key.as_str(), value),
+        None => Ok(None),
+    }
+}
+
+/// What a scope asks of the principal or of the resource; an absent part asks nothing.
+fn read_constraint(
+    alloc: Global,
+    value: Option<&Value>,
+) -> Result<Option<PrincipalOrResourceConstraint>, AllocError>
+    ensures { IfOk result (λ o. o ≡ constraint_of (option_map (λ v. view v.now) value.entry)) }
+{
+    let Some(value) = value else {
+        return Ok(Some(PrincipalOrResourceConstraint::Any));
+    };
+    match value.as_object() {
+        Some(members) => read_constraint_members(alloc, members),
+        None => Ok(None),
+    }
+}
+
+fn read_action_form(
+    alloc: Global,
+    key: &str,
+    value: &Value,
+) -> Result<Option<ActionConstraint>, AllocError>
+    ensures { IfOk result (λ o. o ≡ action_form key.now (uid_of (view value.now))) }
+{
+    if key != "==" {
+        return Ok(None);
+    }
+    match read_uid(alloc, value)? {
+        Some(uid) => Ok(Some(ActionConstraint::Eq(uid))),
+        None => Ok(None),
+    }
+}
+
+fn read_action_members(
+    alloc: Global,
+    members: &Map<String, Value>,
+) -> Result<Option<ActionConstraint>, AllocError>
+    ensures { IfOk result (λ o. o ≡ action_form_of (members_view members.now.entries)) }
+{
+    match only_member(members) {
+        Some((key, value)) => read_action_form(alloc, key.as_str(), value),
+        None => Ok(None),
+    }
+}
+
+/// What a scope asks of the action; an absent part asks nothing.
+fn read_action_constraint(
+    alloc: Global,
+    value: Option<&Value>,
+) -> Result<Option<ActionConstraint>, AllocError>
+    ensures { IfOk result (λ o. o ≡ action_constraint_of (option_map (λ v. view v.now) value.entry)) }
+{
+    let Some(value) = value else {
+        return Ok(Some(ActionConstraint::Any));
+    };
+    match value.as_object() {
+        Some(members) => read_action_members(alloc, members),
+        None => Ok(None),
+    }
+}
+
+#[tactic(auto, unfolding(crate::specs::Policy::policy_parts_of))]
+fn read_policy_parts(alloc: Global, value: &Value) -> Result<Option<PolicyParts>, AllocError>
+    ensures { IfOk result (λ o. o ≡ policy_parts_of (view value.now)) }
+{
+    let Some(id) = value.get("id").and_then(Value::as_str) else {
+        return Ok(None);
+    };
+    let Some(effect) = value.get("effect").and_then(read_effect) else {
+        return Ok(None);
+    };
+    let Some(principal) = read_constraint(alloc, value.get("principal"))? else {
+        return Ok(None);
+    };
+    let Some(action) = read_action_constraint(alloc, value.get("action"))? else {
+        return Ok(None);
+    };
+    let Some(resource) = read_constraint(alloc, value.get("resource"))? else {
+        return Ok(None);
+    };
+    let id = Text::from_str(alloc, id)?;
+    Ok(Some(PolicyParts {
+        id,
+        effect,
+        principal,
+        action,
+        resource,
+    }))
+}
+
+/// The parts of the policy that the value is, if it is one.
+#[tactic(auto, unfolding(crate::specs::Policy::policy_of))]
+pub fn read_policy(alloc: Global, value: &Value) -> Result<Option<PolicyParts>, AllocError>
+    ensures { IfOk result (λ o. o ≡ policy_of (view value.now)) }
+{
+    let Some(members) = value.as_object() else {
+        return Ok(None);
+    };
+    if !has_only(
+        &["id", "effect", "principal", "action", "resource"],
+        members,
+    ) {
+        return Ok(None);
+    }
+    read_policy_parts(alloc, value)
+}

@@ -1,0 +1,88 @@
+//! A request in JSON.
+
+ghost use Rattle.std.specs.Prelude.{◌≡◌, IfOk, option_map};
+ghost use Rattle.serde_json.specs.View.{view};
+ghost use Rattle.policy_documents.specs.Request.{context_of, given_request_of, known_of, request_of};
+
+use crate::members::has_only;
+use crate::names::read_uid;
+use policy_names::EntityUID;
+use policy_store::{Context, Request};
+use serde_json::Value;
+use std::alloc::{AllocError, Global};
+
+fn read_known(alloc: Global, value: Option<&Value>) -> Result<Option<Option<EntityUID>>, AllocError>
+    ensures { IfOk result (λ o. o ≡ known_of (option_map (λ v. view v.now) value.entry)) }
+{
+    let Some(value) = value else {
+        return Ok(Some(None));
+    };
+    if value.is_null() {
+        return Ok(Some(None));
+    }
+    match read_uid(alloc, value)? {
+        Some(uid) => Ok(Some(Some(uid))),
+        None => Ok(None),
+    }
+}
+
+fn read_context(alloc: Global, value: Option<&Value>) -> Option<Option<Context>>
+    ensures { result ≡ context_of (option_map (λ v. view v.now) value.entry) }
+{
+    let Some(value) = value else {
+        return Some(None);
+    };
+    if value.is_null() {
+        return Some(None);
+    }
+    let members = value.as_object()?;
+    if !has_only(&[], members) {
+        return None;
+    }
+    Some(Some(Context::empty(alloc)))
+}
+
+#[tactic(auto, unfolding(crate::specs::Request::given_request_of))]
+fn read_given_request(alloc: Global, value: &Value) -> Result<Option<Request>, AllocError>
+    ensures { IfOk result (λ o. o ≡ given_request_of (view value.now)) }
+{
+    let Some(members) = value.as_object() else {
+        return Ok(None);
+    };
+    let Some(principal) = read_known(alloc, value.get("principal"))? else {
+        return Ok(None);
+    };
+    let Some(action) = read_known(alloc, value.get("action"))? else {
+        return Ok(None);
+    };
+    let Some(resource) = read_known(alloc, value.get("resource"))? else {
+        return Ok(None);
+    };
+    let Some(context) = read_context(alloc, value.get("context")) else {
+        return Ok(None);
+    };
+    if !has_only(&["principal", "action", "resource", "context"], members) {
+        return Ok(None);
+    }
+    Ok(Some(Request {
+        principal,
+        action,
+        resource,
+        context,
+    }))
+}
+
+/// The request that the value is, if it is one; an absent one has no entry.
+pub fn read_request(alloc: Global, value: Option<&Value>) -> Result<Option<Request>, AllocError>
+    ensures { IfOk result (λ o. o ≡ request_of (option_map (λ v. view v.now) value.entry)) }
+{
+    match value {
+        Some(value) => read_given_request(alloc, value),
+        None => Ok(Some(Request {
+            principal: None,
+            action: None,
+            resource: None,
+            context: None,
+        })),
+    }
+}

@@ -1,0 +1,15 @@
+pub mod NumberFacts
+pub mod LackFacts
+pub mod DecimalFacts
+pub mod DecimalText
+pub mod IpFacts
+pub mod Ipv4Facts
+pub mod Ipv6Facts
+pub mod RangeFacts
+pub mod RangeText
+pub mod RangeTests
+pub mod DurationFacts
+pub mod DurationText
+pub mod DateTimeFacts
+pub mod DayFacts
+pub mod DateTimeText

@@ -1,0 +1,13 @@
+pub mod Sign
+pub mod Decimal
+pub mod NumberReading
+pub mod DecimalReading
+pub mod IpAddr
+pub mod IpText
+pub mod IpTests
+pub mod IpReading
+pub mod Duration
+pub mod DurationReading
+pub mod DateTime
+pub mod DateTimeReading
+pub mod DateTimeWriting

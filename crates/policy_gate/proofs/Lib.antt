@@ -1,0 +1,5 @@
+pub mod Answers
+pub mod OneReading
+pub mod OverIds
+pub mod Runs
+pub mod Sliced

@@ -1,0 +1,73 @@
+-- Which status and text are due for the bytes of a document.
+use Rattle.std.specs.Prelude.{◌≡◌, ◌⊎◌, ℕ, List, [], ◌∷◌, ◌++◌, Option, Some, None, Ok, Err, codes}
+use Rattle.serde_json.specs.Data.{Data}
+use Rattle.policy_documents.specs.Json.{json_of}
+use Rattle.policy_names.specs.declared.entity_uid.EntityUID.{EntityUID}
+use Rattle.policy_store.specs.Request.{IsWhole}
+use Rattle.policy_set.specs.Response.{response}
+use Rattle.policy_documents.specs.PlaceText.{place_text}
+use Rattle.policy_documents.specs.Reading.{IsRead}
+use Rattle.policy_documents.specs.declared.document.Document.{Document}
+use Rattle.policy_documents.specs.declared.place.Place.{Place}
+use Rattle.policy_scope.specs.Findings.{Findings}
+use Rattle.policy_scope.specs.Written.{findings_text}
+use Rattle.policy_scope.specs.declared.finding.ValidationError.{ValidationError}
+use Rattle.policy_validate.specs.Accepted.{findings_of}
+use Rattle.policy_validate.specs.Conformance.{first_request_fault, first_store_fault}
+use Rattle.policy_validate.specs.Written.{request_text, entity_text}
+use Rattle.policy_validate.specs.declared.request_error.RequestValidationError.{RequestValidationError}
+use Rattle.policy_validate.specs.declared.store_rule.StoreRule.{StoreRule}
+use Rattle.entity_manifest.specs.Cover.{restricted}
+use Rattle.policy_writing.specs.SliceJson.{slice_text}
+use Rattle.policy_gate.specs.Reply.{Answer, answer}
+use Rattle.policy_gate.specs.declared.status.Status.TheVariants as status
+
+-- the store restricted to what the document's policies read on its request, with the response on it
+abbrev pub slice_answer : Document → Answer
+slice_answer d =
+    let slice = restricted d.schema d.policies d.request d.entities in
+    answer status.Done (slice_text (response d.policies d.request slice) slice)
+
+-- errors in the policies come first; a warning alone does not matter
+abbrev pub behind_errors : List ValidationError → Findings → Answer → Answer
+behind_errors [] found next = next
+behind_errors (e ∷ es) found next = answer status.Findings (findings_text found)
+
+-- before that, the first rule that the store breaks
+abbrev pub behind_store : Option (EntityUID × StoreRule) → Answer → Answer
+behind_store None next = next
+behind_store (Some fault) next = answer status.Store (entity_text (record { uid = fault.0; rule = fault.1 }))
+
+-- and before that, the first rule that the request breaks
+abbrev pub behind_request : Option RequestValidationError → Answer → Answer
+behind_request None next = next
+behind_request (Some fault) next = answer status.Request (request_text fault)
+
+-- what is due for a document whose request is whole
+abbrev pub checked_answer : Document → Answer
+checked_answer d =
+    let found = findings_of d.schema d.policies in
+    behind_request (first_request_fault d.schema d.request)
+    (behind_store (first_store_fault d.schema d.entities)
+    (behind_errors found.errors found (slice_answer d)))
+
+abbrev pub partial_request : Answer
+partial_request = answer status.PartialRequest (codes "request: entity slicing requires a fully concrete request. Got a partial request\n")
+
+-- what is due for a document
+abbrev pub IsAnswerTo : Document → Answer → Type 0
+IsAnswerTo d a = (IsWhole d.request × (a ≡ checked_answer d)) ⊎ ((¬ IsWhole d.request) × (a ≡ partial_request))
+
+-- what is due for a JSON value: the place of the first fault, where it is no document
+abbrev pub IsAnswerFor : Data → Answer → Type 0
+IsAnswerFor v a = ((place : Place) × IsRead v (Err place) × (a ≡ answer status.Document (place_text place ++ codes "\n")))
+    ⊎ ((d : Document) × IsRead v (Ok d) × IsAnswerTo d a)
+
+-- what is due where the bytes may be JSON
+abbrev pub IsAnswerIf : Option Data → Answer → Type 0
+IsAnswerIf None a = a ≡ answer status.Document (codes "document: json\n")
+IsAnswerIf (Some v) a = IsAnswerFor v a
+
+-- this status and text are due for a document of these bytes
+unfoldable pub IsAnswer : List ℕ → Answer → Type 0
+IsAnswer bytes a = IsAnswerIf (json_of bytes) a

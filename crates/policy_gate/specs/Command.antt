@@ -1,0 +1,15 @@
+-- What the words of a call ask for.
+use Rattle.std.specs.Prelude.{ℕ, List, [], ◌∷◌, if◌then◌else◌, Option, Some, None, codes}
+use Rattle.std.specs.Str.{bytes_eq}
+use Rattle.policy_gate.specs.declared.command.Command.{Command}
+use Rattle.policy_gate.specs.declared.command.Command.TheVariants.{Slice}
+
+-- a command of one word
+abbrev pub one_word : List ℕ → Option Command
+one_word word = if bytes_eq word (codes "slice") then Some Slice else None
+
+-- the command that the words are, if they are one
+abbrev pub command_of : List (List ℕ) → Option Command
+command_of [] = None
+command_of (word ∷ []) = one_word word
+command_of (word ∷ other ∷ words) = None

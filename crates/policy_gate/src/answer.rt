@@ -1,0 +1,142 @@
+//! From a document's bytes to the reply.
+ghost use Rattle.std.specs.Prelude.{◌≡◌, IfOk};
+ghost use Rattle.serde_json.specs.View.{view};
+ghost use Rattle.policy_store.specs.Request.{IsWhole};
+ghost use Rattle.policy_validate.specs.Accepted.{findings_of};
+ghost use Rattle.policy_validate.specs.Conformance.{RequestConforms, StoreConforms, first_store_fault};
+ghost use Rattle.policy_gate.specs.Answer.{IsAnswer, IsAnswerFor, IsAnswerTo, behind_errors, behind_store, checked_answer, slice_answer};
+ghost use Rattle.policy_gate.specs.Reply.{reply_view};
+
+use crate::reply::{Reply, reply_with};
+use crate::status::Status;
+use entity_manifest::restricted_store;
+use policy_documents::{Document, DocumentFault, parse_json, read_document};
+use policy_scope::findings_text;
+use policy_set::decide;
+use policy_validate::{
+    ConformanceError, RequestValidationError, ValidationMode, Validator, conforms, entity_text,
+    request_text, validate_request,
+};
+use policy_writing::slice_text;
+use serde_json::Value;
+use std::alloc::{AllocError, Global};
+
+const NO_JSON: &str = "document: json\n";
+
+const PARTIAL_REQUEST: &str =
+    "request: entity slicing requires a fully concrete request. Got a partial request\n";
+
+/// The reply that is due for a document of these bytes.
+#[tactic(auto, unfolding(crate::specs::Answer::IsAnswer))]
+pub(crate) fn reply(alloc: Global, bytes: &[u8]) -> Result<Reply, AllocError>
+    ensures { IfOk result (λ r. IsAnswer bytes.now (reply_view r)) }
+{
+    match parse_json(alloc, bytes)? {
+        Some(value) => reply_to_value(alloc, &value),
+        None => reply_with(alloc, Status::Document, NO_JSON),
+    }
+}
+
+// The reply to a JSON value: the place of its first fault, or what is due for the document that it is.
+fn reply_to_value(alloc: Global, value: &Value) -> Result<Reply, AllocError>
+    ensures { IfOk result (λ r. IsAnswerFor (view value.now) (reply_view r)) }
+{
+    match read_document(alloc, value) {
+        Ok(document) => reply_to(alloc, &document),
+        Err(DocumentFault::Place(place)) => Ok(Reply {
+            status: Status::Document,
+            text: format!(in alloc; "{place}\n")?,
+        }),
+        Err(DocumentFault::OutOfMemory) => Err(AllocError),
+    }
+}
+
+// The reply to a document.
+fn reply_to(alloc: Global, document: &Document) -> Result<Reply, AllocError>
+    ensures { IfOk result (λ r. IsAnswerTo document.now (reply_view r)) }
+{
+    if document.request.is_whole() {
+        checked(alloc, document)
+    } else {
+        reply_with(alloc, Status::PartialRequest, PARTIAL_REQUEST)
+    }
+}
+
+// The request's first broken rule, or what follows.
+fn checked(alloc: Global, document: &Document) -> Result<Reply, AllocError>
+    requires { IsWhole document.now.request }
+    ensures { IfOk result (λ r. reply_view r ≡ checked_answer document.now) }
+{
+    match validate_request(alloc, &document.schema, &document.request) {
+        Ok(()) => with_request(alloc, document),
+        Err(RequestValidationError::OutOfMemory) => Err(AllocError),
+        Err(error) => {
+            let text = request_text(alloc, &error)?;
+            Ok(Reply {
+                status: Status::Request,
+                text: text.into_string(),
+            })
+        }
+    }
+}
+
+// The store's first broken rule, or what follows.
+fn with_request(alloc: Global, document: &Document) -> Result<Reply, AllocError>
+    requires whole { IsWhole document.now.request }
+    requires request { RequestConforms document.now.schema document.now.request }
+    ensures { IfOk result (λ r. reply_view r ≡ behind_store (first_store_fault document.now.schema document.now.entities)
+        (behind_errors (findings_of document.now.schema document.now.policies).errors (findings_of document.now.schema document.now.policies) (slice_answer document.now))) }
+{
+    match conforms(&document.schema, &document.entities) {
+        Ok(()) => with_store(alloc, document),
+        Err(ConformanceError::OutOfMemory) => Err(AllocError),
+        Err(ConformanceError::EntityDoesNotConform(error)) => {
+            let text = entity_text(alloc, &error)?;
+            Ok(Reply {
+                status: Status::Store,
+                text: text.into_string(),
+            })
+        }
+    }
+}
+
+// The findings, where there is an error among them, or the slice.
+fn with_store(alloc: Global, document: &Document) -> Result<Reply, AllocError>
+    requires whole { IsWhole document.now.request }
+    requires request { RequestConforms document.now.schema document.now.request }
+    requires store { StoreConforms document.now.schema document.now.entities }
+    ensures { IfOk result (λ r. reply_view r ≡ behind_errors (findings_of document.now.schema document.now.policies).errors
+        (findings_of document.now.schema document.now.policies) (slice_answer document.now)) }
+{
+    let validator = Validator::new(&document.schema);
+    let found = validator.validate(alloc, &document.policies, ValidationMode::Strict)?;
+    if found.validation_passed() {
+        return sliced(alloc, document);
+    }
+    let text = findings_text(alloc, &found)?;
+    Ok(Reply {
+        status: Status::Findings,
+        text: text.into_string(),
+    })
+}
+
+// The slice with the decision on it.
+fn sliced(alloc: Global, document: &Document) -> Result<Reply, AllocError>
+    requires whole { IsWhole document.now.request }
+    requires request { RequestConforms document.now.schema document.now.request }
+    requires store { StoreConforms document.now.schema document.now.entities }
+    ensures { IfOk result (λ r. reply_view r ≡ slice_answer document.now) }
+{
+    let slice = restricted_store(
+        alloc,
+        &document.schema,
+        &document.policies,
+        &document.request,
+        &document.entities,
+    )?;
+    let response = decide(alloc, &document.policies, &document.request, &slice)?;
+    Ok(Reply {
+        status: Status::Done,
+        text: slice_text(alloc, &response, &slice)?,
+    })
+}

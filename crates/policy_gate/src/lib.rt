@@ -1,0 +1,15 @@
+//! The top call: from the words of a command and a document's bytes to a status and a text.
+#![tactic(auto)]
+
+mod answer;
+mod command;
+mod reply;
+mod runner;
+mod status;
+#[cfg(test)]
+mod tests;
+
+pub use command::{Command, command_of};
+pub use reply::Reply;
+pub use runner::run;
+pub use status::Status;

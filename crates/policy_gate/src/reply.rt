@@ -1,0 +1,26 @@
+//! What is answered.
+ghost use Rattle.std.specs.Prelude.{◌≡◌, IfOk};
+
+use crate::status::Status;
+use std::alloc::{AllocError, Global};
+
+/// A status, and the text that goes with it.
+#[derive(Drop)]
+pub struct Reply {
+    /// The status that is due.
+    pub status: Status,
+    /// All that is to be written, its last newline included.
+    pub text: String,
+}
+
+ghost use Rattle.policy_gate.specs.Reply.{answer, reply_view};
+
+/// A reply of this status with a copy of the text.
+pub(crate) fn reply_with(alloc: Global, status: Status, text: &str) -> Result<Reply, AllocError>
+    ensures { IfOk result (λ r. reply_view r ≡ answer status text.now) }
+{
+    Ok(Reply {
+        status,
+        text: String::from_str(alloc, text)?,
+    })
+}

@@ -1,0 +1,147 @@
+//! The whole run, from a source to a sink.
+ghost use Rattle.std.specs.Prelude.{◌≡◌, ◌+◌, ◌<◌, ◌≤◌, ◌⊎◌, ℕ, List, length, Some, None, IfOk, map, string_bytes};
+ghost use Rattle.std.specs.Io.KnownBytes.{Appends};
+ghost use Rattle.outside.specs.Document.{TakesFew, WasRead};
+ghost use Rattle.outside.specs.Steps.{IsQuiet};
+ghost use Rattle.policy_gate.specs.Answer.{IsAnswer};
+ghost use Rattle.policy_gate.specs.Command.{command_of};
+ghost use Rattle.policy_documents.specs.declared.document.Document.{Document};
+ghost use Rattle.policy_gate.specs.Headline.{IsDocumentOf, KeepsRules, IsSliced};
+ghost use Rattle.policy_gate.specs.Reply.{answer, reply_view};
+ghost use Rattle.policy_gate.specs.Run.{Cause, Gives, IsDue, IsDueAfterReading, Runs};
+ghost use Rattle.policy_gate.specs.Status.{IsAfterEnd};
+
+use crate::answer::reply;
+use crate::command::{Command, command_of};
+use crate::reply::{Reply, reply_with};
+use crate::status::Status;
+use outside::{DOCUMENT_LIMIT, ReadError, Sink, Source, read_document_bytes, write_text};
+use std::alloc::{AllocError, Global};
+
+const USAGE: &str =
+    "usage: check | level N | request | manifest | slice | decide | sample SEED SIZE\n";
+
+const READ_FAULT: &str = "read fault\n";
+
+const TOO_LONG: &str = "document: more than 16777216 bytes\n";
+
+// Writes the text, and says how the run ends.
+fn finish<K: Sink>(sink: &mut K, status: Status, text: &str) -> Status
+    ensures { Gives (answer status text.now) (K.state sink.old) (K.state sink.new) result }
+{
+    match write_text(sink, text.as_bytes()) {
+        Ok(()) => status,
+        Err(_) => status.after_fault(),
+    }
+}
+
+// Reads the document, and makes the reply to it.
+fn from_document<S: Source>(alloc: Global, source: &mut S) -> Result<Reply, AllocError>
+    ensures due { IfOk result (λ r.
+        IsDueAfterReading (S.state source.old) (S.state source.new) (reply_view r)) }
+    ensures taken { TakesFew (S.state source.old) (S.state source.new) }
+{
+    match read_document_bytes(alloc, source) {
+        Ok(bytes) => reply(alloc, bytes.as_slice()),
+        Err(ReadError::Fault) => reply_with(alloc, Status::ReadFault, READ_FAULT),
+        Err(ReadError::TooLong) => reply_with(alloc, Status::TooLong, TOO_LONG),
+        Err(ReadError::OutOfMemory) => Err(AllocError),
+    }
+}
+
+fn from_command<S: Source>(
+    alloc: Global,
+    command: Command,
+    source: &mut S,
+) -> Result<Reply, AllocError>
+    ensures due { IfOk result (λ r.
+        IsDue (Some command) (S.state source.old) (S.state source.new) (reply_view r)) }
+    ensures taken { TakesFew (S.state source.old) (S.state source.new) }
+{
+    match command {
+        Command::Slice => from_document(alloc, source),
+    }
+}
+
+// All that a run does.
+fn outcome<S: Source, K: Sink>(
+    alloc: Global,
+    words: &Vec<String>,
+    source: &mut S,
+    sink: &mut K,
+) -> Status
+    ensures runs { Runs (command_of (map string_bytes words.now.items))
+        (S.state source.old) (S.state source.new) (K.state sink.old) (K.state sink.new) result }
+    ensures taken { TakesFew (S.state source.old) (S.state source.new) }
+{
+    let Some(command) = command_of(words) else {
+        return finish(sink, Status::Usage, USAGE);
+    };
+    match from_command(alloc, command, source) {
+        Ok(reply) => finish(sink, reply.status, reply.text.as_str()),
+        Err(_) => Status::OutOfMemory,
+    }
+}
+
+/// Reads a document from the source, does what the words ask for, and writes the text of the
+/// answer to the sink; the status says how it ended.
+///
+/// The whole text is made before the first write. Where memory runs out, nothing is written.
+pub fn run<S: Source, K: Sink>(
+    alloc: Global,
+    words: &Vec<String>,
+    source: &mut S,
+    sink: &mut K,
+) -> Status
+    // Each status has its cause.
+    ensures cause { Cause (command_of (map string_bytes words.now.items))
+        (S.state source.old) (S.state source.new) (K.state sink.old) (K.state sink.new) result }
+
+    // At most one byte more is taken than a document may have; all but usage, a failing source,
+    // want of memory and a document that is too long means that the source was read to its end.
+    ensures taken { TakesFew (S.state source.old) (S.state source.new) }
+    ensures read { IsAfterEnd result
+        → (bytes : List ℕ) × WasRead (S.state source.old) (S.state source.new) bytes }
+
+    // All of the text that was due is written; a front of it where the sink's count rose; and
+    // nothing where memory ran out.
+    ensures written { Runs (command_of (map string_bytes words.now.items))
+        (S.state source.old) (S.state source.new) (K.state sink.old) (K.state sink.new) result }
+
+    // Each status comes where its rule says so, unless memory runs out.
+    ensures usage { command_of (map string_bytes words.now.items) ≡ None → result ≡ Status.Usage }
+    ensures too_long { (S.state source.old).taken + DOCUMENT_LIMIT < (S.state source.new).taken
+        → (result ≡ Status.TooLong) ⊎ (result ≡ Status.OutOfMemory) }
+    ensures too_long_told { (bytes : List ℕ)
+        → command_of (map string_bytes words.now.items) ≡ Some Command.Slice
+        → (S.state source.old).left ≡ Some bytes → DOCUMENT_LIMIT < length bytes
+        → IsQuiet (S.state source.old).faults (S.state source.new).faults
+        → (result ≡ Status.TooLong) ⊎ (result ≡ Status.OutOfMemory) }
+    ensures exact { (bytes : List ℕ)
+        → command_of (map string_bytes words.now.items) ≡ Some Command.Slice
+        → (S.state source.old).left ≡ Some bytes → length bytes ≤ DOCUMENT_LIMIT
+        → IsQuiet (S.state source.old).faults (S.state source.new).faults
+        → IsQuiet (K.state sink.old).faults (K.state sink.new).faults
+        → ((text : List ℕ) × IsAnswer bytes (answer result text)
+        × Appends (K.state sink.old).holds (K.state sink.new).holds text)
+        ⊎ (result ≡ Status.OutOfMemory) }
+
+    // The headline: with 0 all bytes were read and are a document that keeps every rule, and the text that is written is
+    // its store restricted to what its policies read, with the response; on that slice, and on every store between it and
+    // the whole one, every policy has the outcome that it has on the whole store.
+    ensures headline { result ≡ Status.Done
+        → (bytes : List ℕ) × (text : List ℕ) × WasRead (S.state source.old) (S.state source.new) bytes
+        × ((document : Document) × IsDocumentOf bytes document × KeepsRules document × IsSliced document text)
+        × Appends (K.state sink.old).holds (K.state sink.new).holds text }
+
+    // And 0 comes wherever every rule holds, unless memory runs out.
+    ensures complete { (bytes : List ℕ) (document : Document)
+        → command_of (map string_bytes words.now.items) ≡ Some Command.Slice
+        → (S.state source.old).left ≡ Some bytes → length bytes ≤ DOCUMENT_LIMIT
+        → IsQuiet (S.state source.old).faults (S.state source.new).faults
+        → IsQuiet (K.state sink.old).faults (K.state sink.new).faults
+        → IsDocumentOf bytes document → KeepsRules document
+        → (result ≡ Status.Done) ⊎ (result ≡ Status.OutOfMemory) }
+{
+    outcome(alloc, words, source, sink)
+}

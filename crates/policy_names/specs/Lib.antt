@@ -1,0 +1,4 @@
+pub mod Basename
+pub mod Name
+pub mod Show
+pub mod Uid

@@ -1,0 +1,29 @@
+-- What findings on names are made of: the name and its place.
+use Rattle.std.proofs.Common.{ℕ, List, Option}
+use Rattle.std.specs.Borrow.{Bor}
+use Rattle.policy_core.specs.declared.kinds.Loc.{Loc}
+use Rattle.policy_names.specs.declared.entity_uid.EntityUID.{EntityUID}
+use Rattle.schema_core.specs.Schema.{SchemaData}
+use Rattle.policy_scope.specs.declared.finding.UnrecognizedEntityType.{UnrecognizedEntityType}
+use Rattle.policy_scope.specs.declared.finding.UnrecognizedActionId.{UnrecognizedActionId}
+use Rattle.policy_scope.specs.Names.{loc_cmp, entity_type_cmp, action_id_cmp, action_id_hint}
+use Rattle.policy_scope.proofs.Once.{order}
+use Rattle.policy_names.specs.Uid.{uid_cmp_total}
+use Rattle.std.specs.Cmp.{IsTotalOrder, on_total, then_total, nat_cmp_total}
+use Rattle.std.specs.Cmp.Lexicographic.{nat_list_cmp_total, options_total}
+
+abbrev pub type_made : List ℕ → Bor (List ℕ) × Option Loc → UnrecognizedEntityType
+type_made policy k = record { source_loc = k.1; policy_id = policy; actual_entity_type = k.0.now }
+
+abbrev pub action_made : SchemaData → List ℕ → Bor EntityUID × Option Loc → UnrecognizedActionId
+action_made schema policy k = record { source_loc = k.1; policy_id = policy; actual_action_id = k.0.now; hint = action_id_hint schema k.0.now }
+
+loc_total : IsTotalOrder loc_cmp
+loc_total = then_total (on_total (λ l. l.start) nat_cmp_total) (on_total (λ l. l.end) nat_cmp_total)
+
+-- findings are in a total order of what they are made of
+pub type_made_total : (policy : List ℕ) → IsTotalOrder (order entity_type_cmp (type_made policy))
+type_made_total policy = then_total (on_total (λ k. k.0.now) nat_list_cmp_total) (on_total (λ k. k.1) (options_total loc_total))
+
+pub action_made_total : (schema : SchemaData) (policy : List ℕ) → IsTotalOrder (order action_id_cmp (action_made schema policy))
+action_made_total schema policy = then_total (on_total (λ k. k.0.now) uid_cmp_total) (on_total (λ k. k.1) (options_total loc_total))

@@ -1,0 +1,8 @@
+use Rattle.std.proofs.Common.{◌≡◌}
+use Rattle.std.specs.List.{list_any}
+use Rattle.policy_scope.specs.Scope.{type_below}
+use Rattle.policy_scope.proofs.scope.some_below.Given as goal
+
+-- those that are left decide
+abbrev pub invariant-loop-ty : goal.invariant-loop-ty
+invariant-loop-ty l = list_any (type_below l.schema l.above) l.ty-iterator ≡ list_any (type_below l.schema l.above) l.types.keys

@@ -1,0 +1,101 @@
+-- The names in a condition: the types and the actions of its literals, which have to be declared.
+use Rattle.std.specs.Prelude.{◌||◌, not, Bool, ℕ, List, [], ◌∷◌, ◌++◌, Option, Some, None, fold, find, option_map, is_some, codes, eqb, if◌then◌else◌}
+use Rattle.std.specs.List.{filter_map, starts_with}
+use Rattle.std.specs.Option.{option_cmp}
+use Rattle.std.specs.Ordering.{nat_cmp, ordering_then}
+use Rattle.std.specs.declared.cmp.Ordering.{Ordering}
+use Rattle.hierarchy.specs.Reaches.{has}
+use Rattle.policy_names.specs.declared.entity_uid.EntityUID.{EntityUID}
+use Rattle.policy_names.specs.Uid.{text_cmp, uid_cmp}
+use Rattle.policy_names.specs.Basename.{is_action_type}
+use Rattle.policy_core.specs.declared.kinds.Loc.{Loc}
+use Rattle.policy_core.specs.declared.kinds.Literal.TheVariants as literal
+use Rattle.policy_core.specs.Tree.{Tree, lit, var, ite, conj, disj, unary, binary, attr, set, rec, Trees, no_trees, tree, Named, no_named, named, Mark}
+use Rattle.policy_core.specs.Tree as core
+use Rattle.policy_set.specs.declared.template.TemplateBody.{TemplateBody}
+use Rattle.schema_core.specs.Schema.{SchemaData, ActionData, type_at, action_at}
+use Rattle.policy_scope.specs.declared.finding.UnrecognizedEntityType.{UnrecognizedEntityType}
+use Rattle.policy_scope.specs.declared.finding.UnrecognizedActionId.{UnrecognizedActionId}
+use Rattle.policy_scope.specs.declared.finding.UnrecognizedActionIdHelp.{UnrecognizedActionIdHelp}
+use Rattle.policy_scope.specs.declared.finding.UnrecognizedActionIdHelp.TheVariants.{AvoidActionTypeInActionId}
+
+-- the ids of all literals, each with the place of its literal, reached or not, in the order in which they stand
+module _ {T : Type 0} where
+  abbrev mutual
+    pub ids_in : Tree (Mark T) → List (EntityUID × Option Loc)
+    ids_in (lit (literal.EntityUID uid) a) = (uid, a.loc) ∷ []
+    ids_in (lit l a) = []
+    ids_in (var v a) = []
+    ids_in (ite x y z a) = ids_in x ++ (ids_in y ++ ids_in z)
+    ids_in (conj x y a) = ids_in x ++ ids_in y
+    ids_in (disj x y a) = ids_in x ++ ids_in y
+    ids_in (unary o x a) = ids_in x
+    ids_in (binary o x y a) = ids_in x ++ ids_in y
+    ids_in (attr x n a) = ids_in x
+    ids_in (core.has x n a) = ids_in x
+    ids_in (set xs a) = ids_in_all xs
+    ids_in (rec xs a) = ids_in_named xs
+
+    pub ids_in_all : Trees (Mark T) → List (EntityUID × Option Loc)
+    ids_in_all no_trees = []
+    ids_in_all (tree x xs) = ids_in x ++ ids_in_all xs
+
+    pub ids_in_named : Named (Mark T) → List (EntityUID × Option Loc)
+    ids_in_named no_named = []
+    ids_in_named (named k x xs) = ids_in x ++ ids_in_named xs
+
+module _ {X : Type 0} (cmp : X → X → Ordering) where
+  -- the items with one more, unless they have it
+  abbrev pub with_new : List X → X → List X
+  with_new kept x = if has cmp kept x then kept else kept ++ x ∷ []
+
+  -- the items of the list, each once, at its first place
+  abbrev pub distinct : List X → List X
+  distinct xs = fold with_new [] xs
+
+abbrev pub loc_cmp : Loc → Loc → Ordering
+loc_cmp a b = ordering_then (nat_cmp a.start b.start) (nat_cmp a.end b.end)
+
+-- findings of one policy are in the order of what they name, and then of their places
+abbrev pub entity_type_cmp : UnrecognizedEntityType → UnrecognizedEntityType → Ordering
+entity_type_cmp a b = ordering_then (text_cmp a.actual_entity_type b.actual_entity_type) (option_cmp loc_cmp a.source_loc b.source_loc)
+
+abbrev pub action_id_cmp : UnrecognizedActionId → UnrecognizedActionId → Ordering
+action_id_cmp a b = ordering_then (uid_cmp a.actual_action_id b.actual_action_id) (option_cmp loc_cmp a.source_loc b.source_loc)
+
+-- the type is declared, or is a type of actions
+abbrev pub is_known_type : SchemaData → List ℕ → Bool
+is_known_type schema ty = is_some (type_at schema ty) || is_action_type ty
+
+-- what is found of a literal's type: that it is not known
+abbrev pub entity_type_finding : SchemaData → List ℕ → EntityUID × Option Loc → Option UnrecognizedEntityType
+entity_type_finding schema policy l = if is_known_type schema l.0.entity_type then None else Some (record { source_loc = l.1; policy_id = policy; actual_entity_type = l.0.entity_type })
+
+-- all types that are not known
+abbrev pub entity_type_findings : SchemaData → TemplateBody → List UnrecognizedEntityType
+entity_type_findings schema p = distinct entity_type_cmp (filter_map (entity_type_finding schema p.id) (ids_in p.condition))
+
+-- the text stands somewhere in the other
+abbrev pub occurs_in : List ℕ → List ℕ → Bool
+occurs_in part [] = starts_with eqb [] part
+occurs_in part (c ∷ cs) = starts_with eqb (c ∷ cs) part || occurs_in part cs
+
+-- the action's eid has in it the eid of the other with the type of actions in front
+abbrev pub repeats_type : EntityUID → ActionData → Bool
+repeats_type uid a = occurs_in (codes "Action::" ++ uid.eid) a.name.eid || occurs_in (codes "Action::\"" ++ uid.eid ++ codes "\"") a.name.eid
+
+-- the least action whose eid repeats the type of actions, where there is one
+abbrev pub action_id_hint : SchemaData → EntityUID → Option UnrecognizedActionIdHelp
+action_id_hint schema uid = option_map (λ a. AvoidActionTypeInActionId a.name) (find (repeats_type uid) schema.action_ids)
+
+-- the id is none of an action, or that of a declared one
+abbrev pub is_known_action : SchemaData → EntityUID → Bool
+is_known_action schema uid = not (is_action_type uid.entity_type) || is_some (action_at schema uid)
+
+-- what is found of a literal: that it is an action which is not declared
+abbrev pub action_id_finding : SchemaData → List ℕ → EntityUID × Option Loc → Option UnrecognizedActionId
+action_id_finding schema policy l = if is_known_action schema l.0 then None else Some (record { source_loc = l.1; policy_id = policy; actual_action_id = l.0; hint = action_id_hint schema l.0 })
+
+-- all actions that are not declared
+abbrev pub action_id_findings : SchemaData → TemplateBody → List UnrecognizedActionId
+action_id_findings schema p = distinct action_id_cmp (filter_map (action_id_finding schema p.id) (ids_in p.condition))

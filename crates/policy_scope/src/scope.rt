@@ -1,0 +1,230 @@
+//! The scope of a policy: some declared action has to meet it.
+
+ghost use Rattle.std.specs.Prelude.{◌≡◌, IfOk};
+ghost use Rattle.std.specs.List.{list_any};
+ghost use Rattle.std.specs.Ordering.{is_eq};
+ghost use Rattle.policy_names.specs.Uid.{text_cmp};
+ghost use Rattle.policy_scope.specs.Scope.{action_meets, uid_of, type_below, type_meets, types_meet, is_applicable, types_for, some_type, only_descendants, in_would_fix, application_findings};
+
+use crate::InvalidActionApplication;
+use policy_core::{EntityType, EntityUID};
+use policy_set::{ActionConstraint, EntityReference, Policy, PrincipalOrResourceConstraint};
+use schema_core::{ValidatorActionId, ValidatorSchema};
+use std::alloc::{AllocError, Global};
+use std::cmp::Ordering;
+use std::collections::BTreeSet;
+
+/// What is found of the policy's scope where no declared action meets it. An action meets a scope where it meets the
+/// part for the action and has a principal type and a resource type that meet the other two parts: each meets a part
+/// that asks for nothing, the named entity's own type `==`, and that type and its descendants `in`.
+pub fn validate_template_action_application(
+    alloc: Global,
+    schema: &ValidatorSchema,
+    policy: &Policy,
+) -> Result<Vec<InvalidActionApplication>, AllocError>
+    ensures { IfOk result (λ found. found.items ≡ application_findings schema.now policy.now) }
+{
+    let mut found = Vec::new(alloc);
+    if !is_applicable(schema, policy) {
+        let action = policy.action_constraint();
+        let principal = policy.principal_constraint();
+        let resource = policy.resource_constraint();
+        found.push(InvalidActionApplication {
+            source_loc: None,
+            policy_id: policy.id().try_clone()?,
+            would_in_fix_principal: in_would_fix(schema, Side::Principal, action, principal),
+            would_in_fix_resource: in_would_fix(schema, Side::Resource, action, resource),
+        })?;
+    }
+    Ok(found)
+}
+
+// Whether some declared action meets the scope.
+fn is_applicable(schema: &ValidatorSchema, policy: &Policy) -> bool
+    ensures { result ≡ is_applicable schema.now policy.now }
+{
+    for action in schema.action_ids() {
+        if action_meets(policy.action_constraint(), action) && types_meet(schema, policy, action) {
+            return true;
+        }
+    }
+    false
+}
+
+// Whether the action meets the part for the action.
+fn action_meets(constraint: &ActionConstraint, action: &ValidatorActionId) -> bool
+    ensures { result ≡ action_meets constraint.now action.now }
+{
+    match constraint {
+        ActionConstraint::Any => true,
+        ActionConstraint::Eq(uid) => uid.cmp(action.name()) == Ordering::Equal,
+    }
+}
+
+// Whether the action has a principal type and a resource type that meet the other parts.
+fn types_meet(schema: &ValidatorSchema, policy: &Policy, action: &ValidatorActionId) -> bool
+    ensures { result ≡ types_meet schema.now policy.now action.now }
+{
+    some_meets(
+        schema,
+        policy.principal_constraint(),
+        action.applies_to_principals(),
+    ) && some_meets(
+        schema,
+        policy.resource_constraint(),
+        action.applies_to_resources(),
+    )
+}
+
+// Whether some type of the set meets the part.
+fn some_meets(
+    schema: &ValidatorSchema,
+    constraint: &PrincipalOrResourceConstraint,
+    types: &BTreeSet<EntityType>,
+) -> bool
+    ensures { result ≡ list_any (type_meets schema.now constraint.now) types.now.keys }
+{
+    for ty in types {
+        if type_meets(schema, constraint, ty) {
+            return true;
+        }
+    }
+    false
+}
+
+// Whether the type meets the part.
+fn type_meets(
+    schema: &ValidatorSchema,
+    constraint: &PrincipalOrResourceConstraint,
+    ty: &EntityType,
+) -> bool
+    ensures { result ≡ type_meets schema.now constraint.now ty.now }
+{
+    match constraint {
+        PrincipalOrResourceConstraint::Any => true,
+        PrincipalOrResourceConstraint::Eq(reference) => {
+            same_type(uid_of(reference).entity_type(), ty)
+        }
+        PrincipalOrResourceConstraint::In(reference) => {
+            let own = uid_of(reference).entity_type();
+            same_type(own, ty) || type_below(schema, own, ty)
+        }
+    }
+}
+
+// The entity that a constraint names.
+fn uid_of(reference: &EntityReference) -> &EntityUID
+    ensures { result.now ≡ uid_of reference.now }
+{
+    let EntityReference::EUID(uid) = reference;
+    uid
+}
+
+fn same_type(one: &EntityType, other: &EntityType) -> bool
+    ensures { result ≡ is_eq (text_cmp one.now other.now) }
+{
+    one.cmp(other) == Ordering::Equal
+}
+
+// Whether the type is among the descendants of the other.
+fn type_below(schema: &ValidatorSchema, above: &EntityType, ty: &EntityType) -> bool
+    ensures { result ≡ type_below schema.now above.now ty.now }
+{
+    match schema.get_entity_type(above) {
+        Some(declared) => declared.descendants().contains(ty),
+        None => false,
+    }
+}
+
+// The part of a request that a constraint is on.
+#[derive(Clone, Copy)]
+enum Side {
+    Principal,
+    Resource,
+}
+
+// The types that the action applies to on this side.
+fn types_for(side: Side, action: &ValidatorActionId) -> &BTreeSet<EntityType>
+    ensures { result.now.keys ≡ types_for side action.now }
+{
+    match side {
+        Side::Principal => action.applies_to_principals(),
+        Side::Resource => action.applies_to_resources(),
+    }
+}
+
+// Whether `in` would be met in place of `==`: of the types of the actions that meet the part for the action, none is
+// the named entity's own, and some is a descendant of it.
+fn in_would_fix(
+    schema: &ValidatorSchema,
+    side: Side,
+    action: &ActionConstraint,
+    constraint: &PrincipalOrResourceConstraint,
+) -> bool
+    ensures { result ≡ in_would_fix schema.now side action.now constraint.now }
+{
+    match constraint {
+        PrincipalOrResourceConstraint::Eq(reference) => {
+            only_descendants(schema, side, action, uid_of(reference).entity_type())
+        }
+        _ => false,
+    }
+}
+
+// Whether the types of the actions that meet the constraint have not this type, but some descendant of it.
+fn only_descendants(
+    schema: &ValidatorSchema,
+    side: Side,
+    constraint: &ActionConstraint,
+    ty: &EntityType,
+) -> bool
+    ensures { result ≡ only_descendants schema.now side constraint.now ty.now }
+{
+    !some_type_is(schema, side, constraint, ty) && some_type_below(schema, side, constraint, ty)
+}
+
+// Whether the type is among the types of the actions that meet the constraint.
+fn some_type_is(
+    schema: &ValidatorSchema,
+    side: Side,
+    constraint: &ActionConstraint,
+    ty: &EntityType,
+) -> bool
+    ensures { result ≡ some_type schema.now side constraint.now (λ other. is_eq (text_cmp ty.now other)) }
+{
+    for action in schema.action_ids() {
+        if action_meets(constraint, action) && types_for(side, action).contains(ty) {
+            return true;
+        }
+    }
+    false
+}
+
+// Whether some type of the actions that meet the constraint is among the descendants of this one.
+fn some_type_below(
+    schema: &ValidatorSchema,
+    side: Side,
+    constraint: &ActionConstraint,
+    above: &EntityType,
+) -> bool
+    ensures { result ≡ some_type schema.now side constraint.now (type_below schema.now above.now) }
+{
+    for action in schema.action_ids() {
+        if action_meets(constraint, action) && some_below(schema, above, types_for(side, action)) {
+            return true;
+        }
+    }
+    false
+}
+
+// Whether some type of the set is among the descendants of this one.
+fn some_below(schema: &ValidatorSchema, above: &EntityType, types: &BTreeSet<EntityType>) -> bool
+    ensures { result ≡ list_any (type_below schema.now above.now) types.now.keys }
+{
+    for ty in types {
+        if type_below(schema, above, ty) {
+            return true;
+        }
+    }
+    false
+}

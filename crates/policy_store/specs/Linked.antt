@@ -1,0 +1,14 @@
+-- Entities and their links apart.
+use Rattle.std.specs.Prelude.{[], Option}
+use Rattle.std.specs.Option.{option_map_or}
+use Rattle.std.specs.BTreeSet.{BTreeSet}
+use Rattle.policy_names.specs.declared.entity_uid.EntityUID.{EntityUID}
+use Rattle.policy_store.specs.Store.{StoredEntity}
+
+-- what the entity lists, as a set
+abbrev pub links_of : StoredEntity → BTreeSet EntityUID
+links_of e = record { keys = e.ancestors }
+
+-- the entity with those ancestors that a map has for it
+abbrev pub linked : (EntityUID → Option (BTreeSet EntityUID)) → StoredEntity → StoredEntity
+linked links e = record e { ancestors = option_map_or (λ s. s.keys) (links e.uid) [] }

@@ -1,0 +1,118 @@
+//! Entities.
+
+ghost use Rattle.std.specs.Prelude.{◌≡◌, ◌↔◌, IsTrue, Contains};
+ghost use Rattle.std.specs.Option.{option_copied};
+ghost use Rattle.std.specs.List.Sorted.{IsStrictlySortedBy};
+ghost use Rattle.policy_names.specs.Uid.{uid_cmp};
+ghost use Rattle.policy_values.specs.Value.{fields_of, field_at};
+
+use policy_names::{EntityUID, Text};
+use policy_values::Value;
+use std::collections::{BTreeMap, BTreeSet};
+use std::marker::Model;
+
+/// An entity: its id, its attributes and tags under their keys, and the ids of its ancestors. Until
+/// [`crate::Entities::from_parents`] has taken it, the ancestors are its direct parents.
+#[derive(Debug, Drop)]
+pub struct Entity {
+    uid: EntityUID,
+    attrs: BTreeMap<Text, Value>,
+    ancestors: BTreeSet<EntityUID>,
+    tags: BTreeMap<Text, Value>,
+}
+
+impl Model for Entity {
+    ghost use Rattle.policy_store.specs.Store.{StoredEntity, coded_entity};
+
+    ghost Value = { StoredEntity };
+
+    ghost coded = { coded_entity };
+
+    ghost use Rattle.policy_values.specs.Value.{fields_of};
+
+    ghost view = { λ e. record { uid = e.uid; attrs = fields_of e.attrs.entries; ancestors = e.ancestors.keys; tags = fields_of e.tags.entries } };
+}
+
+impl Entity {
+    /// The entity with this id, these attributes, these ids as its parents or ancestors, and these tags.
+    pub fn new(
+        uid: EntityUID,
+        attrs: BTreeMap<Text, Value>,
+        ancestors: BTreeSet<EntityUID>,
+        tags: BTreeMap<Text, Value>,
+    ) -> Entity
+        ensures value { result ≡ record { uid = uid; attrs = fields_of attrs.entries; ancestors = ancestors.keys; tags = fields_of tags.entries } }
+        ensures ascending { IsStrictlySortedBy uid_cmp result.ancestors }
+    {
+        let _count = ancestors.len();
+        Entity {
+            uid,
+            attrs,
+            ancestors,
+            tags,
+        }
+    }
+
+    // The entity with other ancestors.
+    pub(crate) fn with_ancestors(self, ancestors: BTreeSet<EntityUID>) -> Entity
+        ensures value { result ≡ record self { ancestors = ancestors.keys } }
+        ensures ascending { IsStrictlySortedBy uid_cmp result.ancestors }
+    {
+        let Entity {
+            uid,
+            attrs,
+            tags,
+            ..
+        } = self;
+        Entity::new(uid, attrs, ancestors, tags)
+    }
+
+    /// Its id.
+    pub fn uid(&self) -> &EntityUID
+        ensures { result.now ≡ self.now.uid }
+    {
+        &self.uid
+    }
+
+    /// The attribute under a key, where there is one.
+    pub fn get(&self, key: &Text) -> Option<&Value>
+        ensures { option_copied result ≡ field_at self.now.attrs key.now }
+    {
+        self.attrs.get(key)
+    }
+
+    /// The tag under a key, where there is one.
+    pub fn get_tag(&self, key: &Text) -> Option<&Value>
+        ensures { option_copied result ≡ field_at self.now.tags key.now }
+    {
+        self.tags.get(key)
+    }
+
+    /// All attributes, under their keys.
+    pub fn attrs(&self) -> &BTreeMap<Text, Value>
+        ensures { fields_of result.now.entries ≡ self.now.attrs }
+    {
+        &self.attrs
+    }
+
+    /// All tags, under their keys.
+    pub fn tags(&self) -> &BTreeMap<Text, Value>
+        ensures { fields_of result.now.entries ≡ self.now.tags }
+    {
+        &self.tags
+    }
+
+    /// The ids of its ancestors.
+    pub fn ancestors(&self) -> &BTreeSet<EntityUID>
+        ensures { result.now.keys ≡ self.now.ancestors }
+    {
+        &self.ancestors
+    }
+
+    /// Whether the id is one of its ancestors.
+    pub fn has_ancestor(&self, uid: &EntityUID) -> bool
+        ensures { IsTrue result ↔ Contains self.now.ancestors uid.now }
+    {
+        self.ancestors.contains(uid)
+    }
+}

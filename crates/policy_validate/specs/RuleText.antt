@@ -1,0 +1,15 @@
+-- How the rules of stores are written.
+use Rattle.std.specs.Prelude.{ℕ, List, ◌++◌, codes}
+use Rattle.policy_names.specs.Show.{uid_text}
+use Rattle.policy_validate.specs.declared.store_rule.StoreRule.{StoreRule}
+use Rattle.policy_validate.specs.declared.store_rule.StoreRule.TheVariants.{TypeNotDeclared, AttributeNotDeclared, TagsNotAllowed, AncestorNotAllowed, ActionNotDeclared, ActionHasAttributes, ActionHasTags, ActionAncestorsDiffer}
+
+abbrev pub rule_text : StoreRule → List ℕ
+rule_text TypeNotDeclared = codes "type is not declared"
+rule_text (AttributeNotDeclared key) = codes "attribute `" ++ key ++ codes "` is not declared"
+rule_text TagsNotAllowed = codes "tags are not allowed"
+rule_text (AncestorNotAllowed uid) = codes "ancestor `" ++ uid_text uid.entity_type uid.eid ++ codes "` is not allowed"
+rule_text ActionNotDeclared = codes "action is not declared"
+rule_text ActionHasAttributes = codes "action has attributes"
+rule_text ActionHasTags = codes "action has tags"
+rule_text ActionAncestorsDiffer = codes "action's ancestors differ from the schema's"

@@ -1,0 +1,153 @@
+//! The rules of stores.
+
+ghost use Rattle.std.specs.Prelude.{◌≡◌, IfOk, OnErr, IsSome, find, MatchResult};
+ghost use Rattle.std.specs.Option.{option_copied};
+ghost use Rattle.policy_values.specs.Value.{fields_of};
+ghost use Rattle.policy_validate.specs.Conformance.{StoreConforms, IsStoreFault, first_store_fault, entity_fault, action_entity_fault, typed_entity_fault, first_key, may_be_in, is_not_allowed, is_action_in, has_all_ancestors, has_its_ancestors};
+
+use crate::{ConformanceError, EntityDoesNotConform, StoreRule};
+use policy_names::{EntityType, EntityUID, Text};
+use policy_store::{Entities, Entity};
+use policy_values::Value;
+use schema_core::ValidatorSchema;
+use std::alloc::AllocError;
+use std::collections::BTreeMap;
+
+/// Whether the store conforms to the schema. The entity of an action has to be declared as an action, without
+/// attributes and tags, and with exactly the ancestors that the schema gives the action. Any other entity has to be
+/// of a declared type, with the attributes and tags that the type has, and with ancestors of the types that it may
+/// be in.
+///
+/// Errs with the first entity that breaks a rule, in the order of the ids, and the first rule that it breaks.
+pub fn conforms(schema: &ValidatorSchema, entities: &Entities) -> Result<(), ConformanceError>
+    ensures { MatchResult result (λ _. StoreConforms schema.now entities.now) (IsStoreFault (first_store_fault schema.now entities.now)) }
+{
+    for entity in entities.iter() {
+        if let Some(rule) = broken_rule(schema, entity)? {
+            let uid = entity.uid().try_clone()?;
+            return Err(ConformanceError::EntityDoesNotConform(EntityDoesNotConform { uid, rule }));
+        }
+    }
+    Ok(())
+}
+
+// The first rule that the entity breaks.
+fn broken_rule(schema: &ValidatorSchema, entity: &Entity) -> Result<Option<StoreRule>, AllocError>
+    ensures rule { IfOk result (λ rule. rule ≡ entity_fault schema.now entity.now) }
+    ensures memory { OnErr result (IsSome (entity_fault schema.now entity.now)) }
+{
+    if entity.uid().is_action() {
+        return Ok(broken_action_rule(schema, entity));
+    }
+    broken_typed_rule(schema, entity)
+}
+
+// The first rule that the entity of an action breaks.
+fn broken_action_rule(schema: &ValidatorSchema, entity: &Entity) -> Option<StoreRule>
+    ensures { result ≡ action_entity_fault schema.now entity.now }
+{
+    if schema.get_action_id(entity.uid()).is_none() {
+        return Some(StoreRule::ActionNotDeclared);
+    }
+    if least_key(entity.attrs()).is_some() {
+        return Some(StoreRule::ActionHasAttributes);
+    }
+    if least_key(entity.tags()).is_some() {
+        return Some(StoreRule::ActionHasTags);
+    }
+    if !has_its_ancestors(schema, entity) {
+        return Some(StoreRule::ActionAncestorsDiffer);
+    }
+    None
+}
+
+// Whether the ancestors of the entity are those of its action.
+fn has_its_ancestors(schema: &ValidatorSchema, entity: &Entity) -> bool
+    ensures { result ≡ has_its_ancestors schema.now entity.now }
+{
+    let uid = entity.uid();
+    for above in entity.ancestors() {
+        if !is_action_in(schema, uid, above) {
+            return false;
+        }
+    }
+    has_all_ancestors(schema, entity)
+}
+
+// Whether the action is a descendant of the other.
+fn is_action_in(schema: &ValidatorSchema, uid: &EntityUID, above: &EntityUID) -> bool
+    ensures { result ≡ is_action_in schema.now uid.now above.now }
+{
+    match schema.get_action_id(above) {
+        Some(action) => action.descendants().contains(uid),
+        None => false,
+    }
+}
+
+// Whether no ancestor of its action is missing in the entity.
+fn has_all_ancestors(schema: &ValidatorSchema, entity: &Entity) -> bool
+    ensures { result ≡ has_all_ancestors schema.now entity.now }
+{
+    for action in schema.action_ids() {
+        if action.descendants().contains(entity.uid())
+            && !entity.ancestors().contains(action.name())
+        {
+            return false;
+        }
+    }
+    true
+}
+
+// The first rule that an entity breaks that is not of an action.
+fn broken_typed_rule(
+    schema: &ValidatorSchema,
+    entity: &Entity,
+) -> Result<Option<StoreRule>, AllocError>
+    ensures rule { IfOk result (λ rule. rule ≡ typed_entity_fault schema.now entity.now) }
+    ensures memory { OnErr result (IsSome (typed_entity_fault schema.now entity.now)) }
+{
+    if schema.get_entity_type(&entity.uid().entity_type).is_none() {
+        return Ok(Some(StoreRule::TypeNotDeclared));
+    }
+    if let Some(key) = least_key(entity.attrs()) {
+        return Ok(Some(StoreRule::AttributeNotDeclared(key.try_clone()?)));
+    }
+    if least_key(entity.tags()).is_some() {
+        return Ok(Some(StoreRule::TagsNotAllowed));
+    }
+    match first_not_allowed(schema, entity) {
+        Some(uid) => Ok(Some(StoreRule::AncestorNotAllowed(uid.try_clone()?))),
+        None => Ok(None),
+    }
+}
+
+// The least key of the fields.
+fn least_key(fields: &BTreeMap<Text, Value>) -> Option<&Text>
+    ensures { option_copied result ≡ first_key (fields_of fields.now.entries) }
+{
+    let (key, _) = fields.first_key_value()?;
+    Some(key)
+}
+
+// The first ancestor of a type that the entity may not be in.
+fn first_not_allowed<'a>(schema: &ValidatorSchema, entity: &'a Entity) -> Option<&'a EntityUID>
+    ensures { option_copied result ≡ find (is_not_allowed schema.now entity.now) entity.now.ancestors }
+{
+    let ty = &entity.uid().entity_type;
+    for uid in entity.ancestors() {
+        if !may_be_in(schema, ty, &uid.entity_type) {
+            return Some(uid);
+        }
+    }
+    None
+}
+
+// Whether entities of the type may have ancestors of the other.
+fn may_be_in(schema: &ValidatorSchema, ty: &EntityType, above: &EntityType) -> bool
+    ensures { result ≡ may_be_in schema.now ty.now above.now }
+{
+    match schema.get_entity_type(above) {
+        Some(declared) => declared.descendants().contains(ty),
+        None => false,
+    }
+}

@@ -1,0 +1,126 @@
+//! How it is written that a request or a store does not conform.
+
+ghost use Rattle.std.specs.Prelude.{◌≡◌, ◌++◌, IfOk, OnOk, None, string_bytes};
+ghost use Rattle.policy_validate.specs.Written.{request_message, request_help, valid_types, further_types, request_text, entity_text};
+
+use crate::{EntityDoesNotConform, RequestValidationError};
+use policy_core::{EntityType, EntityUID, Loc, Text};
+use policy_scope::{Diagnostic, add_help};
+use std::alloc::{AllocError, Global};
+use std::fmt::Write;
+
+impl Diagnostic for RequestValidationError {
+    ghost message_text = { request_message };
+
+    ghost help_text = { request_help };
+
+    ghost place = { λ _. None };
+
+    fn message(&self, alloc: Global) -> Result<Text, AllocError> {
+        match self {
+            RequestValidationError::UndeclaredAction(e) => {
+                let uid = &e.action;
+                let text = format!(in alloc;
+                    "request's action `{uid}` is not declared in the schema"
+                )?;
+                Ok(Text::from_string(text))
+            }
+            RequestValidationError::UndeclaredPrincipalType(e) => {
+                let ty = &e.principal_ty;
+                let text = format!(in alloc;
+                    "principal type `{ty}` is not declared in the schema"
+                )?;
+                Ok(Text::from_string(text))
+            }
+            RequestValidationError::UndeclaredResourceType(e) => {
+                let ty = &e.resource_ty;
+                let text = format!(in alloc; "resource type `{ty}` is not declared in the schema")?;
+                Ok(Text::from_string(text))
+            }
+            RequestValidationError::InvalidPrincipalType(e) => {
+                let ty = &e.principal_ty;
+                let uid = &e.action;
+                let text = format!(in alloc; "principal type `{ty}` is not valid for `{uid}`")?;
+                Ok(Text::from_string(text))
+            }
+            RequestValidationError::InvalidResourceType(e) => {
+                let ty = &e.resource_ty;
+                let uid = &e.action;
+                let text = format!(in alloc; "resource type `{ty}` is not valid for `{uid}`")?;
+                Ok(Text::from_string(text))
+            }
+            RequestValidationError::OutOfMemory => Text::from_str(alloc, "out of memory"),
+        }
+    }
+
+    fn help(&self, alloc: Global) -> Result<Option<Text>, AllocError> {
+        match self {
+            RequestValidationError::InvalidPrincipalType(e) => {
+                let types = valid_types(alloc, "principal", &e.action, &e.valid_principal_tys)?;
+                Ok(Some(types))
+            }
+            RequestValidationError::InvalidResourceType(e) => {
+                let types = valid_types(alloc, "resource", &e.action, &e.valid_resource_tys)?;
+                Ok(Some(types))
+            }
+            _ => Ok(None),
+        }
+    }
+
+    fn location(&self) -> Option<Loc> {
+        None
+    }
+}
+
+// The types of principals, or of resources, to which the action applies.
+fn valid_types(
+    alloc: Global,
+    side: &str,
+    action: &EntityUID,
+    types: &[EntityType],
+) -> Result<Text, AllocError>
+    ensures { IfOk result (λ text. text ≡ valid_types side.now action.now types.now) }
+{
+    match types {
+        [] => {
+            let text = format!(in alloc; "no {side} types are valid for `{action}`")?;
+            Ok(Text::from_string(text))
+        }
+        [first, others @ ..] => {
+            let mut text = format!(in alloc; "valid {side} types for `{action}`: `{first}`")?;
+            add_types(&mut text, others)?;
+            Ok(Text::from_string(text))
+        }
+    }
+}
+
+// Adds the types behind the first.
+fn add_types(text: &mut String, types: &[EntityType]) -> Result<(), AllocError>
+    ensures { OnOk result (string_bytes text.new ≡ string_bytes text.old ++ further_types types.now) }
+{
+    for ty in types {
+        write!(text, ", `{ty}`")?;
+    }
+    Ok(())
+}
+
+/// The rule that the request breaks, behind `request: `, with a further line where something may help.
+pub fn request_text(alloc: Global, error: &RequestValidationError) -> Result<Text, AllocError>
+    ensures { IfOk result (λ text. text ≡ request_text error.now) }
+{
+    let message = error.message(alloc)?;
+    let help = error.help(alloc)?;
+    let mut text = format!(in alloc; "request: {message}\n")?;
+    add_help(&mut text, &help)?;
+    Ok(Text::from_string(text))
+}
+
+/// The entity and the rule that it breaks, behind `entity: `.
+pub fn entity_text(alloc: Global, error: &EntityDoesNotConform) -> Result<Text, AllocError>
+    ensures { IfOk result (λ text. text ≡ entity_text error.now) }
+{
+    let uid = &error.uid;
+    let rule = &error.rule;
+    let text = format!(in alloc; "entity: {uid}: {rule}\n")?;
+    Ok(Text::from_string(text))
+}

@@ -1,0 +1,9 @@
+pub mod Gv
+pub mod Maps
+pub mod Put
+pub mod Value
+pub mod ValueCode
+pub mod ValueFalls
+pub mod ValueLaws
+pub mod ValueOrder
+pub mod ValueView

@@ -1,0 +1,10 @@
+//! Values: booleans, longs, strings, entity ids, sets and records, in one total order.
+#![tactic(auto)]
+
+mod map;
+#[cfg(test)]
+mod tests;
+mod value;
+
+pub use map::push_entry;
+pub use value::{Value, ValueKind, try_clone_fields};

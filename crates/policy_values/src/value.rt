@@ -1,0 +1,357 @@
+//! Values and their total order.
+
+ghost use Rattle.std.specs.Prelude.{◌≡◌, ◌≤◌, IfOk, OnOk, MatchOption, length, insert};
+ghost use Rattle.policy_values.specs.Put.{put};
+ghost use Rattle.policy_values.specs.ValueView.{val_of};
+ghost use Rattle.policy_values.specs.Value.{Val, truth, long, string, entity, set, rec, vals_of, fields_of};
+ghost use Rattle.policy_values.specs.ValueOrder.{rank, val_cmp, vals_cmp, fields_cmp, insert_val, set_of, Ascends};
+
+use crate::push_entry;
+use policy_names::{EntityUID, Text};
+use std::alloc::{AllocError, Global};
+use std::cmp::Ordering;
+use std::collections::BTreeMap;
+use std::marker::Model;
+
+/// A value. What is equal in Cedar is equal here: a set has no order and no repeats, so its elements are kept
+/// ascending, each once.
+///
+/// Values are ordered by kind (booleans, longs, strings, ids, sets, records), and inside a kind by content: texts by
+/// their bytes, ids by type and then by eid, sets and records as the lists of their elements and of their fields.
+#[derive(Debug, Drop)]
+#[cycle(value)]
+pub struct Value {
+    kind: ValueKind,
+}
+
+/// What a value is.
+#[derive(Debug, Drop)]
+#[cycle(value)]
+pub enum ValueKind {
+    /// A truth value.
+    Bool(bool),
+    /// A whole number of 64 bits.
+    Long(i64),
+    /// A text.
+    String(Text),
+    /// The id of an entity, whether or not a store holds it.
+    EntityUID(EntityUID),
+    /// The elements of a set, ascending, each once.
+    Set(Vec<Value>),
+    /// The fields of a record under their keys.
+    Record(BTreeMap<Text, Value>),
+}
+
+impl Model for Value {
+    ghost use Rattle.policy_values.specs.Value.{Val};
+    ghost use Rattle.policy_values.specs.ValueCode.{coded_val};
+
+    ghost Value = { Val };
+
+    ghost coded = { coded_val };
+
+    ghost use Rattle.policy_values.specs.ValueView.{val_of};
+
+    ghost view = { λ a. val_of a.kind };
+
+    ghost use Rattle.policy_values.specs.ValueOrder.{IsInOrder};
+
+    ghost invariant = { λ a. IsInOrder (val_of a.kind) };
+
+    ghost use Rattle.policy_values.specs.Value.{size_of};
+
+    ghost size = { size_of };
+
+    ghost use Rattle.policy_values.specs.ValueFalls.{falls};
+
+    ghost size_decreases = { λ a h. falls a };
+}
+
+impl Value {
+    /// A boolean.
+    pub fn bool(b: bool) -> Value
+        ensures { result ≡ truth b }
+    {
+        Value {
+            kind: ValueKind::Bool(b),
+        }
+    }
+
+    /// A long.
+    pub fn long(n: i64) -> Value
+        ensures { result ≡ long n }
+    {
+        Value {
+            kind: ValueKind::Long(n),
+        }
+    }
+
+    /// A string.
+    pub fn string(text: Text) -> Value
+        ensures { result ≡ string text }
+    {
+        Value {
+            kind: ValueKind::String(text),
+        }
+    }
+
+    /// The id of an entity.
+    pub fn entity_uid(uid: EntityUID) -> Value
+        ensures { result ≡ entity uid }
+    {
+        Value {
+            kind: ValueKind::EntityUID(uid),
+        }
+    }
+
+    /// The set of the elements of a list, whatever their order; repeats are kept once. Errs where memory runs out.
+    pub fn set(alloc: Global, items: Vec<Value>) -> Result<Value, AllocError>
+        ensures { IfOk result (λ v. v ≡ set (set_of items.items)) }
+    {
+        let mut items = items;
+        let mut kept = Vec::new(alloc);
+        while let Some(item) = items.pop() {
+            add(&mut kept, item)?;
+        }
+        Ok(Value {
+            kind: ValueKind::Set(kept),
+        })
+    }
+
+    /// The record of the fields of a map.
+    pub fn record(fields: BTreeMap<Text, Value>) -> Value
+        ensures { result ≡ rec (fields_of fields.entries) }
+    {
+        let _count = fields.len();
+        Value {
+            kind: ValueKind::Record(fields),
+        }
+    }
+
+    /// An equal value with memory of its own.
+    pub fn try_clone(&self, alloc: Global) -> Result<Value, AllocError>
+        ensures { IfOk result (λ v. v ≡ self.now) }
+    {
+        copy_of(alloc, self)
+    }
+
+    /// What the value is.
+    pub fn kind(&self) -> &ValueKind
+        ensures { val_of result.now ≡ self.now }
+    {
+        &self.kind
+    }
+}
+
+impl PartialEq for Value {
+    ghost use Rattle.std.specs.Ordering.{is_eq};
+    ghost use Rattle.std.specs.Cmp.{partial_equiv_from_equiv};
+    ghost use Rattle.std.proofs.lemmas.Cmp.{eq_by_cmp_equiv};
+    ghost use Rattle.policy_values.specs.ValueOrder.{val_cmp};
+    ghost use Rattle.policy_values.specs.ValueLaws.{val_cmp_total};
+
+    ghost eq = { λ a b. is_eq (val_cmp a b) };
+
+    ghost laws = { partial_equiv_from_equiv (eq_by_cmp_equiv val_cmp_total) };
+
+    fn eq(&self, other: &Value) -> bool {
+        compare(self, other) == Ordering::Equal
+    }
+}
+
+impl Eq for Value {
+    ghost use Rattle.std.proofs.lemmas.Cmp.{eq_by_cmp_equiv};
+    ghost use Rattle.policy_values.specs.ValueLaws.{val_cmp_total};
+
+    ghost laws = { eq_by_cmp_equiv val_cmp_total };
+}
+
+impl Ord for Value {
+    ghost use Rattle.std.specs.Ordering.{is_eq, as_partial_cmp};
+    ghost use Rattle.std.proofs.Common.{refl};
+    ghost use Rattle.policy_values.specs.ValueOrder.{val_cmp};
+    ghost use Rattle.policy_values.specs.ValueLaws.{val_cmp_total};
+
+    ghost cmp = { val_cmp };
+
+    ghost total = { val_cmp_total };
+
+    ghost matches_partial_cmp = { λ a b. refl };
+
+    ghost matches_eq = { λ a b. refl };
+
+    fn cmp(&self, other: &Value) -> Ordering {
+        compare(self, other)
+    }
+}
+
+impl PartialOrd for Value {
+    ghost use Rattle.std.specs.Ordering.{as_partial_cmp};
+    ghost use Rattle.std.specs.Cmp.{partial_order_from_total};
+    ghost use Rattle.policy_values.specs.ValueOrder.{val_cmp};
+    ghost use Rattle.policy_values.specs.ValueLaws.{val_cmp_total};
+
+    ghost partial_cmp = { as_partial_cmp val_cmp };
+
+    ghost laws = { partial_order_from_total val_cmp_total };
+
+    fn partial_cmp(&self, other: &Value) -> Option<Ordering> {
+        Some(compare(self, other))
+    }
+}
+
+// Puts a value into its place, unless it is there.
+fn add(kept: &mut Vec<Value>, item: Value) -> Result<(), AllocError>
+    ensures { OnOk result (vals_of kept.new.items ≡ insert_val item (vals_of kept.old.items)) }
+{
+    match place(kept, &item) {
+        Some(i) => {
+            kept.insert(i, item)?;
+            Ok(())
+        }
+        None => Ok(()),
+    }
+}
+
+// Where a value goes, none where it is there.
+fn place(kept: &Vec<Value>, item: &Value) -> Option<usize>
+    ensures { MatchOption result (put item.now kept.now.items ≡ kept.now.items)
+        (λ i. (i ≤ length kept.now.items) × (put item.now kept.now.items ≡ insert kept.now.items i item.now)) }
+{
+    for (i, other) in kept.iter().enumerate() {
+        match compare(item, other) {
+            Ordering::Less => return Some(i),
+            Ordering::Equal => return None,
+            Ordering::Greater => {}
+        }
+    }
+    Some(kept.len())
+}
+
+// The place of a value's kind.
+fn rank(v: &Value) -> u8
+    ensures { result ≡ rank v.now }
+{
+    match &v.kind {
+        ValueKind::Bool(_) => 0,
+        ValueKind::Long(_) => 1,
+        ValueKind::String(_) => 2,
+        ValueKind::EntityUID(_) => 3,
+        ValueKind::Set(_) => 4,
+        ValueKind::Record(_) => 5,
+    }
+}
+
+#[cycle(compare)]
+fn compare(a: &Value, b: &Value) -> Ordering
+    ensures { result ≡ val_cmp a.now b.now }
+{
+    match (&a.kind, &b.kind) {
+        (ValueKind::Bool(x), ValueKind::Bool(y)) => x.cmp(y),
+        (ValueKind::Long(x), ValueKind::Long(y)) => x.cmp(y),
+        (ValueKind::String(x), ValueKind::String(y)) => x.cmp(y),
+        (ValueKind::EntityUID(x), ValueKind::EntityUID(y)) => x.cmp(y),
+        (ValueKind::Set(x), ValueKind::Set(y)) => compare_all(x, y),
+        (ValueKind::Record(x), ValueKind::Record(y)) => compare_fields(x, y),
+        _ => rank(a).cmp(&rank(b)),
+    }
+}
+
+#[cycle(compare)]
+fn compare_all(a: &Vec<Value>, b: &Vec<Value>) -> Ordering
+    ensures { result ≡ vals_cmp (vals_of a.now.items) (vals_of b.now.items) }
+{
+    for (i, x) in a.iter().enumerate() {
+        if i >= b.len() {
+            return Ordering::Greater;
+        }
+        let first = compare(x, &b[i]);
+        if first != Ordering::Equal {
+            return first;
+        }
+    }
+    if a.len() < b.len() {
+        Ordering::Less
+    } else {
+        Ordering::Equal
+    }
+}
+
+#[cycle(compare)]
+fn compare_fields(a: &BTreeMap<Text, Value>, b: &BTreeMap<Text, Value>) -> Ordering
+    ensures { result ≡ fields_cmp (fields_of a.now.entries) (fields_of b.now.entries) }
+{
+    let mut rest = b.iter();
+    for (key, x) in a.iter() {
+        match rest.next() {
+            None => return Ordering::Greater,
+            Some((other, y)) => {
+                let first = key.cmp(other).then(compare(x, y));
+                if first != Ordering::Equal {
+                    return first;
+                }
+            }
+        }
+    }
+    match rest.next() {
+        None => Ordering::Equal,
+        Some(_) => Ordering::Less,
+    }
+}
+
+// The same value around a copy of what it holds.
+fn like(v: &Value, kind: ValueKind) -> Value
+    requires { val_of kind ≡ v.now }
+    ensures { result ≡ v.now }
+{
+    let _kind = &v.kind;
+    Value { kind }
+}
+
+#[cycle(copy)]
+fn copy_of(alloc: Global, v: &Value) -> Result<Value, AllocError>
+    ensures { IfOk result (λ copy. copy ≡ v.now) }
+{
+    match &v.kind {
+        ValueKind::Bool(b) => Ok(Value::bool(*b)),
+        ValueKind::Long(n) => Ok(Value::long(*n)),
+        ValueKind::String(text) => Ok(Value::string(text.try_clone()?)),
+        ValueKind::EntityUID(uid) => Ok(Value::entity_uid(uid.try_clone()?)),
+        ValueKind::Set(items) => {
+            let items = copy_of_all(alloc, items)?;
+            Ok(like(v, ValueKind::Set(items)))
+        }
+        ValueKind::Record(fields) => {
+            let fields = try_clone_fields(alloc, fields)?;
+            Ok(like(v, ValueKind::Record(fields)))
+        }
+    }
+}
+
+#[cycle(copy)]
+fn copy_of_all(alloc: Global, items: &Vec<Value>) -> Result<Vec<Value>, AllocError>
+    ensures { IfOk result (λ copies. copies.items ≡ items.now.items) }
+{
+    let mut copies = Vec::new(alloc);
+    for item in items {
+        copies.push(copy_of(alloc, item)?)?;
+    }
+    Ok(copies)
+}
+
+/// An equal map of fields with memory of its own.
+#[cycle(copy)]
+pub fn try_clone_fields(
+    alloc: Global,
+    fields: &BTreeMap<Text, Value>,
+) -> Result<BTreeMap<Text, Value>, AllocError>
+    ensures { IfOk result (λ copies. copies.entries ≡ fields.now.entries) }
+{
+    let mut copies = BTreeMap::new(alloc);
+    for (name, item) in fields.iter() {
+        let name = name.try_clone()?;
+        let item = copy_of(alloc, item)?;
+        push_entry(&mut copies, name, item)?;
+    }
+    Ok(copies)
+}

@@ -1,0 +1,2 @@
+pub mod SliceJson
+pub mod ValueJson

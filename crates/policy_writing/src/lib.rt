@@ -1,0 +1,10 @@
+//! Answers as JSON texts.
+#![tactic(auto)]
+
+mod slices;
+#[cfg(test)]
+mod tests;
+mod values;
+
+pub use slices::{slice_text, write_entity};
+pub use values::{write_fields, write_uid, write_value};

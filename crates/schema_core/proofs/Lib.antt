@@ -1,0 +1,10 @@
+pub mod Actions
+pub mod Filled
+pub mod Found
+pub mod Lists
+pub mod Mapped
+pub mod Members
+pub mod Queries
+pub mod Rules
+pub mod Shown
+pub mod OneSchema

@@ -1,0 +1,54 @@
+use Rattle.std.proofs.Common.{IsTrue, subst, refl, sym}
+use Rattle.hierarchy.specs.Reaches.{Reaches}
+use Rattle.hierarchy.specs.Least.{IsLeast}
+use Rattle.policy_names.specs.Uid.{uid_cmp, copied_uid}
+use Rattle.schema_core.specs.Outline.{Outline, outline_of, HasSoundNames, HasDescendants}
+use Rattle.schema_core.specs.Declarations.{IsRefused}
+use Rattle.schema_core.specs.Listing.{listed_outline}
+use Rattle.schema_core.proofs.Rules.{refused_by, refused_declarations, own_least, no_own}
+use Rattle.schema_core.proofs.Members.{members_names, members_closed, cycle_least}
+use Rattle.schema_core.proofs.validator_schema.ValidatorSchema.from_declarations.Goals as goal
+
+pub declared-requires-clause-actions : goal.declared-requires-clause-actions
+declared-requires-clause-actions c = rw (c.in_default.is, c.deref.ensures.value, c.in_ok-ids.ensures) at c.in_ok-uid.ensures
+
+pub returns-in_err-check_names : goal.returns-in_err-check_names
+returns-in_err-check_names c =
+    let once = rw (c.in_default.is, c.deref.ensures.value, c.in_ok-ids.ensures) at c.in_ok-uid.ensures in
+    let e = c.in_ok-listing.ensures.outline in
+    let fault = c.in_err-check_names.field-0.0 in
+    refused_by c.from_residual-in_err-check_names.result fault _ (IsRefused c.args.declarations) c.from_residual-in_err-check_names.ensures.1 (refused_declarations c.args.declarations (listed_outline c.in_ok-listing.listing) fault e once c.in_err-check_names.ensures)
+
+pub returns-in-Some-first_own : goal.returns-in-Some-first_own
+returns-in-Some-first_own c =
+    let once = rw (c.in_default.is, c.deref.ensures.value, c.in_ok-ids.ensures) at c.in_ok-uid.ensures in
+    let e = c.in_ok-listing.ensures.outline in
+    let u = c.in-Some-first_own.uid.now in
+    let same = copied_uid u c.in_ok-clone.field-0 c.in_ok-clone.ensures.cases in
+    let members = c.in_ok-members.members in
+    let own = own_least members (listed_outline members) refl u c.in-Some-first_own.ensures in
+    let cycle = cycle_least (listed_outline c.in_ok-listing.listing) (listed_outline members) c.in_ok-members.ensures.descendants u own in
+    (once, subst HasSoundNames e c.in_ok-check_names.ensures, rw same (subst (λ (p : Outline). IsLeast uid_cmp (λ v. Reaches (λ a b. IsTrue (p.action_lists a b)) v v) u) e cycle))
+
+pub arranged-requires-clause-names : goal.arranged-requires-clause-names
+arranged-requires-clause-names c = members_names c.in_ok-listing.listing (listed_outline c.in_ok-members.members) c.in_ok-check_names.ensures c.in_ok-members.ensures.descendants
+
+pub arranged-requires-clause-closed : goal.arranged-requires-clause-closed
+arranged-requires-clause-closed c =
+    let members = c.in_ok-members.members in
+    members_closed (listed_outline c.in_ok-listing.listing) (listed_outline members) c.in_ok-members.ensures.descendants (no_own members (listed_outline members) refl c.in_default-first_own.ensures)
+
+pub returns : goal.returns
+returns c =
+    let once = rw (c.in_default.is, c.deref.ensures.value, c.in_ok-ids.ensures) at c.in_ok-uid.ensures in
+    let e = c.in_ok-listing.ensures.outline in
+    let members = c.in_ok-members.members in
+    let d = c.in_ok-members.ensures.descendants in
+    let none = no_own members (listed_outline members) refl c.in_default-first_own.ensures in
+    record {
+      once = once;
+      names = subst HasSoundNames e c.in_ok-check_names.ensures;
+      no_cycle = λ u cycle. none u ((d.actions u u).1 (subst (λ (p : Outline). Reaches (λ a b. IsTrue (p.action_lists a b)) u u) (sym e) cycle));
+      schema = c.in_ok-arranged.ensures.0;
+      descendants = subst (λ (p : Outline). HasDescendants p (outline_of c.in_ok-arranged.field-0)) e (subst (λ (p : Outline). HasDescendants (listed_outline c.in_ok-listing.listing) p) (sym c.in_ok-arranged.ensures.1) d);
+    }

@@ -1,0 +1,10 @@
+pub mod Arranged
+pub mod Declarations
+pub mod Entries
+pub mod Environments
+pub mod FaultText
+pub mod Faults
+pub mod Listing
+pub mod Outline
+pub mod RequestEnvs
+pub mod Schema

@@ -1,0 +1,63 @@
+-- A schema as plain data: entity types and actions, each in ascending order of its names.
+use Rattle.std.specs.Prelude.{◌⊎◌, ℕ, Bool, List, Option, IsSome, IsTrue, IsSomeAnd, Contains, find}
+use Rattle.std.specs.Ordering.{is_eq}
+use Rattle.policy_names.specs.declared.entity_uid.EntityUID.{EntityUID}
+use Rattle.policy_names.specs.Basename.{is_action_type}
+use Rattle.policy_names.specs.Uid.{text_cmp, uid_cmp}
+
+-- an entity type: its name, and the types whose entities may have entities of it as ancestors
+pub record TypeData : Type 0 where
+  pub name : List ℕ
+  pub descendants : List (List ℕ)
+
+-- an action: its id, the types of the principals and of the resources that it applies to, and the actions that are in it
+pub record ActionData : Type 0 where
+  pub name : EntityUID
+  pub principals : List (List ℕ)
+  pub resources : List (List ℕ)
+  pub descendants : List EntityUID
+
+pub record SchemaData : Type 0 where
+  pub entity_types : List TypeData
+  pub action_ids : List ActionData
+
+-- whether the entity type, the action, is the one with the name
+abbrev pub is_type_named : List ℕ → TypeData → Bool
+is_type_named name t = is_eq (text_cmp name t.name)
+
+abbrev pub is_action_named : EntityUID → ActionData → Bool
+is_action_named uid a = is_eq (uid_cmp uid a.name)
+
+module _ (s : SchemaData) where
+  -- the entity type with the name, the action with the id
+  abbrev pub type_at : List ℕ → Option TypeData
+  type_at name = find (is_type_named name) s.entity_types
+
+  abbrev pub action_at : EntityUID → Option ActionData
+  action_at uid = find (is_action_named uid) s.action_ids
+
+  -- the type, the action, is declared
+  abbrev pub IsDeclaredType : List ℕ → Type 0
+  IsDeclaredType name = IsSome (type_at name)
+
+  abbrev pub IsDeclaredAction : EntityUID → Type 0
+  IsDeclaredAction uid = IsSome (action_at uid)
+
+  -- the type is declared, or is a type of actions
+  abbrev pub IsKnownType : List ℕ → Type 0
+  IsKnownType name = IsDeclaredType name ⊎ IsTrue (is_action_type name)
+
+  -- entities of the type `below` may have ancestors of the type `name`
+  abbrev pub HasTypeDescendant : List ℕ → List ℕ → Type 0
+  HasTypeDescendant name below = IsSomeAnd (type_at name) (λ t. Contains t.descendants below)
+
+  -- the action `below` is in the action `uid`
+  abbrev pub HasActionDescendant : EntityUID → EntityUID → Type 0
+  HasActionDescendant uid below = IsSomeAnd (action_at uid) (λ a. Contains a.descendants below)
+
+  -- the action applies to principals of the type, to resources of the type
+  abbrev pub AppliesToPrincipal : EntityUID → List ℕ → Type 0
+  AppliesToPrincipal uid name = IsSomeAnd (action_at uid) (λ a. Contains a.principals name)
+
+  abbrev pub AppliesToResource : EntityUID → List ℕ → Type 0
+  AppliesToResource uid name = IsSomeAnd (action_at uid) (λ a. Contains a.resources name)

@@ -1,0 +1,22 @@
+//! Schemas: which entity types and actions there are, what is in what, and which requests an action applies to.
+#![tactic(auto)]
+
+mod action_id;
+mod arrange;
+mod checks;
+mod declarations;
+mod entity_type;
+mod fault;
+mod listing;
+mod request_env;
+mod sets;
+#[cfg(test)]
+mod tests;
+mod validator_schema;
+
+pub use action_id::ValidatorActionId;
+pub use declarations::{ActionDeclaration, SchemaDeclarations, TypeDeclaration};
+pub use entity_type::ValidatorEntityType;
+pub use fault::SchemaFault;
+pub use request_env::RequestEnv;
+pub use validator_schema::ValidatorSchema;

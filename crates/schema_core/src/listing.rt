@@ -1,0 +1,143 @@
+// Types and actions under their names, each with what is listed at it: descendants, or what it is a member of.
+ghost use Rattle.std.specs.Prelude.{◌≡◌, [], map, IfOk, OnOk};
+ghost use Rattle.schema_core.specs.Schema.{SchemaData};
+ghost use Rattle.schema_core.specs.Outline.{outline_of};
+ghost use Rattle.schema_core.specs.Entries.{Declarations};
+ghost use Rattle.schema_core.specs.Declarations.{declared_outline};
+ghost use Rattle.schema_core.specs.Faults.{IsOnce};
+ghost use Rattle.schema_core.specs.Listing.{listed_outline, IsListing, ListsTypes, AddsAction};
+
+use crate::sets::set_of;
+use crate::{
+    ActionDeclaration, SchemaDeclarations, TypeDeclaration, ValidatorActionId, ValidatorEntityType,
+};
+use hierarchy::Steps;
+use policy_names::{EntityType, EntityUID};
+use std::alloc::{AllocError, Global};
+use std::collections::{BTreeMap, BTreeSet};
+
+/// Types that are listed at actions.
+pub type TypesOf = BTreeMap<EntityUID, BTreeSet<EntityType>>;
+
+/// Types and actions under their names, with what is listed at each.
+#[derive(Debug, Drop)]
+pub struct Listing {
+    pub types: Steps<EntityType>,
+    pub actions: Steps<EntityUID>,
+    pub principals: TypesOf,
+    pub resources: TypesOf,
+}
+
+/// What a schema's types and actions list: their descendants.
+pub fn listed(
+    alloc: Global,
+    entity_types: Vec<ValidatorEntityType>,
+    action_ids: Vec<ValidatorActionId>,
+) -> Result<Listing, AllocError>
+    requires types { IsOnce (map (λ t. t.name) entity_types.items) }
+    requires actions { IsOnce (map (λ a. a.name) action_ids.items) }
+    ensures outline { let given : SchemaData = record { entity_types = entity_types.items; action_ids = action_ids.items } in IfOk result (λ l. listed_outline l ≡ outline_of given) }
+    ensures listing { IfOk result IsListing }
+{
+    let mut listing = only_types(alloc, listed_types(alloc, entity_types)?);
+    for action in action_ids {
+        let ValidatorActionId {
+            name,
+            principals,
+            resources,
+            descendants,
+        } = action;
+        add_action(&mut listing, name, principals, resources, descendants)?;
+    }
+    Ok(listing)
+}
+
+/// What a document's types and actions list: what they are members of.
+pub fn declared(alloc: Global, declarations: SchemaDeclarations) -> Result<Listing, AllocError>
+    requires types { IsOnce (map (λ t. t.name) declarations.entity_types) }
+    requires actions { IsOnce (map (λ a. a.id) declarations.actions) }
+    ensures outline { IfOk result (λ l. listed_outline l ≡ declared_outline declarations) }
+    ensures listing { IfOk result IsListing }
+{
+    let SchemaDeclarations {
+        entity_types,
+        actions,
+    } = declarations;
+    let mut listing = only_types(alloc, declared_types(alloc, entity_types)?);
+    for action in actions {
+        let ActionDeclaration {
+            id,
+            principals,
+            resources,
+            member_of,
+        } = action;
+        let principals = set_of(alloc, principals)?;
+        let resources = set_of(alloc, resources)?;
+        let member_of = set_of(alloc, member_of)?;
+        add_action(&mut listing, id, principals, resources, member_of)?;
+    }
+    Ok(listing)
+}
+
+// The types with their descendants.
+fn listed_types(
+    alloc: Global,
+    entity_types: Vec<ValidatorEntityType>,
+) -> Result<Steps<EntityType>, AllocError>
+    requires { IsOnce (map (λ t. t.name) entity_types.items) }
+    ensures { let given : SchemaData = record { entity_types = entity_types.items; action_ids = [] } in IfOk result (ListsTypes (outline_of given)) }
+{
+    let mut types = BTreeMap::new(alloc);
+    for entity_type in entity_types {
+        let ValidatorEntityType { name, descendants } = entity_type;
+        types.insert(name, descendants)?;
+    }
+    Ok(types)
+}
+
+// The types with what they are members of.
+fn declared_types(
+    alloc: Global,
+    entity_types: Vec<TypeDeclaration>,
+) -> Result<Steps<EntityType>, AllocError>
+    requires { IsOnce (map (λ t. t.name) entity_types.items) }
+    ensures { let given : Declarations = record { entity_types = entity_types.items; actions = [] } in IfOk result (ListsTypes (declared_outline given)) }
+{
+    let mut types = BTreeMap::new(alloc);
+    for entity_type in entity_types {
+        let TypeDeclaration { name, member_of } = entity_type;
+        types.insert(name, set_of(alloc, member_of)?)?;
+    }
+    Ok(types)
+}
+
+// The types, and no actions.
+fn only_types(alloc: Global, types: Steps<EntityType>) -> Listing
+    ensures types { result.types ≡ types }
+    ensures actions { result.actions.entries ≡ [] }
+    ensures principals { result.principals.entries ≡ [] }
+    ensures resources { result.resources.entries ≡ [] }
+{
+    Listing {
+        types,
+        actions: BTreeMap::new(alloc),
+        principals: BTreeMap::new(alloc),
+        resources: BTreeMap::new(alloc),
+    }
+}
+
+// Declares one action more.
+fn add_action(
+    listing: &mut Listing,
+    id: EntityUID,
+    principals: BTreeSet<EntityType>,
+    resources: BTreeSet<EntityType>,
+    listed: BTreeSet<EntityUID>,
+) -> Result<(), AllocError>
+    ensures { OnOk result (AddsAction listing.old listing.new id principals resources listed) }
+{
+    listing.principals.insert(id.clone()?, principals)?;
+    listing.resources.insert(id.clone()?, resources)?;
+    listing.actions.insert(id, listed)?;
+    Ok(())
+}

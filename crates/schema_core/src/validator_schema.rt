@@ -1,0 +1,292 @@
+//! Schemas.
+
+use crate::arrange::{arranged_actions, arranged_types};
+use crate::checks::check_names;
+use crate::listing::{Listing, declared, listed};
+use crate::request_env::add_environments;
+use crate::sets::add_all;
+use crate::{RequestEnv, SchemaDeclarations, SchemaFault, ValidatorActionId, ValidatorEntityType};
+use hierarchy::{descendants_of, first_not_closed, first_own, least_repeated};
+use policy_names::{EntityType, EntityUID};
+use std::alloc::{AllocError, Global};
+use std::collections::BTreeSet;
+use std::marker::Model;
+
+/// A schema: the entity types and the actions that are declared, in the order of their names.
+#[derive(Debug, Drop)]
+pub struct ValidatorSchema {
+    entity_types: Vec<ValidatorEntityType>,
+    action_ids: Vec<ValidatorActionId>,
+}
+
+impl Model for ValidatorSchema {
+    ghost use Rattle.schema_core.specs.Schema.{SchemaData};
+    ghost use Rattle.schema_core.specs.Faults.{IsSchema};
+
+    ghost Value = { SchemaData };
+
+    ghost view = { λ s. record { entity_types = s.entity_types.items; action_ids = s.action_ids.items } };
+
+    ghost invariant = { λ s. IsSchema record { entity_types = s.entity_types.items; action_ids = s.action_ids.items } };
+}
+
+ghost use Rattle.std.specs.Prelude.{◌≡◌, ◌↔◌, ◌⊎◌, ℕ, List, map, IfOk, IfSome, IsTrue, MatchResult, MatchOption, Contains};
+ghost use Rattle.std.specs.Option.{option_copied};
+ghost use Rattle.std.specs.BTreeSet.{IsOrdered};
+ghost use Rattle.policy_names.specs.declared.entity_uid.EntityUID.{EntityUID};
+ghost use Rattle.policy_names.specs.Uid.{text_cmp, uid_cmp};
+ghost use Rattle.schema_core.specs.Schema.{SchemaData, type_at, action_at, IsKnownType, IsDeclaredAction, HasTypeDescendant, HasActionDescendant};
+ghost use Rattle.schema_core.specs.Outline.{outline_of, HasSoundNames, IsClosed, HasDescendants};
+ghost use Rattle.schema_core.specs.Faults.{IsOnce, IsSchema, IsRefusedData};
+ghost use Rattle.schema_core.specs.Declarations.{IsSchemaOf, IsRefused};
+ghost use Rattle.schema_core.specs.Listing.{listed_outline, IsListing};
+ghost use Rattle.schema_core.specs.Environments.{environments};
+ghost use Rattle.schema_core.specs.RequestEnvs.{environment_of};
+
+impl ValidatorSchema {
+    /// The schema with these types and actions, in any order, where they keep its rules.
+    pub fn new(
+        alloc: Global,
+        entity_types: Vec<ValidatorEntityType>,
+        action_ids: Vec<ValidatorActionId>,
+    ) -> Result<ValidatorSchema, SchemaFault>
+        requires { IsOnce (map (λ t. t.name) entity_types.items) }
+        ensures { let given : SchemaData = record { entity_types = entity_types.items; action_ids = action_ids.items } in
+            MatchResult result (λ schema. IsSchema schema × (outline_of schema ≡ outline_of given)) (IsRefusedData given) }
+    {
+        let ids = ids_of(alloc, &action_ids)?;
+        if let Some(uid) = least_repeated(alloc, &ids)? {
+            return Err(SchemaFault::DuplicateAction(uid));
+        }
+        let listing = listed(alloc, entity_types, action_ids)?;
+        check_names(&listing)?;
+        if let Some(uid) = first_own(&listing.actions) {
+            return Err(SchemaFault::ActionCycle(uid.clone()?));
+        }
+        if let Some(name) = first_not_closed(&listing.types) {
+            return Err(SchemaFault::NotClosed(name.clone()?));
+        }
+        if let Some(uid) = first_not_closed(&listing.actions) {
+            return Err(SchemaFault::ActionNotClosed(uid.clone()?));
+        }
+        Ok(arranged(alloc, listing)?)
+    }
+
+    /// The schema that a document declares: descendants are all members, by one or more steps.
+    pub fn from_declarations(
+        alloc: Global,
+        declarations: SchemaDeclarations,
+    ) -> Result<ValidatorSchema, SchemaFault>
+        requires { IsOnce (map (λ t. t.name) declarations.entity_types) }
+        ensures { MatchResult result (IsSchemaOf declarations) (IsRefused declarations) }
+    {
+        let ids = declared_ids(alloc, &declarations)?;
+        if let Some(uid) = least_repeated(alloc, &ids)? {
+            return Err(SchemaFault::DuplicateAction(uid));
+        }
+        let listing = declared(alloc, declarations)?;
+        check_names(&listing)?;
+        let members = with_descendants(alloc, listing)?;
+        if let Some(uid) = first_own(&members.actions) {
+            return Err(SchemaFault::ActionCycle(uid.clone()?));
+        }
+        Ok(arranged(alloc, members)?)
+    }
+
+    /// The entity types, in the order of their names.
+    pub fn entity_types(&self) -> &[ValidatorEntityType]
+        ensures value { result.now ≡ self.now.entity_types }
+        ensures schema { IsSchema self.now }
+    {
+        &self.entity_types
+    }
+
+    /// The actions, in the order of their ids.
+    pub fn action_ids(&self) -> &[ValidatorActionId]
+        ensures value { result.now ≡ self.now.action_ids }
+        ensures schema { IsSchema self.now }
+    {
+        &self.action_ids
+    }
+
+    /// The entity type with the name; none exactly where it is not declared.
+    pub fn get_entity_type(&self, name: &EntityType) -> Option<&ValidatorEntityType>
+        ensures { option_copied result ≡ type_at self.now name.now }
+    {
+        match self.entity_types.binary_search_by(|t| t.name().cmp(name)) {
+            Ok(i) => Some(&self.entity_types[i]),
+            Err(_) => None,
+        }
+    }
+
+    /// The action with the id; none exactly where it is not declared.
+    pub fn get_action_id(&self, uid: &EntityUID) -> Option<&ValidatorActionId>
+        ensures { option_copied result ≡ action_at self.now uid.now }
+    {
+        match self.action_ids.binary_search_by(|a| a.name().cmp(uid)) {
+            Ok(i) => Some(&self.action_ids[i]),
+            Err(_) => None,
+        }
+    }
+
+    /// Whether the type is declared, or is a type of actions.
+    pub fn is_known_entity_type(&self, name: &EntityType) -> bool
+        ensures { IsTrue result ↔ IsKnownType self.now name.now }
+    {
+        name.is_action() || self.get_entity_type(name).is_some()
+    }
+
+    /// Whether the action is declared.
+    pub fn is_known_action_id(&self, uid: &EntityUID) -> bool
+        ensures { IsTrue result ↔ IsDeclaredAction self.now uid.now }
+    {
+        self.get_action_id(uid).is_some()
+    }
+
+    /// Whether entities of the type may have entities of the type `ancestor` as ancestors.
+    pub fn has_descendant(&self, ancestor: &EntityType, name: &EntityType) -> bool
+        ensures { IsTrue result ↔ HasTypeDescendant self.now ancestor.now name.now }
+    {
+        match self.get_entity_type(ancestor) {
+            Some(entity_type) => entity_type.has_descendant(name),
+            None => false,
+        }
+    }
+
+    /// The type of the entity and its descendants, ascending.
+    pub fn get_entity_types_in(
+        &self,
+        alloc: Global,
+        entity: &EntityUID,
+    ) -> Result<BTreeSet<EntityType>, AllocError>
+        ensures types { IfOk result (λ types. (q : List ℕ) → Contains types.keys q ↔ ((q ≡ entity.now.entity_type) ⊎ HasTypeDescendant self.now entity.now.entity_type q)) }
+        ensures ascending { IfOk result (IsOrdered text_cmp) }
+    {
+        let mut types = match self.get_entity_type(&entity.entity_type) {
+            Some(entity_type) => entity_type.descendants.clone()?,
+            None => BTreeSet::new(alloc),
+        };
+        types.insert(entity.entity_type.clone()?)?;
+        Ok(types)
+    }
+
+    /// The given actions and their descendants, ascending; none exactly where one of them is not declared.
+    pub fn get_actions_in_set(
+        &self,
+        alloc: Global,
+        uids: &[EntityUID],
+    ) -> Result<Option<BTreeSet<EntityUID>>, AllocError>
+        ensures actions { IfOk result (λ found. MatchOption found
+            ((u : EntityUID) × Contains uids.now u × (¬ IsDeclaredAction self.now u))
+            (λ actions. ((u : EntityUID) → Contains uids.now u → IsDeclaredAction self.now u) × ((q : EntityUID) → Contains actions.keys q ↔ (Contains uids.now q ⊎ ((u : EntityUID) × Contains uids.now u × HasActionDescendant self.now u q))))) }
+        ensures ascending { IfOk result (λ found. IfSome found (IsOrdered uid_cmp)) }
+    {
+        let mut actions = BTreeSet::new(alloc);
+        for uid in uids {
+            let Some(action) = self.get_action_id(uid) else {
+                return Ok(None);
+            };
+            actions.insert(uid.clone()?)?;
+            add_all(&mut actions, &action.descendants)?;
+        }
+        Ok(Some(actions))
+    }
+
+    /// The actions that the action is in, ascending.
+    pub fn action_ancestors(
+        &self,
+        alloc: Global,
+        uid: &EntityUID,
+    ) -> Result<BTreeSet<EntityUID>, AllocError>
+        ensures actions { IfOk result (λ actions. (q : EntityUID) → Contains actions.keys q ↔ HasActionDescendant self.now q uid.now) }
+        ensures ascending { IfOk result (IsOrdered uid_cmp) }
+    {
+        let mut ancestors = BTreeSet::new(alloc);
+        for action in &self.action_ids {
+            if action.has_descendant(uid) {
+                ancestors.insert(action.name.clone()?)?;
+            }
+        }
+        Ok(ancestors)
+    }
+
+    /// Every action with each of its principal types and each of its resource types, ascending in this order.
+    pub fn unlinked_request_envs(&self, alloc: Global) -> Result<Vec<RequestEnv<'_>>, AllocError>
+        ensures { IfOk result (λ envs. map environment_of envs.items ≡ environments self.now) }
+    {
+        let mut envs = Vec::new(alloc);
+        for action in &self.action_ids {
+            add_environments(&mut envs, action)?;
+        }
+        Ok(envs)
+    }
+}
+
+// The ids of the actions.
+fn ids_of(alloc: Global, action_ids: &[ValidatorActionId]) -> Result<Vec<EntityUID>, AllocError>
+    ensures { IfOk result (λ ids. ids.items ≡ map (λ a. a.name) action_ids.now) }
+{
+    let mut ids = Vec::new(alloc);
+    for action in action_ids {
+        ids.push(action.name.clone()?)?;
+    }
+    Ok(ids)
+}
+
+// The ids of the declared actions.
+fn declared_ids(
+    alloc: Global,
+    declarations: &SchemaDeclarations,
+) -> Result<Vec<EntityUID>, AllocError>
+    ensures { IfOk result (λ ids. ids.items ≡ map (λ a. a.id) declarations.now.actions) }
+{
+    let mut ids = Vec::new(alloc);
+    for action in &declarations.actions {
+        ids.push(action.id.clone()?)?;
+    }
+    Ok(ids)
+}
+
+// The listing with all members of a type or an action, by one or more steps.
+fn with_descendants(alloc: Global, listing: Listing) -> Result<Listing, AllocError>
+    requires names { HasSoundNames (listed_outline listing) }
+    requires listing { IsListing listing }
+    ensures descendants { IfOk result (λ members. HasDescendants (listed_outline listing) (listed_outline members)) }
+    ensures listing { IfOk result IsListing }
+{
+    let Listing {
+        types,
+        actions,
+        principals,
+        resources,
+    } = listing;
+    let types = descendants_of(alloc, &types)?;
+    let actions = descendants_of(alloc, &actions)?;
+    Ok(Listing {
+        types,
+        actions,
+        principals,
+        resources,
+    })
+}
+
+// The schema of a listing that keeps its rules.
+fn arranged(alloc: Global, listing: Listing) -> Result<ValidatorSchema, AllocError>
+    requires names { HasSoundNames (listed_outline listing) }
+    requires closed { IsClosed (listed_outline listing) }
+    requires listing { IsListing listing }
+    ensures { IfOk result (λ schema. IsSchema schema × (outline_of schema ≡ listed_outline listing)) }
+{
+    let Listing {
+        types,
+        actions,
+        principals,
+        resources,
+    } = listing;
+    let entity_types = arranged_types(alloc, types)?;
+    let action_ids = arranged_actions(alloc, actions, &principals, &resources)?;
+    Ok(ValidatorSchema {
+        entity_types,
+        action_ids,
+    })
+}
