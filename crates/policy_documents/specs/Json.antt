@@ -2,7 +2,7 @@
 use Rattle.std.specs.Prelude.{ℕ, List, [], ◌∷◌, Bool, true, ◌&&◌, if◌then◌else◌, Option, Some, None}
 use Rattle.std.specs.List.{list_any}
 use Rattle.std.specs.Str.{is_utf8, bytes_eq}
-use Rattle.serde_json.specs.Data.{Data, Items, no_items, Members, no_members, member}
+use Rattle.serde_json.specs.Data.{Data, Items, no_items, item, Members, no_members, member}
 use Rattle.serde_json.specs.Find.{as_array}
 use Rattle.serde_json.specs.Read.{read}
 
@@ -26,6 +26,13 @@ abbrev pub only_member : Members → Option (List ℕ × Data)
 only_member no_members = None
 only_member (member k d no_members) = Some (k, d)
 only_member (member k d (member l e ms)) = None
+
+-- the two items, where there are two
+abbrev pub pair_of : Items → Option (Data × Data)
+pair_of no_items = None
+pair_of (item d no_items) = None
+pair_of (item d (item e no_items)) = Some (d, e)
+pair_of (item d (item e (item f ds))) = None
 
 -- an absent list is empty
 abbrev pub list_of : Option Data → Option Items

@@ -1,5 +1,5 @@
 -- A policy in JSON.
-use Rattle.std.specs.Prelude.{ℕ, List, [], ◌∷◌, if◌then◌else◌, Option, Some, None, option_map, option_and_then, codes}
+use Rattle.std.specs.Prelude.{ℕ, List, [], ◌∷◌, Bool, nat_lt, if◌then◌else◌, Option, Some, None, option_map, option_and_then, codes}
 use Rattle.std.specs.Str.{bytes_eq}
 use Rattle.policy_names.specs.declared.entity_uid.EntityUID.{EntityUID}
 use Rattle.serde_json.specs.Data.{Data, Members, no_members, member}
@@ -14,8 +14,14 @@ use Rattle.policy_set.specs.declared.constraint.PrincipalOrResourceConstraint.Th
 use Rattle.policy_set.specs.declared.constraint.ActionConstraint.{ActionConstraint}
 use Rattle.policy_set.specs.declared.constraint.ActionConstraint.TheVariants as action
 use Rattle.policy_set.specs.declared.template.TemplateBody.{TemplateBody}
-use Rattle.policy_set.specs.Condition.{anything, template_of}
+use Rattle.policy_core.specs.Tree.{depth_of}
+use Rattle.policy_set.specs.Condition.{Plain, template_of}
+use Rattle.policy_documents.specs.Body.{body_of}
+use Rattle.policy_documents.specs.declared.body.BodyRead.{BodyRead}
+use Rattle.policy_documents.specs.declared.body.BodyRead.TheVariants as body
 use Rattle.policy_documents.specs.declared.policy.PolicyParts.{PolicyParts}
+use Rattle.policy_documents.specs.declared.policy.PolicyRead.{PolicyRead}
+use Rattle.policy_documents.specs.declared.policy.PolicyRead.TheVariants.{Policy, Nested}
 
 abbrev pub effect_of_text : List ℕ → Option Effect
 effect_of_text text = if bytes_eq text (codes "permit") then Some Permit else (if bytes_eq text (codes "forbid") then Some Forbid else None)
@@ -47,9 +53,9 @@ action_constraint_of None = Some action.Any
 action_constraint_of (Some d) = option_and_then action_form_of (as_object d)
 
 abbrev pub policy_names : List (List ℕ)
-policy_names = codes "id" ∷ codes "effect" ∷ codes "principal" ∷ codes "action" ∷ codes "resource" ∷ []
+policy_names = codes "id" ∷ codes "effect" ∷ codes "principal" ∷ codes "action" ∷ codes "resource" ∷ codes "body" ∷ []
 
--- the parts that the members of the policy give
+-- the parts that the members of the policy give, but for its body
 unfoldable pub policy_parts_of : Data → Option PolicyParts
 policy_parts_of d = do
   id ← option_and_then as_str (get (codes "id") d)
@@ -59,12 +65,31 @@ policy_parts_of d = do
   resource ← constraint_of (get (codes "resource") d)
   Some (record { id = id; effect = effect; principal = principal; action = action; resource = resource })
 
--- an object with no other members
-unfoldable pub policy_of : Data → Option PolicyParts
+-- the policy of the parts, with this body
+abbrev pub policy_of_parts : PolicyParts → Plain → TemplateBody
+policy_of_parts p body = template_of p.id p.effect p.principal p.action p.resource body
+
+abbrev pub policy_with_body : Option PolicyParts → Option Plain → Option TemplateBody
+policy_with_body parts body = do
+  parts ← parts
+  body ← body
+  Some (policy_of_parts parts body)
+
+-- the policy that the value is, of any depth: an object with no other members
+unfoldable pub policy_of : Data → Option TemplateBody
 policy_of d = do
   members ← as_object d
-  if has_only policy_names members then policy_parts_of d else None
+  if has_only policy_names members then policy_with_body (policy_parts_of d) (body_of (get (codes "body") d)) else None
 
--- the policy of the parts; without a body, the body is true
-abbrev pub policy_of_parts : PolicyParts → TemplateBody
-policy_of_parts p = template_of p.id p.effect p.principal p.action p.resource anything
+-- the condition is nested deeper than 400
+abbrev pub is_too_deep : TemplateBody → Bool
+is_too_deep t = nat_lt 400 (depth_of t.condition)
+
+-- the policy, unless its condition is nested deeper than 400
+abbrev pub bounded_policy : TemplateBody → PolicyRead
+bounded_policy t = if is_too_deep t then Nested else Policy t
+
+-- what is read of the parts and the body
+abbrev pub read_with : PolicyParts → BodyRead → PolicyRead
+read_with p (body.Expression x) = bounded_policy (policy_of_parts p x)
+read_with p body.Nested = Nested

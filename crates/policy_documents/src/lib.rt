@@ -1,6 +1,7 @@
 //! Documents in JSON: the schema, the policies, the entities and the request that they declare.
 #![tactic(auto)]
 
+mod body;
 mod document;
 mod entities;
 mod json;
@@ -20,7 +21,7 @@ pub use json::parse_json;
 pub use names::read_uid;
 pub use place::{DocumentFault, Place};
 pub use policies::read_policies;
-pub use policy::{PolicyParts, read_policy};
+pub use policy::{PolicyRead, read_policy};
 pub use request::read_request;
 pub use schema::{read_declarations, read_schema};
 pub use store::read_store;

@@ -1,10 +1,11 @@
 //! The members of objects, and lists.
 
-ghost use Rattle.std.specs.Prelude.{◌≡◌, map, option_map, string_bytes};
+ghost use Rattle.std.specs.Prelude.{◌≡◌, map, option_map, option_and_then, string_bytes};
 ghost use Rattle.std.specs.List.{list_any};
 ghost use Rattle.std.specs.Str.{bytes_eq};
 ghost use Rattle.serde_json.specs.View.{view, items_view, members_view};
-ghost use Rattle.policy_documents.specs.Json.{has_only, list_of, only_member};
+ghost use Rattle.serde_json.specs.Find.{as_object};
+ghost use Rattle.policy_documents.specs.Json.{has_only, list_of, only_member, pair_of};
 
 use serde_json::{Map, Value};
 
@@ -41,6 +42,26 @@ pub(crate) fn only_member(members: &Map<String, Value>) -> Option<(&String, &Val
         return None;
     }
     Some(first)
+}
+
+/// The one member of the value, where it is an object and has no other.
+pub(crate) fn lone_member(value: &Value) -> Option<(&String, &Value)>
+    ensures { option_map (λ m. (string_bytes m.0.now, view m.1.now)) result ≡ option_and_then only_member (as_object (view value.now)) }
+{
+    only_member(value.as_object()?)
+}
+
+/// The two items, where there are two.
+pub(crate) fn pair(items: &Vec<Value>) -> Option<(&Value, &Value)>
+    ensures { option_map (λ p. (view p.0.now, view p.1.now)) result ≡ pair_of (items_view items.now.items) }
+{
+    let mut rest = items.iter();
+    let left = rest.next()?;
+    let right = rest.next()?;
+    if rest.next().is_some() {
+        return None;
+    }
+    Some((left, right))
 }
 
 /// The items of a list; an absent one has none.

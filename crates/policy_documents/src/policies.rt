@@ -4,32 +4,22 @@ ghost use Rattle.std.specs.Prelude.{◌≡◌, [], length};
 ghost use Rattle.serde_json.specs.View.{view, items_view};
 ghost use Rattle.policy_set.specs.declared.template.TemplateBody.{TemplateBody};
 ghost use Rattle.policy_documents.specs.Faults.{Gives};
-ghost use Rattle.policy_documents.specs.Policies.{added_policy, added_template, policies_of, template_at};
-ghost use Rattle.policy_documents.specs.Policy.{policy_of_parts};
+ghost use Rattle.policy_documents.specs.Policies.{added_policy, added_template, policies_of, template_read};
 
 use crate::place::{DocumentFault, Place};
-use crate::policy::{PolicyParts, read_policy};
-use policy_core::{Expr, Literal};
-use policy_set::{PolicySet, PolicySetError, Template, TemplateError};
+use crate::policy::{PolicyRead, read_policy};
+use policy_set::{PolicySet, PolicySetError, Template};
 use serde_json::Value;
 use std::alloc::Global;
 
-/// The policy of these parts, which stands at the index.
-fn template_of(alloc: Global, index: usize, parts: PolicyParts) -> Result<Template, DocumentFault>
-    ensures { Gives (λ t. t) result (template_at index (policy_of_parts parts)) }
+// The policy that was read at the index, or its fault.
+fn template_at(index: usize, read: Option<PolicyRead>) -> Result<Template, DocumentFault>
+    ensures { Gives (λ t. t) result (template_read index read) }
 {
-    let PolicyParts {
-        id,
-        effect,
-        principal,
-        action,
-        resource,
-    } = parts;
-    let body = Expr::lit(Literal::Bool(true), (), None);
-    match Template::new(alloc, id, effect, principal, action, resource, body) {
-        Ok(template) => Ok(template),
-        Err(TemplateError::Nested) => Err(DocumentFault::Place(Place::PolicyNested(index))),
-        Err(TemplateError::OutOfMemory) => Err(DocumentFault::OutOfMemory),
+    match read {
+        Some(PolicyRead::Policy(template)) => Ok(template),
+        Some(PolicyRead::Nested) => Err(DocumentFault::Place(Place::PolicyNested(index))),
+        None => Err(DocumentFault::Place(Place::Policy(index))),
     }
 }
 
@@ -47,15 +37,13 @@ fn add_template(policies: &mut PolicySet, template: Template) -> Result<(), Docu
 }
 
 /// Adds the policy that the value is.
-#[tactic(auto, unfolding(crate::specs::Policies::added_policy))]
+#[tactic(auto, unfolding(crate::specs::Policies::added_policy), using(crate::proofs::Bounds::added_read))]
 fn add_policy(alloc: Global, policies: &mut PolicySet, value: &Value) -> Result<(), DocumentFault>
     ensures { Gives (λ _. policies.new) result (added_policy policies.old (view value.now)) }
 {
     let index = policies.len();
-    let Some(parts) = read_policy(alloc, value)? else {
-        return Err(DocumentFault::Place(Place::Policy(index)));
-    };
-    let template = template_of(alloc, index, parts)?;
+    let read = read_policy(alloc, value)?;
+    let template = template_at(index, read)?;
     add_template(policies, template)
 }
 

@@ -1,30 +1,46 @@
 //! A policy in JSON.
 
-ghost use Rattle.std.specs.Prelude.{◌≡◌, IfOk, option_map};
+ghost use Rattle.std.specs.Prelude.{◌≡◌, IfOk, codes, option_map};
 ghost use Rattle.serde_json.specs.View.{view, members_view};
-ghost use Rattle.policy_documents.specs.Policy.{action_constraint_of, action_form, action_form_of, constraint_form, constraint_form_of, constraint_of, effect_of, effect_of_text, policy_of, policy_parts_of};
+ghost use Rattle.policy_documents.specs.Body.{body_of};
+ghost use Rattle.policy_documents.specs.Policy.{action_constraint_of, action_form, action_form_of, bounded_policy, constraint_form, constraint_form_of, constraint_of, effect_of, effect_of_text, policy_of, policy_of_parts, policy_parts_of, policy_with_body, read_with};
+ghost use Rattle.serde_json.specs.Find.{get};
 ghost use Rattle.policy_documents.specs.Names.{uid_of};
 
+use crate::body::{BodyRead, read_body};
 use crate::members::{has_only, only_member};
 use crate::names::read_uid;
+use policy_core::Expr;
 use policy_names::Text;
-use policy_set::{ActionConstraint, Effect, EntityReference, PrincipalOrResourceConstraint};
+use policy_set::{
+    ActionConstraint, Effect, EntityReference, PrincipalOrResourceConstraint, Template,
+    TemplateError,
+};
 use serde_json::{Map, Value};
 use std::alloc::{AllocError, Global};
 
-/// The parts of a policy, as a document gives them.
+/// What is read where a document has a policy.
 #[derive(Drop)]
-pub struct PolicyParts {
+pub enum PolicyRead {
+    /// The policy.
+    Policy(Template),
+    /// One whose condition is nested deeper than 400, which is not built.
+    Nested,
+}
+
+/// The parts of a policy but for its body, as a document gives them.
+#[derive(Drop)]
+pub(crate) struct PolicyParts {
     /// Its id.
-    pub id: Text,
+    pub(crate) id: Text,
     /// What it does where its condition is true.
-    pub effect: Effect,
+    pub(crate) effect: Effect,
     /// What its scope asks of the principal.
-    pub principal: PrincipalOrResourceConstraint,
+    pub(crate) principal: PrincipalOrResourceConstraint,
     /// What its scope asks of the action.
-    pub action: ActionConstraint,
+    pub(crate) action: ActionConstraint,
     /// What its scope asks of the resource.
-    pub resource: PrincipalOrResourceConstraint,
+    pub(crate) resource: PrincipalOrResourceConstraint,
 }
 
 fn effect_of_text(text: &str) -> Option<Effect>
@@ -161,19 +177,64 @@ fn read_policy_parts(alloc: Global, value: &Value) -> Result<Option<PolicyParts>
     }))
 }
 
-/// The parts of the policy that the value is, if it is one.
+// The policy of these parts and this body.
+fn with_expression(
+    alloc: Global,
+    parts: PolicyParts,
+    body: Expr<()>,
+) -> Result<PolicyRead, AllocError>
+    ensures { IfOk result (λ r. r ≡ bounded_policy (policy_of_parts parts body)) }
+{
+    let PolicyParts {
+        id,
+        effect,
+        principal,
+        action,
+        resource,
+    } = parts;
+    match Template::new(alloc, id, effect, principal, action, resource, body) {
+        Ok(template) => Ok(PolicyRead::Policy(template)),
+        Err(TemplateError::Nested) => Ok(PolicyRead::Nested),
+        Err(TemplateError::OutOfMemory) => Err(AllocError),
+    }
+}
+
+fn with_body(alloc: Global, parts: PolicyParts, body: BodyRead) -> Result<PolicyRead, AllocError>
+    ensures { IfOk result (λ r. r ≡ read_with parts body) }
+{
+    match body {
+        BodyRead::Expression(body) => with_expression(alloc, parts, body),
+        BodyRead::Nested => Ok(PolicyRead::Nested),
+    }
+}
+
+// The body is read last, so that nothing of it has to be let go at a fault in another part.
+#[tactic(auto, using(crate::proofs::Bounds::whole_read))]
+fn read_whole(alloc: Global, value: &Value) -> Result<Option<PolicyRead>, AllocError>
+    ensures { IfOk result (λ o. o ≡ option_map bounded_policy (policy_with_body (policy_parts_of (view value.now)) (body_of (get (codes "body") (view value.now))))) }
+{
+    let Some(parts) = read_policy_parts(alloc, value)? else {
+        return Ok(None);
+    };
+    let Some(body) = read_body(alloc, value.get("body"))? else {
+        return Ok(None);
+    };
+    Ok(Some(with_body(alloc, parts, body)?))
+}
+
+/// The policy that the value is, if it is one.
 #[tactic(auto, unfolding(crate::specs::Policy::policy_of))]
-pub fn read_policy(alloc: Global, value: &Value) -> Result<Option<PolicyParts>, AllocError>
-    ensures { IfOk result (λ o. o ≡ policy_of (view value.now)) }
+pub fn read_policy(alloc: Global, value: &Value) -> Result<Option<PolicyRead>, AllocError>
+    ensures { IfOk result (λ o. o ≡ option_map bounded_policy (policy_of (view value.now))) }
 {
     let Some(members) = value.as_object() else {
         return Ok(None);
     };
     if !has_only(
-        &["id", "effect", "principal", "action", "resource"],
+        &["id", "effect", "principal", "action", "resource", "body"],
         members,
     ) {
         return Ok(None);
     }
-    read_policy_parts(alloc, value)
+    read_whole(alloc, value)
 }

@@ -1,5 +1,6 @@
 pub mod Answers
 pub mod OneReading
+pub mod BodyOverIds
 pub mod OverIds
 pub mod Runs
 pub mod Sliced

@@ -7,48 +7,19 @@ use Rattle.std.specs.declared.cmp.Ordering.TheVariants.{Less, Equal, Greater}
 use Rattle.std.specs.Ordering.{match_ordering}
 use Rattle.serde_json.specs.Data.{Data, Items, no_items, item}
 use Rattle.policy_names.specs.Uid.{text_cmp}
-use Rattle.policy_core.specs.declared.kinds.Var.{Var}
-use Rattle.policy_core.specs.declared.kinds.Var.TheVariants.{Principal, Resource}
 use Rattle.policy_set.specs.declared.template.TemplateBody.{TemplateBody}
-use Rattle.policy_set.specs.declared.constraint.EntityReference.TheVariants.{EUID}
-use Rattle.policy_set.specs.declared.constraint.PrincipalOrResourceConstraint.{PrincipalOrResourceConstraint}
-use Rattle.policy_set.specs.declared.constraint.PrincipalOrResourceConstraint.TheVariants.{Any, Eq, In}
-use Rattle.policy_set.specs.declared.constraint.ActionConstraint.{ActionConstraint}
-use Rattle.policy_set.specs.declared.constraint.ActionConstraint.TheVariants as action
-use Rattle.policy_set.specs.Condition.{scope_part, action_part}
 use Rattle.policy_set.specs.PolicySet.{policy_at, with_policy}
-use Rattle.policy_typecheck.specs.Sound.{IsIdentity}
 use Rattle.entity_manifest.specs.Cover.{AreOverIds}
-use Rattle.policy_documents.specs.Policy.{policy_of, policy_of_parts}
-use Rattle.policy_documents.specs.Policies.{policies_of, added_policy, added_parts, added_template, template_at, and_then, is_too_deep}
+use Rattle.policy_documents.specs.Policy.{is_too_deep, policy_of}
+use Rattle.policy_documents.specs.Policies.{policies_of, added_policy, added_entry, added_template, template_at, and_then}
+use Rattle.policy_gate.proofs.BodyOverIds.{IsIf, IsOver, policy_over}
 use Rattle.schema_core.specs.Schema.{SchemaData}
 use Rattle.schema_core.specs.Faults.{IsSchema}
 use Rattle.schema_core.specs.Entries.{Declarations}
 use Rattle.policy_documents.specs.Schema.{schema_of}
 use Rattle.policy_documents.specs.Reading.{IsRead, IsSchemaFrom, document}
-use Rattle.policy_documents.specs.declared.policy.PolicyParts.{PolicyParts}
 use Rattle.policy_documents.specs.declared.document.Document.{Document}
 use Rattle.policy_documents.specs.declared.place.Place.{Place}
-
-abbrev IsOver : TemplateBody → Type 0
-IsOver p = IsIdentity p.condition
-
-principal_over : (p : PrincipalOrResourceConstraint) → IsIdentity (scope_part Principal p)
-principal_over Any = tt
-principal_over (Eq (EUID uid)) = (tt, tt)
-principal_over (In (EUID uid)) = (tt, tt)
-
-resource_over : (p : PrincipalOrResourceConstraint) → IsIdentity (scope_part Resource p)
-resource_over Any = tt
-resource_over (Eq (EUID uid)) = (tt, tt)
-resource_over (In (EUID uid)) = (tt, tt)
-
-action_over : (a : ActionConstraint) → IsIdentity (action_part a)
-action_over action.Any = tt
-action_over (action.Eq uid) = (tt, tt)
-
-parts_over : (p : PolicyParts) → IsOver (policy_of_parts p)
-parts_over p = (((principal_over p.principal, action_over p.action), resource_over p.resource), tt)
 
 placed : (t q : TemplateBody) (qs : List TemplateBody) (o : Ordering) → IsOver t → AreOverIds (q ∷ qs) → AreOverIds (with_policy t qs) → AreOverIds (match_ordering o (t ∷ q ∷ qs) (t ∷ qs) (q ∷ with_policy t qs))
 placed t q qs Less h all later = (h, all)
@@ -71,9 +42,9 @@ template_over : (set : List TemplateBody) (t : TemplateBody) (b : Bool) (p : Pla
 template_over set t true p h all = tt
 template_over set t false p h all = added_over set t (is_some (policy_at set t.id)) _ h all
 
-entry_over : (set : List TemplateBody) (o : Option PolicyParts) → AreOverIds set → OkOver (added_parts set o)
-entry_over set None all = tt
-entry_over set (Some p) all = template_over set (policy_of_parts p) (is_too_deep (policy_of_parts p)) _ (parts_over p) all
+entry_over : (set : List TemplateBody) (o : Option TemplateBody) → IsIf IsOver o → AreOverIds set → OkOver (added_entry set o)
+entry_over set None h all = tt
+entry_over set (Some t) h all = template_over set t (is_too_deep t) _ h all
 
 next_over : (r : Result (List TemplateBody) Place) (ds : Items) → OkOver r → ((next : List TemplateBody) → AreOverIds next → OkOver (policies_of next ds)) → OkOver (and_then r (λ next. policies_of next ds))
 next_over (Ok next) ds h later = later next h
@@ -82,7 +53,7 @@ next_over (Err p) ds h later = tt
 policies_over : (set : List TemplateBody) (ds : Items) → AreOverIds set → OkOver (policies_of set ds)
 unfolding added_policy
 policies_over set no_items all = all
-policies_over set (item d ds) all = next_over (added_policy set d) ds (entry_over set (policy_of d) all) (λ next h. policies_over next ds h)
+policies_over set (item d ds) all = next_over (added_policy set d) ds (entry_over set (policy_of d) (policy_over d) all) (λ next h. policies_over next ds h)
 
 schema_kept : (o : Option Declarations) (s : SchemaData) → IsSchemaFrom o (Ok s) → IsSchema s
 schema_kept None s is = absurd (cc (is))

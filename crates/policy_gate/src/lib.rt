@@ -8,6 +8,8 @@ mod runner;
 mod status;
 #[cfg(test)]
 mod tests;
+#[cfg(test)]
+mod tests_bodies;
 
 pub use command::{Command, command_of};
 pub use reply::Reply;

@@ -14,7 +14,7 @@ fn owned(alloc: Global, words: &[&str]) -> Result<Vec<String>, Fail> {
     Ok(owned)
 }
 
-fn run_on(
+pub(crate) fn run_on(
     alloc: Global,
     words: &[&str],
     document: &[u8],
