@@ -7,8 +7,8 @@ use Rattle.policy_core.specs.declared.expr.BuildError.{BuildError}
 use Rattle.policy_core.specs.declared.expr.BuildError.TheVariants as build
 use Rattle.policy_set.specs.Condition.{Plain, anything}
 use Rattle.policy_set.specs.declared.template.TemplateBody.{TemplateBody}
-use Rattle.policy_documents.specs.Body.{behind, join, joined, left_fold, or_anything}
-use Rattle.policy_documents.specs.Bounded.{bounded, build_of, on_two, or_true}
+use Rattle.policy_documents.specs.Body.{behind, conjunction, joined, left_fold, or_anything}
+use Rattle.policy_documents.specs.Bounded.{bounded, build_of, join, on_two, or_true}
 use Rattle.policy_documents.specs.Policies.{added_entry, added_template, and_then, template_read}
 use Rattle.policy_documents.specs.Policy.{bounded_policy, is_too_deep, policy_of_parts, policy_with_body, read_with}
 use Rattle.policy_documents.specs.declared.body.BodyRead.{BodyRead}
@@ -58,7 +58,7 @@ folded j o [] = refl
 folded j o (y ∷ ys) = ap (λ r. left_fold (on_two (join j)) (Some r) (map bounded ys)) (behind_read j o y) ∙ folded j (Some (behind (join j) o y)) ys
 
 -- the fold of what is read is what is read of the fold
-pub joined_read : (j : Junction) (os : Option (List Plain)) → option_and_then (left_fold (on_two (join j)) None) (option_map (map bounded) os) ≡ option_map bounded (joined j os)
+pub joined_read : (j : Junction) (os : Option (List Plain)) → option_and_then (left_fold (on_two (join j)) None) (option_map (map bounded) os) ≡ option_map bounded (joined (join j) os)
 joined_read j None = refl
 joined_read j (Some ys) = folded j None ys
 
@@ -66,9 +66,9 @@ or_true_read : (o : Option Plain) → or_true (option_map bounded o) ≡ bounded
 or_true_read None = refl
 or_true_read (Some x) = refl
 
-pub clauses_read : (os : Option (List Plain)) → option_map (λ cs. or_true (left_fold (on_two (join All)) None (map bounded cs))) os ≡ option_map bounded (option_map (λ cs. or_anything (left_fold (join All) None cs)) os)
+pub clauses_read : (os : Option (List Plain)) → option_map (λ cs. or_true (left_fold (on_two (join All)) None (map bounded cs))) os ≡ option_map bounded (option_map (λ cs. or_anything (left_fold conjunction None cs)) os)
 clauses_read None = refl
-clauses_read (Some cs) = ap Some (ap or_true (folded All None cs) ∙ or_true_read (left_fold (join All) None cs))
+clauses_read (Some cs) = ap Some (ap or_true (folded All None cs) ∙ or_true_read (left_fold conjunction None cs))
 
 -- where nothing is read, there is nothing
 pub none_read : (o : Option Plain) → None ≡ option_map bounded o → o ≡ None

@@ -3,6 +3,7 @@ use Rattle.std.specs.Prelude.{ℕ, List, [], ◌∷◌, if◌then◌else◌, Opt
 use Rattle.std.specs.Str.{bytes_eq}
 use Rattle.serde_json.specs.Data.{Data, null, boolean, number, string, array, object, Items, no_items, item, Members, no_members, member}
 use Rattle.serde_json.specs.Find.{as_str, as_array, as_object}
+use Rattle.policy_names.specs.declared.entity_uid.EntityUID.{EntityUID}
 use Rattle.policy_core.specs.Tree.{lit, var, conj, disj, unary, binary}
 use Rattle.policy_core.specs.declared.kinds.BinaryOp.{BinaryOp}
 use Rattle.policy_core.specs.declared.kinds.BinaryOp.TheVariants.{Eq, In}
@@ -13,28 +14,26 @@ use Rattle.policy_core.specs.declared.kinds.Var.TheVariants as variable
 use Rattle.policy_set.specs.Condition.{Plain, anything, unmarked}
 use Rattle.policy_documents.specs.Json.{◌>>=◌, list_of, only_member, pair_of}
 use Rattle.policy_documents.specs.Names.{uid_of}
-use Rattle.policy_documents.specs.declared.body.Junction.{Junction}
-use Rattle.policy_documents.specs.declared.body.Junction.TheVariants.{All, Any}
-use Rattle.policy_documents.specs.declared.body.Term.{Term}
-use Rattle.policy_documents.specs.declared.body.Term.TheVariants as term
 
 abbrev pub var_of : List ℕ → Option Var
 var_of text = if bytes_eq text (codes "principal") then Some variable.Principal else (if bytes_eq text (codes "action") then Some variable.Action else (if bytes_eq text (codes "resource") then Some variable.Resource else None))
 
-abbrev pub term_form : List ℕ → Data → Option Term
-term_form key d = if bytes_eq key (codes "id") then option_map term.Id (uid_of d) else (if bytes_eq key (codes "var") then option_map term.Var (option_and_then var_of (as_str d)) else None)
+abbrev pub id_term : EntityUID → Plain
+id_term uid = lit (literal.EntityUID uid) unmarked
+
+abbrev pub var_term : Var → Plain
+var_term v = var v unmarked
+
+abbrev pub term_form : List ℕ → Data → Option Plain
+term_form key d = if bytes_eq key (codes "id") then option_map id_term (uid_of d) else (if bytes_eq key (codes "var") then option_map var_term (option_and_then var_of (as_str d)) else None)
 
 -- an entity's id, or a variable
-abbrev pub term_of : Data → Option Term
+abbrev pub term_of : Data → Option Plain
 term_of d = option_and_then (λ m. term_form m.0 m.1) (option_and_then only_member (as_object d))
 
-abbrev pub term_tree : Term → Plain
-term_tree (term.Id uid) = lit (literal.EntityUID uid) unmarked
-term_tree (term.Var v) = var v unmarked
-
 -- two terms compared
-abbrev pub comparison : BinaryOp → Term → Term → Plain
-comparison op x y = binary op (term_tree x) (term_tree y) unmarked
+abbrev pub comparison : BinaryOp → Plain → Plain → Plain
+comparison op x y = binary op x y unmarked
 
 abbrev pub terms_compared : BinaryOp → Data × Data → Option Plain
 terms_compared op p = do
@@ -51,10 +50,11 @@ comparison_form key d = if bytes_eq key (codes "==") then comparison_of Eq d els
 abbrev pub negated : Plain → Plain
 negated x = unary Not x unmarked
 
--- two expressions joined
-abbrev pub join : Junction → Plain → Plain → Plain
-join All x y = conj x y unmarked
-join Any x y = disj x y unmarked
+abbrev pub conjunction : Plain → Plain → Plain
+conjunction x y = conj x y unmarked
+
+abbrev pub disjunction : Plain → Plain → Plain
+disjunction x y = disj x y unmarked
 
 module _ {A : Type 0} (f : A → A → A) where
   -- the next behind what there is
@@ -72,12 +72,12 @@ abbrev pub with_one : Option Plain → Option (List Plain) → Option (List Plai
 with_one o os = option_and_then (λ x. option_map (λ xs. x ∷ xs) os) o
 
 -- one or more, folded from the left
-abbrev pub joined : Junction → Option (List Plain) → Option Plain
-joined j os = option_and_then (left_fold (join j) None) os
+abbrev pub joined : (Plain → Plain → Plain) → Option (List Plain) → Option Plain
+joined f os = option_and_then (left_fold f None) os
 
 -- the form with this one member, whose value may be read as one expression or as many
 abbrev pub form : List ℕ → Data → Option Plain → Option (List Plain) → Option Plain
-form key d one many = if bytes_eq key (codes "all") then joined All many else (if bytes_eq key (codes "any") then joined Any many else (if bytes_eq key (codes "not") then option_map negated one else comparison_form key d))
+form key d one many = if bytes_eq key (codes "all") then joined conjunction many else (if bytes_eq key (codes "any") then joined disjunction many else (if bytes_eq key (codes "not") then option_map negated one else comparison_form key d))
 
 -- the expression over ids that the value is, of any depth
 abbrev mutual
@@ -124,4 +124,4 @@ or_anything (Some x) = x
 
 -- the clauses folded from the left by &&; an absent body has none
 abbrev pub body_of : Option Data → Option Plain
-body_of o = option_map (λ cs. or_anything (left_fold (join All) None cs)) (option_and_then clauses_of (list_of o))
+body_of o = option_map (λ cs. or_anything (left_fold conjunction None cs)) (option_and_then clauses_of (list_of o))

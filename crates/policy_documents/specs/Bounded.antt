@@ -4,12 +4,25 @@ use Rattle.policy_core.specs.Tree.{depth_of}
 use Rattle.policy_core.specs.declared.expr.BuildError.{BuildError}
 use Rattle.policy_core.specs.declared.expr.BuildError.TheVariants as build
 use Rattle.policy_set.specs.Condition.{Plain, anything}
+use Rattle.policy_documents.specs.Body.{conjunction, disjunction, id_term, var_term}
+use Rattle.policy_documents.specs.declared.body.Junction.{Junction}
+use Rattle.policy_documents.specs.declared.body.Junction.TheVariants.{All, Any}
+use Rattle.policy_documents.specs.declared.body.Term.{Term}
+use Rattle.policy_documents.specs.declared.body.Term.TheVariants as term
 use Rattle.policy_documents.specs.declared.body.BodyRead.{BodyRead}
 use Rattle.policy_documents.specs.declared.body.BodyRead.TheVariants.{Expression, Nested}
 
 -- the expression, unless it is nested deeper than 400
 abbrev pub bounded : Plain → BodyRead
 bounded x = if nat_lt 400 (depth_of x) then Nested else Expression x
+
+abbrev pub term_tree : Term → Plain
+term_tree (term.Id uid) = id_term uid
+term_tree (term.Var v) = var_term v
+
+abbrev pub join : Junction → Plain → Plain → Plain
+join All = conjunction
+join Any = disjunction
 
 -- what was built
 abbrev pub build_of : BodyRead → Result Plain BuildError

@@ -3,8 +3,8 @@
 ghost use Rattle.std.specs.Prelude.{◌≡◌, IfOk, None, map, option_map, option_and_then};
 ghost use Rattle.serde_json.specs.View.{view, items_view, members_view};
 ghost use Rattle.policy_set.specs.Condition.{anything};
-ghost use Rattle.policy_documents.specs.Body.{behind, body_of, bool_list_of, bool_of, bools_of, clause_form, clause_of, clauses_of, comparison, comparison_form, comparison_of, form, form_of, join, joined, left_fold, negated, term_form, term_of, term_tree, terms_compared, var_of};
-ghost use Rattle.policy_documents.specs.Bounded.{bounded, build_of, on_one, on_two, or_true};
+ghost use Rattle.policy_documents.specs.Body.{behind, body_of, bool_list_of, bool_of, bools_of, clause_form, clause_of, clauses_of, comparison, comparison_form, comparison_of, form, form_of, joined, left_fold, negated, term_form, term_of, terms_compared, var_of};
+ghost use Rattle.policy_documents.specs.Bounded.{bounded, build_of, join, on_one, on_two, or_true, term_tree};
 
 use crate::members::{list_items, lone_member, pair};
 use crate::names::read_uid;
@@ -83,7 +83,7 @@ fn term_expression(term: Term) -> Expr<()>
 
 #[tactic(auto, using(crate::proofs::Bounds::settled))]
 fn compare_terms(alloc: Global, op: BinaryOp, x: Term, y: Term) -> Result<BodyRead, AllocError>
-    ensures { IfOk result (λ r. r ≡ bounded (comparison op x y)) }
+    ensures { IfOk result (λ r. r ≡ bounded (comparison op (term_tree x) (term_tree y))) }
 {
     let x = term_expression(x);
     let y = term_expression(y);
@@ -149,7 +149,7 @@ fn var_of(text: &str) -> Option<Var>
 }
 
 fn read_term_form(alloc: Global, key: &str, value: &Value) -> Result<Option<Term>, AllocError>
-    ensures { IfOk result (λ o. o ≡ term_form key.now (view value.now)) }
+    ensures { IfOk result (λ o. option_map term_tree o ≡ term_form key.now (view value.now)) }
 {
     match key {
         "id" => match read_uid(alloc, value)? {
@@ -165,7 +165,7 @@ fn read_term_form(alloc: Global, key: &str, value: &Value) -> Result<Option<Term
 }
 
 fn read_term(alloc: Global, value: &Value) -> Result<Option<Term>, AllocError>
-    ensures { IfOk result (λ o. o ≡ term_of (view value.now)) }
+    ensures { IfOk result (λ o. option_map term_tree o ≡ term_of (view value.now)) }
 {
     match lone_member(value) {
         Some((key, member)) => read_term_form(alloc, key.as_str(), member),
@@ -272,7 +272,7 @@ fn read_list(
     value: &Value,
     junction: Junction,
 ) -> Result<Option<BodyRead>, AllocError>
-    ensures { IfOk result (λ o. o ≡ option_map bounded (joined junction (bool_list_of (view value.now)))) }
+    ensures { IfOk result (λ o. o ≡ option_map bounded (joined (join junction) (bool_list_of (view value.now)))) }
 {
     match value {
         Value::Array(items) => read_items(alloc, items, junction),
@@ -286,7 +286,7 @@ fn read_items(
     items: &Vec<Value>,
     junction: Junction,
 ) -> Result<Option<BodyRead>, AllocError>
-    ensures { IfOk result (λ o. o ≡ option_map bounded (joined junction (bools_of (items_view items.now.items)))) }
+    ensures { IfOk result (λ o. o ≡ option_map bounded (joined (join junction) (bools_of (items_view items.now.items)))) }
 {
     let mut all = None;
     for item in items {

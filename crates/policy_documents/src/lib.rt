@@ -21,7 +21,7 @@ pub use json::parse_json;
 pub use names::read_uid;
 pub use place::{DocumentFault, Place};
 pub use policies::read_policies;
-pub use policy::{PolicyRead, read_policy};
+pub use policy::{PolicyParts, PolicyRead, read_policy};
 pub use request::read_request;
 pub use schema::{read_declarations, read_schema};
 pub use store::read_store;

@@ -30,17 +30,17 @@ pub enum PolicyRead {
 
 /// The parts of a policy but for its body, as a document gives them.
 #[derive(Drop)]
-pub(crate) struct PolicyParts {
+pub struct PolicyParts {
     /// Its id.
-    pub(crate) id: Text,
+    pub id: Text,
     /// What it does where its condition is true.
-    pub(crate) effect: Effect,
+    pub effect: Effect,
     /// What its scope asks of the principal.
-    pub(crate) principal: PrincipalOrResourceConstraint,
+    pub principal: PrincipalOrResourceConstraint,
     /// What its scope asks of the action.
-    pub(crate) action: ActionConstraint,
+    pub action: ActionConstraint,
     /// What its scope asks of the resource.
-    pub(crate) resource: PrincipalOrResourceConstraint,
+    pub resource: PrincipalOrResourceConstraint,
 }
 
 fn effect_of_text(text: &str) -> Option<Effect>

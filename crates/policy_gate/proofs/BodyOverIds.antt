@@ -4,7 +4,7 @@ use Rattle.std.specs.Prelude.{option_and_then, codes}
 use Rattle.std.specs.Str.{bytes_eq}
 use Rattle.serde_json.specs.Data.{Data, null, boolean, number, string, array, object, Items, no_items, item, Members, no_members, member}
 use Rattle.serde_json.specs.Find.{get, as_str, as_array, as_object}
-use Rattle.policy_core.specs.Tree.{var}
+use Rattle.policy_names.specs.declared.entity_uid.EntityUID.{EntityUID}
 use Rattle.policy_core.specs.declared.kinds.BinaryOp.{BinaryOp}
 use Rattle.policy_core.specs.declared.kinds.BinaryOp.TheVariants as op
 use Rattle.policy_core.specs.declared.kinds.Var.{Var}
@@ -15,16 +15,12 @@ use Rattle.policy_set.specs.declared.constraint.PrincipalOrResourceConstraint.{P
 use Rattle.policy_set.specs.declared.constraint.PrincipalOrResourceConstraint.TheVariants.{Any, Eq, In}
 use Rattle.policy_set.specs.declared.constraint.ActionConstraint.{ActionConstraint}
 use Rattle.policy_set.specs.declared.constraint.ActionConstraint.TheVariants as action
-use Rattle.policy_set.specs.Condition.{Plain, anything, unmarked, scope_part, action_part}
+use Rattle.policy_set.specs.Condition.{Plain, scope_part, action_part}
 use Rattle.policy_typecheck.specs.Sound.{IsIdentity, IsTerm}
 use Rattle.policy_documents.specs.Json.{◌>>=◌, has_only, list_of, only_member, pair_of}
 use Rattle.policy_documents.specs.Names.{uid_of}
-use Rattle.policy_documents.specs.Body.{behind, body_of, bool_list_of, bool_of, bools_of, clause_form, clause_of, clauses_of, comparison, comparison_of, form, form_of, join, joined, left_fold, negated, or_anything, term_form, term_of, term_tree, terms_compared, var_of, with_one}
+use Rattle.policy_documents.specs.Body.{behind, body_of, bool_list_of, bool_of, bools_of, clause_form, clause_of, clauses_of, comparison, comparison_form, comparison_of, conjunction, disjunction, form, form_of, id_term, joined, left_fold, negated, or_anything, term_form, term_of, terms_compared, var_of, var_term, with_one}
 use Rattle.policy_documents.specs.Policy.{policy_names, policy_of, policy_of_parts, policy_parts_of, policy_with_body}
-use Rattle.policy_documents.specs.declared.body.Junction.{Junction}
-use Rattle.policy_documents.specs.declared.body.Junction.TheVariants as junction
-use Rattle.policy_documents.specs.declared.body.Term.{Term}
-use Rattle.policy_documents.specs.declared.body.Term.TheVariants as term
 use Rattle.policy_documents.specs.declared.policy.PolicyParts.{PolicyParts}
 
 -- what there is has the property
@@ -44,55 +40,63 @@ mapped : {A B : Type 0} (P : A → Type 0) (Q : B → Type 0) (f : A → B) (o :
 mapped P Q f None h k = tt
 mapped P Q f (Some x) h k = h x k
 
-abbrev IsTermOver : Term → Type 0
-IsTermOver t = IsTerm (term_tree t)
-
 abbrev IsVarOver : Var → Type 0
-IsVarOver v = IsTermOver (term.Var v)
+IsVarOver v = IsTerm (var_term v)
 
 var_over : (text : List ℕ) → IsIf IsVarOver (var_of text)
 var_over text = either IsVarOver (bytes_eq text (codes "principal")) (Some Principal) _ tt (either IsVarOver (bytes_eq text (codes "action")) (Some Action) _ tt (either IsVarOver (bytes_eq text (codes "resource")) (Some Resource) None tt tt))
 
-term_form_over : (key : List ℕ) (d : Data) → IsIf IsTermOver (term_form key d)
-term_form_over key d = either IsTermOver (bytes_eq key (codes "id")) (option_map term.Id (uid_of d)) _
-    (mapped (λ _. Unit {0}) IsTermOver term.Id (uid_of d) (λ _ _. tt) (always (uid_of d)))
-    (either IsTermOver (bytes_eq key (codes "var")) (option_map term.Var (option_and_then var_of (as_str d))) None (mapped IsVarOver IsTermOver term.Var (option_and_then var_of (as_str d)) (λ _ h. h) (then_if IsVarOver var_of (as_str d) var_over)) tt)
-  where
-    always : {A : Type 0} (o : Option A) → IsIf (λ _. Unit {0}) o
-    always None = tt
-    always (Some x) = tt
+-- any id is a term
+ids_over : (o : Option EntityUID) → IsIf IsTerm (option_map id_term o)
+ids_over None = tt
+ids_over (Some uid) = tt
 
-term_over : (d : Data) → IsIf IsTermOver (term_of d)
-term_over d = then_if IsTermOver (λ m. term_form m.0 m.1) (option_and_then only_member (as_object d)) (λ m. term_form_over m.0 m.1)
+term_form_over : (key : List ℕ) (d : Data) → IsIf IsTerm (term_form key d)
+term_form_over key d = either IsTerm (bytes_eq key (codes "id")) (option_map id_term (uid_of d)) _ (ids_over (uid_of d))
+    (either IsTerm (bytes_eq key (codes "var")) (option_map var_term (option_and_then var_of (as_str d))) None
+        (mapped IsVarOver IsTerm var_term (option_and_then var_of (as_str d)) (λ _ h. h) (then_if IsVarOver var_of (as_str d) var_over)) tt)
 
-both_over : (o : BinaryOp) (x y : Option Term) → ((x y : Term) → IsTermOver x → IsTermOver y → IsIdentity (comparison o x y)) → IsIf IsTermOver x → IsIf IsTermOver y
+term_over : (d : Data) → IsIf IsTerm (term_of d)
+term_over d = then_if IsTerm (λ m. term_form m.0 m.1) (option_and_then only_member (as_object d)) (λ m. term_form_over m.0 m.1)
+
+both_over : (o : BinaryOp) (x y : Option Plain) → ((x y : Plain) → IsTerm x → IsTerm y → IsIdentity (comparison o x y)) → IsIf IsTerm x → IsIf IsTerm y
     → IsIf IsIdentity (x >>= λ x. y >>= λ y. Some (comparison o x y))
 both_over o None y f h k = tt
 both_over o (Some x) None f h k = tt
 both_over o (Some x) (Some y) f h k = f x y h k
 
-comparison_over : (o : BinaryOp) (d : Data) → ((x y : Term) → IsTermOver x → IsTermOver y → IsIdentity (comparison o x y)) → IsIf IsIdentity (comparison_of o d)
+comparison_over : (o : BinaryOp) (d : Data) → ((x y : Plain) → IsTerm x → IsTerm y → IsIdentity (comparison o x y)) → IsIf IsIdentity (comparison_of o d)
 comparison_over o d f = then_if IsIdentity (terms_compared o) (option_and_then pair_of (as_array d)) (λ p. both_over o (term_of p.0) (term_of p.1) f (term_over p.0) (term_over p.1))
+
+comparison_form_over : (key : List ℕ) (d : Data) → IsIf IsIdentity (comparison_form key d)
+comparison_form_over key d = either IsIdentity (bytes_eq key (codes "==")) _ _ (comparison_over op.Eq d (λ x y h k. (h, k)))
+    (either IsIdentity (bytes_eq key (codes "in")) _ None (comparison_over op.In d (λ x y h k. (h, k))) tt)
 
 abbrev AreOver : List Plain → Type 0
 AreOver [] = Unit {0}
 AreOver (x ∷ xs) = IsIdentity x × AreOver xs
 
-join_over : (j : Junction) (x y : Plain) → IsIdentity x → IsIdentity y → IsIdentity (join j x y)
-join_over junction.All x y h k = (h, k)
-join_over junction.Any x y h k = (h, k)
+-- an operator that makes a condition over ids of two
+abbrev KeepsOver : (Plain → Plain → Plain) → Type 0
+KeepsOver f = (x y : Plain) → IsIdentity x → IsIdentity y → IsIdentity (f x y)
 
-behind_over : (j : Junction) (o : Option Plain) (y : Plain) → IsIf IsIdentity o → IsIdentity y → IsIdentity (behind (join j) o y)
-behind_over j None y h k = k
-behind_over j (Some x) y h k = join_over j x y h k
+and_over : KeepsOver conjunction
+and_over x y h k = (h, k)
 
-fold_over : (j : Junction) (o : Option Plain) (ys : List Plain) → IsIf IsIdentity o → AreOver ys → IsIf IsIdentity (left_fold (join j) o ys)
-fold_over j o [] h k = h
-fold_over j o (y ∷ ys) h k = fold_over j (Some (behind (join j) o y)) ys (behind_over j o y h k.0) k.1
+or_over : KeepsOver disjunction
+or_over x y h k = (h, k)
 
-joined_over : (j : Junction) (os : Option (List Plain)) → IsIf AreOver os → IsIf IsIdentity (joined j os)
-joined_over j None h = tt
-joined_over j (Some xs) h = fold_over j None xs tt h
+behind_over : (f : Plain → Plain → Plain) (o : Option Plain) (y : Plain) → KeepsOver f → IsIf IsIdentity o → IsIdentity y → IsIdentity (behind f o y)
+behind_over f None y keeps h k = k
+behind_over f (Some x) y keeps h k = keeps x y h k
+
+fold_over : (f : Plain → Plain → Plain) (o : Option Plain) (ys : List Plain) → KeepsOver f → IsIf IsIdentity o → AreOver ys → IsIf IsIdentity (left_fold f o ys)
+fold_over f o [] keeps h k = h
+fold_over f o (y ∷ ys) keeps h k = fold_over f (Some (behind f o y)) ys keeps (behind_over f o y keeps h k.0) k.1
+
+joined_over : (f : Plain → Plain → Plain) (os : Option (List Plain)) → KeepsOver f → IsIf AreOver os → IsIf IsIdentity (joined f os)
+joined_over f None keeps h = tt
+joined_over f (Some xs) keeps h = fold_over f None xs keeps tt h
 
 one_over : (o : Option Plain) (os : Option (List Plain)) → IsIf IsIdentity o → IsIf AreOver os → IsIf AreOver (with_one o os)
 one_over None os h k = tt
@@ -104,11 +108,9 @@ negated_over o = mapped IsIdentity IsIdentity negated o (λ _ h. h)
 
 member_over : (key : List ℕ) (d : Data) (one : Option Plain) (many : Option (List Plain)) → IsIf IsIdentity one → IsIf AreOver many → IsIf IsIdentity (form key d one many)
 member_over key d one many h k =
-    either IsIdentity (bytes_eq key (codes "all")) _ _ (joined_over junction.All many k)
-    (either IsIdentity (bytes_eq key (codes "any")) _ _ (joined_over junction.Any many k)
-    (either IsIdentity (bytes_eq key (codes "not")) _ _ (negated_over one h)
-    (either IsIdentity (bytes_eq key (codes "==")) _ _ (comparison_over op.Eq d (λ x y h k. (h, k)))
-    (either IsIdentity (bytes_eq key (codes "in")) _ None (comparison_over op.In d (λ x y h k. (h, k))) tt))))
+    either IsIdentity (bytes_eq key (codes "all")) _ _ (joined_over conjunction many and_over k)
+    (either IsIdentity (bytes_eq key (codes "any")) _ _ (joined_over disjunction many or_over k)
+    (either IsIdentity (bytes_eq key (codes "not")) _ _ (negated_over one h) (comparison_form_over key d)))
 
 mutual
   bool_over : (d : Data) → IsIf IsIdentity (bool_of d)
@@ -151,8 +153,8 @@ whole_over None h = tt
 whole_over (Some x) h = h
 
 body_over : (o : Option Data) → IsIf IsIdentity (body_of o)
-body_over o = mapped AreOver IsIdentity (λ cs. or_anything (left_fold (join junction.All) None cs)) (option_and_then clauses_of (list_of o))
-    (λ cs h. whole_over (left_fold (join junction.All) None cs) (fold_over junction.All None cs tt h)) (then_if AreOver clauses_of (list_of o) clauses_over)
+body_over o = mapped AreOver IsIdentity (λ cs. or_anything (left_fold conjunction None cs)) (option_and_then clauses_of (list_of o))
+    (λ cs h. whole_over (left_fold conjunction None cs) (fold_over conjunction None cs and_over tt h)) (then_if AreOver clauses_of (list_of o) clauses_over)
 
 principal_over : (p : PrincipalOrResourceConstraint) → IsIdentity (scope_part Principal p)
 principal_over Any = tt

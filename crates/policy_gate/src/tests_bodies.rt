@@ -29,8 +29,13 @@ const EDIT: &str =
 const OPEN: &str =
     r#"{"principal":["User","alice"],"action":["Action","open"],"resource":["Folder","x"],"context":{}}"#;
 
-fn document(alloc: Global, parts: [&str; 4]) -> Result<String, Fail> {
-    let [schema, policies, entities, request] = parts;
+fn document(
+    alloc: Global,
+    schema: &str,
+    policies: &str,
+    entities: &str,
+    request: &str,
+) -> Result<String, Fail> {
     let mut document = String::from_str(alloc, "{\"schema\":")?;
     document.push_str(schema)?;
     document.push_str(",\"policies\":")?;
@@ -162,7 +167,7 @@ fn answers_policies_with_bodies(rt: HostRuntime) -> Result<(), Fail> {
         ),
     ];
     for (schema, policies, entities, request, text) in rows {
-        let document = document(rt.alloc(), [schema, policies, entities, request])?;
+        let document = document(rt.alloc(), schema, policies, entities, request)?;
         let (status, written) = run_on(
             rt.alloc(),
             &["slice"],
@@ -188,7 +193,7 @@ fn with_body(alloc: Global, before: &str, n: usize, behind: &str) -> Result<Stri
     }
     policies.push_str(behind)?;
     policies.push_str("}]")?;
-    document(alloc, [GROUPS, policies.as_str(), "[]", VIEW])
+    document(alloc, GROUPS, policies.as_str(), "[]", VIEW)
 }
 
 #[test]

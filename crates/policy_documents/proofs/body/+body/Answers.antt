@@ -4,8 +4,8 @@ use Rattle.std.proofs.lemmas.List.{at_drop_all, drop_more}
 use Rattle.serde_json.specs.View.{view, items_view}
 use Rattle.serde_json.specs.declared.value.Value.{Value}
 use Rattle.policy_set.specs.Condition.{Plain}
-use Rattle.policy_documents.specs.Body.{bool_of, bools_of, join, joined, left_fold, with_one}
-use Rattle.policy_documents.specs.Bounded.{bounded, on_two}
+use Rattle.policy_documents.specs.Body.{bool_of, bools_of, joined, left_fold, with_one}
+use Rattle.policy_documents.specs.Bounded.{bounded, join, on_two}
 use Rattle.policy_documents.specs.declared.body.BodyRead.{BodyRead}
 use Rattle.policy_documents.specs.declared.body.Junction.{Junction}
 use Rattle.policy_documents.proofs.Bounds.{joined_read, none_read}
@@ -27,7 +27,7 @@ read_items-returns-in_default-next t c =
     ∙ sym (ap (λ (ys : List Value). behind_all j l.all (bools_of (items_view ys))) here)
     ∙ l.invariant
     ∙ joined_read j (bools_of (items_view xs))
-    ∙ ap (λ (ys : List Value). option_map bounded (joined j (bools_of (items_view ys)))) c.deref-item-items.ensures.value
+    ∙ ap (λ (ys : List Value). option_map bounded (joined (join j) (bools_of (items_view ys)))) c.deref-item-items.ensures.value
 
 pub read_items-returns : goal.read_items-returns
 read_items-returns t c =
@@ -37,4 +37,4 @@ read_items-returns t c =
     sym (at_drop_all (λ ys. behind_all j l.all (bools_of (items_view ys))) xs l.item-index (omega arith))
     ∙ l.invariant
     ∙ joined_read j (bools_of (items_view xs))
-    ∙ ap (λ (ys : List Value). option_map bounded (joined j (bools_of (items_view ys)))) c.deref-item-items.ensures.value
+    ∙ ap (λ (ys : List Value). option_map bounded (joined (join j) (bools_of (items_view ys)))) c.deref-item-items.ensures.value

@@ -1,8 +1,8 @@
 use Rattle.std.proofs.Common.{◌≡◌, None, drop, map, option_map}
 use Rattle.std.specs.Prelude.{option_and_then}
 use Rattle.serde_json.specs.View.{items_view}
-use Rattle.policy_documents.specs.Body.{bools_of, join, left_fold}
-use Rattle.policy_documents.specs.Bounded.{bounded, on_two}
+use Rattle.policy_documents.specs.Body.{bools_of, left_fold}
+use Rattle.policy_documents.specs.Bounded.{bounded, join, on_two}
 use Rattle.policy_documents.proofs.body.+body.Given as goal
 
 -- what there is, and then those of what is left, are all
