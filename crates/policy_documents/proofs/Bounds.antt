@@ -1,11 +1,11 @@
 -- What is read of expressions that may be nested too deep is what reading them at any depth gives, bounded.
-use Rattle.std.proofs.Common.{◌≡◌, ℕ, ◌<◌, ◌≤◌, ◌↔◌, List, [], ◌∷◌, length, max, map, Bool, true, false, Option, Some, None, option_map, Result, Ok, Err, IfOk, arith, refl, sym, ap, ◌∙◌}
+use Rattle.std.proofs.Common.{◌≡◌, ◌<◌, ◌↔◌, List, [], ◌∷◌, length, map, Bool, true, false, Option, Some, None, option_map, Result, Ok, Err, IfOk, arith, refl, ap, ◌∙◌}
 use Rattle.std.specs.Prelude.{nat_lt, option_and_then, if◌then◌else◌}
 use Rattle.std.proofs.lemmas.Bool.Decides.{nat_tests}
 use Rattle.policy_core.specs.Tree.{depth_of}
 use Rattle.policy_core.specs.declared.expr.BuildError.{BuildError}
 use Rattle.policy_core.specs.declared.expr.BuildError.TheVariants as build
-use Rattle.policy_set.specs.Condition.{Plain, anything}
+use Rattle.policy_set.specs.Condition.{Plain}
 use Rattle.policy_set.specs.declared.template.TemplateBody.{TemplateBody}
 use Rattle.policy_documents.specs.Body.{behind, conjunction, joined, left_fold, or_anything}
 use Rattle.policy_documents.specs.Bounded.{bounded, build_of, join, on_two, or_true}

@@ -1,16 +1,14 @@
 -- The test for names tells the names.
-use Rattle.std.proofs.Common.{◌≡◌, ◌≢◌, ℕ, suc, zero, ◌+◌, ◌<◌, ◌≤◌, List, [], ◌∷◌, ◌++◌, length, slice_index, EachIndex, Bool, true, false, ◌&&◌, ◌==◌, if◌then◌else◌, not, arith, ap, sym, subst, ◌∙◌, refl, inl, inr, codes, IsTrue, IsSome, IfSome, Option, Some, None, append_assoc, rules}
-use Rattle.std.specs.Prelude.{◌⊎◌, ◌↔◌}
+use Rattle.std.proofs.Common.{◌≡◌, ◌≢◌, ℕ, suc, zero, ◌<◌, List, [], ◌∷◌, ◌++◌, length, slice_index, EachIndex, Bool, true, false, ◌&&◌, ◌==◌, if◌then◌else◌, arith, sym, subst, refl, codes, Some, None, append_assoc}
 use Rattle.std.specs.Bool.{Decides}
 use Rattle.std.specs.List.{list_all}
-use Rattle.std.specs.Str.{bytes_eq}
-use Rattle.std.proofs.lemmas.Bool.{and_parts, and_from, and_left, and_right, not-true}
-use Rattle.std.proofs.lemmas.Bool.Decides.{nat_tests, Decides-and, Decides-like, Decides-not, Decides-at}
+use Rattle.std.proofs.lemmas.Bool.{and_parts, and_from, and_left, and_right}
+use Rattle.std.proofs.lemmas.Bool.Decides.{nat_tests, Decides-and, Decides-like, Decides-not}
 use Rattle.std.proofs.lemmas.List.{append-nil}
 use Rattle.std.proofs.lemmas.List.Folds.{list_all-append}
 use Rattle.std.proofs.lemmas.Slice.Eq.{bytes_eq-Decides}
 use Rattle.policy_names.specs.Name.{IsHead, IsTail, IsComponent, IsName, last, then, IsFront}
-use Rattle.policy_names.proofs.NameFront.{name_front, name_from_front, name_step, name_stops}
+use Rattle.policy_names.proofs.NameFront.{name_front, name_step, name_stops}
 use Rattle.policy_documents.specs.Names.{is_head, is_tail, is_component, is_name_after, is_name, name_of_text}
 
 head_told : (c : ℕ) → Decides (is_head c) (IsHead c)

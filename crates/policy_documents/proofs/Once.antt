@@ -1,6 +1,6 @@
 -- The types of a schema in JSON have the names of its members, so no name stands twice.
-use Rattle.std.proofs.Common.{◌≡◌, ℕ, zero, suc, ◌<◌, List, [], ◌∷◌, length, take, map, Option, Some, None, Global, ap, sym, subst, ◌∙◌, refl, arith, string_bytes}
-use Rattle.std.specs.Prelude.{Contains, slice_get, option_map, option_and_then, String, Bool, true, false, if◌then◌else◌, codes}
+use Rattle.std.proofs.Common.{◌≡◌, ℕ, zero, suc, List, [], ◌∷◌, map, Option, Some, None, Global, ap, sym, subst, ◌∙◌, refl, arith, string_bytes}
+use Rattle.std.specs.Prelude.{slice_get, option_map, option_and_then, String, Bool, true, false, if◌then◌else◌, codes}
 use Rattle.std.specs.List.{AllByRecursion}
 use Rattle.std.specs.List.Sorted.{IsStrictlySortedBy}
 use Rattle.std.specs.Cmp.{tied_itself}
@@ -10,7 +10,6 @@ use Rattle.std.specs.declared.cmp.Ordering.TheVariants.{Less}
 use Rattle.std.proofs.lemmas.Map.Keys.{sorted_head, sorted_tail}
 use Rattle.std.proofs.lemmas.Option.{cond_some}
 use Rattle.policy_names.specs.Uid.{text_cmp}
-use Rattle.hierarchy.specs.Repeated.{IsRepeated}
 use Rattle.serde_json.specs.Data.{Data, Members}
 use Rattle.serde_json.specs.View.{view, members_view}
 use Rattle.serde_json.specs.declared.value.Value.{Value}

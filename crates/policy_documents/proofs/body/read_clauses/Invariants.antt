@@ -1,5 +1,4 @@
 use Rattle.std.proofs.Common.{◌≡◌, None, drop, map, option_map}
-use Rattle.std.specs.Prelude.{option_and_then}
 use Rattle.serde_json.specs.View.{items_view}
 use Rattle.policy_documents.specs.Body.{clauses_of, left_fold}
 use Rattle.policy_documents.specs.Bounded.{bounded, join, on_two, or_true}

@@ -1,4 +1,4 @@
-use Rattle.std.proofs.Common.{◌≡◌, ◌++◌, map, option_map}
+use Rattle.std.proofs.Common.{◌≡◌, ◌++◌, option_map}
 use Rattle.serde_json.specs.View.{members_view}
 use Rattle.policy_documents.specs.Schema.{types_of_members}
 use Rattle.policy_documents.proofs.schema.read_type_members.Given as goal
