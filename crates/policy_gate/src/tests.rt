@@ -1,3 +1,7 @@
+//! The top call over sources and sinks in memory.
+
+mod causes;
+
 use crate::{Status, run};
 use outside::{MemorySink, MemorySource, NoSink, SliceSource};
 use std::alloc::Global;

@@ -56,7 +56,8 @@ module _ {X : Type 0} (cmp : X → X → Ordering) where
 abbrev pub loc_cmp : Loc → Loc → Ordering
 loc_cmp a b = ordering_then (nat_cmp a.start b.start) (nat_cmp a.end b.end)
 
--- findings of one policy are in the order of what they name, and then of their places
+-- two findings are the same one where they name the same at the same place. Those of one policy stand in the order of
+-- its literals
 abbrev pub entity_type_cmp : UnrecognizedEntityType → UnrecognizedEntityType → Ordering
 entity_type_cmp a b = ordering_then (text_cmp a.actual_entity_type b.actual_entity_type) (option_cmp loc_cmp a.source_loc b.source_loc)
 
