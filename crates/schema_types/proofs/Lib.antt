@@ -1,0 +1,2 @@
+pub mod AttrSteps
+pub mod HashSteps

@@ -1,0 +1,11 @@
+pub mod Attrs
+pub mod HashLaws
+pub mod NameLaws
+pub mod Names
+pub mod Ty
+pub mod TyCode
+pub mod TyFalls
+pub mod TyHash
+pub mod TyLaws
+pub mod TyOrder
+pub mod TyView

@@ -1,0 +1,14 @@
+//! The types of a schema: their plain trees, their order, their hashes, how they print.
+#![tactic(auto)]
+
+mod compared;
+mod copies;
+mod entity_lub;
+mod hash;
+mod kinds;
+mod order;
+mod ty;
+
+pub use entity_lub::EntityLUB;
+pub use kinds::{LubHelp, OpenTag, Primitive};
+pub use ty::{AttributeType, Attributes, EntityRecordKind, Type, TypeKind};
