@@ -1,2 +1,3 @@
 pub mod AttrSteps
 pub mod HashSteps
+pub mod ShowSteps

@@ -8,4 +8,5 @@ pub mod TyFalls
 pub mod TyHash
 pub mod TyLaws
 pub mod TyOrder
+pub mod TyText
 pub mod TyView

@@ -7,6 +7,7 @@ mod entity_lub;
 mod hash;
 mod kinds;
 mod order;
+mod show;
 mod ty;
 
 pub use entity_lub::EntityLUB;
