@@ -1,8 +1,11 @@
 //! How types relate: subtyping, joins, membership, attributes.
 #![tactic(auto)]
 
+mod join;
+pub mod laws;
 mod mode;
 mod subtype;
 
+pub use join::LubError;
 pub use mode::SubtypeMode;
 pub use subtype::is_subtype;
