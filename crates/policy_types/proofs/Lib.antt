@@ -1,4 +1,6 @@
 pub mod JoinLaws
+pub mod JoinSteps
+pub mod MergeSteps
 pub mod Pending
 pub mod SubtypeLaws
 pub mod Ties

@@ -1,3 +1,4 @@
 pub mod Join
+pub mod JoinSteps
 pub mod Laws
 pub mod Subtype
