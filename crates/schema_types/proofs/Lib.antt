@@ -1,3 +1,4 @@
 pub mod AttrSteps
 pub mod HashSteps
+pub mod OrderLaws
 pub mod ShowSteps

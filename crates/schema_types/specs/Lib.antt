@@ -1,5 +1,6 @@
 pub mod Attrs
 pub mod HashLaws
+pub mod Laws
 pub mod NameLaws
 pub mod Names
 pub mod Ty

@@ -15,7 +15,7 @@ use Rattle.schema_types.specs.declared.kinds.Primitive.TheVariants.{Bool as Bool
 use Rattle.schema_types.specs.declared.kinds.OpenTag.{OpenTag}
 use Rattle.schema_types.specs.declared.kinds.OpenTag.TheVariants.{OpenAttributes, ClosedAttributes}
 
-exact_bool : CmpEqualImpliesEq bool_cmp
+pub exact_bool : CmpEqualImpliesEq bool_cmp
 exact_bool true true h = refl
 exact_bool false false h = refl
 exact_bool true false h = cc

@@ -3,13 +3,16 @@
 
 mod compared;
 mod copies;
+mod declared;
 mod entity_lub;
 mod hash;
 mod kinds;
+pub mod laws;
 mod order;
 mod show;
 mod ty;
 
+pub use declared::DeclaredAttributes;
 pub use entity_lub::EntityLUB;
 pub use kinds::{LubHelp, OpenTag, Primitive};
 pub use ty::{AttributeType, Attributes, EntityRecordKind, Type, TypeKind};
