@@ -1,3 +1,4 @@
+pub mod ApartSteps
 pub mod JoinLaws
 pub mod JoinSteps
 pub mod MergeSteps

@@ -1,5 +1,5 @@
 -- Steps of the merge of ascending attributes.
-use Rattle.std.proofs.Common.{◌≡◌, ℕ, List, [], ◌∷◌, ◌++◌, Bool, Option, Some, None, Bor, Result, Ok, Err, Ordering, ap, ◌∙◌, sym, subst, refl, arith}
+use Rattle.std.proofs.Common.{◌≡◌, ℕ, List, [], ◌∷◌, ◌++◌, Bool, Option, Some, None, Bor, Result, Ok, Err, Ordering, ap, ◌∙◌, sym, subst, arith}
 use Rattle.std.specs.Prelude.{MatchOption, ◌≤◌, ◌&&◌}
 use Rattle.std.specs.Ordering.{match_ordering}
 use Rattle.std.specs.declared.cmp.Ordering.TheVariants.{Less, Equal}

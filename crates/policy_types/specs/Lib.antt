@@ -1,3 +1,4 @@
+pub mod Attributes
 pub mod Join
 pub mod JoinSteps
 pub mod Laws

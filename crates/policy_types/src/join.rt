@@ -284,8 +284,9 @@ fn join_entries(
     Ok(Ok(joined))
 }
 
+/// The permissive join of the attributes of two records or entities.
 #[cycle(join)]
-fn shared_attributes(
+pub fn shared_attributes(
     alloc: Global,
     a: &Attributes,
     b: &Attributes,

@@ -34,9 +34,10 @@ join_entries-loop-key-preserved t c =
 -- the two lists of what is still to come, where both begin with an entry
 pub shared_entries-keep_shared-requires : goal.shared_entries-keep_shared-requires
 shared_entries-keep_shared-requires t c =
-    let first = ap (λ o. pending o c.merge.left) c.in-Some-Some.is-0 in
-    (omega (arith, c.merge.invariant.size, ap (λ es. size_of_attrs (attrs_of es)) first),
-    merge_next (shared (attrs_of c.args.a.now.entries) (attrs_of c.args.b.now.entries)) (attrs_of c.args.a.now.entries) c.merge.kept.entries (pending c.merge.first c.merge.left) (pending c.merge.second c.merge.right) c.merge.left c.merge.right c.in-Some-Some.key.now c.in-Some-Some.other.now c.in-Some-Some.x.now c.in-Some-Some.y.now c.merge.invariant first)
+    let first = ap (λ o. pending o c.merge.left) c.in-Some-Some.is-0 in (
+      omega (arith, c.merge.invariant.size, ap (λ es. size_of_attrs (attrs_of es)) first),
+      merge_next (shared (attrs_of c.args.a.now.entries) (attrs_of c.args.b.now.entries)) (attrs_of c.args.a.now.entries) c.merge.kept.entries (pending c.merge.first c.merge.left) (pending c.merge.second c.merge.right) c.merge.left c.merge.right c.in-Some-Some.key.now c.in-Some-Some.other.now c.in-Some-Some.x.now c.in-Some-Some.y.now c.merge.invariant first,
+    )
 
 pub shared_entries-merge-preserved-in-Less : goal.shared_entries-merge-preserved-in-Less
 shared_entries-merge-preserved-in-Less t c =
