@@ -2,7 +2,10 @@
 use Rattle.std.specs.Prelude.{IfOk}
 use Rattle.schema_types.specs.Ty.{Ty, set_of, record_of, action, Attrs, no_attrs, attr}
 use Rattle.policy_types.specs.declared.mode.SubtypeMode.{SubtypeMode}
+use Rattle.policy_types.specs.declared.mode.SubtypeMode.TheVariants.{Strict}
 use Rattle.policy_types.specs.Subtype.{Subtype}
+use Rattle.policy_types.specs.Member.{Member}
+use Rattle.policy_values.specs.Value.{Val}
 use Rattle.policy_types.specs.Join.{join}
 
 abbrev pub SubtypeIsReflexive : Type 0
@@ -26,3 +29,7 @@ abbrev mutual
 -- where there is a join, both types are below it
 abbrev pub JoinIsAbove : Type 0
 JoinIsAbove = (m : SubtypeMode) (t u : Ty) → NoActions t → NoActions u → IfOk (join m t u) (λ v. Subtype m t v × Subtype m u v)
+
+-- a member of a type is a member of each type strictly above it
+abbrev pub MemberOfSubtype : Type 0
+MemberOfSubtype = (t u : Ty) (v : Val) → Subtype Strict t u → Member t v → Member u v

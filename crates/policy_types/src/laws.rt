@@ -1,6 +1,6 @@
 //! Laws of the relations between types.
 
-ghost use Rattle.policy_types.specs.Laws.{SubtypeIsReflexive, SubtypeIsTransitive, JoinIsAbove};
+ghost use Rattle.policy_types.specs.Laws.{SubtypeIsReflexive, SubtypeIsTransitive, JoinIsAbove, MemberOfSubtype};
 
 /// Each type is a subtype of itself.
 pub fn subtype_is_reflexive()
@@ -15,4 +15,9 @@ pub fn subtype_is_transitive()
 /// Where two types have a join, both are subtypes of it.
 pub fn join_is_above()
     ensures { JoinIsAbove }
+{}
+
+/// What a type has each type strictly above it has.
+pub fn member_of_subtype()
+    ensures { MemberOfSubtype }
 {}
