@@ -1,8 +1,7 @@
 -- Ties are the same, of types and of attributes.
 use Rattle.std.proofs.Common.{◌≡◌, Ordering, Bool, true, false, ap, ◌∙◌, sym, refl}
-use Rattle.std.specs.Prelude.{◌↔◌}
 use Rattle.std.specs.declared.cmp.Ordering.TheVariants.{Less, Equal, Greater}
-use Rattle.std.specs.Ordering.{is_eq, bool_cmp, ordering_reverse, ordering_then}
+use Rattle.std.specs.Ordering.{bool_cmp, ordering_reverse, ordering_then}
 use Rattle.schema_types.specs.Ty.{Ty}
 use Rattle.schema_types.specs.TyOrder.{ty_cmp}
 use Rattle.schema_types.specs.NameLaws.{then_equal, equal_of}

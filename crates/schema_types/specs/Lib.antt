@@ -3,6 +3,9 @@ pub mod HashLaws
 pub mod Laws
 pub mod NameLaws
 pub mod Names
+pub mod Plain
+pub mod SchemaFalls
+pub mod SchemaView
 pub mod Ty
 pub mod TyCode
 pub mod TyFalls

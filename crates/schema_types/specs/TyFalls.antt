@@ -13,17 +13,17 @@ use Rattle.schema_types.specs.declared.ty.Type.TheInside.{Inside}
 use Rattle.schema_types.specs.declared.ty.Attributes.TheInside.{Inside as InsideAttrs}
 use Rattle.schema_types.specs.declared.ty.Attributes.TheDeep.{deep-Type, deep-TypeKind, deep-EntityRecordKind, deep-Attributes, deep-AttributeType}
 
-pub most_le-attrs : (es : List (List ℕ × AttributeType)) → most (λ x. deep-AttributeType x) (map (λ e. e.1) es) ≤ size_of_attrs (attrs_of es)
+most_le-attrs : (es : List (List ℕ × AttributeType)) → most (λ x. deep-AttributeType x) (map (λ e. e.1) es) ≤ size_of_attrs (attrs_of es)
 most_le-attrs [] = omega arith
 most_le-attrs (e ∷ es) = omega (arith, most_le-attrs es)
 
-pub record_falls : (k : EntityRecordKind) → deep-EntityRecordKind k ≤ size_of (kind_of k)
+record_falls : (k : EntityRecordKind) → deep-EntityRecordKind k ≤ size_of (kind_of k)
 record_falls (Record xs o) = omega arith
 record_falls AnyEntity = omega arith
 record_falls (Entity l) = omega arith
 record_falls (ActionEntity n xs) = omega arith
 
-pub kind_falls : (k : TypeKind) → deep-TypeKind k ≤ size_of (ty_of k)
+kind_falls : (k : TypeKind) → deep-TypeKind k ≤ size_of (ty_of k)
 kind_falls Never = omega arith
 kind_falls True = omega arith
 kind_falls False = omega arith
