@@ -1,0 +1,10 @@
+pub mod ApartSteps
+pub mod JoinLaws
+pub mod JoinSteps
+pub mod MemberLaws
+pub mod MemberSteps
+pub mod MergeSteps
+pub mod Pending
+pub mod SubtypeLaws
+pub mod Ties
+pub mod UnionLaws

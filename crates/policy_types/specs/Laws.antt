@@ -1,0 +1,35 @@
+-- What callers may rely on.
+use Rattle.std.specs.Prelude.{IfOk}
+use Rattle.schema_types.specs.Ty.{Ty, set_of, record_of, action, Attrs, no_attrs, attr}
+use Rattle.policy_types.specs.declared.mode.SubtypeMode.{SubtypeMode}
+use Rattle.policy_types.specs.declared.mode.SubtypeMode.TheVariants.{Strict}
+use Rattle.policy_types.specs.Subtype.{Subtype}
+use Rattle.policy_types.specs.Member.{Member}
+use Rattle.policy_values.specs.Value.{Val}
+use Rattle.policy_types.specs.Join.{join}
+
+abbrev pub SubtypeIsReflexive : Type 0
+SubtypeIsReflexive = (m : SubtypeMode) (t : Ty) → Subtype m t t
+
+abbrev pub SubtypeIsTransitive : Type 0
+SubtypeIsTransitive = (m : SubtypeMode) (t u v : Ty) → Subtype m t u → Subtype m u v → Subtype m t v
+
+-- no type of actions at any depth
+abbrev mutual
+  pub NoActions : Ty → Type 0
+  NoActions (set_of t) = NoActions t
+  NoActions (record_of xs o) = NoActionsIn xs
+  NoActions (action n xs) = ⊥
+  NoActions t = Unit {0}
+
+  pub NoActionsIn : Attrs → Type 0
+  NoActionsIn no_attrs = Unit {0}
+  NoActionsIn (attr k t q xs) = NoActions t × NoActionsIn xs
+
+-- where there is a join, both types are below it
+abbrev pub JoinIsAbove : Type 0
+JoinIsAbove = (m : SubtypeMode) (t u : Ty) → NoActions t → NoActions u → IfOk (join m t u) (λ v. Subtype m t v × Subtype m u v)
+
+-- a member of a type is a member of each type strictly above it
+abbrev pub MemberOfSubtype : Type 0
+MemberOfSubtype = (t u : Ty) (v : Val) → Subtype Strict t u → Member t v → Member u v

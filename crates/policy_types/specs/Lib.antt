@@ -1,0 +1,6 @@
+pub mod Attributes
+pub mod Join
+pub mod JoinSteps
+pub mod Laws
+pub mod Member
+pub mod Subtype

@@ -1,0 +1,23 @@
+//! Laws of the relations between types.
+
+ghost use Rattle.policy_types.specs.Laws.{SubtypeIsReflexive, SubtypeIsTransitive, JoinIsAbove, MemberOfSubtype};
+
+/// Each type is a subtype of itself.
+pub fn subtype_is_reflexive()
+    ensures { SubtypeIsReflexive }
+{}
+
+/// A subtype of a subtype is a subtype.
+pub fn subtype_is_transitive()
+    ensures { SubtypeIsTransitive }
+{}
+
+/// Where two types have a join, both are subtypes of it.
+pub fn join_is_above()
+    ensures { JoinIsAbove }
+{}
+
+/// What a type has each type strictly above it has.
+pub fn member_of_subtype()
+    ensures { MemberOfSubtype }
+{}

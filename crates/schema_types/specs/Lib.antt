@@ -1,0 +1,16 @@
+pub mod Attrs
+pub mod HashLaws
+pub mod Laws
+pub mod NameLaws
+pub mod Names
+pub mod Plain
+pub mod SchemaFalls
+pub mod SchemaView
+pub mod Ty
+pub mod TyCode
+pub mod TyFalls
+pub mod TyHash
+pub mod TyLaws
+pub mod TyOrder
+pub mod TyText
+pub mod TyView

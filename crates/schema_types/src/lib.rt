@@ -1,0 +1,22 @@
+//! The types of a schema: their plain trees, their order, their hashes, how they print.
+#![tactic(auto)]
+
+mod compared;
+mod copies;
+mod declared;
+mod entity_lub;
+mod hash;
+mod kinds;
+pub mod laws;
+mod order;
+mod schema_type;
+mod show;
+mod ty;
+
+pub use declared::DeclaredAttributes;
+pub use entity_lub::EntityLUB;
+pub use kinds::{LubHelp, OpenTag, Primitive};
+pub use schema_type::{
+    SchemaAttribute, SchemaAttributes, SchemaType, SchemaTypeError, SchemaTypeKind, to_schema_type,
+};
+pub use ty::{AttributeType, Attributes, EntityRecordKind, Type, TypeKind};
