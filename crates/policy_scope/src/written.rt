@@ -25,7 +25,7 @@ pub fn findings_text(alloc: Global, findings: &ValidationResult) -> Result<Text,
         text.push_str(lines.as_str())?;
     }
     add_counts(&mut text, errors.len(), warnings.len())?;
-    Ok(Text::from_string(text))
+    Text::from_string(text)
 }
 
 // The lines of a finding.
