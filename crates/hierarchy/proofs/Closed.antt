@@ -40,6 +40,10 @@ pub record IsPartlyClosed {K : Type 0} (cmp : K → K → Ordering) (steps close
   pub reached : (x : K) → IfSome (at cmp closed x) (λ next. (y : K) → Contains next.keys y ↔ Reaches (Leads cmp steps) x y)
   pub ordered : (x : K) → IfSome (at cmp closed x) (λ next. IsStrictlySortedBy cmp next.keys)
 
+-- no key was closed yet
+pub closed_none : {K : Type 0} (cmp : K → K → Ordering) (steps : List (K × BTreeSet K)) → IsPartlyClosed cmp steps [] (keys_of steps)
+closed_none cmp steps = record { keys = λ q. sym (is_some-lookup (is_at (cmp q)) steps); reached = λ q. tt; ordered = λ q. tt }
+
 module _ {K : Type 0} {cmp : K → K → Ordering} (o : IsTotalOrder cmp) (exact : CmpEqualImpliesEq cmp) where
   -- the next key was closed
   pub closed_more : (steps closed closed' : List (K × BTreeSet K)) (left rest : List K) (x : K) (next : BTreeSet K) → IsPartlyClosed cmp steps closed left

@@ -3,6 +3,7 @@ pub mod Back
 pub mod Closed
 pub mod Covers
 pub mod Keyed
+pub mod Known
 pub mod LeastOf
 pub mod SameSorted
 pub mod SameValues

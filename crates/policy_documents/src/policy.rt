@@ -165,6 +165,8 @@ fn read_policy_parts(alloc: Global, value: &Value) -> Result<Option<PolicyParts>
         return Ok(None);
     };
     let Some(resource) = read_constraint(alloc, value.get("resource"))? else {
+        drop(action);
+        drop(principal);
         return Ok(None);
     };
     let id = Text::from_str(alloc, id)?;

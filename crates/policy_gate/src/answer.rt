@@ -72,10 +72,7 @@ fn checked(alloc: Global, document: &Document) -> Result<Reply, AllocError>
         Err(RequestValidationError::OutOfMemory) => Err(AllocError),
         Err(error) => {
             let text = request_text(alloc, &error)?;
-            Ok(Reply {
-                status: Status::Request,
-                text: text.into_string(),
-            })
+            reply_with(alloc, Status::Request, text.as_str())
         }
     }
 }
@@ -92,10 +89,7 @@ fn with_request(alloc: Global, document: &Document) -> Result<Reply, AllocError>
         Err(ConformanceError::OutOfMemory) => Err(AllocError),
         Err(ConformanceError::EntityDoesNotConform(error)) => {
             let text = entity_text(alloc, &error)?;
-            Ok(Reply {
-                status: Status::Store,
-                text: text.into_string(),
-            })
+            reply_with(alloc, Status::Store, text.as_str())
         }
     }
 }
@@ -114,10 +108,7 @@ fn with_store(alloc: Global, document: &Document) -> Result<Reply, AllocError>
         return sliced(alloc, document);
     }
     let text = findings_text(alloc, &found)?;
-    Ok(Reply {
-        status: Status::Findings,
-        text: text.into_string(),
-    })
+    reply_with(alloc, Status::Findings, text.as_str())
 }
 
 // The slice with the decision on it.

@@ -48,7 +48,7 @@ impl EntityType {
         name == "Action" || name.ends_with("::Action")
     }
 
-    /// An equal type with memory of its own.
+    /// An equal type, which shares the characters.
     pub fn try_clone(&self) -> Result<EntityType, AllocError>
         ensures { IfOk result (λ n. n ≡ self.now) }
     {
@@ -103,7 +103,7 @@ impl Eid {
         self.text.as_str()
     }
 
-    /// An equal eid with memory of its own.
+    /// An equal eid, which shares the characters.
     pub fn try_clone(&self) -> Result<Eid, AllocError>
         ensures { IfOk result (λ n. n ≡ self.now) }
     {
@@ -151,7 +151,7 @@ impl EntityUID {
         self.entity_type.is_action()
     }
 
-    /// An equal id with memory of its own.
+    /// An equal id, which shares the characters.
     pub fn try_clone(&self) -> Result<EntityUID, AllocError>
         ensures { IfOk result (λ u. u ≡ self.now) }
     {

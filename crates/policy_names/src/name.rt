@@ -49,7 +49,7 @@ impl Name {
         self.text.as_str()
     }
 
-    /// An equal name with memory of its own.
+    /// An equal name, which shares the characters.
     pub fn try_clone(&self) -> Result<Name, AllocError>
         ensures { IfOk result (λ n. n ≡ self.now) }
     {

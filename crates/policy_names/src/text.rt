@@ -13,19 +13,21 @@ use std::cmp::Ordering;
 use std::fmt;
 use std::hash::{Hash, Hasher};
 use std::marker::Model;
+use std::rc::RcStr;
 
-/// An owned text of Unicode characters. Texts are ordered by their bytes.
+/// An owned text of Unicode characters. Texts are ordered by their bytes. A copy shares them.
 #[derive(Debug, Drop)]
 pub struct Text {
-    chars: String,
+    chars: RcStr,
 }
 
 impl Model for Text {
-    ghost use Rattle.std.specs.Prelude.{List, ℕ, string_bytes};
+    ghost use Rattle.std.specs.Prelude.{List, ℕ};
+    ghost use Rattle.std.specs.Rc.{rc_str_bytes};
 
     ghost Value = { List ℕ };
 
-    ghost view = { λ t. string_bytes t.chars };
+    ghost view = { λ t. rc_str_bytes t.chars };
 }
 
 impl Text {
@@ -33,23 +35,16 @@ impl Text {
     pub fn from_str(alloc: Global, text: &str) -> Result<Text, AllocError>
         ensures { IfOk result (λ t. t ≡ text.now) }
     {
-        let chars = String::from_str(alloc, text)?;
+        let chars = RcStr::from_str(alloc, text)?;
         Ok(Text { chars })
     }
 
     /// The text that a string holds.
-    pub fn from_string(chars: String) -> Text
-        ensures { result ≡ string_bytes chars }
+    pub fn from_string(text: String) -> Result<Text, AllocError>
+        ensures { IfOk result (λ t. t ≡ string_bytes text) }
     {
-        Text { chars }
-    }
-
-    /// The string that a text holds.
-    pub fn into_string(self) -> String
-        ensures { string_bytes result ≡ self }
-    {
-        let Text { chars } = self;
-        chars
+        let chars = RcStr::from_string(text)?;
+        Ok(Text { chars })
     }
 
     /// The characters, borrowed.
@@ -59,7 +54,7 @@ impl Text {
         self.chars.as_str()
     }
 
-    /// An equal text with memory of its own.
+    /// An equal text, which shares the characters.
     pub fn try_clone(&self) -> Result<Text, AllocError>
         ensures { IfOk result (λ t. t ≡ self.now) }
     {

@@ -22,7 +22,7 @@ impl Diagnostic for UnrecognizedEntityType {
         let id = &self.policy_id;
         let ty = &self.actual_entity_type;
         let text = format!(in alloc; "for policy `{id}`, unrecognized entity type `{ty}`")?;
-        Ok(Text::from_string(text))
+        Text::from_string(text)
     }
 
     fn help(&self, _alloc: Global) -> Result<Option<Text>, AllocError> {
@@ -45,14 +45,14 @@ impl Diagnostic for UnrecognizedActionId {
         let id = &self.policy_id;
         let uid = &self.actual_action_id;
         let text = format!(in alloc; "for policy `{id}`, unrecognized action `{uid}`")?;
-        Ok(Text::from_string(text))
+        Text::from_string(text)
     }
 
     fn help(&self, alloc: Global) -> Result<Option<Text>, AllocError> {
         match &self.hint {
             Some(hint) => {
                 let text = format!(in alloc; "{hint}")?;
-                Ok(Some(Text::from_string(text)))
+                Ok(Some(Text::from_string(text)?))
             }
             None => Ok(None),
         }
@@ -84,7 +84,7 @@ impl Diagnostic for InvalidActionApplication {
         let text = format!(in alloc;
             "for policy `{id}`, unable to find an applicable action given the policy scope constraints"
         )?;
-        Ok(Text::from_string(text))
+        Text::from_string(text)
     }
 
     fn help(&self, alloc: Global) -> Result<Option<Text>, AllocError> {
@@ -114,7 +114,7 @@ impl Diagnostic for TooDeep {
     fn message(&self, alloc: Global) -> Result<Text, AllocError> {
         let id = &self.policy_id;
         let text = format!(in alloc; "for policy `{id}`, condition nests deeper than 200")?;
-        Ok(Text::from_string(text))
+        Text::from_string(text)
     }
 
     fn help(&self, _alloc: Global) -> Result<Option<Text>, AllocError> {
@@ -138,7 +138,7 @@ impl Diagnostic for ImpossiblePolicy {
         let text = format!(in alloc;
             "for policy `{id}`, policy is impossible: the policy expression evaluates to false for all valid requests"
         )?;
-        Ok(Text::from_string(text))
+        Text::from_string(text)
     }
 
     fn help(&self, _alloc: Global) -> Result<Option<Text>, AllocError> {

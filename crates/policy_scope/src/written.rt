@@ -25,7 +25,8 @@ pub fn findings_text(alloc: Global, findings: &ValidationResult) -> Result<Text,
         text.push_str(lines.as_str())?;
     }
     add_counts(&mut text, errors.len(), warnings.len())?;
-    Ok(Text::from_string(text))
+    let text = Text::from_string(text)?;
+    Ok(text)
 }
 
 // The lines of a finding.

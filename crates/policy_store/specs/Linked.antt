@@ -1,9 +1,14 @@
 -- Entities and their links apart.
-use Rattle.std.specs.Prelude.{[], Option}
+use Rattle.std.specs.Prelude.{[], Option, Some, None}
 use Rattle.std.specs.Option.{option_map_or}
 use Rattle.std.specs.BTreeSet.{BTreeSet}
 use Rattle.policy_names.specs.declared.entity_uid.EntityUID.{EntityUID}
 use Rattle.policy_store.specs.Store.{StoredEntity}
+
+-- the first set, where there is one, or else the second
+abbrev pub chosen : Option (BTreeSet EntityUID) → BTreeSet EntityUID → BTreeSet EntityUID
+chosen (Some shared) own = shared
+chosen None own = own
 
 -- what the entity lists, as a set
 abbrev pub links_of : StoredEntity → BTreeSet EntityUID

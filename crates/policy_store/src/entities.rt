@@ -13,7 +13,7 @@ ghost use Rattle.policy_store.specs.Linked.{links_of, linked};
 ghost use Rattle.policy_store.specs.FromParents.{ids_of, IsFromParents, IsRefused};
 
 use crate::Entity;
-use hierarchy::{Steps, closure_of, first_own, least_repeated};
+use hierarchy::{SharedSteps, Steps, first_own_shared, least_repeated, shared_closure_of};
 use policy_names::EntityUID;
 use std::alloc::{AllocError, Global};
 use std::collections::BTreeMap;
@@ -61,8 +61,9 @@ impl Entities {
             return Err(EntitiesError::Duplicate(uid));
         }
         let parents = parents_of(alloc, &entities)?;
-        let ancestors = closure_of(alloc, &parents)?;
-        if let Some(uid) = first_own(&ancestors) {
+        let ancestors = shared_closure_of(alloc, &parents)?;
+        drop(parents);
+        if let Some(uid) = first_own_shared(&ancestors) {
             return Err(EntitiesError::Cycle(uid.try_clone()?));
         }
         Ok(with_ancestors(alloc, entities, ancestors)?)
@@ -141,7 +142,7 @@ fn parents_of(alloc: Global, entities: &[Entity]) -> Result<Steps<EntityUID>, Al
 fn with_ancestors(
     alloc: Global,
     entities: Vec<Entity>,
-    mut ancestors: Steps<EntityUID>,
+    mut ancestors: SharedSteps<EntityUID>,
 ) -> Result<Entities, AllocError>
     requires once { (uid : EntityUID) → ¬ IsRepeated (ids_of entities.items) uid }
     requires keys { (uid : EntityUID) → is_some (tree.get uid_cmp ancestors uid) ≡ is_some (entity_at entities.items uid) }

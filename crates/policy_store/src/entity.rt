@@ -6,6 +6,7 @@ ghost use Rattle.std.specs.List.Sorted.{IsStrictlySortedBy};
 ghost use Rattle.policy_names.specs.Uid.{uid_cmp};
 ghost use Rattle.policy_values.specs.Value.{fields_of, field_at};
 
+use hierarchy::SharedSet;
 use policy_names::{EntityUID, Text};
 use policy_values::Value;
 use std::collections::{BTreeMap, BTreeSet};
@@ -17,7 +18,9 @@ use std::marker::Model;
 pub struct Entity {
     uid: EntityUID,
     attrs: BTreeMap<Text, Value>,
-    ancestors: BTreeSet<EntityUID>,
+    // The ancestors, where there are no shared ones.
+    own: BTreeSet<EntityUID>,
+    shared: Option<SharedSet<EntityUID>>,
     tags: BTreeMap<Text, Value>,
 }
 
@@ -29,8 +32,9 @@ impl Model for Entity {
     ghost coded = { coded_entity };
 
     ghost use Rattle.policy_values.specs.Value.{fields_of};
+    ghost use Rattle.policy_store.specs.Linked.{chosen};
 
-    ghost view = { λ e. record { uid = e.uid; attrs = fields_of e.attrs.entries; ancestors = e.ancestors.keys; tags = fields_of e.tags.entries } };
+    ghost view = { λ e. record { uid = e.uid; attrs = fields_of e.attrs.entries; ancestors = (chosen e.shared e.own).keys; tags = fields_of e.tags.entries } };
 }
 
 impl Entity {
@@ -48,23 +52,22 @@ impl Entity {
         Entity {
             uid,
             attrs,
-            ancestors,
+            own: ancestors,
+            shared: None,
             tags,
         }
     }
 
-    // The entity with other ancestors.
-    pub(crate) fn with_ancestors(self, ancestors: BTreeSet<EntityUID>) -> Entity
+    // The entity with other ancestors, which it shares.
+    pub(crate) fn with_ancestors(self, ancestors: SharedSet<EntityUID>) -> Entity
         ensures value { result ≡ record self { ancestors = ancestors.keys } }
         ensures ascending { IsStrictlySortedBy uid_cmp result.ancestors }
     {
-        let Entity {
-            uid,
-            attrs,
-            tags,
-            ..
-        } = self;
-        Entity::new(uid, attrs, ancestors, tags)
+        let _count = ancestors.as_set().len();
+        Entity {
+            shared: Some(ancestors),
+            ..self
+        }
     }
 
     /// Its id.
@@ -106,13 +109,16 @@ impl Entity {
     pub fn ancestors(&self) -> &BTreeSet<EntityUID>
         ensures { result.now.keys ≡ self.now.ancestors }
     {
-        &self.ancestors
+        match &self.shared {
+            Some(shared) => shared.as_set(),
+            None => &self.own,
+        }
     }
 
     /// Whether the id is one of its ancestors.
     pub fn has_ancestor(&self, uid: &EntityUID) -> bool
         ensures { IsTrue result ↔ Contains self.now.ancestors uid.now }
     {
-        self.ancestors.contains(uid)
+        self.ancestors().contains(uid)
     }
 }

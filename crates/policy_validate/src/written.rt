@@ -23,31 +23,31 @@ impl Diagnostic for RequestValidationError {
                 let text = format!(in alloc;
                     "request's action `{uid}` is not declared in the schema"
                 )?;
-                Ok(Text::from_string(text))
+                Text::from_string(text)
             }
             RequestValidationError::UndeclaredPrincipalType(e) => {
                 let ty = &e.principal_ty;
                 let text = format!(in alloc;
                     "principal type `{ty}` is not declared in the schema"
                 )?;
-                Ok(Text::from_string(text))
+                Text::from_string(text)
             }
             RequestValidationError::UndeclaredResourceType(e) => {
                 let ty = &e.resource_ty;
                 let text = format!(in alloc; "resource type `{ty}` is not declared in the schema")?;
-                Ok(Text::from_string(text))
+                Text::from_string(text)
             }
             RequestValidationError::InvalidPrincipalType(e) => {
                 let ty = &e.principal_ty;
                 let uid = &e.action;
                 let text = format!(in alloc; "principal type `{ty}` is not valid for `{uid}`")?;
-                Ok(Text::from_string(text))
+                Text::from_string(text)
             }
             RequestValidationError::InvalidResourceType(e) => {
                 let ty = &e.resource_ty;
                 let uid = &e.action;
                 let text = format!(in alloc; "resource type `{ty}` is not valid for `{uid}`")?;
-                Ok(Text::from_string(text))
+                Text::from_string(text)
             }
             RequestValidationError::OutOfMemory => Text::from_str(alloc, "out of memory"),
         }
@@ -84,12 +84,12 @@ fn valid_types(
     match types {
         [] => {
             let text = format!(in alloc; "no {side} types are valid for `{action}`")?;
-            Ok(Text::from_string(text))
+            Text::from_string(text)
         }
         [first, others @ ..] => {
             let mut text = format!(in alloc; "valid {side} types for `{action}`: `{first}`")?;
             add_types(&mut text, others)?;
-            Ok(Text::from_string(text))
+            Text::from_string(text)
         }
     }
 }
@@ -112,7 +112,7 @@ pub fn request_text(alloc: Global, error: &RequestValidationError) -> Result<Tex
     let help = error.help(alloc)?;
     let mut text = format!(in alloc; "request: {message}\n")?;
     add_help(&mut text, &help)?;
-    Ok(Text::from_string(text))
+    Text::from_string(text)
 }
 
 /// The entity and the rule that it breaks, behind `entity: `.
@@ -122,5 +122,5 @@ pub fn entity_text(alloc: Global, error: &EntityDoesNotConform) -> Result<Text, 
     let uid = &error.uid;
     let rule = &error.rule;
     let text = format!(in alloc; "entity: {uid}: {rule}\n")?;
-    Ok(Text::from_string(text))
+    Text::from_string(text)
 }
