@@ -2,12 +2,15 @@
 use Rattle.std.specs.Prelude.{ℕ, Bool, false, not, ◌||◌, ℤ, ◌+ℤ◌, ◌-ℤ◌, ◌*ℤ◌, neg_ℤ, List, Option, Some, None, is_some, pos, negsuc, nat_lt, ◌^◌, if◌then◌else◌, int_lt, int_le}
 use Rattle.std.specs.List.{list_any}
 use Rattle.std.specs.Ordering.{is_eq}
+use Rattle.std.specs.Str.{chars}
 use Rattle.policy_names.specs.declared.entity_uid.EntityUID.{EntityUID}
-use Rattle.policy_names.specs.Uid.{uid_cmp}
+use Rattle.policy_names.specs.Uid.{text_cmp, uid_cmp}
 use Rattle.policy_values.specs.Value.{Val, truth, long, string, entity, set, rec, Vals, no_vals, val, field_at}
 use Rattle.policy_values.specs.ValueOrder.{val_cmp}
 use Rattle.policy_values.specs.Sets.{is_empty, is_element, has_all, has_some}
 use Rattle.policy_store.specs.Store.{StoredEntity, Store, entity_at}
+use Rattle.policy_core.specs.declared.kinds.PatternElem.{PatternElem}
+use Rattle.policy_core.specs.Like.{matches}
 use Rattle.policy_core.specs.declared.kinds.UnaryOp.{UnaryOp}
 use Rattle.policy_core.specs.declared.kinds.UnaryOp.TheVariants.{Not, Neg, IsEmpty}
 use Rattle.policy_core.specs.declared.kinds.BinaryOp.{BinaryOp}
@@ -155,3 +158,13 @@ abbrev pub has_value : Val → List ℕ → Store → Outcome
 has_value (entity u) k s = Value (truth (has_of (entity_at s u) k))
 has_value (rec fs) k s = Value (truth (is_some (field_at fs k)))
 has_value v k s = Error TypeFault
+
+-- `like` asks for a string: whether its characters match the pattern
+abbrev pub like_value : Val → List PatternElem → Outcome
+like_value (string t) p = Value (truth (matches p (chars t)))
+like_value v p = Error TypeFault
+
+-- `is` asks for an id, and looks at its type alone
+abbrev pub is_value : Val → List ℕ → Outcome
+is_value (entity u) t = Value (truth (is_eq (text_cmp u.entity_type t)))
+is_value v t = Error TypeFault

@@ -3,10 +3,14 @@
 ghost use Rattle.std.specs.Prelude.{◌≡◌, IfOk, ◌+ℤ◌, ◌-ℤ◌, ◌*ℤ◌, neg_ℤ, int_lt, int_le};
 ghost use Rattle.std.specs.Option.{option_copied};
 ghost use Rattle.policy_values.specs.Value.{vals_of};
-ghost use Rattle.policy_core.specs.Operators.{unary_value, fit, long_of, compared, calculated, contains_value, contains_all_value, contains_any_value, get_tag_value, has_tag_of, has_tag_value, in_value, binary_value, above, within, within_any, attr_value, found_or, has_value};
+ghost use Rattle.policy_core.specs.Operators.{unary_value, fit, long_of, compared, calculated, contains_value, contains_all_value, contains_any_value, get_tag_value, has_tag_of, has_tag_value, in_value, binary_value, above, within, within_any, attr_value, found_or, has_value, like_value, is_value};
+ghost use Rattle.std.specs.Ordering.{is_eq};
+ghost use Rattle.policy_names.specs.Uid.{text_cmp};
 
+use crate::like::is_like;
 use crate::{
-    BinaryOp, Entities, Entity, EntityUID, EvalError, Outcome, Text, UnaryOp, Value, ValueKind,
+    BinaryOp, Entities, Entity, EntityType, EntityUID, EvalError, Outcome, Pattern, Text, UnaryOp,
+    Value, ValueKind,
 };
 use std::alloc::{AllocError, Global};
 
@@ -292,4 +296,33 @@ pub fn has_attribute(x: &Value, name: &Text, entities: &Entities) -> Outcome
         ValueKind::Record(fields) => Outcome::Value(Value::bool(fields.get(name).is_some())),
         _ => Outcome::Error(EvalError::TypeFault),
     }
+}
+
+/// Whether a string matches the pattern. Errs where memory runs out.
+pub fn matches_pattern(alloc: Global, x: &Value, pattern: &Pattern) -> Result<Outcome, AllocError>
+    ensures { IfOk result (λ o. o ≡ like_value x.now pattern.now) }
+{
+    match x.kind() {
+        ValueKind::String(text) => {
+            let is_like = is_like(alloc, text, pattern)?;
+            Ok(Outcome::Value(Value::bool(is_like)))
+        }
+        _ => Ok(Outcome::Error(EvalError::TypeFault)),
+    }
+}
+
+/// Whether an id is of the type.
+pub fn is_of_type(x: &Value, entity_type: &EntityType) -> Outcome
+    ensures { result ≡ is_value x.now entity_type.now }
+{
+    match x.kind() {
+        ValueKind::EntityUID(uid) => Outcome::Value(Value::bool(is_type(uid, entity_type))),
+        _ => Outcome::Error(EvalError::TypeFault),
+    }
+}
+
+fn is_type(uid: &EntityUID, entity_type: &EntityType) -> bool
+    ensures { result ≡ is_eq (text_cmp uid.now.entity_type entity_type.now) }
+{
+    uid.entity_type == *entity_type
 }
