@@ -8,6 +8,10 @@ use Rattle.policy_core.specs.declared.kinds.SlotValues.{SlotValues}
 use Rattle.policy_core.specs.Tree.{Tree, lit, var, slot, ite, conj, disj, unary, binary, attr, has, like, is_type, set, rec, Trees, no_trees, tree, Named, no_named, named, depth_of, deepest, deepest_named, trees_of, named_of}
 use Rattle.policy_core.specs.Slots.{value_of, in_place, filled, filled_all, filled_named, filled_entry}
 
+no_values : (i : SlotId) → value_of (record { principal = None; resource = None }) i ≡ None
+no_values Principal = refl
+no_values Resource = refl
+
 module _ {A : Type 0} where
   one_deep : (o : Option EntityUID) (i : SlotId) (a : A) → depth_of (in_place o i a) ≡ 1
   one_deep (Some u) i a = refl
@@ -45,10 +49,6 @@ module _ {A : Type 0} where
   pub named_filled : (w : SlotValues) (es : List (List ℕ × Tree A)) → named_of (map (filled_entry w) es) ≡ filled_named w (named_of es)
   named_filled w [] = refl
   named_filled w (e ∷ es) = ap (λ ys. named e.0 (filled w e.1) ys) (named_filled w es)
-
-  no_values : (i : SlotId) → value_of (record { principal = None; resource = None }) i ≡ None
-  no_values Principal = refl
-  no_values Resource = refl
 
   mutual
     pub filled_with_none : (e : Tree A) → filled (record { principal = None; resource = None }) e ≡ e

@@ -19,15 +19,16 @@ matches (Wildcard ∷ p) cs = some_tail (matches p) cs
 matches (Char d ∷ p) [] = false
 matches (Char d ∷ p) (c ∷ cs) = (c == d) && matches p cs
 
--- what is left behind the characters that a pattern and a text have in common: behind a wildcard the rest of both, at the
--- end of the pattern the rest of the text, and nothing where they differ
+-- what is left behind the characters that a pattern and a text have in common: behind a wildcard the rest of both, nothing
+-- to do where both are over, and no way on where they differ or one of them is over
 pub data Behind : Type 0 where
   wildcard : List PatternElem → List ℕ → Behind
-  end : List ℕ → Behind
+  whole : Behind
   nothing : Behind
 
 abbrev pub behind_chars : List PatternElem → List ℕ → Behind
-behind_chars [] cs = end cs
+behind_chars [] [] = whole
+behind_chars [] (c ∷ cs) = nothing
 behind_chars (Wildcard ∷ p) cs = wildcard p cs
 behind_chars (Char d ∷ p) [] = nothing
 behind_chars (Char d ∷ p) (c ∷ cs) = if c == d then behind_chars p cs else nothing
@@ -35,5 +36,5 @@ behind_chars (Char d ∷ p) (c ∷ cs) = if c == d then behind_chars p cs else n
 -- the same, as code refers to it
 abbrev pub seen : Left → Behind
 seen (left.Wildcard p cs) = wildcard p.now cs.now
-seen (left.End cs) = end cs.now
+seen left.Whole = whole
 seen left.Nothing = nothing

@@ -17,7 +17,6 @@ impl<T: Note> Expr<T> {
     }
 
     /// An equal expression with memory of its own.
-    #[tactic(auto, using(crate::proofs::FillSteps::filled_with_none))]
     pub fn try_clone(&self, alloc: Global) -> Result<Expr<T>, AllocError>
         ensures { IfOk result (λ e. e ≡ self.now) }
     {
@@ -25,7 +24,10 @@ impl<T: Note> Expr<T> {
             principal: None,
             resource: None,
         };
-        fill(alloc, self, &none)
+        match fill(alloc, self, &none) {
+            Ok(copy) => Ok(copy),
+            Err(error) => Err(error),
+        }
     }
 }
 

@@ -1,6 +1,6 @@
 //! How a text matches a pattern.
 
-ghost use Rattle.std.specs.Prelude.{◌≡◌, IfOk, []};
+ghost use Rattle.std.specs.Prelude.{◌≡◌, IfOk};
 ghost use Rattle.std.specs.Str.{chars};
 ghost use Rattle.policy_core.specs.Like.{some_tail, matches, behind_chars, seen};
 
@@ -31,9 +31,9 @@ fn chars_of(alloc: Global, text: &Text) -> Result<Vec<char>, AllocError>
 enum Left<'a> {
     // The rest of both, behind a wildcard of the pattern.
     Wildcard(&'a [PatternElem], &'a [char]),
-    // The rest of the text, where the pattern is over.
-    End(&'a [char]),
-    // Nothing, since they differ.
+    // Nothing to do: both are over.
+    Whole,
+    // No way on: they differ, or one of them is over.
     Nothing,
 }
 
@@ -44,7 +44,12 @@ fn behind_chars<'a>(pattern: &'a [PatternElem], text: &'a [char]) -> Left<'a>
     let mut text = text;
     'chars: loop {
         match pattern {
-            [] => return Left::End(text),
+            [] => {
+                return match text {
+                    [] => Left::Whole,
+                    _ => Left::Nothing,
+                };
+            }
             [PatternElem::Wildcard, pattern_left @ ..] => {
                 return Left::Wildcard(pattern_left, text);
             }
@@ -67,17 +72,8 @@ fn matches(pattern: &[PatternElem], text: &[char]) -> bool
 {
     match behind_chars(pattern, text) {
         Left::Wildcard(pattern, text) => some_tail_matches(pattern, text),
-        Left::End(text) => is_over(text),
+        Left::Whole => true,
         Left::Nothing => false,
-    }
-}
-
-fn is_over(text: &[char]) -> bool
-    ensures { result ≡ matches [] text.now }
-{
-    match text {
-        [] => true,
-        _ => false,
     }
 }
 
@@ -94,8 +90,8 @@ fn some_tail_matches(pattern: &[PatternElem], text: &[char]) -> bool
                 pattern = pattern_left;
                 text = text_left;
             }
-            Left::End([]) => return true,
-            _ => match text {
+            Left::Whole => return true,
+            Left::Nothing => match text {
                 [] => return false,
                 [_, text_left @ ..] => text = text_left,
             },

@@ -1,8 +1,8 @@
 use super::samples::{
-    Built, attribute, both, branch, either, has, id, long, one, pair, record, request, store,
-    string, truth, two, var,
+    Built, attribute, both, branch, either, has, id, is, like, long, one, pair, record, request,
+    store, string, truth, two, var,
 };
-use crate::{BinaryOp, Expr, Outcome, UnaryOp, ValueKind, Var, evaluate};
+use crate::{BinaryOp, Expr, Outcome, SlotId, UnaryOp, ValueKind, Var, evaluate};
 use std::alloc::{AllocError, Global};
 
 // A boolean, a long or an error, as it prints.
@@ -218,4 +218,28 @@ fn attributes(rt: HostRuntime) {
     assert!(rt; gives(a, attribute(a, record(a, "of", long(7)), "of"), "7"));
     assert!(rt; gives(a, record(a, "of", fault(a)), NO_PHOTO));
     assert!(rt; gives(a, pair(a, long(1), fault(a)), NO_PHOTO));
+}
+
+#[test]
+fn patterns(rt: HostRuntime) {
+    let a = rt.alloc();
+    assert!(rt; gives(a, like(a, "", ""), "true"));
+    assert!(rt; gives(a, like(a, "", "*"), "true"));
+    assert!(rt; gives(a, like(a, "é", "é"), "true"));
+    assert!(rt; gives(a, like(a, "é", "e"), "false"));
+    assert!(rt; gives(a, like(a, "eggs", "egg"), "false"));
+    assert!(rt; gives(a, like(a, "eggs", "egg*"), "true"));
+    assert!(rt; gives(a, like(a, "ham and eggs", "*egg"), "false"));
+    assert!(rt; gives(a, like(a, "ham and eggs", "h* *s"), "true"));
+    assert!(rt; gives(a, like(a, "abcabd", "*ab*abd"), "true"));
+    assert!(rt; gives(a, like(a, "aaaa", "*a*a*a*a*a*"), "false"));
+}
+
+#[test]
+fn types(rt: HostRuntime) {
+    let a = rt.alloc();
+    assert!(rt; gives(a, is(a, var(Var::Resource), "App::Thing"), "true"));
+    assert!(rt; gives(a, is(a, var(Var::Resource), "Thing"), "false"));
+    assert!(rt; gives(a, is(a, long(1), "Thing"), KIND));
+    assert!(rt; gives(a, Ok(Expr::slot(SlotId::Principal, (), None)), KIND));
 }
