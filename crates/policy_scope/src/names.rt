@@ -123,16 +123,16 @@ enum Mention<'a> {
     // The id of a literal.
     Id(&'a EntityUID),
     // The type that `is` tests for.
-    Type(&'a EntityType),
+    EntityType(&'a EntityType),
 }
 
 // The type of the id, or the type itself.
 fn mentioned_type<'a>(mention: Mention<'a>) -> &'a EntityType
-    ensures { result.now ≡ type_of (mentioned mention) }
+    ensures { result.now ≡ type_of (mentioned mention.entry) }
 {
     match mention {
         Mention::Id(uid) => uid.entity_type(),
-        Mention::Type(ty) => ty,
+        Mention::EntityType(ty) => ty,
     }
 }
 
@@ -165,7 +165,7 @@ fn add_names<'a, T>(
         | ExprKind::Like(x, _) => add_names(x, names),
         ExprKind::Is(x, ty) => {
             add_names(x, names)?;
-            Ok(names.push((Mention::Type(ty), expr.source_loc()))?)
+            Ok(names.push((Mention::EntityType(ty), expr.source_loc()))?)
         }
         ExprKind::Set(items) => add_names_of_all(items, names),
         ExprKind::Record(fields) => add_names_of_named(fields, names),

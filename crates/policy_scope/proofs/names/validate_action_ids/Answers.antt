@@ -8,7 +8,7 @@ use Rattle.policy_scope.proofs.names.validate_action_ids.Goals as goal
 pub loop-mention-preserved-in_ok-push : goal.loop-mention-preserved-in_ok-push
 loop-mention-preserved-in_ok-push c =
     let unknown = sym c.is_known_action.ensures ∙ c.if-is_known_action.false in
-    let before = rw unknown at (rw c.in-Some.ensures.steps.0 at c.loop-mention.invariant) in
+    let before = rw unknown at (rw c.in-Id.is at (rw c.in-Some.ensures.steps.0 at c.loop-mention.invariant)) in
     once_new action_id_cmp (action_made c.args.schema.now c.args.policy.now.id) (action_made_total c.args.schema.now c.args.policy.now.id) (c.in-Id.uid, c.in-Some.loc) _ before
     (not-true _ (sym c.in_ok-insert.ensures.added ∙ c.if-branch.true))
     c.in_ok-insert.ensures.updates.0
@@ -17,7 +17,7 @@ loop-mention-preserved-in_ok-push c =
 pub loop-mention-preserved : goal.loop-mention-preserved
 loop-mention-preserved c =
     let unknown = sym c.is_known_action.ensures ∙ c.if-is_known_action.false in
-    let before = rw unknown at (rw c.in-Some.ensures.steps.0 at c.loop-mention.invariant) in
+    let before = rw unknown at (rw c.in-Id.is at (rw c.in-Some.ensures.steps.0 at c.loop-mention.invariant)) in
     once_old action_id_cmp (action_made c.args.schema.now c.args.policy.now.id) (action_made_total c.args.schema.now c.args.policy.now.id) (c.in-Id.uid, c.in-Some.loc) before
     (not-false _ (sym c.in_ok-insert.ensures.added ∙ c.if-branch.false))
     (rw c.if-branch.false at c.in_ok-insert.ensures.unchanged)
