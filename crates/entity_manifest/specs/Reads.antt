@@ -8,7 +8,7 @@ use Rattle.policy_core.specs.declared.kinds.Var.{Var}
 use Rattle.policy_core.specs.declared.kinds.Var.TheVariants.{Context}
 use Rattle.policy_core.specs.declared.kinds.BinaryOp.{BinaryOp}
 use Rattle.policy_core.specs.declared.kinds.BinaryOp.TheVariants.{In}
-use Rattle.policy_core.specs.Tree.{Tree, lit, var, ite, conj, disj, unary, binary, attr, has, set, rec, Trees, no_trees, tree, Named, no_named, named}
+use Rattle.policy_core.specs.Tree.{Tree, lit, var, slot, ite, conj, disj, unary, binary, attr, has, like, is_type, set, rec, Trees, no_trees, tree, Named, no_named, named}
 use Rattle.policy_set.specs.declared.template.TemplateBody.{TemplateBody}
 use Rattle.policy_typecheck.specs.declared.truth_type.TruthType.{TruthType}
 use Rattle.policy_typecheck.specs.declared.truth_type.TruthType.TheVariants as typed
@@ -72,6 +72,7 @@ module _ (d : SchemaData) (g : Environment) where
     pub root_demands : {A : Type 0} → Tree A → List RootDemand
     root_demands (lit l a) = []
     root_demands (var v a) = []
+    root_demands (slot i a) = []
     root_demands (ite x y z a) = root_demands x ++ (root_demands y ++ root_demands z)
     root_demands (conj x y a) = root_demands x ++ reached_by_and (truth_type d g x) (root_demands y)
     root_demands (disj x y a) = root_demands x ++ reached_by_or (truth_type d g x) (root_demands y)
@@ -79,6 +80,8 @@ module _ (d : SchemaData) (g : Environment) where
     root_demands (binary o x y a) = root_demands x ++ (root_demands y ++ own_demands o x y)
     root_demands (attr x n a) = root_demands x
     root_demands (has x n a) = root_demands x
+    root_demands (like x p a) = root_demands x
+    root_demands (is_type x t a) = root_demands x
     root_demands (set xs a) = demands_each xs
     root_demands (rec xs a) = demands_named xs
 

@@ -72,7 +72,7 @@ pub(crate) fn add_asked<T>(
     match condition.kind() {
         ExprKind::Lit(Literal::Bool(value)) => Ok(TruthType::known(*value)),
         ExprKind::Lit(_) => Ok(TruthType::Bool),
-        ExprKind::Var(_) => Ok(TruthType::Bool),
+        ExprKind::Var(_) | ExprKind::Slot(_) => Ok(TruthType::Bool),
         ExprKind::If(x, y, z) => {
             add_asked(alloc, asked, schema, env, request, x)?;
             add_asked(alloc, asked, schema, env, request, y)?;
@@ -99,7 +99,7 @@ pub(crate) fn add_asked<T>(
             let operand = add_asked(alloc, asked, schema, env, request, x)?;
             Ok(operand.not())
         }
-        ExprKind::UnaryApp(UnaryOp::Neg, x) => {
+        ExprKind::UnaryApp(UnaryOp::Neg | UnaryOp::IsEmpty, x) => {
             add_asked(alloc, asked, schema, env, request, x)?;
             Ok(TruthType::Bool)
         }
@@ -109,11 +109,10 @@ pub(crate) fn add_asked<T>(
             add_own(alloc, asked, request, *op, x, y)?;
             Ok(comparison_type(schema, env, *op, x, y))
         }
-        ExprKind::GetAttr(x, _) => {
-            add_asked(alloc, asked, schema, env, request, x)?;
-            Ok(TruthType::Bool)
-        }
-        ExprKind::HasAttr(x, _) => {
+        ExprKind::GetAttr(x, _)
+        | ExprKind::HasAttr(x, _)
+        | ExprKind::Like(x, _)
+        | ExprKind::Is(x, _) => {
             add_asked(alloc, asked, schema, env, request, x)?;
             Ok(TruthType::Bool)
         }

@@ -14,8 +14,8 @@ use Rattle.policy_core.specs.declared.outcome.EvalError.{EvalError}
 use Rattle.policy_core.specs.declared.outcome.EvalError.TheVariants.{TypeFault}
 use Rattle.policy_core.specs.declared.outcome.Outcome.{Outcome}
 use Rattle.policy_core.specs.declared.outcome.Outcome.TheVariants.{Value, Error}
-use Rattle.policy_core.specs.Operators.{unary_value, binary_value, attr_value, has_value}
-use Rattle.policy_core.specs.Tree.{Tree, lit, var, ite, conj, disj, unary, binary, attr, has, set, rec, Trees, no_trees, tree, Named, no_named, named}
+use Rattle.policy_core.specs.Operators.{unary_value, binary_value, attr_value, has_value, like_value, is_value}
+use Rattle.policy_core.specs.Tree.{Tree, lit, var, slot, ite, conj, disj, unary, binary, attr, has, like, is_type, set, rec, Trees, no_trees, tree, Named, no_named, named}
 
 abbrev pub result_map : {X Y E : Type 0} → (X → Y) → Result X E → Result Y E
 result_map f (Ok x) = Ok (f x)
@@ -77,11 +77,13 @@ record_outcome (Err e) = Error e
 module _ {A : Type 0} where
   -- `if`, `&&` and `||` evaluate the left operand and stop early; each operand that they use must be a boolean. Every
   -- other operator evaluates its operands from the left, and then asks what kinds they are. A set evaluates its elements
-  -- in order, a record its fields in the order of their keys. The first error is the result.
+  -- in order, a record its fields in the order of their keys. A slot stands for an id that is not known, and has no value.
+  -- The first error is the result.
   abbrev mutual
     pub eval : Tree A → Request → Store → Outcome
     eval (lit l a) q s = Value (literal_value l)
     eval (var v a) q s = Value (variable_value v q)
+    eval (slot i a) q s = Error TypeFault
     eval (ite x y z a) q s = choose (truth_of (eval x q s)) (eval y q s) (eval z q s)
     eval (conj x y a) q s = choose (truth_of (eval x q s)) (truth_outcome (truth_of (eval y q s))) (Value (truth false))
     eval (disj x y a) q s = choose (truth_of (eval x q s)) (Value (truth true)) (truth_outcome (truth_of (eval y q s)))
@@ -89,6 +91,8 @@ module _ {A : Type 0} where
     eval (binary o x y a) q s = with_value (eval x q s) (λ v. with_value (eval y q s) (λ w. binary_value o v w s))
     eval (attr x n a) q s = with_value (eval x q s) (λ v. attr_value v n s)
     eval (has x n a) q s = with_value (eval x q s) (λ v. has_value v n s)
+    eval (like x p a) q s = with_value (eval x q s) (λ v. like_value v p)
+    eval (is_type x t a) q s = with_value (eval x q s) (λ v. is_value v t)
     eval (set xs a) q s = set_outcome (eval_all xs q s)
     eval (rec xs a) q s = record_outcome (eval_named xs q s)
 

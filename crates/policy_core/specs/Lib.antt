@@ -1,7 +1,9 @@
 pub mod Eval
+pub mod Like
 pub mod Operators
 pub mod Shape
 pub mod Show
+pub mod Slots
 pub mod Tree
 pub mod TreeCode
 pub mod TreeFalls

@@ -1,12 +1,13 @@
 -- Expressions that differ in marks at most.
 use Rattle.std.specs.Prelude.{◌≡◌}
-use Rattle.policy_core.specs.Tree.{Tree, lit, var, ite, conj, disj, unary, binary, attr, has, set, rec, Trees, no_trees, tree, Named, no_named, named}
+use Rattle.policy_core.specs.Tree.{Tree, lit, var, slot, ite, conj, disj, unary, binary, attr, has, like, is_type, set, rec, Trees, no_trees, tree, Named, no_named, named}
 
 module _ {A B : Type 0} where
   abbrev mutual
     pub SameShape : Tree A → Tree B → Type 0
     SameShape (lit l a) (lit m b) = l ≡ m
     SameShape (var v a) (var w b) = v ≡ w
+    SameShape (slot i a) (slot j b) = i ≡ j
     SameShape (ite x y z a) (ite u v w b) = SameShape x u × SameShape y v × SameShape z w
     SameShape (conj x y a) (conj u v b) = SameShape x u × SameShape y v
     SameShape (disj x y a) (disj u v b) = SameShape x u × SameShape y v
@@ -14,6 +15,8 @@ module _ {A B : Type 0} where
     SameShape (binary o x y a) (binary p u v b) = (o ≡ p) × SameShape x u × SameShape y v
     SameShape (attr x m a) (attr u n b) = SameShape x u × (m ≡ n)
     SameShape (has x m a) (has u n b) = SameShape x u × (m ≡ n)
+    SameShape (like x p a) (like u q b) = SameShape x u × (p ≡ q)
+    SameShape (is_type x s a) (is_type u t b) = SameShape x u × (s ≡ t)
     SameShape (set xs a) (set us b) = SameShapes xs us
     SameShape (rec xs a) (rec us b) = SameNamed xs us
     SameShape x u = ⊥

@@ -8,12 +8,18 @@ use Rattle.policy_core.specs.declared.kinds.Loc.{Loc}
 use Rattle.policy_core.specs.contracts.kinds.Loc.{the_row as loc_row}
 use Rattle.policy_core.specs.contracts.kinds.Literal.{the_row as literal_row}
 use Rattle.policy_core.specs.contracts.kinds.Var.{the_row as var_row}
+use Rattle.policy_core.specs.contracts.kinds.SlotId.{the_row as slot_row}
+use Rattle.policy_core.specs.contracts.kinds.PatternElem.{the_row as element_row}
+use Rattle.policy_core.specs.declared.kinds.PatternElem.{PatternElem}
 use Rattle.policy_core.specs.contracts.kinds.UnaryOp.{the_row as unary_row}
 use Rattle.policy_core.specs.contracts.kinds.BinaryOp.{the_row as binary_row}
-use Rattle.policy_core.specs.Tree.{Tree, lit, var, ite, conj, disj, unary, binary, attr, has, set, rec, Trees, no_trees, tree, Named, no_named, named, Mark}
+use Rattle.policy_core.specs.Tree.{Tree, lit, var, slot, ite, conj, disj, unary, binary, attr, has, like, is_type, set, rec, Trees, no_trees, tree, Named, no_named, named, Mark}
 
 abbrev text : Coded (List ℕ)
 text = coded_list coded_ℕ
+
+abbrev pattern : Coded (List PatternElem)
+pattern = coded_list element_row.coded
 
 abbrev pub coded_mark : {T : Type 0} → Coded T → Coded (Mark T)
 coded_mark {T} c = code_by (T × Option Loc) (coded× c (coded_option loc_row.coded)) (λ m. (m.note, m.loc)) (λ p. record { note = p.0; loc = p.1 }) (λ _. refl)
@@ -32,6 +38,9 @@ module _ {A : Type 0} (c : Coded A) where
     code (has x n a) = gcons (gnum 8) (gcons (gcons (code x) (text.code n)) (c.code a))
     code (set xs a) = gcons (gnum 9) (gcons (codes xs) (c.code a))
     code (rec xs a) = gcons (gnum 10) (gcons (codes_named xs) (c.code a))
+    code (slot i a) = gcons (gnum 11) (gcons (slot_row.coded.code i) (c.code a))
+    code (like x p a) = gcons (gnum 12) (gcons (gcons (code x) (pattern.code p)) (c.code a))
+    code (is_type x t a) = gcons (gnum 13) (gcons (gcons (code x) (text.code t)) (c.code a))
 
     pub codes : Trees A → Gv
     codes no_trees = gnil
@@ -54,6 +63,9 @@ module _ {A : Type 0} (c : Coded A) where
     inj (has x n a) (has x' n' b) p = λ i. has (inj x x' (ap (λ g. head (head (tail g))) p) i) (text.inj n n' (ap (λ g. tail (head (tail g))) p) i) (c.inj a b (ap (λ g. tail (tail g)) p) i)
     inj (set xs a) (set ys b) p = λ i. set (injs xs ys (ap (λ g. head (tail g)) p) i) (c.inj a b (ap (λ g. tail (tail g)) p) i)
     inj (rec xs a) (rec ys b) p = λ i. rec (inj_named xs ys (ap (λ g. head (tail g)) p) i) (c.inj a b (ap (λ g. tail (tail g)) p) i)
+    inj (slot l a) (slot m b) p = λ i. slot (slot_row.coded.inj l m (ap (λ g. head (tail g)) p) i) (c.inj a b (ap (λ g. tail (tail g)) p) i)
+    inj (like x n a) (like x' n' b) p = λ i. like (inj x x' (ap (λ g. head (head (tail g))) p) i) (pattern.inj n n' (ap (λ g. tail (head (tail g))) p) i) (c.inj a b (ap (λ g. tail (tail g)) p) i)
+    inj (is_type x n a) (is_type x' n' b) p = λ i. is_type (inj x x' (ap (λ g. head (head (tail g))) p) i) (text.inj n n' (ap (λ g. tail (head (tail g))) p) i) (c.inj a b (ap (λ g. tail (tail g)) p) i)
     inj x y p = absurd (omega (arith, ap (λ g. num (head g)) p))
 
     pub injs : (xs ys : Trees A) → codes xs ≡ codes ys → xs ≡ ys

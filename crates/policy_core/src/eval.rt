@@ -5,12 +5,12 @@ ghost use Rattle.policy_values.specs.Value.{entity, rec};
 ghost use Rattle.policy_store.specs.Request.{IsWhole, known};
 ghost use Rattle.policy_core.specs.Tree.{trees_of, named_of};
 ghost use Rattle.policy_core.specs.Eval.{eval, eval_all, eval_named, result_map, known_fields, literal_value, variable_value, truth_of, truth_outcome, with_value};
-ghost use Rattle.policy_core.specs.Operators.{unary_value, binary_value, attr_value, has_value};
+ghost use Rattle.policy_core.specs.Operators.{unary_value, binary_value, attr_value, has_value, like_value, is_value};
 
-use crate::operators::{apply, apply_two, attribute, has_attribute};
+use crate::operators::{apply, apply_two, attribute, has_attribute, is_of_type, matches_pattern};
 use crate::{
-    BinaryOp, Context, Entities, EntityUID, EvalError, Expr, ExprKind, Literal, Outcome, Request,
-    Text, UnaryOp, Value, ValueKind, Var, push_entry, try_clone_fields,
+    BinaryOp, Context, Entities, EntityType, EntityUID, EvalError, Expr, ExprKind, Literal,
+    Outcome, Pattern, Request, Text, UnaryOp, Value, ValueKind, Var, push_entry, try_clone_fields,
 };
 use std::alloc::{AllocError, Global};
 use std::collections::BTreeMap;
@@ -33,6 +33,7 @@ pub fn evaluate<T>(
     match expr.kind() {
         ExprKind::Lit(value) => Ok(Outcome::Value(literal(value)?)),
         ExprKind::Var(value) => Ok(Outcome::Value(variable(alloc, *value, request)?)),
+        ExprKind::Slot(_) => Ok(Outcome::Error(EvalError::TypeFault)),
         ExprKind::If(x, y, z) => match truth(evaluate(alloc, x, request, entities)?) {
             Ok(true) => evaluate(alloc, y, request, entities),
             Ok(false) => evaluate(alloc, z, request, entities),
@@ -55,7 +56,7 @@ pub fn evaluate<T>(
         ExprKind::BinaryApp(op, x, y) => match evaluate(alloc, x, request, entities)? {
             Outcome::Value(x) => {
                 let y = evaluate(alloc, y, request, entities)?;
-                Ok(applied_to_both(*op, x, y, entities))
+                applied_to_both(alloc, *op, x, y, entities)
             }
             Outcome::Error(error) => Ok(Outcome::Error(error)),
         },
@@ -66,6 +67,14 @@ pub fn evaluate<T>(
         ExprKind::HasAttr(x, name) => {
             let x = evaluate(alloc, x, request, entities)?;
             Ok(has_attribute_of(x, name, entities))
+        }
+        ExprKind::Like(x, pattern) => {
+            let x = evaluate(alloc, x, request, entities)?;
+            like_of(alloc, x, pattern)
+        }
+        ExprKind::Is(x, entity_type) => {
+            let x = evaluate(alloc, x, request, entities)?;
+            Ok(is_of(x, entity_type))
         }
         ExprKind::Set(items) => match evaluate_all(alloc, items, request, entities)? {
             Ok(values) => Ok(Outcome::Value(Value::set(alloc, values)?)),
@@ -215,19 +224,25 @@ fn applied(op: UnaryOp, x: Outcome) -> Outcome
 }
 
 // An operator applied to the values of both operands; an error stays.
-fn applied_to_both(op: BinaryOp, x: Value, y: Outcome, entities: &Entities) -> Outcome
-    ensures { result ≡ with_value y (λ w. binary_value op x w entities.now) }
+fn applied_to_both(
+    alloc: Global,
+    op: BinaryOp,
+    x: Value,
+    y: Outcome,
+    entities: &Entities,
+) -> Result<Outcome, AllocError>
+    ensures { IfOk result (λ o. o ≡ with_value y (λ w. binary_value op x w entities.now)) }
 {
     match y {
         Outcome::Value(y) => {
-            let outcome = apply_two(op, &x, &y, entities);
+            let outcome = apply_two(alloc, op, &x, &y, entities);
             drop(x);
             drop(y);
             outcome
         }
         Outcome::Error(error) => {
             drop(x);
-            Outcome::Error(error)
+            Ok(Outcome::Error(error))
         }
     }
 }
@@ -258,6 +273,34 @@ fn has_attribute_of(x: Outcome, name: &Text, entities: &Entities) -> Outcome
     match x {
         Outcome::Value(x) => {
             let outcome = has_attribute(&x, name, entities);
+            drop(x);
+            outcome
+        }
+        Outcome::Error(error) => Outcome::Error(error),
+    }
+}
+
+// Whether a value matches a pattern; an error stays.
+fn like_of(alloc: Global, x: Outcome, pattern: &Pattern) -> Result<Outcome, AllocError>
+    ensures { IfOk result (λ o. o ≡ with_value x (λ v. like_value v pattern.now)) }
+{
+    match x {
+        Outcome::Value(x) => {
+            let outcome = matches_pattern(alloc, &x, pattern);
+            drop(x);
+            outcome
+        }
+        Outcome::Error(error) => Ok(Outcome::Error(error)),
+    }
+}
+
+// Whether a value is an id of a type; an error stays.
+fn is_of(x: Outcome, entity_type: &EntityType) -> Outcome
+    ensures { result ≡ with_value x (λ v. is_value v entity_type.now) }
+{
+    match x {
+        Outcome::Value(x) => {
+            let outcome = is_of_type(&x, entity_type);
             drop(x);
             outcome
         }

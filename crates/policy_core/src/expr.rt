@@ -1,19 +1,18 @@
 //! Expressions.
 
 ghost use Rattle.std.specs.Prelude.{◌≡◌, ◌≢◌, ◌≤◌, IfOk, max, ◌↔◌};
-ghost use Rattle.policy_core.specs.Tree.{Tree, lit, var, ite, conj, disj, unary, binary, attr, has, set, rec, Mark, mark_of, with_mark, depth_of, deepest, trees_of, deepest_named, named_of};
+ghost use Rattle.policy_core.specs.Tree.{Tree, lit, var, slot, ite, conj, disj, unary, binary, attr, has, like, is_type, set, rec, Mark, mark_of, with_mark, depth_of, deepest, trees_of, deepest_named, named_of};
 ghost use Rattle.policy_core.specs.TreeView.{tree_of};
 
-use crate::{BinaryOp, Literal, Loc, Note, UnaryOp, Var};
-use policy_names::Text;
-use policy_values::push_entry;
+use crate::{BinaryOp, Literal, Loc, Note, Pattern, SlotId, UnaryOp, Var};
+use policy_names::{EntityType, Text};
 use std::alloc::{AllocError, Global};
 use std::collections::BTreeMap;
 use std::fmt;
 use std::marker::Model;
 
 /// An expression, with a note of type T at each node and the place where it stands in its source. It is at most 400
-/// deep: a literal or a variable has depth 1, any other expression one more than its deepest operand.
+/// deep: a literal, a variable or a slot has depth 1, any other expression one more than its deepest operand.
 #[derive(Debug, Drop)]
 #[cycle(expr)]
 pub struct Expr<T> {
@@ -31,6 +30,8 @@ pub enum ExprKind<T> {
     Lit(Literal),
     /// A variable.
     Var(Var),
+    /// A slot.
+    Slot(SlotId),
     /// `if` the first `then` the second `else` the third.
     If(Box<Expr<T>>, Box<Expr<T>>, Box<Expr<T>>),
     /// `&&`.
@@ -45,6 +46,10 @@ pub enum ExprKind<T> {
     GetAttr(Box<Expr<T>>, Text),
     /// `has`: whether there is that attribute or field.
     HasAttr(Box<Expr<T>>, Text),
+    /// `like`: whether a string matches the pattern.
+    Like(Box<Expr<T>>, Pattern),
+    /// `is`: whether an id is of the type.
+    Is(Box<Expr<T>>, EntityType),
     /// A set of elements.
     Set(Vec<Expr<T>>),
     /// A record of fields under their keys.
@@ -114,7 +119,7 @@ impl<T> Expr<T> {
         &self.kind
     }
 
-    /// The depth: 1 for a literal or a variable, else one more than the deepest operand.
+    /// The depth: 1 for a literal, a variable or a slot, else one more than the deepest operand.
     pub fn depth(&self) -> u32
         ensures value { result ≡ depth_of self.now }
         ensures bound { result ≤ 400 }
@@ -154,6 +159,18 @@ impl<T> Expr<T> {
     {
         Expr {
             kind: ExprKind::Var(value),
+            depth: 1,
+            note,
+            loc,
+        }
+    }
+
+    /// A slot.
+    pub fn slot(id: SlotId, note: T, loc: Option<Loc>) -> Expr<T>
+        ensures { result ≡ slot id (record { note = note; loc = loc }) }
+    {
+        Expr {
+            kind: ExprKind::Slot(id),
             depth: 1,
             note,
             loc,
@@ -344,6 +361,56 @@ impl<T: Drop> Expr<T> {
         })
     }
 
+    /// The test of a string against a pattern. Errs with `Nested` exactly where it would be more than 400 deep.
+    pub fn like(
+        alloc: Global,
+        x: Expr<T>,
+        pattern: Pattern,
+        note: T,
+        loc: Option<Loc>,
+    ) -> Result<Expr<T>, BuildError>
+        ensures ok { IfOk result (λ e. e ≡ like x pattern (record { note = note; loc = loc })) }
+        ensures nested { (result ≡ Err BuildError.Nested) ↔ (400 ≤ depth_of x) }
+    {
+        let depth = x.depth();
+        if depth >= MAX_DEPTH {
+            drop(x);
+            return Err(BuildError::Nested);
+        }
+        let x = Box::new(alloc, x).map_err(AllocError::from)?;
+        Ok(Expr {
+            kind: ExprKind::Like(x, pattern),
+            depth: depth + 1,
+            note,
+            loc,
+        })
+    }
+
+    /// The test for the type of an id. Errs with `Nested` exactly where it would be more than 400 deep.
+    pub fn is(
+        alloc: Global,
+        x: Expr<T>,
+        entity_type: EntityType,
+        note: T,
+        loc: Option<Loc>,
+    ) -> Result<Expr<T>, BuildError>
+        ensures ok { IfOk result (λ e. e ≡ is_type x entity_type (record { note = note; loc = loc })) }
+        ensures nested { (result ≡ Err BuildError.Nested) ↔ (400 ≤ depth_of x) }
+    {
+        let depth = x.depth();
+        if depth >= MAX_DEPTH {
+            drop(x);
+            return Err(BuildError::Nested);
+        }
+        let x = Box::new(alloc, x).map_err(AllocError::from)?;
+        Ok(Expr {
+            kind: ExprKind::Is(x, entity_type),
+            depth: depth + 1,
+            note,
+            loc,
+        })
+    }
+
     /// The set of elements. Errs with `Nested` exactly where it would be more than 400 deep.
     pub fn set(items: Vec<Expr<T>>, note: T, loc: Option<Loc>) -> Result<Expr<T>, BuildError>
         ensures ok { IfOk result (λ e. e ≡ set (trees_of items.items) (record { note = note; loc = loc })) }
@@ -387,15 +454,6 @@ impl<T: Drop> Expr<T> {
         ensures { self.new ≡ with_mark self.old (record { note = note; loc = (mark_of self.old).loc }) }
     {
         self.note = note;
-    }
-}
-
-impl<T: Note> Expr<T> {
-    /// An equal expression with memory of its own.
-    pub fn try_clone(&self, alloc: Global) -> Result<Expr<T>, AllocError>
-        ensures { IfOk result (λ e. e ≡ self.now) }
-    {
-        copy_of(alloc, self)
     }
 }
 
@@ -447,10 +505,14 @@ fn deepest_of_named<T>(fields: &BTreeMap<Text, Expr<T>>) -> u32
     depth
 }
 
-// The same expression around a copy of what it holds.
-fn around<T: Note>(alloc: Global, e: &Expr<T>, kind: ExprKind<T>) -> Result<Expr<T>, AllocError>
-    requires { tree_of kind (mark_of e.now) ≡ e.now }
-    ensures { IfOk result (λ copy. copy ≡ e.now) }
+// The expression around other operands that are as deep, with a copy of its note.
+pub(crate) fn with_kind<T: Note>(
+    alloc: Global,
+    e: &Expr<T>,
+    kind: ExprKind<T>,
+) -> Result<Expr<T>, AllocError>
+    requires { depth_of (tree_of kind (mark_of e.now)) ≡ depth_of e.now }
+    ensures { IfOk result (λ r. r ≡ tree_of kind (mark_of e.now)) }
 {
     let note = e.note.try_copy(alloc)?;
     Ok(Expr {
@@ -459,96 +521,4 @@ fn around<T: Note>(alloc: Global, e: &Expr<T>, kind: ExprKind<T>) -> Result<Expr
         note,
         loc: e.loc,
     })
-}
-
-#[cycle(copy)]
-fn copy_of<T: Note>(alloc: Global, e: &Expr<T>) -> Result<Expr<T>, AllocError>
-    ensures { IfOk result (λ copy. copy ≡ e.now) }
-{
-    match &e.kind {
-        ExprKind::Lit(value) => {
-            let value = value.try_clone()?;
-            around(alloc, e, ExprKind::Lit(value))
-        }
-        ExprKind::Var(value) => around(alloc, e, ExprKind::Var(*value)),
-        ExprKind::If(x, y, z) => {
-            let x = copy_of_box(alloc, x)?;
-            let y = copy_of_box(alloc, y)?;
-            let z = copy_of_box(alloc, z)?;
-            around(alloc, e, ExprKind::If(x, y, z))
-        }
-        ExprKind::And(x, y) => {
-            let x = copy_of_box(alloc, x)?;
-            let y = copy_of_box(alloc, y)?;
-            around(alloc, e, ExprKind::And(x, y))
-        }
-        ExprKind::Or(x, y) => {
-            let x = copy_of_box(alloc, x)?;
-            let y = copy_of_box(alloc, y)?;
-            around(alloc, e, ExprKind::Or(x, y))
-        }
-        ExprKind::UnaryApp(op, x) => {
-            let x = copy_of_box(alloc, x)?;
-            around(alloc, e, ExprKind::UnaryApp(*op, x))
-        }
-        ExprKind::BinaryApp(op, x, y) => {
-            let x = copy_of_box(alloc, x)?;
-            let y = copy_of_box(alloc, y)?;
-            around(alloc, e, ExprKind::BinaryApp(*op, x, y))
-        }
-        ExprKind::GetAttr(x, name) => {
-            let x = copy_of_box(alloc, x)?;
-            let name = name.try_clone()?;
-            around(alloc, e, ExprKind::GetAttr(x, name))
-        }
-        ExprKind::HasAttr(x, name) => {
-            let x = copy_of_box(alloc, x)?;
-            let name = name.try_clone()?;
-            around(alloc, e, ExprKind::HasAttr(x, name))
-        }
-        ExprKind::Set(items) => {
-            let items = copy_of_all(alloc, items)?;
-            around(alloc, e, ExprKind::Set(items))
-        }
-        ExprKind::Record(fields) => {
-            let fields = copy_of_named(alloc, fields)?;
-            around(alloc, e, ExprKind::Record(fields))
-        }
-    }
-}
-
-#[cycle(copy)]
-fn copy_of_box<T: Note>(alloc: Global, e: &Box<Expr<T>>) -> Result<Box<Expr<T>>, AllocError>
-    ensures { IfOk result (λ copy. copy.value ≡ e.now.value) }
-{
-    let copy = copy_of(alloc, e)?;
-    Ok(Box::new(alloc, copy)?)
-}
-
-#[cycle(copy)]
-#[tactic(auto, using(crate::proofs::TreeSteps::depth_in))]
-fn copy_of_all<T: Note>(alloc: Global, items: &Vec<Expr<T>>) -> Result<Vec<Expr<T>>, AllocError>
-    ensures { IfOk result (λ copies. copies.items ≡ items.now.items) }
-{
-    let mut copies = Vec::new(alloc);
-    for item in items {
-        copies.push(copy_of(alloc, item)?)?;
-    }
-    Ok(copies)
-}
-
-#[cycle(copy)]
-fn copy_of_named<T: Note>(
-    alloc: Global,
-    fields: &BTreeMap<Text, Expr<T>>,
-) -> Result<BTreeMap<Text, Expr<T>>, AllocError>
-    ensures { IfOk result (λ copies. copies.entries ≡ fields.now.entries) }
-{
-    let mut copies = BTreeMap::new(alloc);
-    for (name, item) in fields.iter() {
-        let name = name.try_clone()?;
-        let item = copy_of(alloc, item)?;
-        push_entry(&mut copies, name, item)?;
-    }
-    Ok(copies)
 }

@@ -1,6 +1,8 @@
 //! The parts of expressions that hold no expression.
 
 ghost use Rattle.std.specs.Prelude.{◌≡◌, IfOk};
+ghost use Rattle.std.specs.Option.{option_copied};
+ghost use Rattle.policy_core.specs.Slots.{value_of};
 
 use policy_names::{EntityUID, Text};
 use std::alloc::AllocError;
@@ -40,6 +42,33 @@ pub enum Var {
     Context,
 }
 
+/// A slot: the place of an id that a link of a template gives.
+#[derive(Clone, Copy, Debug, PartialEq, Eq, PartialOrd, Ord, Hash)]
+pub enum SlotId {
+    /// `?principal`.
+    Principal,
+    /// `?resource`.
+    Resource,
+}
+
+/// The ids that stand in the places of slots.
+#[derive(Debug, Drop)]
+pub struct SlotValues {
+    /// The id for `?principal`.
+    pub principal: Option<EntityUID>,
+    /// The id for `?resource`.
+    pub resource: Option<EntityUID>,
+}
+
+/// An element of a pattern.
+#[derive(Clone, Copy, Debug, PartialEq, Eq, PartialOrd, Ord, Hash)]
+pub enum PatternElem {
+    /// This character alone.
+    Char(char),
+    /// Any run of characters, also the empty one.
+    Wildcard,
+}
+
 /// An operator of one operand.
 #[derive(Clone, Copy, Debug, PartialEq, Eq)]
 pub enum UnaryOp {
@@ -47,6 +76,8 @@ pub enum UnaryOp {
     Not,
     /// `-` of a long.
     Neg,
+    /// `isEmpty` of a set.
+    IsEmpty,
 }
 
 /// An operator of two operands, both of which are evaluated.
@@ -56,10 +87,38 @@ pub enum BinaryOp {
     Eq,
     /// `<` of two longs.
     Less,
+    /// `<=` of two longs.
+    LessEq,
     /// `+` of two longs.
     Add,
+    /// `-` of two longs.
+    Sub,
+    /// `*` of two longs.
+    Mul,
     /// `in` of an id and an id or a set of ids.
     In,
+    /// `contains` of a set and any value.
+    Contains,
+    /// `containsAll` of two sets.
+    ContainsAll,
+    /// `containsAny` of two sets.
+    ContainsAny,
+    /// `getTag` of an id and a string.
+    GetTag,
+    /// `hasTag` of an id and a string.
+    HasTag,
+}
+
+impl SlotValues {
+    /// The id for a slot, where there is one.
+    pub fn value(&self, slot: SlotId) -> Option<&EntityUID>
+        ensures { option_copied result ≡ value_of self.now slot }
+    {
+        match slot {
+            SlotId::Principal => self.principal.as_ref(),
+            SlotId::Resource => self.resource.as_ref(),
+        }
+    }
 }
 
 impl Literal {

@@ -4,7 +4,7 @@ ghost use Rattle.std.specs.Prelude.{◌≡◌, ◌↔◌, IsTrue};
 ghost use Rattle.policy_core.specs.Tree.{trees_of, named_of};
 ghost use Rattle.policy_core.specs.Shape.{SameShape, SameShapes, SameNamed};
 
-use crate::{BinaryOp, Expr, ExprKind, Literal, UnaryOp, Var};
+use crate::{BinaryOp, EntityType, Expr, ExprKind, Literal, Pattern, SlotId, UnaryOp, Var};
 use policy_names::Text;
 use std::collections::BTreeMap;
 
@@ -24,6 +24,7 @@ fn same_shape<T, U>(a: &Expr<T>, b: &Expr<U>) -> bool
     match (a.kind(), b.kind()) {
         (ExprKind::Lit(l), ExprKind::Lit(m)) => same_literal(l, m),
         (ExprKind::Var(v), ExprKind::Var(w)) => same_var(*v, *w),
+        (ExprKind::Slot(i), ExprKind::Slot(j)) => same_slot(*i, *j),
         (ExprKind::If(x, y, z), ExprKind::If(u, v, w)) => {
             same_shape(x, u) && same_shape(y, v) && same_shape(z, w)
         }
@@ -37,6 +38,8 @@ fn same_shape<T, U>(a: &Expr<T>, b: &Expr<U>) -> bool
         }
         (ExprKind::GetAttr(x, m), ExprKind::GetAttr(u, n)) => same_shape(x, u) && same_text(m, n),
         (ExprKind::HasAttr(x, m), ExprKind::HasAttr(u, n)) => same_shape(x, u) && same_text(m, n),
+        (ExprKind::Like(x, p), ExprKind::Like(u, q)) => same_shape(x, u) && same_pattern(p, q),
+        (ExprKind::Is(x, s), ExprKind::Is(u, t)) => same_shape(x, u) && same_type(s, t),
         (ExprKind::Set(xs), ExprKind::Set(us)) => same_shapes(xs, us),
         (ExprKind::Record(xs), ExprKind::Record(us)) => same_named(xs, us),
         _ => false,
@@ -96,6 +99,24 @@ fn same_var(a: Var, b: Var) -> bool
     ensures { IsTrue result ↔ (a ≡ b) }
 {
     a == b
+}
+
+fn same_slot(a: SlotId, b: SlotId) -> bool
+    ensures { IsTrue result ↔ (a ≡ b) }
+{
+    a == b
+}
+
+fn same_pattern(a: &Pattern, b: &Pattern) -> bool
+    ensures { IsTrue result ↔ (a.now ≡ b.now) }
+{
+    a.elements() == b.elements()
+}
+
+fn same_type(a: &EntityType, b: &EntityType) -> bool
+    ensures { IsTrue result ↔ (a.now ≡ b.now) }
+{
+    *a == *b
 }
 
 fn same_unary(a: UnaryOp, b: UnaryOp) -> bool

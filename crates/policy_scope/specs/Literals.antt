@@ -1,9 +1,15 @@
--- Literals as code refers to them.
+-- Names as code refers to them.
 use Rattle.std.specs.Prelude.{Option}
-use Rattle.std.specs.Borrow.{Bor}
-use Rattle.policy_names.specs.declared.entity_uid.EntityUID.{EntityUID}
 use Rattle.policy_core.specs.declared.kinds.Loc.{Loc}
+use Rattle.policy_scope.specs.declared.names.Mention.{Mention}
+use Rattle.policy_scope.specs.declared.names.Mention.TheVariants.{Id, EntityType}
+use Rattle.policy_scope.specs.Names.{Mentioned, an_id, a_type}
 
--- the id that is referred to, with the place
-abbrev pub pair_of : Bor EntityUID × Option Loc → EntityUID × Option Loc
-pair_of r = (r.0.now, r.1)
+-- the name that is referred to
+abbrev pub mentioned : Mention → Mentioned
+mentioned (Id uid) = an_id uid.now
+mentioned (EntityType ty) = a_type ty.now
+
+-- the same with the place
+abbrev pub pair_of : Mention × Option Loc → Mentioned × Option Loc
+pair_of r = (mentioned r.0, r.1)

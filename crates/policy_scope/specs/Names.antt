@@ -1,4 +1,4 @@
--- The names in a condition: the types and the actions of its literals, which have to be declared.
+-- The names in a condition: the types that it names and the actions of its literals, which have to be declared.
 use Rattle.std.specs.Prelude.{◌||◌, not, Bool, ℕ, List, [], ◌∷◌, ◌++◌, Option, Some, None, fold, find, option_map, is_some, codes, eqb, if◌then◌else◌}
 use Rattle.std.specs.List.{filter_map, starts_with}
 use Rattle.std.specs.Option.{option_cmp}
@@ -10,7 +10,7 @@ use Rattle.policy_names.specs.Uid.{text_cmp, uid_cmp}
 use Rattle.policy_names.specs.Basename.{is_action_type}
 use Rattle.policy_core.specs.declared.kinds.Loc.{Loc}
 use Rattle.policy_core.specs.declared.kinds.Literal.TheVariants as literal
-use Rattle.policy_core.specs.Tree.{Tree, lit, var, ite, conj, disj, unary, binary, attr, set, rec, Trees, no_trees, tree, Named, no_named, named, Mark}
+use Rattle.policy_core.specs.Tree.{Tree, lit, var, slot, ite, conj, disj, unary, binary, attr, like, is_type, set, rec, Trees, no_trees, tree, Named, no_named, named, Mark}
 use Rattle.policy_core.specs.Tree as core
 use Rattle.policy_set.specs.declared.template.TemplateBody.{TemplateBody}
 use Rattle.schema_core.specs.Schema.{SchemaData, ActionData, type_at, action_at}
@@ -19,30 +19,43 @@ use Rattle.policy_scope.specs.declared.finding.UnrecognizedActionId.{Unrecognize
 use Rattle.policy_scope.specs.declared.finding.UnrecognizedActionIdHelp.{UnrecognizedActionIdHelp}
 use Rattle.policy_scope.specs.declared.finding.UnrecognizedActionIdHelp.TheVariants.{AvoidActionTypeInActionId}
 
--- the ids of all literals, each with the place of its literal, reached or not, in the order in which they stand
+-- a name in a condition: the id of a literal, or the type that `is` tests for
+pub data Mentioned : Type 0 where
+  an_id : EntityUID → Mentioned
+  a_type : List ℕ → Mentioned
+
+-- the type of the id, or the type itself
+abbrev pub type_of : Mentioned → List ℕ
+type_of (an_id uid) = uid.entity_type
+type_of (a_type ty) = ty
+
+-- all names, each with the place of its literal or of its `is`, reached or not, in the order in which they stand
 module _ {T : Type 0} where
   abbrev mutual
-    pub ids_in : Tree (Mark T) → List (EntityUID × Option Loc)
-    ids_in (lit (literal.EntityUID uid) a) = (uid, a.loc) ∷ []
-    ids_in (lit l a) = []
-    ids_in (var v a) = []
-    ids_in (ite x y z a) = ids_in x ++ (ids_in y ++ ids_in z)
-    ids_in (conj x y a) = ids_in x ++ ids_in y
-    ids_in (disj x y a) = ids_in x ++ ids_in y
-    ids_in (unary o x a) = ids_in x
-    ids_in (binary o x y a) = ids_in x ++ ids_in y
-    ids_in (attr x n a) = ids_in x
-    ids_in (core.has x n a) = ids_in x
-    ids_in (set xs a) = ids_in_all xs
-    ids_in (rec xs a) = ids_in_named xs
+    pub names_in : Tree (Mark T) → List (Mentioned × Option Loc)
+    names_in (lit (literal.EntityUID uid) a) = (an_id uid, a.loc) ∷ []
+    names_in (lit l a) = []
+    names_in (var v a) = []
+    names_in (slot i a) = []
+    names_in (ite x y z a) = names_in x ++ (names_in y ++ names_in z)
+    names_in (conj x y a) = names_in x ++ names_in y
+    names_in (disj x y a) = names_in x ++ names_in y
+    names_in (unary o x a) = names_in x
+    names_in (binary o x y a) = names_in x ++ names_in y
+    names_in (attr x n a) = names_in x
+    names_in (core.has x n a) = names_in x
+    names_in (like x p a) = names_in x
+    names_in (is_type x t a) = names_in x ++ (a_type t, a.loc) ∷ []
+    names_in (set xs a) = names_in_all xs
+    names_in (rec xs a) = names_in_named xs
 
-    pub ids_in_all : Trees (Mark T) → List (EntityUID × Option Loc)
-    ids_in_all no_trees = []
-    ids_in_all (tree x xs) = ids_in x ++ ids_in_all xs
+    pub names_in_all : Trees (Mark T) → List (Mentioned × Option Loc)
+    names_in_all no_trees = []
+    names_in_all (tree x xs) = names_in x ++ names_in_all xs
 
-    pub ids_in_named : Named (Mark T) → List (EntityUID × Option Loc)
-    ids_in_named no_named = []
-    ids_in_named (named k x xs) = ids_in x ++ ids_in_named xs
+    pub names_in_named : Named (Mark T) → List (Mentioned × Option Loc)
+    names_in_named no_named = []
+    names_in_named (named k x xs) = names_in x ++ names_in_named xs
 
 module _ {X : Type 0} (cmp : X → X → Ordering) where
   -- the items with one more, unless they have it
@@ -68,13 +81,13 @@ action_id_cmp a b = ordering_then (uid_cmp a.actual_action_id b.actual_action_id
 abbrev pub is_known_type : SchemaData → List ℕ → Bool
 is_known_type schema ty = is_some (type_at schema ty) || is_action_type ty
 
--- what is found of a literal's type: that it is not known
-abbrev pub entity_type_finding : SchemaData → List ℕ → EntityUID × Option Loc → Option UnrecognizedEntityType
-entity_type_finding schema policy l = if is_known_type schema l.0.entity_type then None else Some (record { source_loc = l.1; policy_id = policy; actual_entity_type = l.0.entity_type })
+-- what is found of a name's type: that it is not known
+abbrev pub entity_type_finding : SchemaData → List ℕ → Mentioned × Option Loc → Option UnrecognizedEntityType
+entity_type_finding schema policy m = if is_known_type schema (type_of m.0) then None else Some (record { source_loc = m.1; policy_id = policy; actual_entity_type = type_of m.0 })
 
 -- all types that are not known
 abbrev pub entity_type_findings : SchemaData → TemplateBody → List UnrecognizedEntityType
-entity_type_findings schema p = distinct entity_type_cmp (filter_map (entity_type_finding schema p.id) (ids_in p.condition))
+entity_type_findings schema p = distinct entity_type_cmp (filter_map (entity_type_finding schema p.id) (names_in p.condition))
 
 -- the text stands somewhere in the other
 abbrev pub occurs_in : List ℕ → List ℕ → Bool
@@ -93,10 +106,17 @@ action_id_hint schema uid = option_map (λ a. AvoidActionTypeInActionId a.name) 
 abbrev pub is_known_action : SchemaData → EntityUID → Bool
 is_known_action schema uid = not (is_action_type uid.entity_type) || is_some (action_at schema uid)
 
--- what is found of a literal: that it is an action which is not declared
-abbrev pub action_id_finding : SchemaData → List ℕ → EntityUID × Option Loc → Option UnrecognizedActionId
-action_id_finding schema policy l = if is_known_action schema l.0 then None else Some (record { source_loc = l.1; policy_id = policy; actual_action_id = l.0; hint = action_id_hint schema l.0 })
+-- what is found of an id: that it is of an action which is not declared
+abbrev pub unknown_action : SchemaData → List ℕ → EntityUID → Option Loc → Option UnrecognizedActionId
+unknown_action schema policy uid loc = if is_known_action schema uid then None else Some (record { source_loc = loc; policy_id = policy; actual_action_id = uid; hint = action_id_hint schema uid })
+
+-- what is found of a name; a type alone names no action
+abbrev pub action_id_finding : SchemaData → List ℕ → Mentioned × Option Loc → Option UnrecognizedActionId
+action_id_finding schema policy m = of_name m.0 where
+  of_name : Mentioned → Option UnrecognizedActionId
+  of_name (an_id uid) = unknown_action schema policy uid m.1
+  of_name (a_type ty) = None
 
 -- all actions that are not declared
 abbrev pub action_id_findings : SchemaData → TemplateBody → List UnrecognizedActionId
-action_id_findings schema p = distinct action_id_cmp (filter_map (action_id_finding schema p.id) (ids_in p.condition))
+action_id_findings schema p = distinct action_id_cmp (filter_map (action_id_finding schema p.id) (names_in p.condition))

@@ -1,9 +1,9 @@
-//! The names in a policy: the types and the actions of its literals have to be declared.
+//! The names in a policy: the types that it names and the actions of its literals have to be declared.
 
 ghost use Rattle.std.specs.Prelude.{◌≡◌, ◌++◌, IfOk, OnOk, map};
 ghost use Rattle.policy_core.specs.Tree.{trees_of, named_of};
-ghost use Rattle.policy_scope.specs.Names.{ids_in, ids_in_all, ids_in_named, is_known_type, is_known_action, entity_type_findings, action_id_findings, action_id_hint, occurs_in};
-ghost use Rattle.policy_scope.specs.Literals.{pair_of};
+ghost use Rattle.policy_scope.specs.Names.{type_of, names_in, names_in_all, names_in_named, is_known_type, is_known_action, entity_type_findings, action_id_findings, action_id_hint, occurs_in};
+ghost use Rattle.policy_scope.specs.Literals.{mentioned, pair_of};
 
 use crate::{UnrecognizedActionId, UnrecognizedActionIdHelp, UnrecognizedEntityType};
 use policy_core::{EntityType, EntityUID, Expr, ExprKind, Literal, Loc, Text};
@@ -12,8 +12,8 @@ use schema_core::ValidatorSchema;
 use std::alloc::{AllocError, Global};
 use std::collections::{BTreeMap, BTreeSet};
 
-/// The types of literals of the policy, in its scope and in its body, that are neither declared nor types of actions:
-/// each once, in the order in which the literals stand.
+/// The types that literals and `is` tests of the policy name, in its scope and in its body, and that are neither declared
+/// nor types of actions: each once at its place, in the order in which they stand.
 pub fn validate_entity_types(
     alloc: Global,
     schema: &ValidatorSchema,
@@ -21,12 +21,12 @@ pub fn validate_entity_types(
 ) -> Result<Vec<UnrecognizedEntityType>, AllocError>
     ensures { IfOk result (λ found. found.items ≡ entity_type_findings schema.now policy.now) }
 {
-    let mut ids = Vec::new(alloc);
-    add_ids(policy.condition(), &mut ids)?;
+    let mut names = Vec::new(alloc);
+    add_names(policy.condition(), &mut names)?;
     let mut seen = BTreeSet::new(alloc);
     let mut found = Vec::new(alloc);
-    for (uid, loc) in ids {
-        let ty = uid.entity_type();
+    for (mention, loc) in names {
+        let ty = mentioned_type(mention);
         if is_known_type(schema, ty) {
             continue;
         }
@@ -57,11 +57,14 @@ pub fn validate_action_ids(
 ) -> Result<Vec<UnrecognizedActionId>, AllocError>
     ensures { IfOk result (λ found. found.items ≡ action_id_findings schema.now policy.now) }
 {
-    let mut ids = Vec::new(alloc);
-    add_ids(policy.condition(), &mut ids)?;
+    let mut names = Vec::new(alloc);
+    add_names(policy.condition(), &mut names)?;
     let mut seen = BTreeSet::new(alloc);
     let mut found = Vec::new(alloc);
-    for (uid, loc) in ids {
+    for (mention, loc) in names {
+        let Mention::Id(uid) = mention else {
+            continue;
+        };
         if is_known_action(schema, uid) {
             continue;
         }
@@ -114,58 +117,84 @@ fn has_part(text: &str, part: &str) -> bool
     text.contains(part)
 }
 
-// Adds the ids of the literals of an expression, with the places of the literals.
-#[cycle(ids)]
-fn add_ids<'a, T>(
-    expr: &'a Expr<T>,
-    ids: &mut Vec<(&'a EntityUID, Option<Loc>)>,
-) -> Result<(), AllocError>
-    ensures { OnOk result (map pair_of ids.new.items ≡ map pair_of ids.old.items ++ ids_in expr.now) }
+// A name in a condition.
+#[derive(Clone, Copy)]
+enum Mention<'a> {
+    // The id of a literal.
+    Id(&'a EntityUID),
+    // The type that `is` tests for.
+    EntityType(&'a EntityType),
+}
+
+// The type of the id, or the type itself.
+fn mentioned_type<'a>(mention: Mention<'a>) -> &'a EntityType
+    ensures { result.now ≡ type_of (mentioned mention.entry) }
 {
-    match expr.kind() {
-        ExprKind::Lit(Literal::EntityUID(uid)) => Ok(ids.push((uid, expr.source_loc()))?),
-        ExprKind::Lit(_) => Ok(()),
-        ExprKind::Var(_) => Ok(()),
-        ExprKind::If(x, y, z) => {
-            add_ids(x, ids)?;
-            add_ids(y, ids)?;
-            add_ids(z, ids)
-        }
-        ExprKind::And(x, y) | ExprKind::Or(x, y) | ExprKind::BinaryApp(_, x, y) => {
-            add_ids(x, ids)?;
-            add_ids(y, ids)
-        }
-        ExprKind::UnaryApp(_, x) | ExprKind::GetAttr(x, _) | ExprKind::HasAttr(x, _) => {
-            add_ids(x, ids)
-        }
-        ExprKind::Set(items) => add_ids_of_all(items, ids),
-        ExprKind::Record(fields) => add_ids_of_named(fields, ids),
+    match mention {
+        Mention::Id(uid) => uid.entity_type(),
+        Mention::EntityType(ty) => ty,
     }
 }
 
-#[cycle(ids)]
-#[tactic(auto, using(policy_core::proofs::TreeSteps::depth_in))]
-fn add_ids_of_all<'a, T>(
-    items: &'a Vec<Expr<T>>,
-    ids: &mut Vec<(&'a EntityUID, Option<Loc>)>,
+// Adds the names in an expression, with the places of their literals and tests.
+#[cycle(names)]
+fn add_names<'a, T>(
+    expr: &'a Expr<T>,
+    names: &mut Vec<(Mention<'a>, Option<Loc>)>,
 ) -> Result<(), AllocError>
-    ensures { OnOk result (map pair_of ids.new.items ≡ map pair_of ids.old.items ++ ids_in_all (trees_of items.now.items)) }
+    ensures { OnOk result (map pair_of names.new.items ≡ map pair_of names.old.items ++ names_in expr.now) }
+{
+    match expr.kind() {
+        ExprKind::Lit(Literal::EntityUID(uid)) => {
+            Ok(names.push((Mention::Id(uid), expr.source_loc()))?)
+        }
+        ExprKind::Lit(_) => Ok(()),
+        ExprKind::Var(_) | ExprKind::Slot(_) => Ok(()),
+        ExprKind::If(x, y, z) => {
+            add_names(x, names)?;
+            add_names(y, names)?;
+            add_names(z, names)
+        }
+        ExprKind::And(x, y) | ExprKind::Or(x, y) | ExprKind::BinaryApp(_, x, y) => {
+            add_names(x, names)?;
+            add_names(y, names)
+        }
+        ExprKind::UnaryApp(_, x)
+        | ExprKind::GetAttr(x, _)
+        | ExprKind::HasAttr(x, _)
+        | ExprKind::Like(x, _) => add_names(x, names),
+        ExprKind::Is(x, ty) => {
+            add_names(x, names)?;
+            Ok(names.push((Mention::EntityType(ty), expr.source_loc()))?)
+        }
+        ExprKind::Set(items) => add_names_of_all(items, names),
+        ExprKind::Record(fields) => add_names_of_named(fields, names),
+    }
+}
+
+#[cycle(names)]
+#[tactic(auto, using(policy_core::proofs::TreeSteps::depth_in))]
+fn add_names_of_all<'a, T>(
+    items: &'a Vec<Expr<T>>,
+    names: &mut Vec<(Mention<'a>, Option<Loc>)>,
+) -> Result<(), AllocError>
+    ensures { OnOk result (map pair_of names.new.items ≡ map pair_of names.old.items ++ names_in_all (trees_of items.now.items)) }
 {
     for item in items {
-        add_ids(item, ids)?;
+        add_names(item, names)?;
     }
     Ok(())
 }
 
-#[cycle(ids)]
-fn add_ids_of_named<'a, T>(
+#[cycle(names)]
+fn add_names_of_named<'a, T>(
     fields: &'a BTreeMap<Text, Expr<T>>,
-    ids: &mut Vec<(&'a EntityUID, Option<Loc>)>,
+    names: &mut Vec<(Mention<'a>, Option<Loc>)>,
 ) -> Result<(), AllocError>
-    ensures { OnOk result (map pair_of ids.new.items ≡ map pair_of ids.old.items ++ ids_in_named (named_of fields.now.entries)) }
+    ensures { OnOk result (map pair_of names.new.items ≡ map pair_of names.old.items ++ names_in_named (named_of fields.now.entries)) }
 {
     for (_, item) in fields {
-        add_ids(item, ids)?;
+        add_names(item, names)?;
     }
     Ok(())
 }

@@ -1,6 +1,7 @@
 pub mod Gv
 pub mod Maps
 pub mod Put
+pub mod Sets
 pub mod Value
 pub mod ValueCode
 pub mod ValueFalls

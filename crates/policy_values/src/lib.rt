@@ -2,6 +2,7 @@
 #![tactic(auto)]
 
 mod map;
+mod sets;
 #[cfg(test)]
 mod tests;
 mod value;

@@ -1,7 +1,8 @@
 use super::samples::{
-    Built, attribute, both, branch, either, has, long, one, pair, record, string, truth, var,
+    Built, attribute, both, branch, either, has, id, long, one, pair, record, string, truth, two,
+    uid, var,
 };
-use crate::{BuildError, Expr, Literal, Loc, Note, UnaryOp, Var};
+use crate::{BinaryOp, BuildError, Expr, Literal, Loc, Note, SlotId, SlotValues, UnaryOp, Var};
 use std::alloc::Global;
 
 // if principal has age then {"of": [principal.age, 1]} else !(true && ("a" || false))
@@ -56,6 +57,38 @@ fn expressions_are_at_most_400_deep(rt: HostRuntime) {
     assert!(rt; expr.is_ok());
     match one(rt.alloc(), UnaryOp::Not, expr) {
         Err(BuildError::Nested) => {}
+        _other => assert!(rt; false),
+    }
+}
+
+fn filled(alloc: Global, expr: &Expr<()>) -> Built {
+    let values = SlotValues {
+        principal: Some(uid(alloc, "ann")?),
+        resource: None,
+    };
+    Ok(expr.substitute(alloc, &values)?)
+}
+
+#[test]
+fn slots_get_their_ids(rt: HostRuntime) {
+    let a = rt.alloc();
+    let slot = Ok(Expr::slot(SlotId::Principal, (), None));
+    match (
+        two(a, BinaryOp::In, var(Var::Principal), slot),
+        two(a, BinaryOp::In, var(Var::Principal), id(a, "ann")),
+    ) {
+        (Ok(open), Ok(wanted)) => {
+            assert!(rt; open.has_slot() && !wanted.has_slot());
+            match filled(a, &open) {
+                Ok(filled) => {
+                    assert!(rt; filled.same_shape(&wanted));
+                    drop(filled);
+                }
+                Err(_error) => assert!(rt; false),
+            }
+            drop(open);
+            drop(wanted);
+        }
         _other => assert!(rt; false),
     }
 }

@@ -2,7 +2,7 @@
 
 use crate::{
     BinaryOp, BuildError, Context, Eid, Entities, Entity, EntityType, EntityUID, Expr, Literal,
-    Name, Request, Text, UnaryOp, Value, Var,
+    Name, Pattern, PatternElem, Request, Text, UnaryOp, Value, Var,
 };
 use std::alloc::{AllocError, Global};
 use std::collections::{BTreeMap, BTreeSet};
@@ -33,14 +33,16 @@ pub fn request(alloc: Global) -> Result<Request, AllocError> {
     })
 }
 
-// Ann is 40 and one of the staff.
+// Ann is 40 and one of the staff, with the tag "floor".
 fn ann(alloc: Global) -> Result<Entity, AllocError> {
     let mut attrs = BTreeMap::new(alloc);
     attrs.insert(Text::from_str(alloc, "age")?, Value::long(40))?;
     let mut parents = BTreeSet::new(alloc);
     parents.insert(uid(alloc, "staff")?)?;
+    let mut tags = BTreeMap::new(alloc);
+    tags.insert(Text::from_str(alloc, "floor")?, Value::long(2))?;
     let uid = uid(alloc, "ann")?;
-    Ok(Entity::new(uid, attrs, parents, BTreeMap::new(alloc)))
+    Ok(Entity::new(uid, attrs, parents, tags))
 }
 
 // Ann is stored, the photo is not.
@@ -105,6 +107,36 @@ pub fn attribute(alloc: Global, x: Built, name: &str) -> Built {
 pub fn has(alloc: Global, x: Built, name: &str) -> Built {
     let name = Text::from_str(alloc, name)?;
     Expr::has_attr(alloc, x?, name, (), None)
+}
+
+// The pattern that a text spells, where each star is a wildcard.
+fn pattern(alloc: Global, text: &str) -> Result<Pattern, AllocError> {
+    let mut elements = Vec::new(alloc);
+    for c in text.chars() {
+        if c == '*' {
+            elements.push(PatternElem::Wildcard)?;
+        } else {
+            elements.push(PatternElem::Char(c))?;
+        }
+    }
+    Ok(Pattern::new(elements))
+}
+
+pub fn like(alloc: Global, text: &str, stars: &str) -> Built {
+    let pattern = pattern(alloc, stars)?;
+    Expr::like(alloc, string(alloc, text)?, pattern, (), None)
+}
+
+fn entity_type(alloc: Global, name: &str) -> Result<EntityType, AllocError> {
+    match Name::parse(alloc, name)? {
+        Some(name) => Ok(EntityType::new(name)),
+        None => Err(AllocError),
+    }
+}
+
+pub fn is(alloc: Global, x: Built, name: &str) -> Built {
+    let entity_type = entity_type(alloc, name)?;
+    Expr::is(alloc, x?, entity_type, (), None)
 }
 
 fn two_items(alloc: Global, x: Expr<()>, y: Expr<()>) -> Result<Vec<Expr<()>>, AllocError> {

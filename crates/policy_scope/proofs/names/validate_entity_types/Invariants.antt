@@ -7,6 +7,6 @@ use Rattle.policy_scope.proofs.Once.{IsOnce}
 use Rattle.policy_scope.proofs.Made.{type_made}
 use Rattle.policy_scope.proofs.names.validate_entity_types.Given as goal
 
-abbrev pub invariant-loop-uid : goal.invariant-loop-uid
-invariant-loop-uid l =
-    IsOnce entity_type_cmp (type_made l.policy.id) l.seen (filter_map (entity_type_finding l.schema l.policy.id) (map pair_of (into_iter_items l.uid-iterator))) (entity_type_findings l.schema l.policy) l.found.items
+abbrev pub invariant-loop-mention : goal.invariant-loop-mention
+invariant-loop-mention l =
+    IsOnce entity_type_cmp (type_made l.policy.id) l.seen (filter_map (entity_type_finding l.schema l.policy.id) (map pair_of (into_iter_items l.mention-iterator))) (entity_type_findings l.schema l.policy) l.found.items
