@@ -1,2 +1,3 @@
 pub mod MapSteps
+pub mod Pushed
 pub mod ValueSteps
