@@ -99,7 +99,7 @@ pub(crate) fn add_asked<T>(
             let operand = add_asked(alloc, asked, schema, env, request, x)?;
             Ok(operand.not())
         }
-        ExprKind::UnaryApp(UnaryOp::Neg, x) => {
+        ExprKind::UnaryApp(UnaryOp::Neg | UnaryOp::IsEmpty, x) => {
             add_asked(alloc, asked, schema, env, request, x)?;
             Ok(TruthType::Bool)
         }

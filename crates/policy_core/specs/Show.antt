@@ -4,12 +4,13 @@ use Rattle.policy_names.specs.Show.{uid_text}
 use Rattle.policy_core.specs.declared.expr.BuildError.{BuildError}
 use Rattle.policy_core.specs.declared.expr.BuildError.TheVariants.{Nested, OutOfMemory}
 use Rattle.policy_core.specs.declared.outcome.EvalError.{EvalError}
-use Rattle.policy_core.specs.declared.outcome.EvalError.TheVariants.{MissingEntity, MissingAttribute, TypeFault, IntegerOverflow}
+use Rattle.policy_core.specs.declared.outcome.EvalError.TheVariants.{MissingEntity, MissingAttribute, MissingTag, TypeFault, IntegerOverflow}
 
 -- the message of an error of evaluation
 abbrev pub error_text : EvalError → List ℕ
 error_text (MissingEntity u) = codes "entity `" ++ uid_text u.entity_type u.eid ++ codes "` does not exist"
 error_text MissingAttribute = codes "attribute does not exist"
+error_text MissingTag = codes "tag does not exist"
 error_text TypeFault = codes "operand of a wrong type"
 error_text IntegerOverflow = codes "integer overflow"
 

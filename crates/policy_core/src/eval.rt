@@ -55,7 +55,7 @@ pub fn evaluate<T>(
         ExprKind::BinaryApp(op, x, y) => match evaluate(alloc, x, request, entities)? {
             Outcome::Value(x) => {
                 let y = evaluate(alloc, y, request, entities)?;
-                Ok(applied_to_both(*op, x, y, entities))
+                applied_to_both(alloc, *op, x, y, entities)
             }
             Outcome::Error(error) => Ok(Outcome::Error(error)),
         },
@@ -215,19 +215,25 @@ fn applied(op: UnaryOp, x: Outcome) -> Outcome
 }
 
 // An operator applied to the values of both operands; an error stays.
-fn applied_to_both(op: BinaryOp, x: Value, y: Outcome, entities: &Entities) -> Outcome
-    ensures { result ≡ with_value y (λ w. binary_value op x w entities.now) }
+fn applied_to_both(
+    alloc: Global,
+    op: BinaryOp,
+    x: Value,
+    y: Outcome,
+    entities: &Entities,
+) -> Result<Outcome, AllocError>
+    ensures { IfOk result (λ o. o ≡ with_value y (λ w. binary_value op x w entities.now)) }
 {
     match y {
         Outcome::Value(y) => {
-            let outcome = apply_two(op, &x, &y, entities);
+            let outcome = apply_two(alloc, op, &x, &y, entities);
             drop(x);
             drop(y);
             outcome
         }
         Outcome::Error(error) => {
             drop(x);
-            Outcome::Error(error)
+            Ok(Outcome::Error(error))
         }
     }
 }

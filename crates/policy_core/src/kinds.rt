@@ -47,6 +47,8 @@ pub enum UnaryOp {
     Not,
     /// `-` of a long.
     Neg,
+    /// `isEmpty` of a set.
+    IsEmpty,
 }
 
 /// An operator of two operands, both of which are evaluated.
@@ -56,10 +58,26 @@ pub enum BinaryOp {
     Eq,
     /// `<` of two longs.
     Less,
+    /// `<=` of two longs.
+    LessEq,
     /// `+` of two longs.
     Add,
+    /// `-` of two longs.
+    Sub,
+    /// `*` of two longs.
+    Mul,
     /// `in` of an id and an id or a set of ids.
     In,
+    /// `contains` of a set and any value.
+    Contains,
+    /// `containsAll` of two sets.
+    ContainsAll,
+    /// `containsAny` of two sets.
+    ContainsAny,
+    /// `getTag` of an id and a string.
+    GetTag,
+    /// `hasTag` of an id and a string.
+    HasTag,
 }
 
 impl Literal {

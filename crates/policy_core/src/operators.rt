@@ -1,9 +1,9 @@
 //! What each operator makes of the values of its operands.
 
-ghost use Rattle.std.specs.Prelude.{◌≡◌, IfOk, ◌+ℤ◌, neg_ℤ};
+ghost use Rattle.std.specs.Prelude.{◌≡◌, IfOk, ◌+ℤ◌, ◌-ℤ◌, ◌*ℤ◌, neg_ℤ, int_lt, int_le};
 ghost use Rattle.std.specs.Option.{option_copied};
-ghost use Rattle.policy_values.specs.Value.{vals_of, entity};
-ghost use Rattle.policy_core.specs.Operators.{unary_value, fit, long_of, binary_value, above, within, within_any, attr_value, found_of, has_value};
+ghost use Rattle.policy_values.specs.Value.{vals_of};
+ghost use Rattle.policy_core.specs.Operators.{unary_value, fit, long_of, compared, calculated, contains_value, contains_all_value, contains_any_value, get_tag_value, has_tag_of, has_tag_value, in_value, binary_value, above, within, within_any, attr_value, found_or, has_value};
 
 use crate::{
     BinaryOp, Entities, Entity, EntityUID, EvalError, Outcome, Text, UnaryOp, Value, ValueKind,
@@ -23,6 +23,10 @@ pub fn apply(op: UnaryOp, x: &Value) -> Outcome
             ValueKind::Long(n) => long(negation(*n)),
             _ => Outcome::Error(EvalError::TypeFault),
         },
+        UnaryOp::IsEmpty => match x.kind() {
+            ValueKind::Set(_) => Outcome::Value(Value::bool(x.has_no_element())),
+            _ => Outcome::Error(EvalError::TypeFault),
+        },
     }
 }
 
@@ -38,7 +42,19 @@ fn sum(m: i64, n: i64) -> Option<i64>
     m.checked_add(n)
 }
 
-// A sum, or the overflow.
+fn difference(m: i64, n: i64) -> Option<i64>
+    ensures { result ≡ fit (m -ℤ n) }
+{
+    m.checked_sub(n)
+}
+
+fn product(m: i64, n: i64) -> Option<i64>
+    ensures { result ≡ fit (m *ℤ n) }
+{
+    m.checked_mul(n)
+}
+
+// A number, or the overflow.
 fn long(n: Option<i64>) -> Outcome
     ensures { result ≡ long_of n }
 {
@@ -48,33 +64,147 @@ fn long(n: Option<i64>) -> Outcome
     }
 }
 
-/// What an operator makes of the values of its two operands.
-pub fn apply_two(op: BinaryOp, x: &Value, y: &Value, entities: &Entities) -> Outcome
-    ensures { result ≡ binary_value op x.now y.now entities.now }
+/// What an operator makes of the values of its two operands. Errs where memory runs out.
+pub fn apply_two(
+    alloc: Global,
+    op: BinaryOp,
+    x: &Value,
+    y: &Value,
+    entities: &Entities,
+) -> Result<Outcome, AllocError>
+    ensures { IfOk result (λ o. o ≡ binary_value op x.now y.now entities.now) }
 {
     match op {
-        BinaryOp::Eq => Outcome::Value(Value::bool(*x == *y)),
-        BinaryOp::Less => match (x.kind(), y.kind()) {
-            (ValueKind::Long(m), ValueKind::Long(n)) => Outcome::Value(Value::bool(*m < *n)),
-            _ => Outcome::Error(EvalError::TypeFault),
-        },
-        BinaryOp::Add => match (x.kind(), y.kind()) {
-            (ValueKind::Long(m), ValueKind::Long(n)) => long(sum(*m, *n)),
-            _ => Outcome::Error(EvalError::TypeFault),
-        },
-        BinaryOp::In => match x.kind() {
-            ValueKind::EntityUID(x) => in_value(x, y, entities),
-            _ => Outcome::Error(EvalError::TypeFault),
-        },
+        BinaryOp::Eq => Ok(Outcome::Value(Value::bool(*x == *y))),
+        BinaryOp::Less => Ok(less(x, y)),
+        BinaryOp::LessEq => Ok(less_eq(x, y)),
+        BinaryOp::Add => Ok(add(x, y)),
+        BinaryOp::Sub => Ok(sub(x, y)),
+        BinaryOp::Mul => Ok(mul(x, y)),
+        BinaryOp::In => Ok(in_value(x, y, entities)),
+        BinaryOp::Contains => Ok(contains(x, y)),
+        BinaryOp::ContainsAll => Ok(contains_all(x, y)),
+        BinaryOp::ContainsAny => Ok(contains_any(x, y)),
+        BinaryOp::GetTag => get_tag(alloc, x, y, entities),
+        BinaryOp::HasTag => Ok(has_tag(x, y, entities)),
     }
 }
 
-fn in_value(x: &EntityUID, y: &Value, entities: &Entities) -> Outcome
-    ensures { result ≡ binary_value BinaryOp.In (entity x.now) y.now entities.now }
+fn less(x: &Value, y: &Value) -> Outcome
+    ensures { result ≡ compared int_lt x.now y.now }
 {
-    match y.kind() {
-        ValueKind::EntityUID(y) => Outcome::Value(Value::bool(is_in(x, y, entities))),
-        ValueKind::Set(ys) => is_in_any(x, ys, entities),
+    match (x.kind(), y.kind()) {
+        (ValueKind::Long(m), ValueKind::Long(n)) => Outcome::Value(Value::bool(*m < *n)),
+        _ => Outcome::Error(EvalError::TypeFault),
+    }
+}
+
+fn less_eq(x: &Value, y: &Value) -> Outcome
+    ensures { result ≡ compared int_le x.now y.now }
+{
+    match (x.kind(), y.kind()) {
+        (ValueKind::Long(m), ValueKind::Long(n)) => Outcome::Value(Value::bool(*m <= *n)),
+        _ => Outcome::Error(EvalError::TypeFault),
+    }
+}
+
+fn add(x: &Value, y: &Value) -> Outcome
+    ensures { result ≡ calculated (λ m n. m +ℤ n) x.now y.now }
+{
+    match (x.kind(), y.kind()) {
+        (ValueKind::Long(m), ValueKind::Long(n)) => long(sum(*m, *n)),
+        _ => Outcome::Error(EvalError::TypeFault),
+    }
+}
+
+fn sub(x: &Value, y: &Value) -> Outcome
+    ensures { result ≡ calculated (λ m n. m -ℤ n) x.now y.now }
+{
+    match (x.kind(), y.kind()) {
+        (ValueKind::Long(m), ValueKind::Long(n)) => long(difference(*m, *n)),
+        _ => Outcome::Error(EvalError::TypeFault),
+    }
+}
+
+fn mul(x: &Value, y: &Value) -> Outcome
+    ensures { result ≡ calculated (λ m n. m *ℤ n) x.now y.now }
+{
+    match (x.kind(), y.kind()) {
+        (ValueKind::Long(m), ValueKind::Long(n)) => long(product(*m, *n)),
+        _ => Outcome::Error(EvalError::TypeFault),
+    }
+}
+
+fn contains(x: &Value, y: &Value) -> Outcome
+    ensures { result ≡ contains_value x.now y.now }
+{
+    match x.kind() {
+        ValueKind::Set(_) => Outcome::Value(Value::bool(x.has_element(y))),
+        _ => Outcome::Error(EvalError::TypeFault),
+    }
+}
+
+fn contains_all(x: &Value, y: &Value) -> Outcome
+    ensures { result ≡ contains_all_value x.now y.now }
+{
+    match (x.kind(), y.kind()) {
+        (ValueKind::Set(_), ValueKind::Set(_)) => Outcome::Value(Value::bool(x.has_all_of(y))),
+        _ => Outcome::Error(EvalError::TypeFault),
+    }
+}
+
+fn contains_any(x: &Value, y: &Value) -> Outcome
+    ensures { result ≡ contains_any_value x.now y.now }
+{
+    match (x.kind(), y.kind()) {
+        (ValueKind::Set(_), ValueKind::Set(_)) => Outcome::Value(Value::bool(x.has_some_of(y))),
+        _ => Outcome::Error(EvalError::TypeFault),
+    }
+}
+
+// The tag of an entity under a key.
+fn get_tag(alloc: Global, x: &Value, y: &Value, entities: &Entities) -> Result<Outcome, AllocError>
+    ensures { IfOk result (λ o. o ≡ get_tag_value x.now y.now entities.now) }
+{
+    match (x.kind(), y.kind()) {
+        (ValueKind::EntityUID(uid), ValueKind::String(key)) => match entities.entity(uid) {
+            Some(entity) => found_or(alloc, EvalError::MissingTag, entity.get_tag(key)),
+            None => missing(uid),
+        },
+        _ => Ok(Outcome::Error(EvalError::TypeFault)),
+    }
+}
+
+// Whether an entity has a tag under a key.
+fn has_tag(x: &Value, y: &Value, entities: &Entities) -> Outcome
+    ensures { result ≡ has_tag_value x.now y.now entities.now }
+{
+    match (x.kind(), y.kind()) {
+        (ValueKind::EntityUID(uid), ValueKind::String(key)) => {
+            Outcome::Value(Value::bool(is_tagged(entities.entity(uid), key)))
+        }
+        _ => Outcome::Error(EvalError::TypeFault),
+    }
+}
+
+// Whether an entity has a tag under a key; an absent entity has none.
+fn is_tagged(entity: Option<&Entity>, key: &Text) -> bool
+    ensures { result ≡ has_tag_of (option_copied entity.entry) key.now }
+{
+    match entity {
+        Some(entity) => entity.get_tag(key).is_some(),
+        None => false,
+    }
+}
+
+fn in_value(x: &Value, y: &Value, entities: &Entities) -> Outcome
+    ensures { result ≡ in_value x.now y.now entities.now }
+{
+    match (x.kind(), y.kind()) {
+        (ValueKind::EntityUID(x), ValueKind::EntityUID(y)) => {
+            Outcome::Value(Value::bool(is_in(x, y, entities)))
+        }
+        (ValueKind::EntityUID(x), ValueKind::Set(ys)) => is_in_any(x, ys, entities),
         _ => Outcome::Error(EvalError::TypeFault),
     }
 }
@@ -123,23 +253,29 @@ pub fn attribute(
 {
     match x.kind() {
         ValueKind::EntityUID(uid) => match entities.entity(uid) {
-            Some(entity) => attribute_outcome(alloc, entity.get(name)),
-            None => {
-                let uid = uid.try_clone()?;
-                Ok(Outcome::Error(EvalError::MissingEntity(uid)))
-            }
+            Some(entity) => found_or(alloc, EvalError::MissingAttribute, entity.get(name)),
+            None => missing(uid),
         },
-        ValueKind::Record(fields) => attribute_outcome(alloc, fields.get(name)),
+        ValueKind::Record(fields) => found_or(alloc, EvalError::MissingAttribute, fields.get(name)),
         _ => Ok(Outcome::Error(EvalError::TypeFault)),
     }
 }
 
-fn attribute_outcome(alloc: Global, v: Option<&Value>) -> Result<Outcome, AllocError>
-    ensures { IfOk result (λ o. o ≡ found_of (option_copied v.entry)) }
+// The error that an entity is not in the store.
+fn missing(uid: &EntityUID) -> Result<Outcome, AllocError>
+    ensures { IfOk result (λ o. o ≡ Outcome.Error (EvalError.MissingEntity uid.now)) }
 {
-    match v {
-        Some(v) => Ok(Outcome::Value(v.try_clone(alloc)?)),
-        None => Ok(Outcome::Error(EvalError::MissingAttribute)),
+    let uid = uid.try_clone()?;
+    Ok(Outcome::Error(EvalError::MissingEntity(uid)))
+}
+
+// What was found, or this error.
+fn found_or(alloc: Global, error: EvalError, found: Option<&Value>) -> Result<Outcome, AllocError>
+    ensures { IfOk result (λ o. o ≡ found_or error (option_copied found.entry)) }
+{
+    match found {
+        Some(value) => Ok(Outcome::Value(value.try_clone(alloc)?)),
+        None => Ok(Outcome::Error(error)),
     }
 }
 

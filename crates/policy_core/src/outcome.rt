@@ -6,10 +6,12 @@ use std::fmt;
 /// Why an expression has no value.
 #[derive(Debug, Drop, PartialEq, Eq)]
 pub enum EvalError {
-    /// An attribute was asked of an entity that the store does not hold.
+    /// An attribute or a tag was asked of an entity that the store does not hold.
     MissingEntity(EntityUID),
     /// The entity or the record has no such attribute.
     MissingAttribute,
+    /// The entity has no such tag.
+    MissingTag,
     /// An operand is not of the kind that its operator asks for.
     TypeFault,
     /// A number does not fit 64 bits.
@@ -26,6 +28,7 @@ impl fmt::Display for EvalError {
         match self {
             EvalError::MissingEntity(uid) => write!(f, "entity `{uid}` does not exist"),
             EvalError::MissingAttribute => f.write_str("attribute does not exist"),
+            EvalError::MissingTag => f.write_str("tag does not exist"),
             EvalError::TypeFault => f.write_str("operand of a wrong type"),
             EvalError::IntegerOverflow => f.write_str("integer overflow"),
         }

@@ -3,6 +3,7 @@
 
 mod ascending;
 mod map;
+mod sets;
 #[cfg(test)]
 mod tests;
 mod value;

@@ -1,9 +1,10 @@
 //! Values and their total order.
 
 ghost use Rattle.std.specs.Prelude.{◌≡◌, IfOk};
+ghost use Rattle.policy_values.specs.Sets.{elements_of, is_element};
 ghost use Rattle.policy_values.specs.ValueView.{val_of};
 ghost use Rattle.policy_values.specs.Value.{Val, truth, long, string, entity, set, rec, vals_of, fields_of};
-ghost use Rattle.policy_values.specs.ValueOrder.{rank, val_cmp, vals_cmp, fields_cmp, set_of};
+ghost use Rattle.policy_values.specs.ValueOrder.{rank, val_cmp, vals_cmp, fields_cmp, set_of, Ascends};
 
 use crate::ascending::ascending_items;
 use crate::push_entry;
@@ -137,6 +138,16 @@ impl Value {
     {
         &self.kind
     }
+
+    /// Whether the value is a set that has the element.
+    pub fn has_element(&self, element: &Value) -> bool
+        ensures { result ≡ is_element element.now (elements_of self.now) }
+    {
+        match &self.kind {
+            ValueKind::Set(items) => is_among(items, element),
+            _ => false,
+        }
+    }
 }
 
 impl PartialEq for Value {
@@ -193,6 +204,17 @@ impl PartialOrd for Value {
 
     fn partial_cmp(&self, other: &Value) -> Option<Ordering> {
         Some(compare(self, other))
+    }
+}
+
+// Whether a value is among those of an ascending list.
+fn is_among(items: &Vec<Value>, element: &Value) -> bool
+    requires { Ascends (vals_of items.now.items) }
+    ensures { result ≡ is_element element.now (vals_of items.now.items) }
+{
+    match items.binary_search(element) {
+        Ok(_) => true,
+        Err(_) => false,
     }
 }
 

@@ -50,6 +50,8 @@ const ABSENT: &str = "attribute does not exist";
 
 const OVERFLOW: &str = "integer overflow";
 
+const NO_TAG: &str = "tag does not exist";
+
 const NO_PHOTO: &str = "entity `App::Thing::\"photo\"` does not exist";
 
 // The age of the photo, which is not stored.
@@ -82,9 +84,77 @@ fn arithmetic(rt: HostRuntime) {
     assert!(rt; gives(a, one(a, UnaryOp::Neg, long(i64::MIN)), OVERFLOW));
     assert!(rt; gives(a, two(a, BinaryOp::Add, long(2), long(3)), "5"));
     assert!(rt; gives(a, two(a, BinaryOp::Add, long(i64::MAX), long(1)), OVERFLOW));
+    assert!(rt; gives(a, two(a, BinaryOp::Sub, long(2), long(3)), "-1"));
+    assert!(rt; gives(a, two(a, BinaryOp::Sub, long(-2), long(i64::MAX)), OVERFLOW));
+    assert!(rt; gives(a, two(a, BinaryOp::Mul, long(-2), long(3)), "-6"));
+    assert!(rt; gives(a, two(a, BinaryOp::Mul, long(i64::MIN), long(-1)), OVERFLOW));
+    assert!(rt; gives(a, two(a, BinaryOp::Mul, long(1), truth(true)), KIND));
     assert!(rt; gives(a, two(a, BinaryOp::Add, truth(true), fault(a)), NO_PHOTO));
     assert!(rt; gives(a, two(a, BinaryOp::Less, long(2), long(3)), "true"));
+    assert!(rt; gives(a, two(a, BinaryOp::Less, long(3), long(3)), "false"));
+    assert!(rt; gives(a, two(a, BinaryOp::LessEq, long(3), long(3)), "true"));
+    assert!(rt; gives(a, two(a, BinaryOp::LessEq, long(4), long(3)), "false"));
     assert!(rt; gives(a, two(a, BinaryOp::Less, long(2), truth(true)), KIND));
+}
+
+#[test]
+fn sets(rt: HostRuntime) {
+    let a = rt.alloc();
+    assert!(rt;
+        gives(
+            a,
+            one(a, UnaryOp::IsEmpty, pair(a, long(1), long(1))),
+            "false"
+        )
+    );
+    assert!(rt; gives(a, one(a, UnaryOp::IsEmpty, string(a, "")), KIND));
+    let to_three = pair(a, long(3), pair(a, long(1), long(2)));
+    assert!(rt; gives(a, two(a, BinaryOp::Contains, to_three, long(3)), "true"));
+    let inner = pair(a, long(1), pair(a, long(2), long(3)));
+    let turned = pair(a, long(3), long(2));
+    assert!(rt; gives(a, two(a, BinaryOp::Contains, inner, turned), "true"));
+    assert!(rt;
+        gives(
+            a,
+            two(a, BinaryOp::Contains, pair(a, long(1), long(2)), long(3)),
+            "false"
+        )
+    );
+    assert!(rt; gives(a, two(a, BinaryOp::Contains, long(3), long(3)), KIND));
+}
+
+#[test]
+fn sets_of_sets(rt: HostRuntime) {
+    let a = rt.alloc();
+    let all = BinaryOp::ContainsAll;
+    let any = BinaryOp::ContainsAny;
+    let few = pair(a, long(2), long(1));
+    assert!(rt; gives(a, two(a, all, few, pair(a, long(1), long(2))), "true"));
+    let few = pair(a, long(2), long(1));
+    assert!(rt; gives(a, two(a, all, few, pair(a, long(1), long(3))), "false"));
+    let few = pair(a, long(2), long(1));
+    assert!(rt; gives(a, two(a, any, few, pair(a, long(1), long(3))), "true"));
+    let few = pair(a, long(2), long(1));
+    assert!(rt; gives(a, two(a, any, few, pair(a, long(4), long(3))), "false"));
+    assert!(rt; gives(a, two(a, all, pair(a, long(1), long(2)), long(1)), KIND));
+    assert!(rt; gives(a, two(a, any, long(1), pair(a, long(1), long(2))), KIND));
+}
+
+#[test]
+fn tags(rt: HostRuntime) {
+    let a = rt.alloc();
+    let ann = Var::Principal;
+    let photo = Var::Resource;
+    let get = BinaryOp::GetTag;
+    let has = BinaryOp::HasTag;
+    assert!(rt; gives(a, two(a, get, var(ann), string(a, "floor")), "2"));
+    assert!(rt; gives(a, two(a, get, var(ann), string(a, "age")), NO_TAG));
+    assert!(rt; gives(a, two(a, get, var(photo), string(a, "floor")), NO_PHOTO));
+    assert!(rt; gives(a, two(a, get, var(ann), long(1)), KIND));
+    assert!(rt; gives(a, two(a, has, var(ann), string(a, "floor")), "true"));
+    assert!(rt; gives(a, two(a, has, var(ann), string(a, "age")), "false"));
+    assert!(rt; gives(a, two(a, has, var(photo), string(a, "floor")), "false"));
+    assert!(rt; gives(a, two(a, has, long(1), string(a, "floor")), KIND));
 }
 
 #[test]

@@ -33,14 +33,16 @@ pub fn request(alloc: Global) -> Result<Request, AllocError> {
     })
 }
 
-// Ann is 40 and one of the staff.
+// Ann is 40 and one of the staff, with the tag "floor".
 fn ann(alloc: Global) -> Result<Entity, AllocError> {
     let mut attrs = BTreeMap::new(alloc);
     attrs.insert(Text::from_str(alloc, "age")?, Value::long(40))?;
     let mut parents = BTreeSet::new(alloc);
     parents.insert(uid(alloc, "staff")?)?;
+    let mut tags = BTreeMap::new(alloc);
+    tags.insert(Text::from_str(alloc, "floor")?, Value::long(2))?;
     let uid = uid(alloc, "ann")?;
-    Ok(Entity::new(uid, attrs, parents, BTreeMap::new(alloc)))
+    Ok(Entity::new(uid, attrs, parents, tags))
 }
 
 // Ann is stored, the photo is not.
