@@ -3,3 +3,4 @@ pub mod NameTest
 pub mod Steps
 pub mod SameId
 pub mod Once
+pub mod Ascending

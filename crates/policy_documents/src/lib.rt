@@ -4,6 +4,7 @@
 mod document;
 mod entities;
 mod json;
+mod lists;
 mod members;
 mod names;
 mod parts;
@@ -13,6 +14,7 @@ mod policy;
 mod request;
 mod schema;
 mod store;
+mod values;
 
 pub use document::{Document, read_document};
 pub use entities::read_entities;
@@ -24,3 +26,4 @@ pub use policy::{PolicyParts, read_policy};
 pub use request::read_request;
 pub use schema::{read_declarations, read_schema};
 pub use store::read_store;
+pub use values::read_value;
