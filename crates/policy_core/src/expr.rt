@@ -455,6 +455,13 @@ impl<T: Drop> Expr<T> {
     {
         self.note = note;
     }
+
+    /// Puts another place in the source in the place of its own.
+    pub fn set_source_loc(&mut self, loc: Option<Loc>)
+        ensures { self.new ≡ with_mark self.old (record { note = (mark_of self.old).note; loc = loc }) }
+    {
+        self.loc = loc;
+    }
 }
 
 // The deepest that an expression can be.

@@ -12,3 +12,5 @@ pub mod Store
 pub mod Policies
 pub mod PlaceText
 pub mod Reading
+pub mod Lists
+pub mod Values

@@ -8,9 +8,10 @@ use Rattle.std.specs.Ordering.{match_ordering, ordering_reverse}
 use Rattle.std.specs.List.{AllByRecursion}
 use Rattle.std.specs.List.Sorted.{IsStrictlySortedBy}
 use Rattle.std.specs.Map.{keys_of}
-use Rattle.policy_values.specs.Put.{put}
+use Rattle.std.specs.BTreeSet.{insert_key}
+use Rattle.policy_values.specs.Ascending.{ascending_of}
 use Rattle.policy_values.specs.ValueLaws.{val_cmp_total}
-use Rattle.policy_values.specs.ValueOrder.{vals_cmp, val_cmp, insert_val, insert_all, IsBelow, Ascends, IsBelowField, AscendsFields}
+use Rattle.policy_values.specs.ValueOrder.{vals_cmp, val_cmp, insert_val, set_of, IsBelow, Ascends, IsBelowField, AscendsFields}
 use Rattle.policy_names.specs.Uid.{text_cmp}
 
 -- no element is larger than all together
@@ -35,15 +36,16 @@ chosen f Less x y z = refl
 chosen f Equal x y z = refl
 chosen f Greater x y z = refl
 
-pub vals_of-put : (v : Val) (ws : List Val) → vals_of (put v ws) ≡ insert_val v (vals_of ws)
-vals_of-put v [] = refl
-vals_of-put v (w ∷ ws) =
-    chosen vals_of (val_cmp v w) (v ∷ w ∷ ws) (w ∷ ws) (w ∷ put v ws)
-    ∙ ap (λ r. match_ordering (val_cmp v w) (val v (val w (vals_of ws))) (val w (vals_of ws)) (val w r)) (vals_of-put v ws)
+vals_of-insert_key : (v : Val) (ws : List Val) → vals_of (insert_key val_cmp ws v) ≡ insert_val v (vals_of ws)
+vals_of-insert_key v [] = refl
+vals_of-insert_key v (w ∷ ws) =
+    chosen vals_of (val_cmp v w) (v ∷ w ∷ ws) (w ∷ ws) (w ∷ insert_key val_cmp ws v)
+    ∙ ap (λ r. match_ordering (val_cmp v w) (val v (val w (vals_of ws))) (val w (vals_of ws)) (val w r)) (vals_of-insert_key v ws)
 
-pub insert_all-push : (vs : List Val) (v : Val) (ws : Vals) → insert_all (vs ++ v ∷ []) ws ≡ insert_all vs (insert_val v ws)
-insert_all-push [] v ws = refl
-insert_all-push (u ∷ vs) v ws = ap (insert_val u) (insert_all-push vs v ws)
+-- the items of a list in order are its set
+pub vals_of-ascending : (vs : List Val) → vals_of (ascending_of val_cmp vs) ≡ set_of vs
+vals_of-ascending [] = refl
+vals_of-ascending (v ∷ vs) = vals_of-insert_key v (ascending_of val_cmp vs) ∙ ap (insert_val v) (vals_of-ascending vs)
 
 IsBelow-put_first : (w v x : Val) (ws : Vals) → val_cmp w v ≡ Less → IsBelow w (val x ws) → IsBelow w (insert_val v (val x ws))
 IsBelow-put_first w v x ws h k = by_cmp (val_cmp v x)
@@ -63,9 +65,14 @@ Ascends-put_first v w ws Equal e h k = h
 Ascends-put_first v w ws Greater e h k =
     (IsBelow-insert_val w v ws (val_cmp_total.antisymm w v ∙ ap ordering_reverse e) h.0, k)
 
-pub Ascends-insert_val : (v : Val) (ws : Vals) → Ascends ws → Ascends (insert_val v ws)
+Ascends-insert_val : (v : Val) (ws : Vals) → Ascends ws → Ascends (insert_val v ws)
 Ascends-insert_val v no_vals h = (tt, tt)
 Ascends-insert_val v (val w ws) h = Ascends-put_first v w ws (val_cmp v w) refl h (Ascends-insert_val v ws h.1)
+
+-- a set ascends
+pub Ascends-set_of : (vs : List Val) → Ascends (set_of vs)
+Ascends-set_of [] = tt
+Ascends-set_of (v ∷ vs) = Ascends-insert_val v (set_of vs) (Ascends-set_of vs)
 
 IsBelowField-first : (k : List ℕ) (es : List (List ℕ × Val)) → AllByRecursion (λ y. text_cmp k y ≡ Less) (keys_of es) → IsBelowField k (fields_of es)
 IsBelowField-first k [] h = tt

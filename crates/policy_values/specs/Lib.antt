@@ -1,6 +1,6 @@
+pub mod Ascending
 pub mod Gv
 pub mod Maps
-pub mod Put
 pub mod Sets
 pub mod Value
 pub mod ValueCode

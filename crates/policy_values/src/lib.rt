@@ -1,6 +1,7 @@
 //! Values: booleans, longs, strings, entity ids, sets and records, in one total order.
 #![tactic(auto)]
 
+mod ascending;
 mod map;
 mod sets;
 #[cfg(test)]

@@ -1,12 +1,12 @@
 //! Values and their total order.
 
-ghost use Rattle.std.specs.Prelude.{◌≡◌, ◌≤◌, IfOk, OnOk, MatchOption, length, insert};
-ghost use Rattle.policy_values.specs.Put.{put};
+ghost use Rattle.std.specs.Prelude.{◌≡◌, IfOk};
 ghost use Rattle.policy_values.specs.Sets.{elements_of, is_element};
 ghost use Rattle.policy_values.specs.ValueView.{val_of};
 ghost use Rattle.policy_values.specs.Value.{Val, truth, long, string, entity, set, rec, vals_of, fields_of};
-ghost use Rattle.policy_values.specs.ValueOrder.{rank, val_cmp, vals_cmp, fields_cmp, insert_val, set_of, Ascends};
+ghost use Rattle.policy_values.specs.ValueOrder.{rank, val_cmp, vals_cmp, fields_cmp, set_of, Ascends};
 
+use crate::ascending::ascending_items;
 use crate::push_entry;
 use policy_names::{EntityUID, Text};
 use std::alloc::{AllocError, Global};
@@ -109,13 +109,9 @@ impl Value {
     pub fn set(alloc: Global, items: Vec<Value>) -> Result<Value, AllocError>
         ensures { IfOk result (λ v. v ≡ set (set_of items.items)) }
     {
-        let mut items = items;
-        let mut kept = Vec::new(alloc);
-        while let Some(item) = items.pop() {
-            add(&mut kept, item)?;
-        }
+        let items = ascending_items(alloc, items)?;
         Ok(Value {
-            kind: ValueKind::Set(kept),
+            kind: ValueKind::Set(items),
         })
     }
 
@@ -220,34 +216,6 @@ fn is_among(items: &Vec<Value>, element: &Value) -> bool
         Ok(_) => true,
         Err(_) => false,
     }
-}
-
-// Puts a value into its place, unless it is there.
-fn add(kept: &mut Vec<Value>, item: Value) -> Result<(), AllocError>
-    ensures { OnOk result (vals_of kept.new.items ≡ insert_val item (vals_of kept.old.items)) }
-{
-    match place(kept, &item) {
-        Some(i) => {
-            kept.insert(i, item)?;
-            Ok(())
-        }
-        None => Ok(()),
-    }
-}
-
-// Where a value goes, none where it is there.
-fn place(kept: &Vec<Value>, item: &Value) -> Option<usize>
-    ensures { MatchOption result (put item.now kept.now.items ≡ kept.now.items)
-        (λ i. (i ≤ length kept.now.items) × (put item.now kept.now.items ≡ insert kept.now.items i item.now)) }
-{
-    for (i, other) in kept.iter().enumerate() {
-        match compare(item, other) {
-            Ordering::Less => return Some(i),
-            Ordering::Equal => return None,
-            Ordering::Greater => {}
-        }
-    }
-    Some(kept.len())
 }
 
 // The place of a value's kind.
