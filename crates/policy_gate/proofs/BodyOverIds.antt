@@ -54,7 +54,7 @@ ids_over (Some uid) = tt
 term_form_over : (key : List ℕ) (d : Data) → IsIf IsTerm (term_form key d)
 term_form_over key d = either IsTerm (bytes_eq key (codes "id")) (option_map id_term (uid_of d)) _ (ids_over (uid_of d))
     (either IsTerm (bytes_eq key (codes "var")) (option_map var_term (option_and_then var_of (as_str d))) None
-        (mapped IsVarOver IsTerm var_term (option_and_then var_of (as_str d)) (λ _ h. h) (then_if IsVarOver var_of (as_str d) var_over)) tt)
+    (mapped IsVarOver IsTerm var_term (option_and_then var_of (as_str d)) (λ _ h. h) (then_if IsVarOver var_of (as_str d) var_over)) tt)
 
 term_over : (d : Data) → IsIf IsTerm (term_of d)
 term_over d = then_if IsTerm (λ m. term_form m.0 m.1) (option_and_then only_member (as_object d)) (λ m. term_form_over m.0 m.1)

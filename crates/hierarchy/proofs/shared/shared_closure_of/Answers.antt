@@ -15,7 +15,7 @@ loop-key-preserved-in_ok-insert g c =
     let same = g.met.K.Key.copies c.in-Some.key.now c.in_ok-clone.field-0 c.in_ok-clone.ensures.cases in
     record {
       closed = closed_more g.met.K.Ord.total g.met.K.Key.exact c.args.steps.now.entries _ _ _ _ c.in-Some.key.now c.in_ok-reached.reached c.loop-key.invariant.closed
-      (ap keys_of c.in-Some.ensures.steps) (λ q. rw (← same) (c.in_ok-insert.ensures.updates.0 q)) c.in_ok-reached.ensures.reached c.in_ok-reached.ensures.ordered;
+          (ap keys_of c.in-Some.ensures.steps) (λ q. rw (← same) (c.in_ok-insert.ensures.updates.0 q)) c.in_ok-reached.ensures.reached c.in_ok-reached.ensures.ordered;
       known = c.in_ok-reached.ensures.known;
     }
 
@@ -24,7 +24,7 @@ loop-key-preserved g c =
     let same = g.met.K.Key.copies c.in-Some.key.now c.in_ok-clone.field-0 c.in_ok-clone.ensures.cases in
     record {
       closed = closed_more g.met.K.Ord.total g.met.K.Key.exact c.args.steps.now.entries _ _ _ _ c.in-Some.key.now c.in_ok-reached.reached c.loop-key.invariant.closed
-      (ap keys_of c.in-Some.ensures.steps) (λ q. rw (← same) (c.in_ok-insert.ensures.updates.0 q)) c.in_ok-reached.ensures.reached c.in_ok-reached.ensures.ordered;
+          (ap keys_of c.in-Some.ensures.steps) (λ q. rw (← same) (c.in_ok-insert.ensures.updates.0 q)) c.in_ok-reached.ensures.reached c.in_ok-reached.ensures.ordered;
       known = c.in_ok-reached.ensures.known;
     }
 
