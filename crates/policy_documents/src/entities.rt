@@ -7,7 +7,7 @@ ghost use Rattle.policy_store.specs.FromParents.{ids_of};
 ghost use Rattle.policy_documents.specs.Faults.{Gives};
 
 use crate::members::{has_only, list_items};
-use crate::names::read_uid;
+use crate::names::read_uid_like;
 use crate::place::{DocumentFault, Place};
 use policy_names::EntityUID;
 use policy_store::Entity;
@@ -15,12 +15,16 @@ use serde_json::Value;
 use std::alloc::{AllocError, Global};
 use std::collections::{BTreeMap, BTreeSet};
 
-fn read_uid_set(alloc: Global, items: &[Value]) -> Result<Option<BTreeSet<EntityUID>>, AllocError>
+fn read_uid_set(
+    alloc: Global,
+    items: &[Value],
+    like: Option<&EntityUID>,
+) -> Result<Option<BTreeSet<EntityUID>>, AllocError>
     ensures { IfOk result (λ o. option_map (λ s. s.keys) o ≡ with_uids [] (items_view items.now)) }
 {
     let mut set = BTreeSet::new(alloc);
     for item in items {
-        let Some(uid) = read_uid(alloc, item)? else {
+        let Some(uid) = read_uid_like(alloc, item, like)? else {
             return Ok(None);
         };
         set.insert(uid)?;
@@ -28,8 +32,30 @@ fn read_uid_set(alloc: Global, items: &[Value]) -> Result<Option<BTreeSet<Entity
     Ok(Some(set))
 }
 
+// The id of the entity.
+fn id_of(entity: Option<&Entity>) -> Option<&EntityUID> {
+    match entity {
+        Some(entity) => Some(entity.uid()),
+        None => None,
+    }
+}
+
+// One of the entity's parents.
+fn parent_of(entity: Option<&Entity>) -> Option<&EntityUID> {
+    match entity {
+        Some(entity) => entity.ancestors().first(),
+        None => None,
+    }
+}
+
+// The entity that the value is. Its ids share the characters of their types with those of the entity before, where
+// they can.
 #[tactic(auto, unfolding(crate::specs::Entities::entity_of))]
-fn read_entity(alloc: Global, value: &Value) -> Result<Option<Entity>, AllocError>
+fn read_entity(
+    alloc: Global,
+    value: &Value,
+    before: Option<&Entity>,
+) -> Result<Option<Entity>, AllocError>
     ensures { IfOk result (λ o. o ≡ entity_of (view value.now)) }
 {
     let Some(members) = value.as_object() else {
@@ -38,13 +64,13 @@ fn read_entity(alloc: Global, value: &Value) -> Result<Option<Entity>, AllocErro
     let Some(id) = value.get("id") else {
         return Ok(None);
     };
-    let Some(uid) = read_uid(alloc, id)? else {
+    let Some(uid) = read_uid_like(alloc, id, id_of(before))? else {
         return Ok(None);
     };
     let Some(items) = list_items(value.get("parents")) else {
         return Ok(None);
     };
-    let Some(parents) = read_uid_set(alloc, items)? else {
+    let Some(parents) = read_uid_set(alloc, items, parent_of(before))? else {
         return Ok(None);
     };
     if !has_only(&["id", "parents"], members) {
@@ -59,7 +85,7 @@ pub fn read_entities(alloc: Global, items: &[Value]) -> Result<Vec<Entity>, Docu
 {
     let mut entities = Vec::new(alloc);
     for item in items {
-        let Some(entity) = read_entity(alloc, item)? else {
+        let Some(entity) = read_entity(alloc, item, entities.last())? else {
             return Err(DocumentFault::Place(Place::Entity(entities.len())));
         };
         entities.push(entity)?;

@@ -8,7 +8,7 @@ use Rattle.policy_names.specs.Uid.{text_cmp, uid_cmp}
 use Rattle.policy_names.specs.Basename.{is_action_type}
 use Rattle.policy_values.specs.Value.{Fields, no_fields, field}
 use Rattle.policy_store.specs.declared.request.Request.{Request}
-use Rattle.policy_store.specs.Store.{StoredEntity, Store}
+use Rattle.policy_store.specs.Store.{StoredEntity, Store, entity_at}
 use Rattle.schema_core.specs.Schema.{SchemaData, ActionData, type_at, action_at}
 use Rattle.policy_validate.specs.declared.request_error.RequestValidationError.{RequestValidationError}
 use Rattle.policy_validate.specs.declared.request_error.RequestValidationError.TheVariants.{UndeclaredAction, UndeclaredPrincipalType, UndeclaredResourceType, InvalidPrincipalType, InvalidResourceType, OutOfMemory}
@@ -123,6 +123,14 @@ module _ (schema : SchemaData) where
   abbrev pub first_store_fault : Store → Option (EntityUID × StoreRule)
   first_store_fault [] = None
   first_store_fault (e ∷ es) = option_or (option_map (λ rule. (e.uid, rule)) (entity_fault e)) (first_store_fault es)
+
+-- the entity of an action with the id lacks the action as an ancestor
+abbrev pub lacks_it : Store → ActionData → EntityUID → Bool
+lacks_it s a uid = option_map_or (λ e. is_action_type uid.entity_type && not (has uid_cmp e.ancestors a.name)) (entity_at s uid) false
+
+-- the entity of an action with the id lacks one of these actions of which its action is a descendant
+abbrev pub lacks : List ActionData → Store → EntityUID → Bool
+lacks actions s uid = option_map_or (λ e. is_action_type uid.entity_type && not (list_all (is_ancestor_if_above e) actions)) (entity_at s uid) false
 
 -- the error names this entity and this rule. Memory is wanted only where there is a fault
 abbrev pub IsStoreFault : Option (EntityUID × StoreRule) → ConformanceError → Type 0

@@ -1,15 +1,21 @@
 //! The rules of stores.
 
-ghost use Rattle.std.specs.Prelude.{◌≡◌, IfOk, OnErr, IsSome, find, MatchResult};
+ghost use Rattle.std.specs.Prelude.{◌≡◌, ◌↔◌, true, not, Some, IfOk, OnErr, IsSome, IsTrue, find, MatchResult};
+ghost use Rattle.std.specs.List.{list_all};
+ghost use Rattle.std.specs.List.Sorted.{IsStrictlySortedBy};
 ghost use Rattle.std.specs.Option.{option_copied};
+ghost use Rattle.hierarchy.specs.Least.{IsLeastIfAny};
+ghost use Rattle.policy_names.specs.Basename.{is_action_type};
+ghost use Rattle.policy_names.specs.Uid.{uid_cmp};
 ghost use Rattle.policy_values.specs.Value.{fields_of};
-ghost use Rattle.policy_validate.specs.Conformance.{StoreConforms, IsStoreFault, first_store_fault, entity_fault, action_entity_fault, typed_entity_fault, first_key, may_be_in, is_not_allowed, is_action_in, has_all_ancestors, has_its_ancestors};
+ghost use Rattle.policy_validate.specs.Conformance.{StoreConforms, IsStoreFault, first_store_fault, entity_fault, action_entity_fault, typed_entity_fault, first_key, may_be_in, is_not_allowed, is_action_in, has_all_ancestors, lacks, lacks_it};
 
 use crate::{ConformanceError, EntityDoesNotConform, StoreRule};
+use hierarchy::lower;
 use policy_names::{EntityType, EntityUID, Text};
 use policy_store::{Entities, Entity};
 use policy_values::Value;
-use schema_core::ValidatorSchema;
+use schema_core::{ValidatorActionId, ValidatorSchema};
 use std::alloc::AllocError;
 use std::collections::BTreeMap;
 
@@ -22,8 +28,10 @@ use std::collections::BTreeMap;
 pub fn conforms(schema: &ValidatorSchema, entities: &Entities) -> Result<(), ConformanceError>
     ensures { MatchResult result (λ _. StoreConforms schema.now entities.now) (IsStoreFault (first_store_fault schema.now entities.now)) }
 {
+    let lacking = least_lacking(schema, entities);
     for entity in entities.iter() {
-        if let Some(rule) = broken_rule(schema, entity)? {
+        let lacks = is_id(lacking, entity.uid());
+        if let Some(rule) = broken_rule(schema, entity, lacks)? {
             let uid = entity.uid().try_clone()?;
             return Err(ConformanceError::EntityDoesNotConform(EntityDoesNotConform { uid, rule }));
         }
@@ -31,19 +39,35 @@ pub fn conforms(schema: &ValidatorSchema, entities: &Entities) -> Result<(), Con
     Ok(())
 }
 
-// The first rule that the entity breaks.
-fn broken_rule(schema: &ValidatorSchema, entity: &Entity) -> Result<Option<StoreRule>, AllocError>
+// Whether the id is this one.
+fn is_id(known: Option<&EntityUID>, uid: &EntityUID) -> bool
+    ensures { IsTrue result ↔ (option_copied known.entry ≡ Some uid.now) }
+{
+    match known {
+        Some(known) => known == uid,
+        None => false,
+    }
+}
+
+// The first rule that the entity breaks, where it is known whether an ancestor of its action is missing in it.
+fn broken_rule(
+    schema: &ValidatorSchema,
+    entity: &Entity,
+    lacks: bool,
+) -> Result<Option<StoreRule>, AllocError>
+    requires { IsTrue (is_action_type entity.now.uid.entity_type) → lacks ≡ not (has_all_ancestors schema.now entity.now) }
     ensures rule { IfOk result (λ rule. rule ≡ entity_fault schema.now entity.now) }
     ensures memory { OnErr result (IsSome (entity_fault schema.now entity.now)) }
 {
     if entity.uid().is_action() {
-        return Ok(broken_action_rule(schema, entity));
+        return Ok(broken_action_rule(schema, entity, lacks));
     }
     broken_typed_rule(schema, entity)
 }
 
 // The first rule that the entity of an action breaks.
-fn broken_action_rule(schema: &ValidatorSchema, entity: &Entity) -> Option<StoreRule>
+fn broken_action_rule(schema: &ValidatorSchema, entity: &Entity, lacks: bool) -> Option<StoreRule>
+    requires { lacks ≡ not (has_all_ancestors schema.now entity.now) }
     ensures { result ≡ action_entity_fault schema.now entity.now }
 {
     if schema.get_action_id(entity.uid()).is_none() {
@@ -55,15 +79,15 @@ fn broken_action_rule(schema: &ValidatorSchema, entity: &Entity) -> Option<Store
     if least_key(entity.tags()).is_some() {
         return Some(StoreRule::ActionHasTags);
     }
-    if !has_its_ancestors(schema, entity) {
+    if lacks || !has_only_its_ancestors(schema, entity) {
         return Some(StoreRule::ActionAncestorsDiffer);
     }
     None
 }
 
-// Whether the ancestors of the entity are those of its action.
-fn has_its_ancestors(schema: &ValidatorSchema, entity: &Entity) -> bool
-    ensures { result ≡ has_its_ancestors schema.now entity.now }
+// Whether the entity has no ancestor that its action lacks.
+fn has_only_its_ancestors(schema: &ValidatorSchema, entity: &Entity) -> bool
+    ensures { result ≡ list_all (is_action_in schema.now entity.now.uid) entity.now.ancestors }
 {
     let uid = entity.uid();
     for above in entity.ancestors() {
@@ -71,7 +95,7 @@ fn has_its_ancestors(schema: &ValidatorSchema, entity: &Entity) -> bool
             return false;
         }
     }
-    has_all_ancestors(schema, entity)
+    true
 }
 
 // Whether the action is a descendant of the other.
@@ -84,18 +108,38 @@ fn is_action_in(schema: &ValidatorSchema, uid: &EntityUID, above: &EntityUID) ->
     }
 }
 
-// Whether no ancestor of its action is missing in the entity.
-fn has_all_ancestors(schema: &ValidatorSchema, entity: &Entity) -> bool
-    ensures { result ≡ has_all_ancestors schema.now entity.now }
+// The least id of an entity in which an ancestor of its action is missing.
+fn least_lacking<'a>(schema: &'a ValidatorSchema, entities: &Entities) -> Option<&'a EntityUID>
+    ensures { IsLeastIfAny uid_cmp (λ uid. lacks schema.now.action_ids entities.now uid ≡ true) (option_copied result) }
 {
+    let mut least = None;
     for action in schema.action_ids() {
-        if action.descendants().contains(entity.uid())
-            && !entity.ancestors().contains(action.name())
-        {
-            return false;
+        least = lower(least, first_without(entities, action));
+    }
+    least
+}
+
+// The first descendant of the action whose entity lacks it as an ancestor.
+fn first_without<'a>(entities: &Entities, action: &'a ValidatorActionId) -> Option<&'a EntityUID>
+    ensures found { option_copied result ≡ find (lacks_it entities.now action.now) action.now.descendants }
+    ensures ascending { IsStrictlySortedBy uid_cmp action.now.descendants }
+{
+    for uid in action.descendants() {
+        if lacks_it(entities, action, uid) {
+            return Some(uid);
         }
     }
-    true
+    None
+}
+
+// Whether the id is that of an action's entity that lacks the action as an ancestor.
+fn lacks_it(entities: &Entities, action: &ValidatorActionId, uid: &EntityUID) -> bool
+    ensures { result ≡ lacks_it entities.now action.now uid.now }
+{
+    match entities.entity(uid) {
+        Some(entity) => uid.is_action() && !entity.ancestors().contains(action.name()),
+        None => false,
+    }
 }
 
 // The first rule that an entity breaks that is not of an action.
@@ -134,12 +178,28 @@ fn first_not_allowed<'a>(schema: &ValidatorSchema, entity: &'a Entity) -> Option
     ensures { option_copied result ≡ find (is_not_allowed schema.now entity.now) entity.now.ancestors }
 {
     let ty = &entity.uid().entity_type;
+    // Ancestors of one type follow one another: the type was looked at before, mostly.
+    let mut allowed = None;
     for uid in entity.ancestors() {
+        if is_type(allowed, &uid.entity_type) {
+            continue;
+        }
         if !may_be_in(schema, ty, &uid.entity_type) {
             return Some(uid);
         }
+        allowed = Some(&uid.entity_type);
     }
     None
+}
+
+// Whether the type is this one.
+fn is_type(known: Option<&EntityType>, ty: &EntityType) -> bool
+    ensures { IsTrue result → option_copied known.entry ≡ Some ty.now }
+{
+    match known {
+        Some(known) => known == ty,
+        None => false,
+    }
 }
 
 // Whether entities of the type may have ancestors of the other.
