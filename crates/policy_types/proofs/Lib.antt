@@ -1,4 +1,5 @@
 pub mod ApartSteps
+pub mod ConsistentSteps
 pub mod JoinLaws
 pub mod JoinSteps
 pub mod MemberLaws

@@ -2,6 +2,7 @@
 #![tactic(auto)]
 
 mod attributes;
+mod consistent;
 mod disjoint;
 mod join;
 pub mod laws;
@@ -10,6 +11,7 @@ mod mode;
 mod subtype;
 
 pub use attributes::{all_attributes, all_known_attrs, lookup_attribute_type, may_have_attr};
+pub use consistent::is_consistent_with;
 pub use disjoint::are_types_disjoint;
 pub use join::{LubError, least_upper_bound, reduce_to_least_upper_bound};
 pub use member::has_value;
