@@ -1,4 +1,6 @@
 pub mod ApartSteps
+pub mod ConsistentSteps
+pub mod GreaterLaws
 pub mod JoinLaws
 pub mod JoinSteps
 pub mod MemberLaws

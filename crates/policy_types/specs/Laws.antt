@@ -1,5 +1,5 @@
 -- What callers may rely on.
-use Rattle.std.specs.Prelude.{IfOk}
+use Rattle.std.specs.Prelude.{◌≡◌, Ok, IfOk}
 use Rattle.schema_types.specs.Ty.{Ty, set_of, record_of, action, Attrs, no_attrs, attr}
 use Rattle.policy_types.specs.declared.mode.SubtypeMode.{SubtypeMode}
 use Rattle.policy_types.specs.declared.mode.SubtypeMode.TheVariants.{Strict}
@@ -29,6 +29,10 @@ abbrev mutual
 -- where there is a join, both types are below it
 abbrev pub JoinIsAbove : Type 0
 JoinIsAbove = (m : SubtypeMode) (t u : Ty) → NoActions t → NoActions u → IfOk (join m t u) (λ v. Subtype m t v × Subtype m u v)
+
+-- where one type is strictly below the other, the strict join is the greater
+abbrev pub JoinIsGreater : Type 0
+JoinIsGreater = (t u : Ty) → Subtype Strict t u → (join Strict t u ≡ Ok u) × (join Strict u t ≡ Ok u)
 
 -- a member of a type is a member of each type strictly above it
 abbrev pub MemberOfSubtype : Type 0

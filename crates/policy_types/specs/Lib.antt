@@ -1,4 +1,5 @@
 pub mod Attributes
+pub mod Consistent
 pub mod Join
 pub mod JoinSteps
 pub mod Laws

@@ -489,7 +489,7 @@ fn text_eq(a: &Text, b: &Text) -> bool
     }
 }
 
-fn name_eq(a: &Name, b: &Name) -> bool
+pub(crate) fn name_eq(a: &Name, b: &Name) -> bool
     ensures { result ≡ text_eq a.now b.now }
 {
     match a.cmp(b) {
@@ -499,7 +499,7 @@ fn name_eq(a: &Name, b: &Name) -> bool
     }
 }
 
-fn entity_type_eq(a: &EntityType, b: &EntityType) -> bool
+pub(crate) fn entity_type_eq(a: &EntityType, b: &EntityType) -> bool
     ensures { result ≡ text_eq a.now b.now }
 {
     match a.cmp(b) {

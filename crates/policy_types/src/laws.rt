@@ -1,6 +1,6 @@
 //! Laws of the relations between types.
 
-ghost use Rattle.policy_types.specs.Laws.{SubtypeIsReflexive, SubtypeIsTransitive, JoinIsAbove, MemberOfSubtype};
+ghost use Rattle.policy_types.specs.Laws.{SubtypeIsReflexive, SubtypeIsTransitive, JoinIsAbove, JoinIsGreater, MemberOfSubtype};
 
 /// Each type is a subtype of itself.
 pub fn subtype_is_reflexive()
@@ -15,6 +15,11 @@ pub fn subtype_is_transitive()
 /// Where two types have a join, both are subtypes of it.
 pub fn join_is_above()
     ensures { JoinIsAbove }
+{}
+
+/// Where one type is strictly below the other, the strict join is the greater.
+pub fn join_is_greater()
+    ensures { JoinIsGreater }
 {}
 
 /// What a type has each type strictly above it has.
