@@ -4,3 +4,5 @@ pub mod Steps
 pub mod SameId
 pub mod Once
 pub mod Ascending
+pub mod ExprBounds
+pub mod ExprSteps
