@@ -34,10 +34,9 @@ field_more done new k v o os whole is read all =
     ∙ all
 
 -- its key too
-pub keys_more : {X Y : Type 0} (ks : List (String Global)) (done new : List (List ℕ × X)) (k : String Global) (v : X) (rest : List (String Global × Y))
-    → new ≡ done ++ (string_bytes k, v) ∷ [] → map string_bytes ks ≡ keys_of done ++ string_bytes k ∷ map string_bytes (keys_of rest)
-    → map string_bytes ks ≡ keys_of new ++ map string_bytes (keys_of rest)
-keys_more ks done new k v rest is all =
+pub keys_more : {X : Type 0} (whole : List (List ℕ)) (done new : List (List ℕ × X)) (k : List ℕ) (v : X) (rest : List (List ℕ))
+    → new ≡ done ++ (k, v) ∷ [] → whole ≡ keys_of done ++ k ∷ rest → whole ≡ keys_of new ++ rest
+keys_more whole done new k v rest is all =
     all
-    ∙ sym (append_assoc (keys_of done) (string_bytes k ∷ []) (map string_bytes (keys_of rest)))
-    ∙ ap (λ xs. xs ++ map string_bytes (keys_of rest)) (sym (ap keys_of is ∙ keys_of-append done ((string_bytes k, v) ∷ [])))
+    ∙ sym (append_assoc (keys_of done) (k ∷ []) rest)
+    ∙ ap (λ xs. xs ++ rest) (sym (ap keys_of is ∙ keys_of-append done ((k, v) ∷ [])))

@@ -24,6 +24,6 @@ read_fields-loop-key-preserved t c =
     record {
       read = field_more done _ (string_bytes key) value (value_of member) (value_entries_of (members_view rest)) _ is (sym c.in-Ok.ensures ∙ c.in-Some-next.is)
           (ap (λ es. option_map (λ ys. done ++ ys) (value_entries_of (members_view es))) (sym c.in-Some.ensures.steps) ∙ c.loop-key.invariant.read);
-      keys = keys_more (keys_of c.args.members.now.entries) done _ key value rest is
+      keys = keys_more (map string_bytes (keys_of c.args.members.now.entries)) done _ (string_bytes key) value (map string_bytes (keys_of rest)) is
           (c.loop-key.invariant.keys ∙ ap (λ es. keys_of done ++ map string_bytes (keys_of es)) c.in-Some.ensures.steps);
     }

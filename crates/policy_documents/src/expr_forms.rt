@@ -1,0 +1,212 @@
+//! The forms of the objects that stand for expressions in JSON.
+
+ghost use Rattle.std.specs.Prelude.{◌≡◌, IfOk, option_map};
+ghost use Rattle.serde_json.specs.View.{view, items_view};
+ghost use Rattle.policy_documents.specs.ExprForms.{binary_named, call_named, form_named, list_form_named, loc_between, loc_of, loc_of_ends, loc_of_items, names_of, offset_of, other_form_named, sign_named, texts_of, unary_named, var_named};
+
+use policy_core::{BinaryOp, Loc, Text, UnaryOp, Var};
+use serde_json::Value;
+use std::alloc::{AllocError, Global};
+
+/// What an object with one member says.
+#[derive(Clone, Copy)]
+pub(crate) enum Form {
+    /// The id of an entity.
+    Id,
+    /// A variable.
+    Var,
+    /// An operator of one operand.
+    Unary(UnaryOp),
+    /// What is made of a list of operands.
+    List(ListForm),
+    /// An attribute of an attribute .. of an operand.
+    Get,
+    /// The test for an attribute.
+    Has,
+    /// A record.
+    Record,
+}
+
+/// What is made of a list of operands.
+#[derive(Clone, Copy)]
+pub(crate) enum ListForm {
+    /// They are joined from the left.
+    Fold(Junction),
+    /// Tests and their branches in turn, and last what stands where no test holds.
+    If,
+    /// An operator of two operands.
+    Binary(BinaryOp),
+}
+
+/// How operands are joined.
+#[derive(Clone, Copy)]
+pub(crate) enum Junction {
+    /// By `&&`.
+    All,
+    /// By `||`.
+    Any,
+}
+
+fn unary_named(key: &str) -> Option<UnaryOp>
+    ensures { result ≡ unary_named key.now }
+{
+    match key {
+        "not" => Some(UnaryOp::Not),
+        "neg" => Some(UnaryOp::Neg),
+        "isEmpty" => Some(UnaryOp::IsEmpty),
+        _ => None,
+    }
+}
+
+// Operators that are spelled by signs and words of the language.
+fn sign_named(key: &str) -> Option<BinaryOp>
+    ensures { result ≡ sign_named key.now }
+{
+    match key {
+        "==" => Some(BinaryOp::Eq),
+        "<" => Some(BinaryOp::Less),
+        "<=" => Some(BinaryOp::LessEq),
+        "+" => Some(BinaryOp::Add),
+        "-" => Some(BinaryOp::Sub),
+        "*" => Some(BinaryOp::Mul),
+        "in" => Some(BinaryOp::In),
+        _ => None,
+    }
+}
+
+// Those that are spelled as calls.
+fn call_named(key: &str) -> Option<BinaryOp>
+    ensures { result ≡ call_named key.now }
+{
+    match key {
+        "contains" => Some(BinaryOp::Contains),
+        "containsAll" => Some(BinaryOp::ContainsAll),
+        "containsAny" => Some(BinaryOp::ContainsAny),
+        "getTag" => Some(BinaryOp::GetTag),
+        "hasTag" => Some(BinaryOp::HasTag),
+        _ => None,
+    }
+}
+
+fn binary_named(key: &str) -> Option<BinaryOp>
+    ensures { result ≡ binary_named key.now }
+{
+    match sign_named(key) {
+        Some(op) => Some(op),
+        None => call_named(key),
+    }
+}
+
+fn list_form_named(key: &str) -> Option<ListForm>
+    ensures { result ≡ list_form_named key.now }
+{
+    match key {
+        "all" => Some(ListForm::Fold(Junction::All)),
+        "any" => Some(ListForm::Fold(Junction::Any)),
+        "if" => Some(ListForm::If),
+        _ => binary_named(key).map(ListForm::Binary),
+    }
+}
+
+fn other_form_named(key: &str) -> Option<Form>
+    ensures { result ≡ other_form_named key.now }
+{
+    match key {
+        "id" => Some(Form::Id),
+        "var" => Some(Form::Var),
+        "get" => Some(Form::Get),
+        "has" => Some(Form::Has),
+        "record" => Some(Form::Record),
+        _ => unary_named(key).map(Form::Unary),
+    }
+}
+
+/// The form that the name of an object's one member tells.
+pub(crate) fn form_named(key: &str) -> Option<Form>
+    ensures { result ≡ form_named key.now }
+{
+    match list_form_named(key) {
+        Some(form) => Some(Form::List(form)),
+        None => other_form_named(key),
+    }
+}
+
+/// The variable that a text names.
+pub(crate) fn var_named(text: &str) -> Option<Var>
+    ensures { result ≡ var_named text.now }
+{
+    match text {
+        "principal" => Some(Var::Principal),
+        "action" => Some(Var::Action),
+        "resource" => Some(Var::Resource),
+        "context" => Some(Var::Context),
+        _ => None,
+    }
+}
+
+fn read_texts(alloc: Global, items: &[Value]) -> Result<Option<Vec<Text>>, AllocError>
+    ensures { IfOk result (λ o. option_map (λ v. v.items) o ≡ texts_of (items_view items.now)) }
+{
+    let mut texts = Vec::new(alloc);
+    for item in items {
+        let Some(text) = item.as_str() else {
+            return Ok(None);
+        };
+        texts.push(Text::from_str(alloc, text)?)?;
+    }
+    Ok(Some(texts))
+}
+
+/// The texts behind the first item of a list.
+pub(crate) fn read_names(alloc: Global, value: &Value) -> Result<Option<Vec<Text>>, AllocError>
+    ensures { IfOk result (λ o. option_map (λ v. v.items) o ≡ names_of (view value.now)) }
+{
+    let Some(items) = value.as_array() else {
+        return Ok(None);
+    };
+    match items.as_slice() {
+        [] => Ok(Some(Vec::new(alloc))),
+        [_, rest @ ..] => read_texts(alloc, rest),
+    }
+}
+
+fn read_offset(value: &Value) -> Option<usize>
+    ensures { result ≡ offset_of (view value.now) }
+{
+    let offset = value.as_i64()?;
+    if offset < 0 {
+        return None;
+    }
+    Some(offset as usize)
+}
+
+fn read_ends(start: &Value, end: &Value) -> Option<Loc>
+    ensures { result ≡ loc_of_ends (view start.now) (view end.now) }
+{
+    let start = read_offset(start)?;
+    let end = read_offset(end)?;
+    if start <= end {
+        Some(Loc { start, end })
+    } else {
+        None
+    }
+}
+
+fn read_loc_items(items: &[Value]) -> Option<Loc>
+    ensures { result ≡ loc_of_items (items_view items.now) }
+{
+    match items {
+        [start, end] => read_ends(start, end),
+        _ => None,
+    }
+}
+
+/// A place in the source: where it starts and where it ends, which is not before.
+pub(crate) fn read_loc(value: &Value) -> Option<Loc>
+    ensures { result ≡ loc_of (view value.now) }
+{
+    match value.as_array() {
+        Some(items) => read_loc_items(items),
+        None => None,
+    }
+}
