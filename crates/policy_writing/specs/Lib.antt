@@ -1,2 +1,3 @@
 pub mod SliceJson
 pub mod ValueJson
+pub mod ReadBack
