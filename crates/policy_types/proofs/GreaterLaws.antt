@@ -1,35 +1,24 @@
 -- Where one type is strictly below the other, their strict join is the greater.
-use Rattle.std.proofs.Common.{◌≡◌, ℕ, List, Bool, true, false, ◌&&◌, cond, Ordering, Ok, Err, ap, ◌∙◌, sym, refl, subst, inl, inr}
-use Rattle.std.specs.declared.cmp.Ordering.TheVariants.{Less, Equal, Greater}
-use Rattle.std.specs.Ordering.{is_eq, ordering_reverse}
-use Rattle.std.proofs.lemmas.Cmp.{nat_list_cmp_total}
+use Rattle.std.proofs.Common.{◌≡◌, ℕ, List, Bool, true, false, ◌&&◌, cond, Ok, Err, ap, ◌∙◌, sym, refl, subst, inl, inr}
 use Rattle.schema_types.specs.declared.kinds.Primitive.{Primitive}
 use Rattle.schema_types.specs.declared.kinds.Primitive.TheVariants.{Bool as BoolType, Long, String}
 use Rattle.schema_types.specs.declared.kinds.OpenTag.{OpenTag}
 use Rattle.schema_types.specs.declared.kinds.OpenTag.TheVariants.{OpenAttributes, ClosedAttributes}
 use Rattle.policy_types.specs.declared.mode.SubtypeMode.TheVariants.{Strict}
 use Rattle.schema_types.specs.declared.kinds.LubHelp.TheVariants.{AttributeQualifier, RecordWidth, EntityType, None as Other}
-use Rattle.policy_names.specs.Uid.{text_cmp}
 use Rattle.schema_types.specs.Names.{texts_cmp}
 use Rattle.schema_types.specs.Ty.{Ty, never, true_type, false_type, primitive, any_set, set_of, record_of, any_entity, entity, action, extension, Attrs, no_attrs, attr}
 use Rattle.schema_types.specs.NameLaws.{texts_cmp_total}
 use Rattle.policy_types.specs.Subtype.{SubOpen, Subtype, SubAttrs}
 use Rattle.policy_types.specs.Join.{result_map, text_eq, texts_eq, bool_eq, either_open, same_keys, join_bool, join_primitive, join_first, join, join_attrs}
 use Rattle.policy_types.proofs.SubtypeLaws.{attrs_refl}
+use Rattle.policy_types.proofs.UnionLaws.{own_reverse, own_text}
 
 abbrev IsGreater : Ty → Ty → Type 0
 IsGreater t u = (join Strict t u ≡ Ok u) × (join Strict u t ≡ Ok u)
 
 abbrev AreGreater : Attrs → Attrs → Type 0
 AreGreater xs ys = (same_keys xs ys ≡ true) × (same_keys ys xs ≡ true) × (join_attrs xs ys ≡ Ok ys) × (join_attrs ys xs ≡ Ok ys)
-
-own_reverse : (o : Ordering) → o ≡ ordering_reverse o → is_eq o ≡ true
-own_reverse Less h = cc
-own_reverse Equal h = refl
-own_reverse Greater h = cc
-
-own_text : (k : List ℕ) → text_eq k k ≡ true
-own_text k = own_reverse (text_cmp k k) (nat_list_cmp_total.antisymm k k)
 
 own_texts : (ks : List (List ℕ)) → texts_eq ks ks ≡ true
 own_texts ks = own_reverse (texts_cmp ks ks) (texts_cmp_total.antisymm ks ks)

@@ -1,13 +1,12 @@
 -- Steps of the merge of ascending attributes.
-use Rattle.std.proofs.Common.{◌≡◌, ℕ, List, [], ◌∷◌, ◌++◌, Bool, Option, Some, None, Bor, Result, Ok, Err, Ordering, ap, ◌∙◌, sym, subst, arith}
-use Rattle.std.specs.Prelude.{MatchOption, ◌≤◌, ◌&&◌}
+use Rattle.std.proofs.Common.{◌≡◌, ℕ, List, [], ◌∷◌, ◌++◌, Bool, Result, Ok, Err, Ordering, ap, ◌∙◌, sym, subst, arith}
+use Rattle.std.specs.Prelude.{◌≤◌, ◌&&◌}
 use Rattle.std.specs.Ordering.{match_ordering}
 use Rattle.std.specs.declared.cmp.Ordering.TheVariants.{Less, Equal}
 use Rattle.std.specs.List.{AllByRecursion}
 use Rattle.std.specs.List.Sorted.{IsStrictlySortedBy}
 use Rattle.std.specs.Map.{keys_of}
 use Rattle.policy_names.specs.Uid.{text_cmp}
-use Rattle.policy_names.specs.declared.text.Text.{Text}
 use Rattle.policy_types.specs.declared.mode.SubtypeMode.TheVariants.{Permissive}
 use Rattle.policy_types.specs.Join.{keep, join, shared}
 use Rattle.policy_values.specs.Maps.{IsNext}
@@ -22,15 +21,6 @@ use Rattle.std.proofs.lemmas.List.{append-nil, append_assoc}
 
 abbrev Entries : Type 0
 Entries = List (List ℕ × AttributeType)
-
--- what is still to come: an entry that was taken already, and those behind it
-abbrev pub pending : Option (Bor Text × Bor AttributeType) → Entries → Entries
-pending None es = []
-pending (Some d) es = (d.0.now, d.1.now) ∷ es
-
-pub pending_next : (o : Option (Bor Text × Bor AttributeType)) (es rest : Entries) → MatchOption o ((es ≡ []) × (rest ≡ [])) (λ x. es ≡ (x.0.now, x.1.now) ∷ rest) → pending o rest ≡ es
-pending_next None es rest h = sym h.0
-pending_next (Some x) es rest h = sym h
 
 -- one key less is still ascending
 all_less : (x : List ℕ) (ks : List (List ℕ)) (k : List ℕ) (rest : List (List ℕ)) → AllByRecursion (λ y. text_cmp x y ≡ Less) (ks ++ k ∷ rest) → AllByRecursion (λ y. text_cmp x y ≡ Less) (ks ++ rest)

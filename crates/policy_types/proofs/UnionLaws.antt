@@ -17,7 +17,7 @@ or_under : (a b c : Bool) → (b ≡ true → c ≡ true) → (a || b) ≡ true 
 or_under true b c f h = refl
 or_under false b c f h = f h
 
-own_reverse : (o : Ordering) → o ≡ ordering_reverse o → is_eq o ≡ true
+pub own_reverse : (o : Ordering) → o ≡ ordering_reverse o → is_eq o ≡ true
 own_reverse Less h = cc
 own_reverse Equal h = refl
 own_reverse Greater h = cc

@@ -1,6 +1,6 @@
 //! Subtyping.
 
-ghost use Rattle.std.specs.Prelude.{◌≡◌, ◌↔◌, IsTrue};
+ghost use Rattle.std.specs.Prelude.{◌≡◌, ◌↔◌, ◌⊎◌, IsTrue};
 ghost use Rattle.schema_types.specs.declared.kinds.Primitive.TheVariants.{Bool};
 ghost use Rattle.schema_types.specs.TyView.{kind_of, attrs_of};
 ghost use Rattle.policy_types.specs.Subtype.{IsPermissive, SubOpen, IsOpen, SubRequired, SubEntity, Subtype, SubAttrs, Covers};
@@ -144,11 +144,7 @@ fn is_sub_kind(a: &EntityRecordKind, b: &EntityRecordKind, mode: SubtypeMode) ->
                 attrs: y,
                 open_attributes: p,
             },
-        ) => {
-            is_sub_open(*o, *p)
-                && ((is_permissive(mode) && is_open(*p) && covers(x, y, mode))
-                    || is_sub_attrs(x, y, mode))
-        }
+        ) => is_sub_open(*o, *p) && is_sub_attributes(x, y, *p, mode),
         (EntityRecordKind::AnyEntity, EntityRecordKind::AnyEntity) => true,
         (EntityRecordKind::Entity(_), EntityRecordKind::AnyEntity) => is_permissive(mode),
         (EntityRecordKind::Entity(x), EntityRecordKind::Entity(y)) => is_sub_entity(x, y, mode),
@@ -160,6 +156,18 @@ fn is_sub_kind(a: &EntityRecordKind, b: &EntityRecordKind, mode: SubtypeMode) ->
             EntityRecordKind::ActionEntity { name: n, attrs: y },
         ) => same_entity_type(m, n) && same_attributes(x, y),
         _ => false,
+    }
+}
+
+// Attributes of the same keys are also among those of an open record, so one walk is enough.
+#[cycle(subtype)]
+fn is_sub_attributes(a: &Attributes, b: &Attributes, p: OpenTag, mode: SubtypeMode) -> bool
+    ensures { IsTrue result ↔ ((IsPermissive mode × IsOpen p × Covers mode a.now b.now) ⊎ SubAttrs mode a.now b.now) }
+{
+    if is_permissive(mode) && is_open(p) {
+        covers(a, b, mode)
+    } else {
+        is_sub_attrs(a, b, mode)
     }
 }
 

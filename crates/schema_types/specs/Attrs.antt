@@ -1,16 +1,11 @@
 -- Attributes under their keys.
-use Rattle.std.specs.Prelude.{ℕ, true, List, [], ◌∷◌, Option, Some, None, cond}
+use Rattle.std.specs.Prelude.{ℕ, List, Option, Some, None, cond}
 use Rattle.std.specs.Ordering.{is_eq}
 use Rattle.policy_names.specs.Uid.{text_cmp}
-use Rattle.schema_types.specs.Ty.{Ty, Attrs, no_attrs, attr}
+use Rattle.schema_types.specs.Ty.{Attrs, no_attrs, attr}
 use Rattle.schema_types.specs.declared.ty.AttributeType.{AttributeType}
 
 -- the attribute under a key, where there is one
 abbrev pub attr_at : Attrs → List ℕ → Option AttributeType
 attr_at no_attrs n = None
 attr_at (attr k t q xs) n = cond (is_eq (text_cmp n k)) (Some (record { attr_type = t; is_required = q })) (attr_at xs n)
-
--- the attributes that types under keys are, where all are required
-abbrev pub all_required : List (List ℕ × Ty) → Attrs
-all_required [] = no_attrs
-all_required (e ∷ es) = attr e.0 e.1 true (all_required es)

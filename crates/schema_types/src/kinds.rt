@@ -15,11 +15,12 @@ pub enum Primitive {
 }
 
 /// Whether a record may have attributes beside those that its type lists.
-#[derive(Clone, Copy, Debug, PartialEq, Eq, PartialOrd, Ord, Hash)]
+#[derive(Clone, Copy, Debug, Default, PartialEq, Eq, PartialOrd, Ord, Hash)]
 pub enum OpenTag {
     /// It may have others.
     OpenAttributes,
     /// It has no others.
+    #[default]
     ClosedAttributes,
 }
 

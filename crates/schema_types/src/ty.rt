@@ -3,14 +3,14 @@
 ghost use Rattle.std.specs.Prelude.{◌≡◌, ◌∷◌, [], IfOk, if◌then◌else◌, option_copied, true, false};
 ghost use Rattle.schema_types.specs.declared.kinds.Primitive.TheVariants.{Bool, Long, String};
 ghost use Rattle.schema_types.specs.declared.kinds.OpenTag.TheVariants.{OpenAttributes};
-ghost use Rattle.schema_types.specs.Ty.{Ty, never, true_type, false_type, primitive, any_set, set_of, record_of, any_entity, entity, action, extension, Attrs, no_attrs, attr};
+ghost use Rattle.schema_types.specs.Ty.{Ty, never, true_type, false_type, primitive, any_set, set_of, record_of, any_entity, entity, action, extension, Attrs, no_attrs, attr, keys_in};
 ghost use Rattle.schema_types.specs.TyView.{ty_of, kind_of, attrs_of};
 ghost use Rattle.schema_types.specs.Attrs.{attr_at};
 
 use crate::{EntityLUB, OpenTag, Primitive};
 use policy_names::{EntityType, Name, Text};
 use std::alloc::{AllocError, Global};
-use std::collections::BTreeMap;
+use std::collections::{BTreeMap, btree_map};
 use std::marker::Model;
 
 /// A type.
@@ -286,12 +286,33 @@ impl Attributes {
         &self.attrs
     }
 
+    /// The attributes with their keys, ascending.
+    pub fn iter(&self) -> btree_map::Iter<'_, Text, AttributeType>
+        ensures { attrs_of result ≡ self.now }
+    {
+        self.attrs.iter()
+    }
+
+    /// The keys, ascending.
+    pub fn keys(&self) -> btree_map::Keys<'_, Text, AttributeType>
+        ensures { result ≡ keys_in self.now }
+    {
+        keys_of(self.entries())
+    }
+
     /// The attribute under a key.
     pub fn get_attr(&self, key: &Text) -> Option<&AttributeType>
         ensures { option_copied result ≡ attr_at self.now key.now }
     {
         entry_at(self.entries(), key)
     }
+}
+
+#[tactic(auto, using(crate::proofs::AttrSteps::keys_of_attrs))]
+fn keys_of(entries: &BTreeMap<Text, AttributeType>) -> btree_map::Keys<'_, Text, AttributeType>
+    ensures { result ≡ keys_in (attrs_of entries.now.entries) }
+{
+    entries.keys()
 }
 
 #[tactic(auto, using(crate::proofs::AttrSteps::lookup_attr))]

@@ -9,7 +9,8 @@ use Rattle.policy_types.specs.Join.{join_attrs}
 use Rattle.policy_types.proofs.JoinSteps.{join_turn, keys_turn}
 use Rattle.policy_values.proofs.MapSteps.{next-seam}
 use Rattle.policy_types.specs.Join.{shared}
-use Rattle.policy_types.proofs.MergeSteps.{pending, pending_next, merge_next, merge_less, merge_both, merge_over_left, merge_over_right}
+use Rattle.policy_types.proofs.Pending.{pending, pending_next}
+use Rattle.policy_types.proofs.MergeSteps.{merge_next, merge_less, merge_both, merge_over_left, merge_over_right}
 use Rattle.policy_types.proofs.join.+join.Goals as goal
 
 pub join_entries-push_entry-requires : goal.join_entries-push_entry-requires

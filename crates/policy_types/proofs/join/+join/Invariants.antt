@@ -4,7 +4,8 @@ use Rattle.schema_types.specs.Ty.{size_of, size_of_attrs}
 use Rattle.schema_types.specs.TyView.{kind_of, attrs_of}
 use Rattle.policy_types.specs.Join.{result_map, join_attrs, shared}
 use Rattle.policy_types.proofs.JoinSteps.{in_front}
-use Rattle.policy_types.proofs.MergeSteps.{pending, IsMerge}
+use Rattle.policy_types.proofs.Pending.{pending}
+use Rattle.policy_types.proofs.MergeSteps.{IsMerge}
 use Rattle.policy_types.proofs.join.+join.Given as goal
 
 abbrev pub decreases-join : goal.decreases-join

@@ -9,7 +9,7 @@ pub show_attributes-loop-key-preserved : goal.show_attributes-loop-key-preserved
 show_attributes-loop-key-preserved g t c = record {
   left = λ p.
       let before = c.loop-key.invariant.left p in
-      left_less g.W.Write.write_str_gives _ _ _ _ _ _ _ before (ap (λ es. attrs_text (attrs_of es)) c.in-Some.ensures.steps) (c.in_ok-show_attribute.ensures before.wrote.plain (refl {a = true}));
+      left_less g.W.Write.write_str_gives c.args.f.now c.loop-key.f c.show_attribute.new.f (attrs_text c.args.a.now) (attrs_text (attrs_of c.loop-key.key-iterator)) (attrs_text (attrs_of c.next.new.self)) _ before (ap (λ es. attrs_text (attrs_of es)) c.in-Some.ensures.steps) (c.in_ok-show_attribute.ensures before.wrote.plain (refl {a = true}));
   size = omega (arith, c.loop-key.invariant.size, ap (λ es. size_of_attrs (attrs_of es)) c.in-Some.ensures.steps);
 }
 
