@@ -5,5 +5,3 @@ pub mod SameId
 pub mod Once
 pub mod Bounds
 pub mod Ascending
-pub mod ExprBounds
-pub mod ExprSteps

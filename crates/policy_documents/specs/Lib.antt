@@ -14,7 +14,3 @@ pub mod PlaceText
 pub mod Reading
 pub mod Lists
 pub mod Values
-pub mod Nesting
-pub mod ExprForms
-pub mod ExprReads
-pub mod Exprs

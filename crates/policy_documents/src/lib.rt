@@ -4,14 +4,10 @@
 mod body;
 mod document;
 mod entities;
-mod expr_forms;
-mod expr_reads;
-mod exprs;
 mod json;
 mod lists;
 mod members;
 mod names;
-mod nesting;
 mod parts;
 mod place;
 mod policies;
@@ -23,10 +19,8 @@ mod values;
 
 pub use document::{Document, read_document};
 pub use entities::read_entities;
-pub use exprs::read_expr;
 pub use json::parse_json;
 pub use names::read_uid;
-pub use nesting::Bounded;
 pub use place::{DocumentFault, Place};
 pub use policies::read_policies;
 pub use policy::{PolicyParts, PolicyRead, read_policy};

@@ -3,7 +3,6 @@
 ghost use Rattle.std.specs.Prelude.{◌≡◌, ◌∷◌, [], ◌++◌, IfOk};
 ghost use Rattle.std.specs.BTreeMap.{keys};
 ghost use Rattle.policy_values.specs.Maps.{IsNext};
-ghost use Rattle.policy_documents.specs.Lists.{only_of, two_of};
 
 use policy_names::Text;
 use policy_values::push_entry;
@@ -33,28 +32,4 @@ pub(crate) fn with_item<V: Drop>(items: Vec<V>, item: V) -> Result<Vec<V>, Alloc
     let mut items = items;
     items.push(item)?;
     Ok(items)
-}
-
-/// The one item, where there is no other.
-pub(crate) fn only<V: Drop>(items: Vec<V>) -> Option<V>
-    ensures { result ≡ only_of items.items }
-{
-    let mut items = items;
-    if items.len() != 1 {
-        return None;
-    }
-    items.pop()
-}
-
-/// The two items, where there are two.
-pub(crate) fn two<V: Drop>(items: Vec<V>) -> Option<(V, V)>
-    ensures { result ≡ two_of items.items }
-{
-    let mut items = items;
-    if items.len() != 2 {
-        return None;
-    }
-    let second = items.pop()?;
-    let first = items.pop()?;
-    Some((first, second))
 }
