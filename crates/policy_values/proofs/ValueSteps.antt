@@ -7,8 +7,8 @@ use Rattle.std.specs.declared.cmp.Ordering.{Ordering}
 use Rattle.std.specs.Ordering.{match_ordering, ordering_reverse}
 use Rattle.std.specs.List.{AllByRecursion}
 use Rattle.std.specs.List.Sorted.{IsStrictlySortedBy}
+use Rattle.std.specs.BTreeSet.{insert_key}
 use Rattle.std.specs.Map.{keys_of}
-use Rattle.policy_values.specs.Put.{put}
 use Rattle.policy_values.specs.ValueLaws.{val_cmp_total}
 use Rattle.policy_values.specs.ValueOrder.{vals_cmp, val_cmp, insert_val, insert_all, IsBelow, Ascends, IsBelowField, AscendsFields}
 use Rattle.policy_names.specs.Uid.{text_cmp}
@@ -35,11 +35,11 @@ chosen f Less x y z = refl
 chosen f Equal x y z = refl
 chosen f Greater x y z = refl
 
-pub vals_of-put : (v : Val) (ws : List Val) → vals_of (put v ws) ≡ insert_val v (vals_of ws)
-vals_of-put v [] = refl
-vals_of-put v (w ∷ ws) =
-    chosen vals_of (val_cmp v w) (v ∷ w ∷ ws) (w ∷ ws) (w ∷ put v ws)
-    ∙ ap (λ r. match_ordering (val_cmp v w) (val v (val w (vals_of ws))) (val w (vals_of ws)) (val w r)) (vals_of-put v ws)
+pub vals_of-insert_key : (v : Val) (ws : List Val) → vals_of (insert_key val_cmp ws v) ≡ insert_val v (vals_of ws)
+vals_of-insert_key v [] = refl
+vals_of-insert_key v (w ∷ ws) =
+    chosen vals_of (val_cmp v w) (v ∷ w ∷ ws) (w ∷ ws) (w ∷ insert_key val_cmp ws v)
+    ∙ ap (λ r. match_ordering (val_cmp v w) (val v (val w (vals_of ws))) (val w (vals_of ws)) (val w r)) (vals_of-insert_key v ws)
 
 pub insert_all-push : (vs : List Val) (v : Val) (ws : Vals) → insert_all (vs ++ v ∷ []) ws ≡ insert_all vs (insert_val v ws)
 insert_all-push [] v ws = refl

@@ -1,6 +1,6 @@
 pub mod Gv
 pub mod Maps
-pub mod Put
+pub mod RangeOrder
 pub mod Sets
 pub mod Value
 pub mod ValueCode

@@ -69,26 +69,40 @@ fn filled(alloc: Global, expr: &Expr<()>) -> Built {
     Ok(expr.substitute(alloc, &values)?)
 }
 
+fn is_filled(alloc: Global, expr: &Expr<()>, wanted: &Expr<()>) -> bool {
+    match filled(alloc, expr) {
+        Ok(filled) => {
+            let same = filled.same_shape(wanted);
+            drop(filled);
+            same
+        }
+        Err(_error) => false,
+    }
+}
+
+// Ann in the place of the principal's slot makes the wanted expression, which has no slot.
+fn fills_to(alloc: Global, expr: &Expr<()>, wanted: Built) -> bool {
+    match wanted {
+        Ok(wanted) => {
+            let same = is_filled(alloc, expr, &wanted) && !wanted.has_slot();
+            drop(wanted);
+            same
+        }
+        Err(_error) => false,
+    }
+}
+
 #[test]
 fn slots_get_their_ids(rt: HostRuntime) {
     let a = rt.alloc();
     let slot = Ok(Expr::slot(SlotId::Principal, (), None));
-    match (
-        two(a, BinaryOp::In, var(Var::Principal), slot),
-        two(a, BinaryOp::In, var(Var::Principal), id(a, "ann")),
-    ) {
-        (Ok(open), Ok(wanted)) => {
-            assert!(rt; open.has_slot() && !wanted.has_slot());
-            match filled(a, &open) {
-                Ok(filled) => {
-                    assert!(rt; filled.same_shape(&wanted));
-                    drop(filled);
-                }
-                Err(_error) => assert!(rt; false),
-            }
-            drop(open);
-            drop(wanted);
+    match two(a, BinaryOp::In, var(Var::Principal), slot) {
+        Ok(expr) => {
+            assert!(rt; expr.has_slot());
+            let wanted = two(a, BinaryOp::In, var(Var::Principal), id(a, "ann"));
+            assert!(rt; fills_to(a, &expr, wanted));
+            drop(expr);
         }
-        _other => assert!(rt; false),
+        Err(_error) => assert!(rt; false),
     }
 }
