@@ -16,8 +16,8 @@ use Rattle.serde_json.specs.declared.value.Value.{Value}
 use Rattle.serde_json.specs.Find.{get, as_object}
 use Rattle.schema_core.specs.Entries.{TypeEntry}
 use Rattle.schema_core.specs.Faults.{IsOnce}
-use Rattle.policy_documents.specs.Json.{◌>>=◌, has_only}
-use Rattle.policy_documents.specs.Names.{is_name, name_of_text, names_of}
+use Rattle.json_parts.specs.Json.{◌>>=◌, has_only}
+use Rattle.json_parts.specs.Names.{is_name, name_of_text, names_of}
 use Rattle.policy_documents.specs.Schema.{types_of_members, type_of}
 
 below : (x k : List ℕ) (xs : List (List ℕ)) (i : ℕ) → AllByRecursion (λ y. text_cmp x y ≡ Less) xs → slice_get xs i ≡ Some k → text_cmp x k ≡ Less

@@ -12,8 +12,8 @@ use Rattle.policy_core.specs.declared.kinds.UnaryOp.TheVariants.{Not}
 use Rattle.policy_core.specs.declared.kinds.Var.{Var}
 use Rattle.policy_core.specs.declared.kinds.Var.TheVariants as variable
 use Rattle.policy_set.specs.Condition.{Plain, anything, unmarked}
-use Rattle.policy_documents.specs.Json.{◌>>=◌, list_of, only_member, pair_of}
-use Rattle.policy_documents.specs.Names.{uid_of}
+use Rattle.json_parts.specs.Json.{◌>>=◌, list_of, only_member, pair_of}
+use Rattle.json_parts.specs.Names.{uid_of}
 
 abbrev pub var_of : List ℕ → Option Var
 var_of text = if bytes_eq text (codes "principal") then Some variable.Principal else (if bytes_eq text (codes "action") then Some variable.Action else (if bytes_eq text (codes "resource") then Some variable.Resource else None))

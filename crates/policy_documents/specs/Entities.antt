@@ -9,8 +9,8 @@ use Rattle.policy_values.specs.Value.{no_fields}
 use Rattle.policy_store.specs.Store.{StoredEntity}
 use Rattle.serde_json.specs.Data.{Data, Items, no_items, item}
 use Rattle.serde_json.specs.Find.{get, as_object}
-use Rattle.policy_documents.specs.Json.{◌>>=◌, has_only, list_of}
-use Rattle.policy_documents.specs.Names.{uid_of}
+use Rattle.json_parts.specs.Json.{◌>>=◌, has_only, list_of}
+use Rattle.json_parts.specs.Names.{uid_of}
 use Rattle.policy_documents.specs.declared.place.Place.{Place}
 use Rattle.policy_documents.specs.declared.place.Place.TheVariants as place
 

@@ -1,5 +1,3 @@
-pub mod Json
-pub mod Names
 pub mod Schema
 pub mod Entities
 pub mod Faults
@@ -12,5 +10,4 @@ pub mod Store
 pub mod Policies
 pub mod PlaceText
 pub mod Reading
-pub mod Lists
 pub mod Values

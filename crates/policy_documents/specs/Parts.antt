@@ -3,7 +3,7 @@ use Rattle.std.specs.Prelude.{ℕ, List, [], ◌∷◌, if◌then◌else◌, Opt
 use Rattle.serde_json.specs.Data.{Data, Items}
 use Rattle.serde_json.specs.Find.{get, as_object}
 use Rattle.serde_json.specs.View.{view, items_view}
-use Rattle.policy_documents.specs.Json.{◌>>=◌, has_only, list_of}
+use Rattle.json_parts.specs.Json.{◌>>=◌, has_only, list_of}
 use Rattle.policy_documents.specs.declared.parts.Parts.{Parts}
 
 pub record DocumentParts : Type 0 where

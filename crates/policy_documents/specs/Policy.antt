@@ -4,8 +4,8 @@ use Rattle.std.specs.Str.{bytes_eq}
 use Rattle.policy_names.specs.declared.entity_uid.EntityUID.{EntityUID}
 use Rattle.serde_json.specs.Data.{Data, Members}
 use Rattle.serde_json.specs.Find.{get, as_str, as_object}
-use Rattle.policy_documents.specs.Json.{◌>>=◌, has_only, only_member}
-use Rattle.policy_documents.specs.Names.{uid_of}
+use Rattle.json_parts.specs.Json.{◌>>=◌, has_only, only_member}
+use Rattle.json_parts.specs.Names.{uid_of}
 use Rattle.policy_set.specs.declared.constraint.Effect.{Effect}
 use Rattle.policy_set.specs.declared.constraint.Effect.TheVariants.{Permit, Forbid}
 use Rattle.policy_set.specs.declared.constraint.EntityReference.TheVariants.{EUID}

@@ -5,8 +5,8 @@ use Rattle.policy_values.specs.Value.{Fields, no_fields}
 use Rattle.policy_store.specs.declared.request.Request.{Request}
 use Rattle.serde_json.specs.Data.{Data, Members}
 use Rattle.serde_json.specs.Find.{get, as_null, as_object}
-use Rattle.policy_documents.specs.Json.{◌>>=◌, has_only}
-use Rattle.policy_documents.specs.Names.{uid_of}
+use Rattle.json_parts.specs.Json.{◌>>=◌, has_only}
+use Rattle.json_parts.specs.Names.{uid_of}
 
 -- an id; one that is absent or null is unknown
 abbrev pub known_of : Option Data → Option (Option EntityUID)

@@ -3,8 +3,8 @@ use Rattle.std.specs.Prelude.{ℕ, List, [], ◌∷◌, if◌then◌else◌, Opt
 use Rattle.schema_core.specs.Entries.{TypeEntry, ActionEntry, Declarations}
 use Rattle.serde_json.specs.Data.{Data, Items, no_items, item, Members, no_members, member}
 use Rattle.serde_json.specs.Find.{get, as_object}
-use Rattle.policy_documents.specs.Json.{◌>>=◌, has_only, list_of}
-use Rattle.policy_documents.specs.Names.{name_of_text, uid_of, names_of, uids_of}
+use Rattle.json_parts.specs.Json.{◌>>=◌, has_only, list_of}
+use Rattle.json_parts.specs.Names.{name_of_text, uid_of, names_of, uids_of}
 
 -- the type that a member of `entityTypes` declares
 unfoldable pub type_of : List ℕ → Data → Option TypeEntry

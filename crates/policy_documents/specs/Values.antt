@@ -6,8 +6,8 @@ use Rattle.policy_values.specs.ValueOrder.{set_of}
 use Rattle.serde_json.specs.Data as json
 use Rattle.serde_json.specs.Data.{Data, null, boolean, number, array, object, Items, no_items, item, Members, no_members, member}
 use Rattle.serde_json.specs.Find.{as_i64}
-use Rattle.policy_documents.specs.Lists.{with_first, with_field}
-use Rattle.policy_documents.specs.Names.{uid_of}
+use Rattle.json_parts.specs.Lists.{with_first, with_field}
+use Rattle.json_parts.specs.Names.{uid_of}
 
 -- the object with this one member: an id, or a record of these fields
 abbrev pub value_form : List ℕ → Data → Option (List (List ℕ × Val)) → Option Val

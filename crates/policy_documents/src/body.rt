@@ -6,8 +6,7 @@ ghost use Rattle.policy_set.specs.Condition.{anything};
 ghost use Rattle.policy_documents.specs.Body.{behind, body_of, bool_list_of, bool_of, bools_of, clause_form, clause_of, clauses_of, comparison, comparison_form, comparison_of, form, form_of, joined, left_fold, negated, term_form, term_of, terms_compared, var_of};
 ghost use Rattle.policy_documents.specs.Bounded.{bounded, build_of, join, on_one, on_two, or_true, term_tree};
 
-use crate::members::{list_items, lone_member, pair};
-use crate::names::read_uid;
+use json_parts::{list_items, lone_member, pair, read_uid};
 use policy_core::{BinaryOp, BuildError, EntityUID, Expr, Literal, UnaryOp, Var};
 use serde_json::{Map, Value};
 use std::alloc::{AllocError, Global};

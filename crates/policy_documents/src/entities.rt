@@ -6,9 +6,8 @@ ghost use Rattle.policy_documents.specs.Entities.{entities_of, entity_of, index_
 ghost use Rattle.policy_store.specs.FromParents.{ids_of};
 ghost use Rattle.policy_documents.specs.Faults.{Gives};
 
-use crate::members::{has_only, list_items};
-use crate::names::read_uid_like;
 use crate::place::{DocumentFault, Place};
+use json_parts::{has_only, list_items, read_uid_like};
 use policy_names::EntityUID;
 use policy_store::Entity;
 use serde_json::Value;

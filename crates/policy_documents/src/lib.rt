@@ -4,10 +4,6 @@
 mod body;
 mod document;
 mod entities;
-mod json;
-mod lists;
-mod members;
-mod names;
 mod parts;
 mod place;
 mod policies;
@@ -19,8 +15,7 @@ mod values;
 
 pub use document::{Document, read_document};
 pub use entities::read_entities;
-pub use json::parse_json;
-pub use names::read_uid;
+pub use json_parts::{parse_json, read_uid};
 pub use place::{DocumentFault, Place};
 pub use policies::read_policies;
 pub use policy::{PolicyParts, PolicyRead, read_policy};

@@ -4,7 +4,7 @@ ghost use Rattle.std.specs.Prelude.{◌≡◌, option_map};
 ghost use Rattle.serde_json.specs.View.{view};
 ghost use Rattle.policy_documents.specs.Parts.{parts_of, parts_view};
 
-use crate::members::{has_only, list_items};
+use json_parts::{has_only, list_items};
 use serde_json::Value;
 
 /// The parts of a document.

@@ -5,11 +5,10 @@ ghost use Rattle.serde_json.specs.View.{view, members_view};
 ghost use Rattle.policy_documents.specs.Body.{body_of};
 ghost use Rattle.policy_documents.specs.Policy.{action_constraint_of, action_form, action_form_of, bounded_policy, constraint_form, constraint_form_of, constraint_of, effect_of, effect_of_text, policy_of, policy_of_parts, policy_parts_of, policy_with_body, read_with};
 ghost use Rattle.serde_json.specs.Find.{get};
-ghost use Rattle.policy_documents.specs.Names.{uid_of};
+ghost use Rattle.json_parts.specs.Names.{uid_of};
 
 use crate::body::{BodyRead, read_body};
-use crate::members::{has_only, only_member};
-use crate::names::read_uid;
+use json_parts::{has_only, only_member, read_uid};
 use policy_core::Expr;
 use policy_names::Text;
 use policy_set::{

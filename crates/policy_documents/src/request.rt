@@ -4,8 +4,7 @@ ghost use Rattle.std.specs.Prelude.{◌≡◌, IfOk, option_map};
 ghost use Rattle.serde_json.specs.View.{view};
 ghost use Rattle.policy_documents.specs.Request.{context_of, given_request_of, known_of, request_of};
 
-use crate::members::has_only;
-use crate::names::read_uid;
+use json_parts::{has_only, read_uid};
 use policy_names::EntityUID;
 use policy_store::{Context, Request};
 use serde_json::Value;

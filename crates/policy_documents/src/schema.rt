@@ -7,9 +7,8 @@ ghost use Rattle.policy_documents.specs.Faults.{Reads};
 ghost use Rattle.policy_documents.specs.Reading.{IsSchemaFrom};
 ghost use Rattle.policy_documents.specs.Schema.{action_of, actions_of_items, schema_of, type_of, types_of, types_of_members};
 
-use crate::members::{has_only, list_items};
-use crate::names::{read_names, read_type_name, read_uid, read_uids};
 use crate::place::{DocumentFault, Place};
+use json_parts::{has_only, list_items, read_names, read_type_name, read_uid, read_uids};
 use schema_core::{
     ActionDeclaration, SchemaDeclarations, SchemaFault, TypeDeclaration, ValidatorSchema,
 };

@@ -4,11 +4,10 @@ ghost use Rattle.std.specs.Prelude.{◌≡◌, IfOk, option_map};
 ghost use Rattle.policy_values.specs.Value.{entity, rec, set, fields_of};
 ghost use Rattle.policy_values.specs.ValueOrder.{set_of};
 ghost use Rattle.serde_json.specs.View.{view, items_view, members_view};
-ghost use Rattle.policy_documents.specs.Names.{uid_of};
+ghost use Rattle.json_parts.specs.Names.{uid_of};
 ghost use Rattle.policy_documents.specs.Values.{value_of, values_of, value_of_members, value_form, value_fields_of, value_entries_of};
 
-use crate::lists::{with_field, with_item};
-use crate::names::read_uid;
+use json_parts::{read_uid, with_field, with_item};
 use policy_core::{Text, Value};
 use serde_json::{Map, Value as Json};
 use std::alloc::{AllocError, Global};

@@ -10,7 +10,7 @@ use Rattle.policy_validate.specs.Conformance.{first_request_fault, first_store_f
 use Rattle.policy_validate.specs.declared.request_error.RequestValidationError.{RequestValidationError}
 use Rattle.policy_validate.specs.declared.store_rule.StoreRule.{StoreRule}
 use Rattle.policy_gate.specs.Answer.{IsAnswer, IsAnswerIf, IsAnswerFor, IsAnswerTo, behind_errors, behind_store, behind_request, slice_answer, checked_answer}
-use Rattle.policy_documents.specs.Json.{json_of}
+use Rattle.json_parts.specs.Json.{json_of}
 use Rattle.policy_gate.specs.Reply.{Answer}
 use Rattle.policy_gate.specs.Status.{IsOfDocument}
 

@@ -17,8 +17,8 @@ use Rattle.policy_set.specs.declared.constraint.ActionConstraint.{ActionConstrai
 use Rattle.policy_set.specs.declared.constraint.ActionConstraint.TheVariants as action
 use Rattle.policy_set.specs.Condition.{Plain, scope_part, action_part}
 use Rattle.policy_typecheck.specs.Sound.{IsIdentity, IsTerm}
-use Rattle.policy_documents.specs.Json.{◌>>=◌, has_only, list_of, only_member, pair_of}
-use Rattle.policy_documents.specs.Names.{uid_of}
+use Rattle.json_parts.specs.Json.{◌>>=◌, has_only, list_of, only_member, pair_of}
+use Rattle.json_parts.specs.Names.{uid_of}
 use Rattle.policy_documents.specs.Body.{behind, body_of, bool_list_of, bool_of, bools_of, clause_form, clause_of, clauses_of, comparison, comparison_form, comparison_of, conjunction, disjunction, form, form_of, id_term, joined, left_fold, negated, or_anything, term_form, term_of, terms_compared, var_of, var_term, with_one}
 use Rattle.policy_documents.specs.Policy.{policy_names, policy_of, policy_of_parts, policy_parts_of, policy_with_body}
 use Rattle.policy_documents.specs.declared.policy.PolicyParts.{PolicyParts}

@@ -14,7 +14,7 @@ use Rattle.policy_validate.specs.declared.store_rule.StoreRule.{StoreRule}
 use Rattle.entity_manifest.proofs.Covering.{covers, decision_same}
 use Rattle.policy_gate.specs.Answer.{IsAnswer, IsAnswerIf, IsAnswerFor, IsAnswerTo, behind_errors, behind_store, behind_request, slice_answer, checked_answer}
 use Rattle.policy_gate.specs.Headline.{IsDocumentOf, KeepsRules, IsSliced}
-use Rattle.policy_documents.specs.Json.{json_of}
+use Rattle.json_parts.specs.Json.{json_of}
 use Rattle.policy_gate.specs.Reply.{Answer, answer}
 use Rattle.policy_gate.specs.declared.status.Status.{Status}
 use Rattle.policy_gate.specs.declared.status.Status.TheVariants.{Done}

@@ -1,7 +1,7 @@
 -- Which status and text are due for the bytes of a document.
 use Rattle.std.specs.Prelude.{◌≡◌, ◌⊎◌, ℕ, List, [], ◌∷◌, ◌++◌, Option, Some, None, Ok, Err, codes}
 use Rattle.serde_json.specs.Data.{Data}
-use Rattle.policy_documents.specs.Json.{json_of}
+use Rattle.json_parts.specs.Json.{json_of}
 use Rattle.policy_names.specs.declared.entity_uid.EntityUID.{EntityUID}
 use Rattle.policy_store.specs.Request.{IsWhole}
 use Rattle.policy_set.specs.Response.{response}

@@ -10,7 +10,7 @@ use Rattle.policy_validate.specs.Accepted.{IsAccepted}
 use Rattle.policy_validate.specs.Conformance.{RequestConforms, StoreConforms}
 use Rattle.entity_manifest.specs.Cover.{restricted, Covers}
 use Rattle.policy_writing.specs.SliceJson.{slice_text}
-use Rattle.policy_documents.specs.Json.{json_of}
+use Rattle.json_parts.specs.Json.{json_of}
 
 -- the document that the bytes are
 abbrev pub IsDocumentOf : List ℕ → Document → Type 0

@@ -6,8 +6,8 @@ use Rattle.policy_names.specs.declared.entity_uid.EntityUID.{EntityUID}
 use Rattle.policy_values.specs.Value.{Val, truth, long, string, entity, set, rec, Vals, no_vals, val, Fields, no_fields, field, fields_of}
 use Rattle.policy_values.specs.ValueOrder.{Ascends, IsBelow, insert_val, set_of}
 use Rattle.serde_json.specs.Find.{as_i64, of_integer}
-use Rattle.policy_documents.specs.Lists.{with_first, with_field}
-use Rattle.policy_documents.specs.Names.{is_name, uid_of}
+use Rattle.json_parts.specs.Lists.{with_first, with_field}
+use Rattle.json_parts.specs.Names.{is_name, uid_of}
 use Rattle.policy_documents.specs.Values.{value_of, values_of, value_entries_of}
 use Rattle.policy_writing.specs.ValueJson.{value_data, items_data, members_data, uid_data}
 use Rattle.policy_writing.specs.ReadBack.{IsLong, IsProper, AllProper, AllProperFields, IsReadBack}

@@ -1,6 +1,6 @@
 -- Values that are written and read again.
 use Rattle.std.specs.Prelude.{◌≡◌, ℤ, pos, negsuc, ◌<◌, ◌^◌, true, Some}
-use Rattle.policy_documents.specs.Names.{is_name}
+use Rattle.json_parts.specs.Names.{is_name}
 use Rattle.policy_documents.specs.Values.{value_of}
 use Rattle.policy_values.specs.Value.{Val, truth, long, string, entity, set, rec, Vals, no_vals, val, Fields, no_fields, field}
 use Rattle.policy_values.specs.ValueOrder.{Ascends, AscendsFields}

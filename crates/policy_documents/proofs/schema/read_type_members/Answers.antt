@@ -4,7 +4,7 @@ use Rattle.std.proofs.lemmas.List.{append-nil}
 use Rattle.serde_json.specs.View.{view, members_view}
 use Rattle.policy_documents.specs.Schema.{type_of, types_of_members}
 use Rattle.policy_documents.proofs.Once.{names_once}
-use Rattle.policy_documents.proofs.Steps.{one_more}
+use Rattle.json_parts.proofs.Steps.{one_more}
 use Rattle.policy_documents.proofs.schema.read_type_members.Goals as goal
 
 pub loop-key-preserved : goal.loop-key-preserved

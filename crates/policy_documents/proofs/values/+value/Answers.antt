@@ -3,7 +3,7 @@ use Rattle.std.specs.Map.{keys_of}
 use Rattle.serde_json.specs.View.{view, members_view}
 use Rattle.policy_values.specs.Maps.{IsNext}
 use Rattle.policy_documents.specs.Values.{value_of, value_entries_of}
-use Rattle.policy_documents.proofs.Ascending.{next_key, field_more, keys_more}
+use Rattle.json_parts.proofs.Ascending.{next_key, field_more, keys_more}
 use Rattle.policy_documents.proofs.values.+value.Goals as goal
 
 pub read_fields-with_field-requires : goal.read_fields-with_field-requires

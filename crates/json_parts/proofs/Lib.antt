@@ -1,0 +1,4 @@
+pub mod Ascending
+pub mod Bytes
+pub mod NameTest
+pub mod Steps
