@@ -129,3 +129,36 @@ module _ (es : List StoredEntity) (first now : EntityUID → Option (BTreeSet En
 
   pub all_ascend : All (λ e. IsStrictlySortedBy uid_cmp e.ancestors) (values entries)
   all_ascend = All-values_from_lookup (eq_by_cmp_equiv uid_cmp_total) (λ e. IsStrictlySortedBy uid_cmp e.ancestors) entries.entries (IsDistinct-from_sorted uid_cmp (keys_of entries.entries) t.ordered) t.ascending
+
+-- the entities `front` were put under their ids; those of `left` were not
+pub record IsFilled (es front left : List StoredEntity) (entries : BTreeMap EntityUID StoredEntity) : Type 0 where
+  pub split : es ≡ front ++ left
+  pub placed : IsPlaced (λ e. e) front entries.entries
+  pub ordered : IsOrdered uid_cmp entries
+
+pub filled_more : (es : List StoredEntity) → ((q : EntityUID) → IsRepeated (ids_of es) q → ⊥) → (front left : List StoredEntity) (entries entries' : BTreeMap EntityUID StoredEntity)
+    → IsFilled es front left entries → (e : StoredEntity) (rest : List StoredEntity) → left ≡ e ∷ rest
+    → IsOrdered uid_cmp entries'
+    → ((q : EntityUID) → get uid_cmp entries' q ≡ cond (is_eq (uid_cmp e.uid q)) (Some e) (get uid_cmp entries q))
+    → IsFilled es (front ++ e ∷ []) rest entries'
+filled_more es once front left entries entries' t e rest is ordered u =
+    let next : es ≡ (front ++ e ∷ []) ++ rest = t.split ∙ ap (λ l. front ++ l) is ∙ sym (append_assoc front (e ∷ []) rest) in
+    record {
+      split = next;
+      placed = placed_more es once front e rest next (λ x. x) entries.entries entries'.entries t.placed u;
+      ordered = ordered;
+    }
+
+-- all entities were put
+module _ (es front : List StoredEntity) (entries : BTreeMap EntityUID StoredEntity) (t : IsFilled es front [] entries) where
+  pub all_filled : (q : EntityUID) → get uid_cmp entries q ≡ entity_at es q
+  all_filled q = t.placed.at q ∙ itself (entity_at front q) ∙ ap (λ l. entity_at l q) (sym (append-nil front) ∙ sym t.split) where
+    itself : (o : Option StoredEntity) → option_map (λ e. e) o ≡ o
+    itself None = refl
+    itself (Some e) = refl
+
+  pub filled_at_their_ids : AreAtTheirIds entries
+  filled_at_their_ids = record {
+    ordered = t.ordered;
+    own = λ q. rw (all_filled q) (named_at es q);
+  }

@@ -1,4 +1,4 @@
--- Stores that are made of entities with their parents.
+-- Stores that are made of entities with their parents, or with their ancestors.
 use Rattle.std.specs.Prelude.{◌≡◌, ◌↔◌, ⊤, List, [], All, Contains, IsSomeAnd, map}
 use Rattle.std.specs.List.Sorted.{IsStrictlySortedBy}
 use Rattle.std.specs.Option.{option_map}
@@ -42,3 +42,16 @@ abbrev pub IsRefused : List StoredEntity → EntitiesError → Type 0
 IsRefused es (Duplicate uid) = IsLeast uid_cmp (IsRepeated (ids_of es)) uid
 IsRefused es (Cycle uid) = ((u : EntityUID) → ¬ IsRepeated (ids_of es) u) × IsLeast uid_cmp (IsOwnAncestor es) uid
 IsRefused es OutOfMemory = ⊤
+
+-- the store of the entities es, whose links are their ancestors: no id is repeated; the store has at each id the entity that es
+-- has there
+pub record IsFromAncestors (es store : List StoredEntity) : Type 0 where
+  pub once : (uid : EntityUID) → ¬ IsRepeated (ids_of es) uid
+  pub ordered : IsStrictlySortedBy uid_cmp (ids_of store)
+  pub kept : (uid : EntityUID) → entity_at store uid ≡ entity_at es uid
+
+-- why they are no store: the least repeated id
+abbrev pub IsRepeatedly : List StoredEntity → EntitiesError → Type 0
+IsRepeatedly es (Duplicate uid) = IsLeast uid_cmp (IsRepeated (ids_of es)) uid
+IsRepeatedly es (Cycle uid) = ⊥
+IsRepeatedly es OutOfMemory = ⊤

@@ -10,7 +10,7 @@ ghost use Rattle.hierarchy.specs.Repeated.{IsRepeated};
 ghost use Rattle.policy_names.specs.Uid.{uid_cmp};
 ghost use Rattle.policy_store.specs.Store.{entity_at};
 ghost use Rattle.policy_store.specs.Linked.{links_of, linked};
-ghost use Rattle.policy_store.specs.FromParents.{ids_of, IsFromParents, IsRefused};
+ghost use Rattle.policy_store.specs.FromParents.{ids_of};
 
 use crate::Entity;
 use hierarchy::{SharedSteps, Steps, first_own_shared, least_repeated, shared_closure_of};
@@ -49,7 +49,7 @@ impl Entities {
     ghost use Rattle.std.specs.Map.Iter.{ShowsInOrder, deref};
     ghost use Rattle.policy_names.specs.Uid.{uid_cmp};
     ghost use Rattle.policy_store.specs.Store.{StoredEntity, entity_at};
-    ghost use Rattle.policy_store.specs.FromParents.{IsFromParents, IsRefused};
+    ghost use Rattle.policy_store.specs.FromParents.{IsFromAncestors, IsFromParents, IsRefused, IsRepeatedly};
 
     /// The store of these entities, each with all ids that are reached from it by parents as its ancestors, also those
     /// that have no entity. It is refused where two entities have one id, with the least such id, and else where an id is
@@ -67,6 +67,17 @@ impl Entities {
             return Err(EntitiesError::Cycle(uid.try_clone()?));
         }
         Ok(with_ancestors(alloc, entities, ancestors)?)
+    }
+
+    /// The store of these entities, each with the ancestors that it lists. It is refused where two entities have one id, with
+    /// the least such id.
+    pub fn from_ancestors(alloc: Global, entities: Vec<Entity>) -> Result<Entities, EntitiesError>
+        ensures { MatchResult result (IsFromAncestors entities.items) (IsRepeatedly entities.items) }
+    {
+        if let Some(uid) = least_repeated_id(alloc, &entities)? {
+            return Err(EntitiesError::Duplicate(uid));
+        }
+        Ok(under_ids(alloc, entities)?)
     }
 
     /// How many entities there are.
@@ -157,6 +168,19 @@ fn with_ancestors(
         add(&mut linked, entity)?;
     }
     Ok(Entities { entities: linked })
+}
+
+// The entities under their ids.
+fn under_ids(alloc: Global, entities: Vec<Entity>) -> Result<Entities, AllocError>
+    requires { (uid : EntityUID) → ¬ IsRepeated (ids_of entities.items) uid }
+    ensures ordered { IfOk result (λ store. IsStrictlySortedBy uid_cmp (ids_of store)) }
+    ensures kept { IfOk result (λ store. (uid : EntityUID) → entity_at store uid ≡ entity_at entities.items uid) }
+{
+    let mut placed = BTreeMap::new(alloc);
+    for entity in entities {
+        add(&mut placed, entity)?;
+    }
+    Ok(Entities { entities: placed })
 }
 
 // Adds an entity under its id.
