@@ -1,4 +1,5 @@
 use crate::{Value, ValueKind};
+use policy_ext::{DateTimeValue, Decimal, Duration, IpAddr};
 use policy_names::{Eid, EntityType, EntityUID, Name, Text};
 use std::alloc::{AllocError, Global};
 use std::cmp::Ordering;
@@ -29,6 +30,14 @@ fn one_of_each(alloc: Global) -> Result<Vec<Value>, AllocError> {
     }
     values.push(Value::set(alloc, vec![in alloc; Value::long(2), Value::long(1)]?)?)?;
     values.push(Value::record(fields))?;
+    if let Some(d) = Decimal::read("-1.5") {
+        values.push(Value::decimal(d))?;
+    }
+    if let Some(range) = IpAddr::read("10.0.0.1/8") {
+        values.push(Value::ip(range))?;
+    }
+    values.push(Value::datetime(DateTimeValue::from_millis(-1)))?;
+    values.push(Value::duration(Duration::from_millis(-1)))?;
     Ok(values)
 }
 
@@ -36,7 +45,7 @@ fn one_of_each(alloc: Global) -> Result<Vec<Value>, AllocError> {
 fn kinds_come_in_their_order(rt: HostRuntime) -> Result<(), Fail> {
     let alloc = rt.alloc();
     let values = one_of_each(alloc)?;
-    assert_eq!(rt; values.len(), 6);
+    assert_eq!(rt; values.len(), 10);
     for (i, x) in values.iter().enumerate() {
         assert!(rt; *x == x.try_clone(alloc)?);
         for (j, y) in values.iter().enumerate() {
