@@ -13,7 +13,7 @@ use policy_ext::{DateTimeValue, Decimal, Duration, IpAddr};
 use policy_names::{EntityUID, Text};
 use std::alloc::{AllocError, Global};
 use std::cmp::Ordering;
-use std::collections::{BTreeMap, BTreeSet};
+use std::collections::BTreeMap;
 use std::marker::Model;
 
 /// A value. What is equal in Cedar is equal here: a set has no order and no repeats, so its elements are kept
