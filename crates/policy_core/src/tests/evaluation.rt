@@ -1,6 +1,6 @@
 use super::samples::{
-    Built, attribute, both, branch, either, has, id, is, like, long, one, pair, record, request,
-    store, string, truth, two, var,
+    Built, attribute, both, branch, call, call_two, either, has, id, is, like, long, one, pair,
+    record, request, store, string, truth, two, value, var,
 };
 use crate::{BinaryOp, Expr, Outcome, SlotId, UnaryOp, ValueKind, Var, evaluate};
 use std::alloc::{AllocError, Global};
@@ -242,4 +242,78 @@ fn types(rt: HostRuntime) {
     assert!(rt; gives(a, is(a, var(Var::Resource), "Thing"), "false"));
     assert!(rt; gives(a, is(a, long(1), "Thing"), KIND));
     assert!(rt; gives(a, Ok(Expr::slot(SlotId::Principal, (), None)), KIND));
+}
+
+const NO_TEXT: &str = "text of no extension value";
+
+const TOO_FAR: &str = "datetime or duration overflow";
+
+#[test]
+fn decimals(rt: HostRuntime) {
+    let a = rt.alloc();
+    let less = value(a, "decimal", "1.5");
+    let more = value(a, "decimal", "1.5001");
+    assert!(rt; gives(a, call_two(a, "lessThan", less, more), "true"));
+    let less = value(a, "decimal", "1.5");
+    let same = value(a, "decimal", "1.50");
+    assert!(rt; gives(a, call_two(a, "greaterThan", less, same), "false"));
+    let less = value(a, "decimal", "1.5");
+    let same = value(a, "decimal", "1.50");
+    assert!(rt; gives(a, call_two(a, "greaterThanOrEqual", less, same), "true"));
+    assert!(rt; gives(a, call_two(a, "lessThan", long(1), long(2)), KIND));
+    assert!(rt; gives(a, value(a, "decimal", "1.23456"), NO_TEXT));
+    let less = value(a, "decimal", "1.5");
+    let same = value(a, "decimal", "1.50");
+    assert!(rt; gives(a, two(a, BinaryOp::Less, less, same), KIND));
+}
+
+#[test]
+fn addresses(rt: HostRuntime) {
+    let a = rt.alloc();
+    assert!(rt; gives(a, call(a, "isIpv4", value(a, "ip", "127.0.0.1")), "true"));
+    assert!(rt; gives(a, call(a, "isIpv6", value(a, "ip", "127.0.0.1")), "false"));
+    assert!(rt; gives(a, call(a, "isLoopback", value(a, "ip", "::1")), "true"));
+    assert!(rt; gives(a, call(a, "isMulticast", value(a, "ip", "ff00::1")), "true"));
+    let one = value(a, "ip", "10.1.2.3");
+    let many = value(a, "ip", "10.0.0.0/8");
+    assert!(rt; gives(a, call_two(a, "isInRange", one, many), "true"));
+    assert!(rt; gives(a, value(a, "ip", "127.0.0.01"), NO_TEXT));
+}
+
+#[test]
+fn times(rt: HostRuntime) {
+    let a = rt.alloc();
+    let span = value(a, "duration", "1d2h3m4s5ms");
+    assert!(rt; gives(a, call(a, "toMilliseconds", span), "93784005"));
+    assert!(rt; gives(a, call(a, "toHours", value(a, "duration", "-90m")), "-1"));
+    let noon = value(a, "datetime", "2024-10-15T12:00:00Z");
+    let day = value(a, "datetime", "2024-10-15");
+    assert!(rt;
+        gives(
+            a,
+            two(a, BinaryOp::Eq, call(a, "toDate", noon), day),
+            "true"
+        )
+    );
+    let noon = value(a, "datetime", "2024-10-15T12:00:00Z");
+    assert!(rt; gives(a, call(a, "toSeconds", call(a, "toTime", noon)), "43200"));
+    let day = value(a, "datetime", "2024-10-15");
+    let next = call_two(a, "offset", day, value(a, "duration", "1d"));
+    let since = call_two(a, "durationSince", next, value(a, "datetime", "2024-10-15"));
+    assert!(rt; gives(a, call(a, "toDays", since), "1"));
+    let span = value(a, "duration", "9223372036854775807ms");
+    let day = value(a, "datetime", "2024-10-15");
+    assert!(rt; gives(a, call_two(a, "offset", day, span), TOO_FAR));
+    let day = value(a, "datetime", "2024-10-15");
+    let next = value(a, "datetime", "2024-10-16");
+    assert!(rt; gives(a, two(a, BinaryOp::LessEq, next, day), "false"));
+}
+
+#[test]
+fn calls(rt: HostRuntime) {
+    let a = rt.alloc();
+    assert!(rt; gives(a, call(a, "sqrt", long(1)), "unknown extension function"));
+    assert!(rt; gives(a, call(a, "lessThan", long(1)), "wrong number of arguments"));
+    assert!(rt; gives(a, call(a, "decimal", long(1)), KIND));
+    assert!(rt; gives(a, call(a, "sqrt", fault(a)), NO_PHOTO));
 }

@@ -148,6 +148,32 @@ pub fn pair(alloc: Global, x: Built, y: Built) -> Built {
     Expr::set(items, (), None)
 }
 
+fn one_argument(alloc: Global, x: Expr<()>) -> Result<Vec<Expr<()>>, AllocError> {
+    Ok(vec![in alloc; x]?)
+}
+
+fn called(alloc: Global, name: &str, args: Vec<Expr<()>>) -> Built {
+    match Name::parse(alloc, name)? {
+        Some(name) => Expr::extension_function_app(name, args, (), None),
+        None => Err(BuildError::OutOfMemory),
+    }
+}
+
+pub fn call(alloc: Global, name: &str, x: Built) -> Built {
+    let args = one_argument(alloc, x?)?;
+    called(alloc, name, args)
+}
+
+pub fn call_two(alloc: Global, name: &str, x: Built, y: Built) -> Built {
+    let args = two_items(alloc, x?, y?)?;
+    called(alloc, name, args)
+}
+
+// The extension value of a text.
+pub fn value(alloc: Global, name: &str, text: &str) -> Built {
+    call(alloc, name, string(alloc, text))
+}
+
 fn one_field(
     alloc: Global,
     name: &str,
