@@ -1,3 +1,4 @@
+pub mod HashSteps
 pub mod MapSteps
 pub mod Pushed
 pub mod SetSteps

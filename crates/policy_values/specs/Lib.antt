@@ -6,6 +6,7 @@ pub mod Sets
 pub mod Value
 pub mod ValueCode
 pub mod ValueFalls
+pub mod ValueHash
 pub mod ValueLaws
 pub mod ValueOrder
 pub mod ValueView

@@ -2,6 +2,7 @@
 #![tactic(auto)]
 
 mod ascending;
+mod hash;
 mod map;
 mod sets;
 #[cfg(test)]
