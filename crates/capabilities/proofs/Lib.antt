@@ -1,0 +1,2 @@
+pub mod HoldSteps
+pub mod Outcomes

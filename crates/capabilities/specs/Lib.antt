@@ -1,0 +1,6 @@
+pub mod AccessView
+pub mod Bare
+pub mod BareLaws
+pub mod Capability
+pub mod CapabilityLaws
+pub mod Holds

@@ -1,0 +1,187 @@
+//! What is known of one expression.
+
+ghost use Rattle.std.specs.Prelude.{◌≡◌, ◌↔◌, IfOk, IsTrue};
+ghost use Rattle.policy_core.specs.Shape.{SameShape};
+ghost use Rattle.std.specs.Prelude.{fold, ◌++◌};
+ghost use Rattle.capabilities.specs.Capability.{Attribute, Tag, AreAlike, SameAccess, is_alike, access_fed};
+ghost use Rattle.capabilities.specs.AccessView.{access_of};
+
+use policy_core::Expr;
+use policy_names::Text;
+use std::alloc::{AllocError, Global};
+use std::hash::{Hash, Hasher};
+use std::marker::Model;
+
+/// That an expression has an attribute, or the tag that another expression names. Capabilities are equal where their
+/// expressions have one shape: notes and places do not matter.
+#[derive(Debug, Drop)]
+pub struct Capability<'a> {
+    on: &'a Expr<()>,
+    what: Known<'a>,
+}
+
+// What the expression has.
+#[derive(Debug, Drop)]
+pub(crate) enum Known<'a> {
+    Attribute(Text),
+    BorrowedTag(&'a Expr<()>),
+    OwnedTag(Expr<()>),
+}
+
+impl<'a> Model for Capability<'a> {
+    ghost use Rattle.capabilities.specs.Capability.{Capability, coded_capability};
+
+    ghost Value = { Capability };
+
+    ghost coded = { coded_capability };
+
+    ghost use Rattle.capabilities.specs.AccessView.{access_of};
+
+    ghost view = { λ a. record { on = a.on.now; what = access_of a.what } };
+}
+
+impl<'a> Capability<'a> {
+    /// That the expression has an attribute.
+    pub fn new_attribute(on_expr: &'a Expr<()>, attribute: Text) -> Capability<'a>
+        ensures { result ≡ record { on = on_expr.now; what = Attribute attribute } }
+    {
+        Capability {
+            on: on_expr,
+            what: Known::Attribute(attribute),
+        }
+    }
+
+    /// That the expression has the tag that another one names.
+    pub fn new_borrowed_tag(on_expr: &'a Expr<()>, tag: &'a Expr<()>) -> Capability<'a>
+        ensures { result ≡ record { on = on_expr.now; what = Tag tag.now } }
+    {
+        Capability {
+            on: on_expr,
+            what: Known::BorrowedTag(tag),
+        }
+    }
+
+    /// That the expression has the tag that another one names, which the capability owns.
+    pub fn new_owned_tag(on_expr: &'a Expr<()>, tag: Expr<()>) -> Capability<'a>
+        ensures { result ≡ record { on = on_expr.now; what = Tag tag } }
+    {
+        Capability {
+            on: on_expr,
+            what: Known::OwnedTag(tag),
+        }
+    }
+
+    /// An equal capability with memory of its own.
+    pub fn try_clone(&self, alloc: Global) -> Result<Capability<'a>, AllocError>
+        ensures { IfOk result (λ k. k ≡ self.now) }
+    {
+        let on = self.on;
+        let what = copy_of(alloc, &self.what)?;
+        Ok(Capability { on, what })
+    }
+}
+
+fn copy_of<'a>(alloc: Global, what: &Known<'a>) -> Result<Known<'a>, AllocError>
+    ensures { IfOk result (λ x. access_of x ≡ access_of what.now) }
+{
+    match what {
+        Known::Attribute(name) => Ok(Known::Attribute(name.try_clone()?)),
+        Known::BorrowedTag(tag) => Ok(Known::BorrowedTag(*tag)),
+        Known::OwnedTag(tag) => Ok(Known::OwnedTag(tag.try_clone(alloc)?)),
+    }
+}
+
+// Whether the capabilities are equal.
+pub(crate) fn are_alike(k: &Capability<'_>, m: &Capability<'_>) -> bool
+    ensures { result ≡ is_alike k.now m.now }
+{
+    is_same(k, m)
+}
+
+// What is cheap is compared first: depths and attributes tell most capabilities apart.
+#[tactic(auto, using(crate::specs::BareLaws::same_depth))]
+fn is_same(k: &Capability<'_>, m: &Capability<'_>) -> bool
+    ensures { IsTrue result ↔ AreAlike k.now m.now }
+{
+    k.on.depth() == m.on.depth() && is_same_access(&k.what, &m.what) && k.on.same_shape(m.on)
+}
+
+fn is_same_access(x: &Known<'_>, y: &Known<'_>) -> bool
+    ensures { IsTrue result ↔ SameAccess (access_of x.now) (access_of y.now) }
+{
+    match (x, y) {
+        (Known::Attribute(m), Known::Attribute(n)) => same_text(m, n),
+        (Known::BorrowedTag(k), Known::BorrowedTag(l)) => is_same_expr(k, l),
+        (Known::BorrowedTag(k), Known::OwnedTag(l)) => is_same_expr(k, l),
+        (Known::OwnedTag(k), Known::BorrowedTag(l)) => is_same_expr(k, l),
+        (Known::OwnedTag(k), Known::OwnedTag(l)) => is_same_expr(k, l),
+        _ => false,
+    }
+}
+
+#[tactic(auto, using(crate::specs::BareLaws::same_depth))]
+fn is_same_expr(x: &Expr<()>, y: &Expr<()>) -> bool
+    ensures { IsTrue result ↔ SameShape x.now y.now }
+{
+    x.depth() == y.depth() && x.same_shape(y)
+}
+
+fn same_text(a: &Text, b: &Text) -> bool
+    ensures { IsTrue result ↔ (a.now ≡ b.now) }
+{
+    *a == *b
+}
+
+impl<'a> PartialEq for Capability<'a> {
+    ghost use Rattle.std.specs.Cmp.{partial_equiv_from_equiv};
+    ghost use Rattle.capabilities.specs.Capability.{is_alike};
+    ghost use Rattle.capabilities.specs.CapabilityLaws.{alike_equiv};
+
+    ghost eq = { is_alike };
+
+    ghost laws = { partial_equiv_from_equiv alike_equiv };
+
+    fn eq(&self, other: &Capability<'a>) -> bool {
+        are_alike(self, other)
+    }
+}
+
+impl<'a> Eq for Capability<'a> {
+    ghost use Rattle.capabilities.specs.CapabilityLaws.{alike_equiv};
+
+    ghost laws = { alike_equiv };
+}
+
+impl<'a> Hash for Capability<'a> {
+    ghost use Rattle.capabilities.specs.Capability.{capability_fed};
+    ghost use Rattle.capabilities.specs.CapabilityLaws.{hash_alike};
+
+    ghost hash_input = { capability_fed };
+
+    ghost respects_eq = { hash_alike };
+
+    // Only what is cheap: how deep the expressions are, and the attribute.
+    fn hash<H: Hasher>(&self, state: &mut H) {
+        state.write_u32(self.on.depth());
+        feed_known(&self.what, state);
+    }
+}
+
+fn feed_known<H: Hasher>(what: &Known<'_>, state: &mut H)
+    ensures { state.new ≡ fold H.write state.old (access_fed (access_of what.now)) }
+{
+    match what {
+        Known::Attribute(name) => {
+            state.write_u8(0);
+            name.hash(state);
+        }
+        Known::BorrowedTag(tag) => {
+            state.write_u8(1);
+            state.write_u32(tag.depth());
+        }
+        Known::OwnedTag(tag) => {
+            state.write_u8(1);
+            state.write_u32(tag.depth());
+        }
+    }
+}
