@@ -4,7 +4,12 @@ pub mod Entries
 pub mod Environments
 pub mod FaultText
 pub mod Faults
+pub mod Inside
+pub mod KindCode
+pub mod Kinds
+pub mod KindView
 pub mod Listing
+pub mod Lowest
 pub mod Outline
 pub mod RequestEnvs
 pub mod Schema

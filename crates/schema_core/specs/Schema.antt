@@ -1,25 +1,58 @@
 -- A schema as plain data: entity types and actions, each in ascending order of its names.
-use Rattle.std.specs.Prelude.{◌⊎◌, ℕ, Bool, List, Option, IsSome, IsTrue, IsSomeAnd, Contains, find}
+use Rattle.std.specs.Prelude.{◌⊎◌, ℕ, Bool, List, Option, IsSome, IsTrue, IsSomeAnd, Contains, find, refl}
+use Rattle.std.specs.Coded.{Coded, coded×, coded_ℕ, coded_list, code_by}
 use Rattle.std.specs.Ordering.{is_eq}
 use Rattle.policy_names.specs.declared.entity_uid.EntityUID.{EntityUID}
 use Rattle.policy_names.specs.Basename.{is_action_type}
-use Rattle.policy_names.specs.Uid.{text_cmp, uid_cmp}
+use Rattle.policy_names.specs.Uid.{text_cmp, uid_cmp, coded_uid}
+use Rattle.schema_types.specs.Ty.{Attrs}
+use Rattle.schema_types.specs.TyCode.{coded_attrs}
+use Rattle.schema_core.specs.Kinds.{Kind}
+use Rattle.schema_core.specs.KindCode.{coded_kind, coded_names}
 
--- an entity type: its name, and the types whose entities may have entities of it as ancestors
+-- an entity type: its name, the types whose entities may have entities of it as ancestors, and what it is
 pub record TypeData : Type 0 where
   pub name : List ℕ
   pub descendants : List (List ℕ)
+  pub kind : Kind
 
--- an action: its id, the types of the principals and of the resources that it applies to, and the actions that are in it
+-- an action: its id, the types of the principals and of the resources that it applies to, the actions that are in it, and the attributes of the
+-- context that it is asked for in
 pub record ActionData : Type 0 where
   pub name : EntityUID
   pub principals : List (List ℕ)
   pub resources : List (List ℕ)
   pub descendants : List EntityUID
+  pub context : Attrs
 
 pub record SchemaData : Type 0 where
   pub entity_types : List TypeData
   pub action_ids : List ActionData
+
+-- each is stored as the tuple of its parts
+abbrev pub coded_type : Coded TypeData
+coded_type =
+    code_by (List ℕ × (List (List ℕ) × Kind))
+    (coded× (coded_list coded_ℕ) (coded× coded_names coded_kind))
+    (λ t. (t.name, (t.descendants, t.kind)))
+    (λ p. record { name = p.0; descendants = p.1.0; kind = p.1.1 })
+    (λ _. refl)
+
+abbrev pub coded_action : Coded ActionData
+coded_action =
+    code_by (EntityUID × (List (List ℕ) × (List (List ℕ) × (List EntityUID × Attrs))))
+    (coded× coded_uid (coded× coded_names (coded× coded_names (coded× (coded_list coded_uid) coded_attrs))))
+    (λ a. (a.name, (a.principals, (a.resources, (a.descendants, a.context)))))
+    (λ p. record { name = p.0; principals = p.1.0; resources = p.1.1.0; descendants = p.1.1.1.0; context = p.1.1.1.1 })
+    (λ _. refl)
+
+abbrev pub coded_schema : Coded SchemaData
+coded_schema =
+    code_by (List TypeData × List ActionData)
+    (coded× (coded_list coded_type) (coded_list coded_action))
+    (λ s. (s.entity_types, s.action_ids))
+    (λ p. record { entity_types = p.0; action_ids = p.1 })
+    (λ _. refl)
 
 -- whether the entity type, the action, is the one with the name
 abbrev pub is_type_named : List ℕ → TypeData → Bool

@@ -2,27 +2,33 @@
 
 use crate::sets::set_of;
 use policy_names::{EntityType, EntityUID};
+use schema_types::Attributes;
 use std::alloc::{AllocError, Global};
 use std::collections::BTreeSet;
 use std::marker::Model;
 
-/// An action: the types of the principals and of the resources that it applies to, and its descendants, the actions that are in it.
+/// An action: the types of the principals and of the resources that it applies to, its descendants, the actions that are in it, and the
+/// attributes of the contexts in which it is asked for.
 #[derive(Debug, Drop)]
 pub struct ValidatorActionId {
     pub(crate) name: EntityUID,
     pub(crate) principals: BTreeSet<EntityType>,
     pub(crate) resources: BTreeSet<EntityType>,
     pub(crate) descendants: BTreeSet<EntityUID>,
+    pub(crate) context: Attributes,
 }
 
 impl Model for ValidatorActionId {
-    ghost use Rattle.schema_core.specs.Schema.{ActionData};
-    ghost use Rattle.std.specs.BTreeSet.{IsOrdered};
-    ghost use Rattle.policy_names.specs.Uid.{text_cmp, uid_cmp};
+    ghost use Rattle.schema_core.specs.Schema.{ActionData, coded_action};
 
     ghost Value = { ActionData };
 
-    ghost view = { λ a. record { name = a.name; principals = a.principals.keys; resources = a.resources.keys; descendants = a.descendants.keys } };
+    ghost coded = { coded_action };
+
+    ghost use Rattle.std.specs.BTreeSet.{IsOrdered};
+    ghost use Rattle.policy_names.specs.Uid.{text_cmp, uid_cmp};
+
+    ghost view = { λ a. record { name = a.name; principals = a.principals.keys; resources = a.resources.keys; descendants = a.descendants.keys; context = a.context } };
 
     ghost invariant = { λ a. IsOrdered text_cmp a.principals × IsOrdered text_cmp a.resources × IsOrdered uid_cmp a.descendants };
 }
@@ -34,19 +40,22 @@ impl ValidatorActionId {
     ghost use Rattle.policy_names.specs.Uid.{text_cmp, uid_cmp};
     ghost use Rattle.schema_core.specs.Faults.{HasSets};
 
-    /// The action with these types and descendants. What is listed more than once is kept once.
+    /// The action with these types and descendants, and contexts with these attributes and no others. What is listed more
+    /// than once is kept once.
     pub fn new(
         alloc: Global,
         name: EntityUID,
         principals: Vec<EntityType>,
         resources: Vec<EntityType>,
         descendants: Vec<EntityUID>,
+        context: Attributes,
     ) -> Result<ValidatorActionId, AllocError>
         ensures name { IfOk result (λ a. a.name ≡ name) }
         ensures principals { IfOk result (λ a. (q : List ℕ) → Contains a.principals q ↔ Contains principals.items q) }
         ensures resources { IfOk result (λ a. (q : List ℕ) → Contains a.resources q ↔ Contains resources.items q) }
         ensures descendants { IfOk result (λ a. (q : EntityUID) → Contains a.descendants q ↔ Contains descendants.items q) }
         ensures ascending { IfOk result HasSets }
+        ensures context { IfOk result (λ a. a.context ≡ context) }
     {
         let principals = set_of(alloc, principals)?;
         let resources = set_of(alloc, resources)?;
@@ -56,6 +65,7 @@ impl ValidatorActionId {
             principals,
             resources,
             descendants,
+            context,
         })
     }
 
@@ -109,5 +119,12 @@ impl ValidatorActionId {
         ensures { IsTrue result ↔ Contains self.now.descendants uid.now }
     {
         self.descendants.contains(uid)
+    }
+
+    /// The attributes of the contexts in which the action is asked for. They have no others.
+    pub fn context(&self) -> &Attributes
+        ensures { result.now ≡ self.now.context }
+    {
+        &self.context
     }
 }

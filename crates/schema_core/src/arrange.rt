@@ -1,70 +1,78 @@
 // Types and actions in the order of their names, each with its sets.
-ghost use Rattle.std.specs.Prelude.{◌≡◌, [], ℕ, List, map, IfOk};
+ghost use Rattle.std.specs.Prelude.{◌≡◌, map, IfOk};
 ghost use Rattle.std.specs.BTreeMap.{IsOrdered};
-ghost use Rattle.std.specs.BTreeSet as sorted;
+ghost use Rattle.std.specs.BTreeSet.{IsOrdered as Ascends};
 ghost use Rattle.policy_names.specs.Uid.{text_cmp, uid_cmp};
 ghost use Rattle.schema_core.specs.Listing.{HasAscending};
-ghost use Rattle.schema_core.specs.Arranged.{type_of, action_of, types_found};
+ghost use Rattle.schema_core.specs.Arranged.{type_of, action_of, keys_found};
 
-use crate::listing::TypesOf;
+use crate::listing::{Kinds, TypesOf};
 use crate::{ValidatorActionId, ValidatorEntityType};
-use hierarchy::Steps;
+use hierarchy::{Key, Steps};
 use policy_names::{EntityType, EntityUID};
+use schema_types::Attributes;
 use std::alloc::{AllocError, Global};
-use std::collections::BTreeSet;
+use std::collections::{BTreeMap, BTreeSet};
 
 /// Each type with the set at it.
 pub fn arranged_types(
     alloc: Global,
-    types: Steps<EntityType>,
+    kinds: Kinds,
+    types: &Steps<EntityType>,
 ) -> Result<Vec<ValidatorEntityType>, AllocError>
-    requires { HasAscending text_cmp text_cmp types.entries }
-    ensures each { IfOk result (λ list. list.items ≡ map type_of types.entries) }
-    ensures ordered { IfOk result (λ _. IsOrdered text_cmp types) }
+    requires { HasAscending text_cmp text_cmp types.now.entries }
+    ensures each { IfOk result (λ list. list.items ≡ map (type_of types.now.entries) kinds.entries) }
+    ensures ordered { IfOk result (λ _. IsOrdered text_cmp kinds) }
 {
     let mut list = Vec::new(alloc);
-    for (name, descendants) in types {
-        list.push(ValidatorEntityType { name, descendants })?;
+    for (name, kind) in kinds {
+        let descendants = copied_set(alloc, types, &name)?;
+        list.push(ValidatorEntityType::with_set(alloc, name, descendants, kind))?;
     }
     Ok(list)
 }
 
-/// Each action with the set at it, and its types.
+/// Each action with the sets at it.
 pub fn arranged_actions(
     alloc: Global,
-    actions: Steps<EntityUID>,
+    contexts: BTreeMap<EntityUID, Attributes>,
+    actions: &Steps<EntityUID>,
     principals: &TypesOf,
     resources: &TypesOf,
 ) -> Result<Vec<ValidatorActionId>, AllocError>
-    requires actions { HasAscending uid_cmp uid_cmp actions.entries }
+    requires actions { HasAscending uid_cmp uid_cmp actions.now.entries }
     requires principals { HasAscending uid_cmp text_cmp principals.now.entries }
     requires resources { HasAscending uid_cmp text_cmp resources.now.entries }
-    ensures each { IfOk result (λ list. list.items ≡ map (action_of principals.now.entries resources.now.entries) actions.entries) }
-    ensures ordered { IfOk result (λ _. IsOrdered uid_cmp actions) }
+    ensures each { IfOk result (λ list. list.items ≡ map (action_of actions.now.entries principals.now.entries resources.now.entries) contexts.entries) }
+    ensures ordered { IfOk result (λ _. IsOrdered uid_cmp contexts) }
 {
     let mut list = Vec::new(alloc);
-    for (name, descendants) in actions {
-        let principals = copied_types(alloc, principals, &name)?;
-        let resources = copied_types(alloc, resources, &name)?;
+    for (name, context) in contexts {
+        let principals = copied_set(alloc, principals, &name)?;
+        let resources = copied_set(alloc, resources, &name)?;
+        let descendants = copied_set(alloc, actions, &name)?;
         list.push(ValidatorActionId {
             name,
             principals,
             resources,
             descendants,
+            context,
         })?;
     }
     Ok(list)
 }
 
-// The types at an action.
-fn copied_types(
+// The set at a name.
+fn copied_set<A: Key, K: Key>(
     alloc: Global,
-    types: &TypesOf,
-    uid: &EntityUID,
-) -> Result<BTreeSet<EntityType>, AllocError>
-    ensures { IfOk result (λ set. set.keys ≡ types_found types.now.entries uid.now) }
+    sets: &BTreeMap<A, BTreeSet<K>>,
+    name: &A,
+) -> Result<BTreeSet<K>, AllocError>
+    requires { HasAscending A.cmp K.cmp sets.now.entries }
+    ensures keys { IfOk result (λ set. set.keys ≡ keys_found A.cmp sets.now.entries name.now) }
+    ensures ordered { IfOk result (Ascends K.cmp) }
 {
-    match types.get(uid) {
+    match sets.get(name) {
         Some(set) => set.clone(),
         None => Ok(BTreeSet::new(alloc)),
     }

@@ -1,4 +1,4 @@
-//! Schemas: which entity types and actions there are, what is in what, and which requests an action applies to.
+//! Schemas: which entity types and actions there are, what is in what, which attributes there are, and which requests an action applies to.
 #![tactic(auto)]
 
 mod action_id;
@@ -7,6 +7,8 @@ mod checks;
 mod declarations;
 mod entity_type;
 mod fault;
+mod inside;
+mod kind;
 mod listing;
 mod request_env;
 mod sets;
@@ -18,5 +20,6 @@ pub use action_id::ValidatorActionId;
 pub use declarations::{ActionDeclaration, SchemaDeclarations, TypeDeclaration};
 pub use entity_type::ValidatorEntityType;
 pub use fault::SchemaFault;
+pub use kind::ValidatorEntityTypeKind;
 pub use request_env::RequestEnv;
 pub use validator_schema::ValidatorSchema;

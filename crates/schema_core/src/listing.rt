@@ -5,27 +5,34 @@ ghost use Rattle.schema_core.specs.Outline.{outline_of};
 ghost use Rattle.schema_core.specs.Entries.{Declarations};
 ghost use Rattle.schema_core.specs.Declarations.{declared_outline};
 ghost use Rattle.schema_core.specs.Faults.{IsOnce};
-ghost use Rattle.schema_core.specs.Listing.{listed_outline, IsListing, ListsTypes, AddsAction};
+ghost use Rattle.schema_core.specs.Listing.{listed_outline, IsListing, ListsTypes, AddsType, AddsAction};
 
 use crate::sets::set_of;
 use crate::{
     ActionDeclaration, SchemaDeclarations, TypeDeclaration, ValidatorActionId, ValidatorEntityType,
+    ValidatorEntityTypeKind,
 };
 use hierarchy::Steps;
 use policy_names::{EntityType, EntityUID};
+use schema_types::Attributes;
 use std::alloc::{AllocError, Global};
 use std::collections::{BTreeMap, BTreeSet};
+
+/// What types are.
+pub type Kinds = BTreeMap<EntityType, ValidatorEntityTypeKind>;
 
 /// Types that are listed at actions.
 pub type TypesOf = BTreeMap<EntityUID, BTreeSet<EntityType>>;
 
-/// Types and actions under their names, with what is listed at each.
+/// Types and actions under their names, with what is listed at each, and what each is.
 #[derive(Debug, Drop)]
 pub struct Listing {
     pub types: Steps<EntityType>,
+    pub kinds: Kinds,
     pub actions: Steps<EntityUID>,
     pub principals: TypesOf,
     pub resources: TypesOf,
+    pub contexts: BTreeMap<EntityUID, Attributes>,
 }
 
 /// What a schema's types and actions list: their descendants.
@@ -39,15 +46,16 @@ pub fn listed(
     ensures outline { let given : SchemaData = record { entity_types = entity_types.items; action_ids = action_ids.items } in IfOk result (λ l. listed_outline l ≡ outline_of given) }
     ensures listing { IfOk result IsListing }
 {
-    let mut listing = only_types(alloc, listed_types(alloc, entity_types)?);
+    let mut listing = listed_types(alloc, entity_types)?;
     for action in action_ids {
         let ValidatorActionId {
             name,
             principals,
             resources,
             descendants,
+            context,
         } = action;
-        add_action(&mut listing, name, principals, resources, descendants)?;
+        add_action(&mut listing, name, principals, resources, descendants, context)?;
     }
     Ok(listing)
 }
@@ -63,18 +71,19 @@ pub fn declared(alloc: Global, declarations: SchemaDeclarations) -> Result<Listi
         entity_types,
         actions,
     } = declarations;
-    let mut listing = only_types(alloc, declared_types(alloc, entity_types)?);
+    let mut listing = declared_types(alloc, entity_types)?;
     for action in actions {
         let ActionDeclaration {
             id,
             principals,
             resources,
             member_of,
+            context,
         } = action;
         let principals = set_of(alloc, principals)?;
         let resources = set_of(alloc, resources)?;
         let member_of = set_of(alloc, member_of)?;
-        add_action(&mut listing, id, principals, resources, member_of)?;
+        add_action(&mut listing, id, principals, resources, member_of, context)?;
     }
     Ok(listing)
 }
@@ -83,47 +92,75 @@ pub fn declared(alloc: Global, declarations: SchemaDeclarations) -> Result<Listi
 fn listed_types(
     alloc: Global,
     entity_types: Vec<ValidatorEntityType>,
-) -> Result<Steps<EntityType>, AllocError>
+) -> Result<Listing, AllocError>
     requires { IsOnce (map (λ t. t.name) entity_types.items) }
     ensures { let given : SchemaData = record { entity_types = entity_types.items; action_ids = [] } in IfOk result (ListsTypes (outline_of given)) }
 {
-    let mut types = BTreeMap::new(alloc);
+    let mut listing = empty(alloc);
     for entity_type in entity_types {
-        let ValidatorEntityType { name, descendants } = entity_type;
-        types.insert(name, descendants)?;
+        let ValidatorEntityType {
+            name,
+            descendants,
+            kind,
+            ..
+        } = entity_type;
+        add_type(&mut listing, name, kind, descendants)?;
     }
-    Ok(types)
+    Ok(listing)
 }
 
 // The types with what they are members of.
 fn declared_types(
     alloc: Global,
     entity_types: Vec<TypeDeclaration>,
-) -> Result<Steps<EntityType>, AllocError>
+) -> Result<Listing, AllocError>
     requires { IsOnce (map (λ t. t.name) entity_types.items) }
     ensures { let given : Declarations = record { entity_types = entity_types.items; actions = [] } in IfOk result (ListsTypes (declared_outline given)) }
 {
-    let mut types = BTreeMap::new(alloc);
+    let mut listing = empty(alloc);
     for entity_type in entity_types {
-        let TypeDeclaration { name, member_of } = entity_type;
-        types.insert(name, set_of(alloc, member_of)?)?;
+        let TypeDeclaration {
+            name,
+            member_of,
+            kind,
+        } = entity_type;
+        let member_of = set_of(alloc, member_of)?;
+        add_type(&mut listing, name, kind, member_of)?;
     }
-    Ok(types)
+    Ok(listing)
 }
 
-// The types, and no actions.
-fn only_types(alloc: Global, types: Steps<EntityType>) -> Listing
-    ensures types { result.types ≡ types }
+// No types, and no actions.
+fn empty(alloc: Global) -> Listing
+    ensures types { result.types.entries ≡ [] }
+    ensures kinds { result.kinds.entries ≡ [] }
     ensures actions { result.actions.entries ≡ [] }
     ensures principals { result.principals.entries ≡ [] }
     ensures resources { result.resources.entries ≡ [] }
+    ensures contexts { result.contexts.entries ≡ [] }
 {
     Listing {
-        types,
+        types: BTreeMap::new(alloc),
+        kinds: BTreeMap::new(alloc),
         actions: BTreeMap::new(alloc),
         principals: BTreeMap::new(alloc),
         resources: BTreeMap::new(alloc),
+        contexts: BTreeMap::new(alloc),
     }
+}
+
+// Declares one type more.
+fn add_type(
+    listing: &mut Listing,
+    name: EntityType,
+    kind: ValidatorEntityTypeKind,
+    listed: BTreeSet<EntityType>,
+) -> Result<(), AllocError>
+    ensures { OnOk result (AddsType listing.old listing.new name kind listed) }
+{
+    listing.types.insert(name.clone()?, listed)?;
+    listing.kinds.insert(name, kind)?;
+    Ok(())
 }
 
 // Declares one action more.
@@ -133,11 +170,13 @@ fn add_action(
     principals: BTreeSet<EntityType>,
     resources: BTreeSet<EntityType>,
     listed: BTreeSet<EntityUID>,
+    context: Attributes,
 ) -> Result<(), AllocError>
-    ensures { OnOk result (AddsAction listing.old listing.new id principals resources listed) }
+    ensures { OnOk result (AddsAction listing.old listing.new id principals resources listed context) }
 {
     listing.principals.insert(id.clone()?, principals)?;
     listing.resources.insert(id.clone()?, resources)?;
-    listing.actions.insert(id, listed)?;
+    listing.actions.insert(id.clone()?, listed)?;
+    listing.contexts.insert(id, context)?;
     Ok(())
 }

@@ -2,8 +2,10 @@
 ghost use Rattle.std.specs.Prelude.{◌≡◌, ◌||◌, IfOk, OnOk};
 ghost use Rattle.std.specs.BTreeSet.{IsOrdered};
 ghost use Rattle.hierarchy.specs.Reaches.{has};
+ghost use Rattle.schema_core.specs.Kinds.{firsts};
 
 use hierarchy::Key;
+use policy_names::Eid;
 use std::alloc::{AllocError, Global};
 use std::collections::BTreeSet;
 
@@ -29,4 +31,18 @@ pub fn add_all<K: Key>(set: &mut BTreeSet<K>, keys: &BTreeSet<K>) -> Result<(), 
         set.insert(key.clone()?)?;
     }
     Ok(())
+}
+
+/// The ids of a list, each at its first place alone.
+pub fn firsts_of(alloc: Global, eids: Vec<Eid>) -> Result<Vec<Eid>, AllocError>
+    ensures { IfOk result (λ kept. kept.items ≡ firsts eids.items) }
+{
+    let mut seen = BTreeSet::new(alloc);
+    let mut kept = Vec::new(alloc);
+    for eid in eids {
+        if seen.insert(eid.try_clone()?)? {
+            kept.push(eid)?;
+        }
+    }
+    Ok(kept)
 }

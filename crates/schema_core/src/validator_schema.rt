@@ -1,13 +1,14 @@
 //! Schemas.
 
 use crate::arrange::{arranged_actions, arranged_types};
-use crate::checks::check_names;
+use crate::checks::{check_names, check_types, least_listed_enum};
 use crate::listing::{Listing, declared, listed};
 use crate::request_env::add_environments;
 use crate::sets::add_all;
 use crate::{RequestEnv, SchemaDeclarations, SchemaFault, ValidatorActionId, ValidatorEntityType};
 use hierarchy::{descendants_of, first_not_closed, first_own, least_repeated};
 use policy_names::{EntityType, EntityUID};
+use schema_types::{Attributes, DeclaredAttributes};
 use std::alloc::{AllocError, Global};
 use std::collections::BTreeSet;
 use std::marker::Model;
@@ -20,23 +21,26 @@ pub struct ValidatorSchema {
 }
 
 impl Model for ValidatorSchema {
-    ghost use Rattle.schema_core.specs.Schema.{SchemaData};
-    ghost use Rattle.schema_core.specs.Faults.{IsSchema};
+    ghost use Rattle.schema_core.specs.Schema.{SchemaData, coded_schema};
 
     ghost Value = { SchemaData };
+
+    ghost coded = { coded_schema };
+
+    ghost use Rattle.schema_core.specs.Faults.{IsSchema};
 
     ghost view = { λ s. record { entity_types = s.entity_types.items; action_ids = s.action_ids.items } };
 
     ghost invariant = { λ s. IsSchema record { entity_types = s.entity_types.items; action_ids = s.action_ids.items } };
 }
 
-ghost use Rattle.std.specs.Prelude.{◌≡◌, ◌↔◌, ◌⊎◌, ℕ, List, map, IfOk, IfSome, IsTrue, MatchResult, MatchOption, Contains};
+ghost use Rattle.std.specs.Prelude.{◌≡◌, ◌↔◌, ◌⊎◌, ℕ, List, map, option_map, IfOk, IfSome, IsTrue, MatchResult, MatchOption, Contains};
 ghost use Rattle.std.specs.Option.{option_copied};
 ghost use Rattle.std.specs.BTreeSet.{IsOrdered};
 ghost use Rattle.policy_names.specs.declared.entity_uid.EntityUID.{EntityUID};
 ghost use Rattle.policy_names.specs.Uid.{text_cmp, uid_cmp};
 ghost use Rattle.schema_core.specs.Schema.{SchemaData, type_at, action_at, IsKnownType, IsDeclaredAction, HasTypeDescendant, HasActionDescendant};
-ghost use Rattle.schema_core.specs.Outline.{outline_of, HasSoundNames, IsClosed, HasDescendants};
+ghost use Rattle.schema_core.specs.Outline.{outline_of, HasSoundNames, HasSoundTypes, IsClosed, HasDescendants};
 ghost use Rattle.schema_core.specs.Faults.{IsOnce, IsSchema, IsRefusedData};
 ghost use Rattle.schema_core.specs.Declarations.{IsSchemaOf, IsRefused};
 ghost use Rattle.schema_core.specs.Listing.{listed_outline, IsListing};
@@ -63,12 +67,16 @@ impl ValidatorSchema {
         if let Some(uid) = first_own(&listing.actions) {
             return Err(SchemaFault::ActionCycle(uid.clone()?));
         }
+        if let Some(name) = least_listed_enum(&listing) {
+            return Err(SchemaFault::EnumHasAncestor(name.clone()?));
+        }
         if let Some(name) = first_not_closed(&listing.types) {
             return Err(SchemaFault::NotClosed(name.clone()?));
         }
         if let Some(uid) = first_not_closed(&listing.actions) {
             return Err(SchemaFault::ActionNotClosed(uid.clone()?));
         }
+        check_types(&listing)?;
         Ok(arranged(alloc, listing)?)
     }
 
@@ -90,6 +98,10 @@ impl ValidatorSchema {
         if let Some(uid) = first_own(&members.actions) {
             return Err(SchemaFault::ActionCycle(uid.clone()?));
         }
+        if let Some(name) = least_listed_enum(&members) {
+            return Err(SchemaFault::EnumHasAncestor(name.clone()?));
+        }
+        check_types(&members)?;
         Ok(arranged(alloc, members)?)
     }
 
@@ -126,6 +138,16 @@ impl ValidatorSchema {
         match self.action_ids.binary_search_by(|a| a.name().cmp(uid)) {
             Ok(i) => Some(&self.action_ids[i]),
             Err(_) => None,
+        }
+    }
+
+    /// The attributes of the contexts in which the action is asked for; none exactly where the action is not declared.
+    pub fn context_type(&self, uid: &EntityUID) -> Option<&Attributes>
+        ensures { option_copied result ≡ option_map (λ a. a.context) (action_at self.now uid.now) }
+    {
+        match self.get_action_id(uid) {
+            Some(action) => Some(action.context()),
+            None => None,
         }
     }
 
@@ -222,6 +244,19 @@ impl ValidatorSchema {
     }
 }
 
+impl DeclaredAttributes for ValidatorSchema {
+    ghost use Rattle.schema_core.specs.Kinds.{attributes_in};
+
+    ghost declared = { λ s x. option_map (λ t. attributes_in t.kind) (type_at s x) };
+
+    fn attributes_of(&self, entity_type: &EntityType) -> Option<&Attributes> {
+        match self.get_entity_type(entity_type) {
+            Some(entity_type) => Some(entity_type.attributes()),
+            None => None,
+        }
+    }
+}
+
 // The ids of the actions.
 fn ids_of(alloc: Global, action_ids: &[ValidatorActionId]) -> Result<Vec<EntityUID>, AllocError>
     ensures { IfOk result (λ ids. ids.items ≡ map (λ a. a.name) action_ids.now) }
@@ -254,37 +289,30 @@ fn with_descendants(alloc: Global, listing: Listing) -> Result<Listing, AllocErr
     ensures descendants { IfOk result (λ members. HasDescendants (listed_outline listing) (listed_outline members)) }
     ensures listing { IfOk result IsListing }
 {
-    let Listing {
-        types,
-        actions,
-        principals,
-        resources,
-    } = listing;
-    let types = descendants_of(alloc, &types)?;
-    let actions = descendants_of(alloc, &actions)?;
-    Ok(Listing {
-        types,
-        actions,
-        principals,
-        resources,
-    })
+    let mut listing = listing;
+    listing.types = descendants_of(alloc, &listing.types)?;
+    listing.actions = descendants_of(alloc, &listing.actions)?;
+    Ok(listing)
 }
 
 // The schema of a listing that keeps its rules.
 fn arranged(alloc: Global, listing: Listing) -> Result<ValidatorSchema, AllocError>
     requires names { HasSoundNames (listed_outline listing) }
     requires closed { IsClosed (listed_outline listing) }
+    requires types { HasSoundTypes (listed_outline listing) }
     requires listing { IsListing listing }
     ensures { IfOk result (λ schema. IsSchema schema × (outline_of schema ≡ listed_outline listing)) }
 {
     let Listing {
         types,
+        kinds,
         actions,
         principals,
         resources,
+        contexts,
     } = listing;
-    let entity_types = arranged_types(alloc, types)?;
-    let action_ids = arranged_actions(alloc, actions, &principals, &resources)?;
+    let entity_types = arranged_types(alloc, kinds, &types)?;
+    let action_ids = arranged_actions(alloc, contexts, &actions, &principals, &resources)?;
     Ok(ValidatorSchema {
         entity_types,
         action_ids,

@@ -1,9 +1,11 @@
 pub mod Attrs
 pub mod HashLaws
+pub mod KindOrder
 pub mod Laws
 pub mod NameLaws
 pub mod Names
 pub mod Plain
+pub mod Required
 pub mod SchemaFalls
 pub mod SchemaView
 pub mod Ty

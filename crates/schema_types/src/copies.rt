@@ -1,6 +1,7 @@
 //! Copies of types.
 
 ghost use Rattle.std.specs.Prelude.{◌≡◌, IfOk};
+ghost use Rattle.schema_types.specs.TyView.{ty_of};
 
 use crate::{AttributeType, Attributes, EntityRecordKind, Type, TypeKind};
 use policy_names::Text;
@@ -14,6 +15,24 @@ impl Type {
         ensures { IfOk result (λ t. t ≡ self.now) }
     {
         copy_of(alloc, self)
+    }
+}
+
+impl TypeKind {
+    /// An equal kind with memory of its own.
+    pub fn try_clone(&self, alloc: Global) -> Result<TypeKind, AllocError>
+        ensures { IfOk result (λ k. ty_of k ≡ ty_of self.now) }
+    {
+        copy_of_type_kind(alloc, self)
+    }
+}
+
+impl EntityRecordKind {
+    /// An equal kind with memory of its own.
+    pub fn try_clone(&self, alloc: Global) -> Result<EntityRecordKind, AllocError>
+        ensures { IfOk result (λ k. k ≡ self.now) }
+    {
+        copy_of_kind(alloc, self)
     }
 }
 
@@ -40,23 +59,38 @@ impl AttributeType {
 fn copy_of(alloc: Global, t: &Type) -> Result<Type, AllocError>
     ensures { IfOk result (λ copy. copy ≡ t.now) }
 {
-    match t.kind() {
-        TypeKind::Never => Ok(Type::never()),
-        TypeKind::True => Ok(Type::singleton_boolean(true)),
-        TypeKind::False => Ok(Type::singleton_boolean(false)),
-        TypeKind::Primitive { primitive_type } => Ok(Type::primitive(*primitive_type)),
-        TypeKind::Set { element_type: None } => Ok(Type::any_set()),
+    let kind = copy_of_type_kind(alloc, t.kind())?;
+    Ok(Type::from_kind(kind))
+}
+
+#[cycle(copy)]
+fn copy_of_type_kind(alloc: Global, k: &TypeKind) -> Result<TypeKind, AllocError>
+    ensures { IfOk result (λ copy. ty_of copy ≡ ty_of k.now) }
+{
+    match k {
+        TypeKind::Never => Ok(TypeKind::Never),
+        TypeKind::True => Ok(TypeKind::True),
+        TypeKind::False => Ok(TypeKind::False),
+        TypeKind::Primitive { primitive_type } => {
+            let primitive_type = *primitive_type;
+            Ok(TypeKind::Primitive { primitive_type })
+        }
+        TypeKind::Set { element_type: None } => Ok(TypeKind::Set { element_type: None }),
         TypeKind::Set {
             element_type: Some(element),
         } => {
             let element = copy_of(alloc, element)?;
-            Type::set(alloc, element)
+            let element_type = Some(Box::new(alloc, element)?);
+            Ok(TypeKind::Set { element_type })
         }
         TypeKind::EntityOrRecord(kind) => {
             let kind = copy_of_kind(alloc, kind)?;
-            Ok(Type::entity_or_record(kind))
+            Ok(TypeKind::EntityOrRecord(kind))
         }
-        TypeKind::ExtensionType { name } => Ok(Type::extension(name.try_clone()?)),
+        TypeKind::ExtensionType { name } => {
+            let name = name.try_clone()?;
+            Ok(TypeKind::ExtensionType { name })
+        }
     }
 }
 

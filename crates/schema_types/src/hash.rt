@@ -2,7 +2,7 @@
 
 ghost use Rattle.std.specs.Prelude.{◌≡◌, ◌++◌, fold};
 ghost use Rattle.std.specs.Hash as fed;
-ghost use Rattle.schema_types.specs.TyView.{kind_of, attrs_of};
+ghost use Rattle.schema_types.specs.TyView.{ty_of, kind_of, attrs_of};
 ghost use Rattle.schema_types.specs.TyOrder.{place_of, open_place, rank};
 ghost use Rattle.schema_types.specs.TyHash.{ty_fed, attrs_fed};
 
@@ -15,7 +15,15 @@ use std::hash::{Hash, Hasher};
 pub fn feed<H: Hasher>(t: &Type, state: &mut H)
     ensures { state.new ≡ fold H.write state.old (ty_fed t.now) }
 {
-    match t.kind() {
+    feed_type_kind(t.kind(), state);
+}
+
+#[cycle(feed)]
+#[tactic(auto, using(crate::proofs::HashSteps::fold_both))]
+pub fn feed_type_kind<H: Hasher>(k: &TypeKind, state: &mut H)
+    ensures { state.new ≡ fold H.write state.old (ty_fed (ty_of k.now)) }
+{
+    match k {
         TypeKind::Never => state.write_u8(0),
         TypeKind::True => state.write_u8(1),
         TypeKind::False => state.write_u8(2),
@@ -40,7 +48,7 @@ pub fn feed<H: Hasher>(t: &Type, state: &mut H)
 
 #[cycle(feed)]
 #[tactic(auto, using(crate::proofs::HashSteps::fold_both))]
-fn feed_kind<H: Hasher>(k: &EntityRecordKind, state: &mut H)
+pub fn feed_kind<H: Hasher>(k: &EntityRecordKind, state: &mut H)
     ensures { state.new ≡ fold H.write state.old (ty_fed (kind_of k.now)) }
 {
     match k {

@@ -7,11 +7,13 @@ mod declared;
 mod entity_lub;
 mod hash;
 mod kinds;
+mod kinds_compared;
 pub mod laws;
 mod order;
 mod schema_type;
 mod show;
 mod ty;
+mod walks;
 
 pub use declared::DeclaredAttributes;
 pub use entity_lub::EntityLUB;

@@ -1,7 +1,7 @@
 //! The order of types.
 
 ghost use Rattle.std.specs.Prelude.{◌≡◌};
-ghost use Rattle.schema_types.specs.TyView.{kind_of};
+ghost use Rattle.schema_types.specs.TyView.{ty_of, kind_of};
 ghost use Rattle.schema_types.specs.TyOrder.{place_of, open_place, rank, ty_cmp, attrs_cmp};
 
 use crate::{Attributes, EntityRecordKind, OpenTag, Primitive, Type, TypeKind};
@@ -26,10 +26,10 @@ pub fn open_place(o: OpenTag) -> u8
     }
 }
 
-fn rank(t: &Type) -> u8
-    ensures { result ≡ rank t.now }
+fn rank(k: &TypeKind) -> u8
+    ensures { result ≡ rank (ty_of k.now) }
 {
-    match t.kind() {
+    match k {
         TypeKind::Never => 0,
         TypeKind::True => 1,
         TypeKind::False => 2,
@@ -58,7 +58,14 @@ fn rank_of_kind(k: &EntityRecordKind) -> u8
 pub fn compare(a: &Type, b: &Type) -> Ordering
     ensures { result ≡ ty_cmp a.now b.now }
 {
-    match (a.kind(), b.kind()) {
+    compare_type_kinds(a.kind(), b.kind())
+}
+
+#[cycle(compare)]
+pub fn compare_type_kinds(a: &TypeKind, b: &TypeKind) -> Ordering
+    ensures { result ≡ ty_cmp (ty_of a.now) (ty_of b.now) }
+{
+    match (a, b) {
         (TypeKind::Primitive { primitive_type: x }, TypeKind::Primitive { primitive_type: y }) =>
             place_of(*x).cmp(&place_of(*y)),
         (
@@ -76,7 +83,7 @@ pub fn compare(a: &Type, b: &Type) -> Ordering
 }
 
 #[cycle(compare)]
-fn compare_kinds(a: &EntityRecordKind, b: &EntityRecordKind) -> Ordering
+pub fn compare_kinds(a: &EntityRecordKind, b: &EntityRecordKind) -> Ordering
     ensures { result ≡ ty_cmp (kind_of a.now) (kind_of b.now) }
 {
     match (a, b) {

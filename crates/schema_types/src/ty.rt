@@ -286,6 +286,13 @@ impl Attributes {
         &self.attrs
     }
 
+    /// The map of the attributes.
+    pub fn into_entries(self) -> BTreeMap<Text, AttributeType>
+        ensures { attrs_of result.entries ≡ self }
+    {
+        self.attrs
+    }
+
     /// The attributes with their keys, ascending.
     pub fn iter(&self) -> btree_map::Iter<'_, Text, AttributeType>
         ensures { attrs_of result ≡ self.now }

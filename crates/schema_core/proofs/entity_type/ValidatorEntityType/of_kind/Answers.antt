@@ -1,7 +1,7 @@
 use Rattle.std.specs.Cmp.Lexicographic.{nat_list_cmp_total}
 use Rattle.std.proofs.lemmas.Map.Lookups.{exact_bytes}
 use Rattle.schema_core.proofs.Queries.{same_members}
-use Rattle.schema_core.proofs.entity_type.ValidatorEntityType.new.Goals as goal
+use Rattle.schema_core.proofs.entity_type.ValidatorEntityType.of_kind.Goals as goal
 
 pub returns-clause-descendants : goal.returns-clause-descendants
 returns-clause-descendants c = same_members nat_list_cmp_total exact_bytes c.in_ok-descendants.descendants.keys c.args.descendants.items c.in_ok-descendants.ensures.has

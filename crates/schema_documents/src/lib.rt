@@ -1,0 +1,6 @@
+//! Schemas in JSON.
+#![tactic(auto)]
+
+mod types;
+
+pub use types::{read_attributes, read_type};
