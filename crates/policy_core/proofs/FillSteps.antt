@@ -1,6 +1,5 @@
 -- Expressions with literals in the places of slots: they are as deep, and without any literal they are the same.
-use Rattle.std.proofs.Common.{◌≡◌, ℕ, List, [], ◌∷◌, ◌++◌, map, Option, Some, None, ap, ◌∙◌, sym, refl, arith, append_assoc}
-use Rattle.std.specs.Map.{keys_of}
+use Rattle.std.proofs.Common.{◌≡◌, ℕ, List, [], ◌∷◌, map, Option, Some, None, ap, refl, arith}
 use Rattle.policy_names.specs.declared.entity_uid.EntityUID.{EntityUID}
 use Rattle.policy_core.specs.declared.kinds.SlotId.{SlotId}
 use Rattle.policy_core.specs.declared.kinds.SlotId.TheVariants.{Principal, Resource}

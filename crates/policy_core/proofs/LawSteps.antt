@@ -1,5 +1,5 @@
 -- Trees of one shape have one outcome.
-use Rattle.std.proofs.Common.{◌≡◌, false, true, List, ◌∷◌, Result, ap, refl}
+use Rattle.std.proofs.Common.{◌≡◌, false, true, ap, refl}
 use Rattle.policy_store.specs.declared.request.Request.{Request}
 use Rattle.policy_store.specs.Store.{Store}
 use Rattle.policy_values.specs.Value.{truth}

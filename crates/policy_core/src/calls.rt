@@ -10,7 +10,7 @@ ghost use Rattle.policy_core.specs.Functions.{function_of};
 ghost use Rattle.policy_core.specs.Calls.{decimal_in, range_in, datetime_in, duration_in, read_as, fitting, constructed, of_range, of_ranges, of_decimals, of_datetime, of_duration, offset_value, since_value, start_of_day, since_start, unary_call, binary_call, called};
 
 use crate::functions::{BinaryFunction, ExtensionFunction, UnaryFunction, extension_function};
-use crate::{EvalError, Name, Outcome, Text, Value, ValueKind};
+use crate::{EvalError, Name, Outcome, Value, ValueKind};
 use policy_ext::{DateTimeValue, Decimal, Duration, IpAddr};
 
 /// What the extension function of a name makes of the values of its arguments.
@@ -70,7 +70,7 @@ fn decimal(x: &Value) -> Outcome
     ensures { result ≡ constructed decimal decimal_in x.now }
 {
     match x.kind() {
-        ValueKind::String(text) => match read_decimal(text) {
+        ValueKind::String(text) => match read_decimal(text.as_str()) {
             Some(value) => Outcome::Value(Value::decimal(value)),
             None => Outcome::Error(EvalError::ExtensionText),
         },
@@ -78,17 +78,18 @@ fn decimal(x: &Value) -> Outcome
     }
 }
 
-fn read_decimal(text: &Text) -> Option<Decimal>
+/// The decimal that a text stands for, where it stands for one.
+pub fn read_decimal(text: &str) -> Option<Decimal>
     ensures { result ≡ decimal_in text.now }
 {
-    Decimal::read(text.as_str())
+    Decimal::read(text)
 }
 
 fn ip(x: &Value) -> Outcome
     ensures { result ≡ constructed ip range_in x.now }
 {
     match x.kind() {
-        ValueKind::String(text) => match read_ip(text) {
+        ValueKind::String(text) => match read_ip(text.as_str()) {
             Some(value) => Outcome::Value(Value::ip(value)),
             None => Outcome::Error(EvalError::ExtensionText),
         },
@@ -96,17 +97,18 @@ fn ip(x: &Value) -> Outcome
     }
 }
 
-fn read_ip(text: &Text) -> Option<IpAddr>
+/// The range of IP addresses that a text stands for, where it stands for one.
+pub fn read_ip(text: &str) -> Option<IpAddr>
     ensures { result ≡ range_in text.now }
 {
-    IpAddr::read(text.as_str())
+    IpAddr::read(text)
 }
 
 fn datetime(x: &Value) -> Outcome
     ensures { result ≡ constructed datetime datetime_in x.now }
 {
     match x.kind() {
-        ValueKind::String(text) => match read_datetime(text) {
+        ValueKind::String(text) => match read_datetime(text.as_str()) {
             Some(value) => Outcome::Value(Value::datetime(value)),
             None => Outcome::Error(EvalError::ExtensionText),
         },
@@ -114,17 +116,18 @@ fn datetime(x: &Value) -> Outcome
     }
 }
 
-fn read_datetime(text: &Text) -> Option<DateTimeValue>
+/// The point in time that a text stands for, where it stands for one.
+pub fn read_datetime(text: &str) -> Option<DateTimeValue>
     ensures { result ≡ datetime_in text.now }
 {
-    DateTimeValue::read(text.as_str())
+    DateTimeValue::read(text)
 }
 
 fn duration(x: &Value) -> Outcome
     ensures { result ≡ constructed duration duration_in x.now }
 {
     match x.kind() {
-        ValueKind::String(text) => match read_duration(text) {
+        ValueKind::String(text) => match read_duration(text.as_str()) {
             Some(value) => Outcome::Value(Value::duration(value)),
             None => Outcome::Error(EvalError::ExtensionText),
         },
@@ -132,10 +135,11 @@ fn duration(x: &Value) -> Outcome
     }
 }
 
-fn read_duration(text: &Text) -> Option<Duration>
+/// The duration that a text stands for, where it stands for one.
+pub fn read_duration(text: &str) -> Option<Duration>
     ensures { result ≡ duration_in text.now }
 {
-    Duration::read(text.as_str())
+    Duration::read(text)
 }
 
 fn is_ipv4(x: &Value) -> Outcome

@@ -15,9 +15,8 @@ mod outcome;
 mod pattern;
 mod shape;
 mod slots;
-#[cfg(test)]
-mod tests;
 
+pub use calls::{read_datetime, read_decimal, read_duration, read_ip};
 pub use eval::evaluate;
 pub use expr::{BuildError, Expr, ExprKind};
 pub use functions::{BinaryFunction, ExtensionFunction, UnaryFunction, extension_function};

@@ -1,6 +1,5 @@
-use Rattle.std.proofs.Common.{subst}
 use Rattle.policy_core.proofs.ReadSteps.{datetime_read}
 use Rattle.policy_core.proofs.calls.read_datetime.Goals as goal
 
 pub returns : goal.returns
-returns c = datetime_read c.args.text.now c.read.result (rw c.as_str.ensures at c.read.ensures)
+returns c = datetime_read c.args.text.now c.read.result c.read.ensures
