@@ -8,7 +8,7 @@ use Rattle.policy_core.specs.declared.kinds.Var.{Var}
 use Rattle.policy_core.specs.declared.kinds.Var.TheVariants.{Context}
 use Rattle.policy_core.specs.declared.kinds.BinaryOp.{BinaryOp}
 use Rattle.policy_core.specs.declared.kinds.BinaryOp.TheVariants.{In}
-use Rattle.policy_core.specs.Tree.{Tree, lit, var, slot, ite, conj, disj, unary, binary, attr, has, like, is_type, set, rec, Trees, no_trees, tree, Named, no_named, named}
+use Rattle.policy_core.specs.Tree.{Tree, lit, var, slot, ite, conj, disj, unary, binary, attr, has, like, is_type, call, set, rec, Trees, no_trees, tree, Named, no_named, named}
 use Rattle.policy_set.specs.declared.template.TemplateBody.{TemplateBody}
 use Rattle.policy_typecheck.specs.declared.truth_type.TruthType.{TruthType}
 use Rattle.policy_typecheck.specs.declared.truth_type.TruthType.TheVariants as typed
@@ -82,6 +82,7 @@ module _ (d : SchemaData) (g : Environment) where
     root_demands (has x n a) = root_demands x
     root_demands (like x p a) = root_demands x
     root_demands (is_type x t a) = root_demands x
+    root_demands (call f xs a) = demands_each xs
     root_demands (set xs a) = demands_each xs
     root_demands (rec xs a) = demands_named xs
 

@@ -116,7 +116,7 @@ pub(crate) fn add_asked<T>(
             add_asked(alloc, asked, schema, env, request, x)?;
             Ok(TruthType::Bool)
         }
-        ExprKind::Set(xs) => {
+        ExprKind::ExtensionFunctionApp(_, xs) | ExprKind::Set(xs) => {
             add_each(alloc, asked, schema, env, request, xs)?;
             Ok(TruthType::Bool)
         }

@@ -1,11 +1,10 @@
 -- Expressions with literals in the places of slots: they are as deep, and without any literal they are the same.
-use Rattle.std.proofs.Common.{◌≡◌, ℕ, List, [], ◌∷◌, ◌++◌, map, Option, Some, None, ap, ◌∙◌, sym, refl, arith, append_assoc}
-use Rattle.std.specs.Map.{keys_of}
+use Rattle.std.proofs.Common.{◌≡◌, ℕ, List, [], ◌∷◌, map, Option, Some, None, ap, refl, arith}
 use Rattle.policy_names.specs.declared.entity_uid.EntityUID.{EntityUID}
 use Rattle.policy_core.specs.declared.kinds.SlotId.{SlotId}
 use Rattle.policy_core.specs.declared.kinds.SlotId.TheVariants.{Principal, Resource}
 use Rattle.policy_core.specs.declared.kinds.SlotValues.{SlotValues}
-use Rattle.policy_core.specs.Tree.{Tree, lit, var, slot, ite, conj, disj, unary, binary, attr, has, like, is_type, set, rec, Trees, no_trees, tree, Named, no_named, named, depth_of, deepest, deepest_named, trees_of, named_of}
+use Rattle.policy_core.specs.Tree.{Tree, lit, var, slot, ite, conj, disj, unary, binary, attr, has, like, is_type, call, set, rec, Trees, no_trees, tree, Named, no_named, named, depth_of, deepest, deepest_named, trees_of, named_of}
 use Rattle.policy_core.specs.Slots.{value_of, in_place, filled, filled_all, filled_named, filled_entry}
 
 no_values : (i : SlotId) → value_of (record { principal = None; resource = None }) i ≡ None
@@ -31,6 +30,7 @@ module _ {A : Type 0} where
     depth_filled w (has x n a) = omega (arith, depth_filled w x)
     depth_filled w (like x p a) = omega (arith, depth_filled w x)
     depth_filled w (is_type x t a) = omega (arith, depth_filled w x)
+    depth_filled w (call f xs a) = omega (arith, depth_filled_all w xs)
     depth_filled w (set xs a) = omega (arith, depth_filled_all w xs)
     depth_filled w (rec xs a) = omega (arith, depth_filled_named w xs)
 
@@ -64,6 +64,7 @@ module _ {A : Type 0} where
     filled_with_none (has x n a) = λ i. has (filled_with_none x i) n a
     filled_with_none (like x p a) = λ i. like (filled_with_none x i) p a
     filled_with_none (is_type x t a) = λ i. is_type (filled_with_none x i) t a
+    filled_with_none (call f xs a) = λ i. call f (all_filled_with_none xs i) a
     filled_with_none (set xs a) = λ i. set (all_filled_with_none xs i) a
     filled_with_none (rec xs a) = λ i. rec (named_filled_with_none xs i) a
 

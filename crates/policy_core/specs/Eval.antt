@@ -14,8 +14,9 @@ use Rattle.policy_core.specs.declared.outcome.EvalError.{EvalError}
 use Rattle.policy_core.specs.declared.outcome.EvalError.TheVariants.{TypeFault}
 use Rattle.policy_core.specs.declared.outcome.Outcome.{Outcome}
 use Rattle.policy_core.specs.declared.outcome.Outcome.TheVariants.{Value, Error}
+use Rattle.policy_core.specs.Calls.{call_outcome}
 use Rattle.policy_core.specs.Operators.{unary_value, binary_value, attr_value, has_value, like_value, is_value}
-use Rattle.policy_core.specs.Tree.{Tree, lit, var, slot, ite, conj, disj, unary, binary, attr, has, like, is_type, set, rec, Trees, no_trees, tree, Named, no_named, named}
+use Rattle.policy_core.specs.Tree.{Tree, lit, var, slot, ite, conj, disj, unary, binary, attr, has, like, is_type, call, set, rec, Trees, no_trees, tree, Named, no_named, named}
 
 abbrev pub result_map : {X Y E : Type 0} → (X → Y) → Result X E → Result Y E
 result_map f (Ok x) = Ok (f x)
@@ -93,6 +94,7 @@ module _ {A : Type 0} where
     eval (has x n a) q s = with_value (eval x q s) (λ v. has_value v n s)
     eval (like x p a) q s = with_value (eval x q s) (λ v. like_value v p)
     eval (is_type x t a) q s = with_value (eval x q s) (λ v. is_value v t)
+    eval (call f xs a) q s = call_outcome f (eval_all xs q s)
     eval (set xs a) q s = set_outcome (eval_all xs q s)
     eval (rec xs a) q s = record_outcome (eval_named xs q s)
 

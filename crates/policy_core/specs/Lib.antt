@@ -1,4 +1,7 @@
+pub mod Calls
 pub mod Eval
+pub mod Functions
+pub mod Laws
 pub mod Like
 pub mod Operators
 pub mod Shape

@@ -5,7 +5,7 @@ use Rattle.std.specs.Ordering.{is_eq}
 use Rattle.std.specs.Str.{chars}
 use Rattle.policy_names.specs.declared.entity_uid.EntityUID.{EntityUID}
 use Rattle.policy_names.specs.Uid.{text_cmp, uid_cmp}
-use Rattle.policy_values.specs.Value.{Val, truth, long, string, entity, set, rec, Vals, no_vals, val, field_at}
+use Rattle.policy_values.specs.Value.{Val, truth, long, string, entity, set, rec, datetime, duration, Vals, no_vals, val, field_at}
 use Rattle.policy_values.specs.ValueOrder.{val_cmp}
 use Rattle.policy_values.specs.Sets.{is_empty, is_element, has_all, has_some}
 use Rattle.policy_store.specs.Store.{StoredEntity, Store, entity_at}
@@ -73,9 +73,11 @@ in_value (entity x) (entity y) s = Value (truth (within x y s))
 in_value (entity x) (set ys) s = within_any x ys s
 in_value x y s = Error TypeFault
 
--- a comparison asks for two longs
+-- a comparison asks for two longs, two datetimes or two durations
 abbrev pub compared : (ℤ → ℤ → Bool) → Val → Val → Outcome
 compared test (long m) (long n) = Value (truth (test m n))
+compared test (datetime m) (datetime n) = Value (truth (test m n))
+compared test (duration m) (duration n) = Value (truth (test m n))
 compared test x y = Error TypeFault
 
 -- arithmetic asks for two longs; what 64 bits do not hold is an overflow

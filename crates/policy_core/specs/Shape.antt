@@ -1,6 +1,6 @@
 -- Expressions that differ in marks at most.
 use Rattle.std.specs.Prelude.{◌≡◌}
-use Rattle.policy_core.specs.Tree.{Tree, lit, var, slot, ite, conj, disj, unary, binary, attr, has, like, is_type, set, rec, Trees, no_trees, tree, Named, no_named, named}
+use Rattle.policy_core.specs.Tree.{Tree, lit, var, slot, ite, conj, disj, unary, binary, attr, has, like, is_type, call, set, rec, Trees, no_trees, tree, Named, no_named, named}
 
 module _ {A B : Type 0} where
   abbrev mutual
@@ -17,6 +17,7 @@ module _ {A B : Type 0} where
     SameShape (has x m a) (has u n b) = SameShape x u × (m ≡ n)
     SameShape (like x p a) (like u q b) = SameShape x u × (p ≡ q)
     SameShape (is_type x s a) (is_type u t b) = SameShape x u × (s ≡ t)
+    SameShape (call f xs a) (call g us b) = (f ≡ g) × SameShapes xs us
     SameShape (set xs a) (set us b) = SameShapes xs us
     SameShape (rec xs a) (rec us b) = SameNamed xs us
     SameShape x u = ⊥

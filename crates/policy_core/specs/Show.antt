@@ -4,7 +4,7 @@ use Rattle.policy_names.specs.Show.{uid_text}
 use Rattle.policy_core.specs.declared.expr.BuildError.{BuildError}
 use Rattle.policy_core.specs.declared.expr.BuildError.TheVariants.{Nested, OutOfMemory}
 use Rattle.policy_core.specs.declared.outcome.EvalError.{EvalError}
-use Rattle.policy_core.specs.declared.outcome.EvalError.TheVariants.{MissingEntity, MissingAttribute, MissingTag, TypeFault, IntegerOverflow}
+use Rattle.policy_core.specs.declared.outcome.EvalError.TheVariants.{MissingEntity, MissingAttribute, MissingTag, TypeFault, IntegerOverflow, ExtensionOverflow, ExtensionText, UnknownFunction, Arity}
 
 -- the message of an error of evaluation
 abbrev pub error_text : EvalError → List ℕ
@@ -13,6 +13,10 @@ error_text MissingAttribute = codes "attribute does not exist"
 error_text MissingTag = codes "tag does not exist"
 error_text TypeFault = codes "operand of a wrong type"
 error_text IntegerOverflow = codes "integer overflow"
+error_text ExtensionOverflow = codes "datetime or duration overflow"
+error_text ExtensionText = codes "text of no extension value"
+error_text UnknownFunction = codes "unknown extension function"
+error_text Arity = codes "wrong number of arguments"
 
 -- why an expression was not built
 abbrev pub build_error_text : BuildError → List ℕ

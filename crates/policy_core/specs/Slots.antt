@@ -5,7 +5,7 @@ use Rattle.policy_core.specs.declared.kinds.Literal.TheVariants as literal
 use Rattle.policy_core.specs.declared.kinds.SlotId.{SlotId}
 use Rattle.policy_core.specs.declared.kinds.SlotId.TheVariants.{Principal, Resource}
 use Rattle.policy_core.specs.declared.kinds.SlotValues.{SlotValues}
-use Rattle.policy_core.specs.Tree.{Tree, lit, var, slot, ite, conj, disj, unary, binary, attr, has, like, is_type, set, rec, Trees, no_trees, tree, Named, no_named, named}
+use Rattle.policy_core.specs.Tree.{Tree, lit, var, slot, ite, conj, disj, unary, binary, attr, has, like, is_type, call, set, rec, Trees, no_trees, tree, Named, no_named, named}
 
 -- the id for a slot, where there is one
 abbrev pub value_of : SlotValues → SlotId → Option EntityUID
@@ -28,6 +28,7 @@ module _ {A : Type 0} where
     has_slot (has x n a) = has_slot x
     has_slot (like x p a) = has_slot x
     has_slot (is_type x t a) = has_slot x
+    has_slot (call f xs a) = some_has_slot xs
     has_slot (set xs a) = some_has_slot xs
     has_slot (rec xs a) = some_named_has_slot xs
 
@@ -59,6 +60,7 @@ module _ {A : Type 0} where
     filled w (has x n a) = has (filled w x) n a
     filled w (like x p a) = like (filled w x) p a
     filled w (is_type x t a) = is_type (filled w x) t a
+    filled w (call f xs a) = call f (filled_all w xs) a
     filled w (set xs a) = set (filled_all w xs) a
     filled w (rec xs a) = rec (filled_named w xs) a
 

@@ -22,6 +22,7 @@ mutual
     has : Tree A → List ℕ → A → Tree A
     like : Tree A → List PatternElem → A → Tree A
     is_type : Tree A → List ℕ → A → Tree A
+    call : List ℕ → Trees A → A → Tree A
     set : Trees A → A → Tree A
     rec : Named A → A → Tree A
 
@@ -53,6 +54,7 @@ module _ {A : Type 0} where
     depth_of (has x n a) = depth_of x + 1
     depth_of (like x p a) = depth_of x + 1
     depth_of (is_type x t a) = depth_of x + 1
+    depth_of (call f xs a) = deepest xs + 1
     depth_of (set xs a) = deepest xs + 1
     depth_of (rec xs a) = deepest_named xs + 1
 
@@ -77,6 +79,7 @@ module _ {A : Type 0} where
   mark_of (has x n a) = a
   mark_of (like x p a) = a
   mark_of (is_type x t a) = a
+  mark_of (call f xs a) = a
   mark_of (set xs a) = a
   mark_of (rec xs a) = a
 
@@ -94,6 +97,7 @@ module _ {A : Type 0} where
   with_mark (has x n a) b = has x n b
   with_mark (like x p a) b = like x p b
   with_mark (is_type x t a) b = is_type x t b
+  with_mark (call f xs a) b = call f xs b
   with_mark (set xs a) b = set xs b
   with_mark (rec xs a) b = rec xs b
 

@@ -13,7 +13,7 @@ use Rattle.policy_core.specs.contracts.kinds.PatternElem.{the_row as element_row
 use Rattle.policy_core.specs.declared.kinds.PatternElem.{PatternElem}
 use Rattle.policy_core.specs.contracts.kinds.UnaryOp.{the_row as unary_row}
 use Rattle.policy_core.specs.contracts.kinds.BinaryOp.{the_row as binary_row}
-use Rattle.policy_core.specs.Tree.{Tree, lit, var, slot, ite, conj, disj, unary, binary, attr, has, like, is_type, set, rec, Trees, no_trees, tree, Named, no_named, named, Mark}
+use Rattle.policy_core.specs.Tree.{Tree, lit, var, slot, ite, conj, disj, unary, binary, attr, has, like, is_type, call, set, rec, Trees, no_trees, tree, Named, no_named, named, Mark}
 
 abbrev text : Coded (List ℕ)
 text = coded_list coded_ℕ
@@ -41,6 +41,7 @@ module _ {A : Type 0} (c : Coded A) where
     code (slot i a) = gcons (gnum 11) (gcons (slot_row.coded.code i) (c.code a))
     code (like x p a) = gcons (gnum 12) (gcons (gcons (code x) (pattern.code p)) (c.code a))
     code (is_type x t a) = gcons (gnum 13) (gcons (gcons (code x) (text.code t)) (c.code a))
+    code (call f xs a) = gcons (gnum 14) (gcons (gcons (text.code f) (codes xs)) (c.code a))
 
     pub codes : Trees A → Gv
     codes no_trees = gnil
@@ -66,6 +67,7 @@ module _ {A : Type 0} (c : Coded A) where
     inj (slot l a) (slot m b) p = λ i. slot (slot_row.coded.inj l m (ap (λ g. head (tail g)) p) i) (c.inj a b (ap (λ g. tail (tail g)) p) i)
     inj (like x n a) (like x' n' b) p = λ i. like (inj x x' (ap (λ g. head (head (tail g))) p) i) (pattern.inj n n' (ap (λ g. tail (head (tail g))) p) i) (c.inj a b (ap (λ g. tail (tail g)) p) i)
     inj (is_type x n a) (is_type x' n' b) p = λ i. is_type (inj x x' (ap (λ g. head (head (tail g))) p) i) (text.inj n n' (ap (λ g. tail (head (tail g))) p) i) (c.inj a b (ap (λ g. tail (tail g)) p) i)
+    inj (call f xs a) (call g ys b) p = λ i. call (text.inj f g (ap (λ g. head (head (tail g))) p) i) (injs xs ys (ap (λ g. tail (head (tail g))) p) i) (c.inj a b (ap (λ g. tail (tail g)) p) i)
     inj x y p = absurd (omega (arith, ap (λ g. num (head g)) p))
 
     pub injs : (xs ys : Trees A) → codes xs ≡ codes ys → xs ≡ ys

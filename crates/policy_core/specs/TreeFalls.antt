@@ -5,7 +5,7 @@ use denote.Param.Weighed.{most}
 use Rattle.policy_core.specs.Tree.{Tree, Mark, depth_of, deepest, deepest_named, trees_of, named_of}
 use Rattle.policy_core.specs.TreeView.{tree_of}
 use Rattle.policy_core.specs.declared.expr.ExprKind.{ExprKind}
-use Rattle.policy_core.specs.declared.expr.ExprKind.TheVariants.{Set, Record}
+use Rattle.policy_core.specs.declared.expr.ExprKind.TheVariants.{ExtensionFunctionApp, Set, Record}
 use Rattle.policy_core.specs.declared.expr.Expr.TheInside.{Inside}
 use Rattle.policy_core.specs.declared.expr.Expr.TheDeep.{deep-Expr, deep-ExprKind}
 
@@ -19,6 +19,7 @@ most_le-deepest_named (e ∷ es) = omega (arith, most_le-deepest_named es)
 
 module _ {T : Type 0} where
   kind_falls : (k : ExprKind T) (a : Mark T) → deep-ExprKind T k ≤ depth_of (tree_of k a)
+  kind_falls (ExtensionFunctionApp f xs) a = omega (arith, most_le-deepest xs.items)
   kind_falls (Set xs) a = omega (arith, most_le-deepest xs.items)
   kind_falls (Record m) a = omega (arith, most_le-deepest_named m.entries)
   kind_falls k a = omega arith

@@ -1,7 +1,7 @@
 -- One level of an expression, whose parts are seen already.
-use Rattle.policy_core.specs.Tree.{Tree, lit, var, slot, ite, conj, disj, unary, binary, attr, has, like, is_type, set, rec, Mark, trees_of, named_of}
+use Rattle.policy_core.specs.Tree.{Tree, lit, var, slot, ite, conj, disj, unary, binary, attr, has, like, is_type, call, set, rec, Mark, trees_of, named_of}
 use Rattle.policy_core.specs.declared.expr.ExprKind.{ExprKind}
-use Rattle.policy_core.specs.declared.expr.ExprKind.TheVariants.{Lit, Var, Slot, If, And, Or, UnaryApp, BinaryApp, GetAttr, HasAttr, Like, Is, Set, Record}
+use Rattle.policy_core.specs.declared.expr.ExprKind.TheVariants.{Lit, Var, Slot, If, And, Or, UnaryApp, BinaryApp, GetAttr, HasAttr, Like, Is, ExtensionFunctionApp, Set, Record}
 
 module _ {T : Type 0} where
   abbrev pub tree_of : ExprKind T → Mark T → Tree (Mark T)
@@ -17,5 +17,6 @@ module _ {T : Type 0} where
   tree_of (HasAttr x n) a = has x.value n a
   tree_of (Like x p) a = like x.value p a
   tree_of (Is x t) a = is_type x.value t a
+  tree_of (ExtensionFunctionApp f xs) a = call f (trees_of xs.items) a
   tree_of (Set xs) a = set (trees_of xs.items) a
   tree_of (Record m) a = rec (named_of m.entries) a

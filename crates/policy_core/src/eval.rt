@@ -5,11 +5,13 @@ ghost use Rattle.policy_values.specs.Value.{entity, rec};
 ghost use Rattle.policy_store.specs.Request.{IsWhole, known};
 ghost use Rattle.policy_core.specs.Tree.{trees_of, named_of};
 ghost use Rattle.policy_core.specs.Eval.{eval, eval_all, eval_named, result_map, known_fields, literal_value, variable_value, truth_of, truth_outcome, with_value};
+ghost use Rattle.policy_core.specs.Calls.{call_outcome};
 ghost use Rattle.policy_core.specs.Operators.{unary_value, binary_value, attr_value, has_value, like_value, is_value};
 
+use crate::calls::call;
 use crate::operators::{apply, apply_two, attribute, has_attribute, is_of_type, matches_pattern};
 use crate::{
-    BinaryOp, Context, Entities, EntityType, EntityUID, EvalError, Expr, ExprKind, Literal,
+    BinaryOp, Context, Entities, EntityType, EntityUID, EvalError, Expr, ExprKind, Literal, Name,
     Outcome, Pattern, Request, Text, UnaryOp, Value, ValueKind, Var, push_entry, try_clone_fields,
 };
 use std::alloc::{AllocError, Global};
@@ -75,6 +77,10 @@ pub fn evaluate<T>(
         ExprKind::Is(x, entity_type) => {
             let x = evaluate(alloc, x, request, entities)?;
             Ok(is_of(x, entity_type))
+        }
+        ExprKind::ExtensionFunctionApp(name, args) => {
+            let args = evaluate_all(alloc, args, request, entities)?;
+            Ok(call_of(name, args))
         }
         ExprKind::Set(items) => match evaluate_all(alloc, items, request, entities)? {
             Ok(values) => Ok(Outcome::Value(Value::set(alloc, values)?)),
@@ -305,5 +311,19 @@ fn is_of(x: Outcome, entity_type: &EntityType) -> Outcome
             outcome
         }
         Outcome::Error(error) => Outcome::Error(error),
+    }
+}
+
+// The call of a function on the values of its arguments; an error stays.
+fn call_of(name: &Name, args: Result<Vec<Value>, EvalError>) -> Outcome
+    ensures { result ≡ call_outcome name.now (result_map (λ v. v.items) args) }
+{
+    match args {
+        Ok(args) => {
+            let outcome = call(name, &args);
+            drop(args);
+            outcome
+        }
+        Err(error) => Outcome::Error(error),
     }
 }

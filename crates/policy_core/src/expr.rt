@@ -1,11 +1,11 @@
 //! Expressions.
 
 ghost use Rattle.std.specs.Prelude.{◌≡◌, ◌≢◌, ◌≤◌, IfOk, max, ◌↔◌};
-ghost use Rattle.policy_core.specs.Tree.{Tree, lit, var, slot, ite, conj, disj, unary, binary, attr, has, like, is_type, set, rec, Mark, mark_of, with_mark, depth_of, deepest, trees_of, deepest_named, named_of};
+ghost use Rattle.policy_core.specs.Tree.{Tree, lit, var, slot, ite, conj, disj, unary, binary, attr, has, like, is_type, call, set, rec, Mark, mark_of, with_mark, depth_of, deepest, trees_of, deepest_named, named_of};
 ghost use Rattle.policy_core.specs.TreeView.{tree_of};
 
 use crate::{BinaryOp, Literal, Loc, Note, Pattern, SlotId, UnaryOp, Var};
-use policy_names::{EntityType, Text};
+use policy_names::{EntityType, Name, Text};
 use std::alloc::{AllocError, Global};
 use std::collections::BTreeMap;
 use std::fmt;
@@ -50,6 +50,8 @@ pub enum ExprKind<T> {
     Like(Box<Expr<T>>, Pattern),
     /// `is`: whether an id is of the type.
     Is(Box<Expr<T>>, EntityType),
+    /// A call of the extension function of a name.
+    ExtensionFunctionApp(Name, Vec<Expr<T>>),
     /// A set of elements.
     Set(Vec<Expr<T>>),
     /// A record of fields under their keys.
@@ -405,6 +407,29 @@ impl<T: Drop> Expr<T> {
         let x = Box::new(alloc, x).map_err(AllocError::from)?;
         Ok(Expr {
             kind: ExprKind::Is(x, entity_type),
+            depth: depth + 1,
+            note,
+            loc,
+        })
+    }
+
+    /// The call of an extension function. Errs with `Nested` exactly where it would be more than 400 deep.
+    pub fn extension_function_app(
+        name: Name,
+        args: Vec<Expr<T>>,
+        note: T,
+        loc: Option<Loc>,
+    ) -> Result<Expr<T>, BuildError>
+        ensures ok { IfOk result (λ e. e ≡ call name (trees_of args.items) (record { note = note; loc = loc })) }
+        ensures nested { (result ≡ Err BuildError.Nested) ↔ (400 ≤ deepest (trees_of args.items)) }
+    {
+        let depth = deepest_of(&args);
+        if depth >= MAX_DEPTH {
+            drop(args);
+            return Err(BuildError::Nested);
+        }
+        Ok(Expr {
+            kind: ExprKind::ExtensionFunctionApp(name, args),
             depth: depth + 1,
             note,
             loc,

@@ -94,6 +94,11 @@ fn fill<T: Note>(alloc: Global, e: &Expr<T>, values: &SlotValues) -> Result<Expr
             let entity_type = entity_type.try_clone()?;
             with_kind(alloc, e, ExprKind::Is(x, entity_type))
         }
+        ExprKind::ExtensionFunctionApp(name, args) => {
+            let name = name.try_clone()?;
+            let args = fill_all(alloc, args, values)?;
+            with_kind(alloc, e, ExprKind::ExtensionFunctionApp(name, args))
+        }
         ExprKind::Set(items) => {
             let items = fill_all(alloc, items, values)?;
             with_kind(alloc, e, ExprKind::Set(items))

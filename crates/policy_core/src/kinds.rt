@@ -85,9 +85,9 @@ pub enum UnaryOp {
 pub enum BinaryOp {
     /// `==` of any two values.
     Eq,
-    /// `<` of two longs.
+    /// `<` of two longs, two datetimes or two durations.
     Less,
-    /// `<=` of two longs.
+    /// `<=` of two longs, two datetimes or two durations.
     LessEq,
     /// `+` of two longs.
     Add,

@@ -99,6 +99,8 @@ fn less(x: &Value, y: &Value) -> Outcome
 {
     match (x.kind(), y.kind()) {
         (ValueKind::Long(m), ValueKind::Long(n)) => Outcome::Value(Value::bool(*m < *n)),
+        (ValueKind::DateTime(m), ValueKind::DateTime(n)) => Outcome::Value(Value::bool(*m < *n)),
+        (ValueKind::Duration(m), ValueKind::Duration(n)) => Outcome::Value(Value::bool(*m < *n)),
         _ => Outcome::Error(EvalError::TypeFault),
     }
 }
@@ -108,6 +110,8 @@ fn less_eq(x: &Value, y: &Value) -> Outcome
 {
     match (x.kind(), y.kind()) {
         (ValueKind::Long(m), ValueKind::Long(n)) => Outcome::Value(Value::bool(*m <= *n)),
+        (ValueKind::DateTime(m), ValueKind::DateTime(n)) => Outcome::Value(Value::bool(*m <= *n)),
+        (ValueKind::Duration(m), ValueKind::Duration(n)) => Outcome::Value(Value::bool(*m <= *n)),
         _ => Outcome::Error(EvalError::TypeFault),
     }
 }

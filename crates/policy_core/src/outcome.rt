@@ -16,6 +16,14 @@ pub enum EvalError {
     TypeFault,
     /// A number does not fit 64 bits.
     IntegerOverflow,
+    /// A datetime or a duration does not fit 64 bits.
+    ExtensionOverflow,
+    /// The text of an extension value stands for none.
+    ExtensionText,
+    /// There is no extension function of the name.
+    UnknownFunction,
+    /// The extension function takes another number of arguments.
+    Arity,
 }
 
 impl fmt::Display for EvalError {
@@ -31,6 +39,10 @@ impl fmt::Display for EvalError {
             EvalError::MissingTag => f.write_str("tag does not exist"),
             EvalError::TypeFault => f.write_str("operand of a wrong type"),
             EvalError::IntegerOverflow => f.write_str("integer overflow"),
+            EvalError::ExtensionOverflow => f.write_str("datetime or duration overflow"),
+            EvalError::ExtensionText => f.write_str("text of no extension value"),
+            EvalError::UnknownFunction => f.write_str("unknown extension function"),
+            EvalError::Arity => f.write_str("wrong number of arguments"),
         }
     }
 }

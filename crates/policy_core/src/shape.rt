@@ -4,7 +4,7 @@ ghost use Rattle.std.specs.Prelude.{◌≡◌, ◌↔◌, IsTrue};
 ghost use Rattle.policy_core.specs.Tree.{trees_of, named_of};
 ghost use Rattle.policy_core.specs.Shape.{SameShape, SameShapes, SameNamed};
 
-use crate::{BinaryOp, EntityType, Expr, ExprKind, Literal, Pattern, SlotId, UnaryOp, Var};
+use crate::{BinaryOp, EntityType, Expr, ExprKind, Literal, Name, Pattern, SlotId, UnaryOp, Var};
 use policy_names::Text;
 use std::collections::BTreeMap;
 
@@ -40,6 +40,9 @@ fn same_shape<T, U>(a: &Expr<T>, b: &Expr<U>) -> bool
         (ExprKind::HasAttr(x, m), ExprKind::HasAttr(u, n)) => same_shape(x, u) && same_text(m, n),
         (ExprKind::Like(x, p), ExprKind::Like(u, q)) => same_shape(x, u) && same_pattern(p, q),
         (ExprKind::Is(x, s), ExprKind::Is(u, t)) => same_shape(x, u) && same_type(s, t),
+        (ExprKind::ExtensionFunctionApp(f, xs), ExprKind::ExtensionFunctionApp(g, us)) => {
+            same_name(f, g) && same_shapes(xs, us)
+        }
         (ExprKind::Set(xs), ExprKind::Set(us)) => same_shapes(xs, us),
         (ExprKind::Record(xs), ExprKind::Record(us)) => same_named(xs, us),
         _ => false,
@@ -114,6 +117,12 @@ fn same_pattern(a: &Pattern, b: &Pattern) -> bool
 }
 
 fn same_type(a: &EntityType, b: &EntityType) -> bool
+    ensures { IsTrue result ↔ (a.now ≡ b.now) }
+{
+    *a == *b
+}
+
+fn same_name(a: &Name, b: &Name) -> bool
     ensures { IsTrue result ↔ (a.now ≡ b.now) }
 {
     *a == *b

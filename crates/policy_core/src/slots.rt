@@ -32,7 +32,7 @@ fn has_slot<T>(e: &Expr<T>) -> bool
         | ExprKind::HasAttr(x, _)
         | ExprKind::Like(x, _)
         | ExprKind::Is(x, _) => has_slot(x),
-        ExprKind::Set(items) => some_has_slot(items),
+        ExprKind::ExtensionFunctionApp(_, items) | ExprKind::Set(items) => some_has_slot(items),
         ExprKind::Record(fields) => some_named_has_slot(fields),
     }
 }

@@ -13,3 +13,4 @@ pub mod DurationText
 pub mod DateTimeFacts
 pub mod DayFacts
 pub mod DateTimeText
+pub mod Readings

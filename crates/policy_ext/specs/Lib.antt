@@ -11,3 +11,4 @@ pub mod DurationReading
 pub mod DateTime
 pub mod DateTimeReading
 pub mod DateTimeWriting
+pub mod DateTimeValue

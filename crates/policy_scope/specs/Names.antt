@@ -10,7 +10,7 @@ use Rattle.policy_names.specs.Uid.{text_cmp, uid_cmp}
 use Rattle.policy_names.specs.Basename.{is_action_type}
 use Rattle.policy_core.specs.declared.kinds.Loc.{Loc}
 use Rattle.policy_core.specs.declared.kinds.Literal.TheVariants as literal
-use Rattle.policy_core.specs.Tree.{Tree, lit, var, slot, ite, conj, disj, unary, binary, attr, like, is_type, set, rec, Trees, no_trees, tree, Named, no_named, named, Mark}
+use Rattle.policy_core.specs.Tree.{Tree, lit, var, slot, ite, conj, disj, unary, binary, attr, like, is_type, call, set, rec, Trees, no_trees, tree, Named, no_named, named, Mark}
 use Rattle.policy_core.specs.Tree as core
 use Rattle.policy_set.specs.declared.template.TemplateBody.{TemplateBody}
 use Rattle.schema_core.specs.Schema.{SchemaData, ActionData, type_at, action_at}
@@ -46,6 +46,7 @@ module _ {T : Type 0} where
     names_in (core.has x n a) = names_in x
     names_in (like x p a) = names_in x
     names_in (is_type x t a) = names_in x ++ (a_type t, a.loc) ∷ []
+    names_in (call f xs a) = names_in_all xs
     names_in (set xs a) = names_in_all xs
     names_in (rec xs a) = names_in_named xs
 

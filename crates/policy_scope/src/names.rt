@@ -167,7 +167,9 @@ fn add_names<'a, T>(
             add_names(x, names)?;
             Ok(names.push((Mention::EntityType(ty), expr.source_loc()))?)
         }
-        ExprKind::Set(items) => add_names_of_all(items, names),
+        ExprKind::ExtensionFunctionApp(_, items) | ExprKind::Set(items) => {
+            add_names_of_all(items, names)
+        }
         ExprKind::Record(fields) => add_names_of_named(fields, names),
     }
 }

@@ -1,5 +1,5 @@
 -- A scope is four deep at most, so that the body alone decides whether a condition is too deep.
-use Rattle.std.proofs.Common.{◌≡◌, ◌<◌, ◌≤◌, ◌↔◌, arith}
+use Rattle.std.proofs.Common.{◌<◌, ◌≤◌, ◌↔◌, arith}
 use Rattle.policy_core.specs.Tree.{depth_of}
 use Rattle.policy_core.specs.declared.kinds.Var.{Var}
 use Rattle.policy_core.specs.declared.kinds.Var.TheVariants.{Principal, Resource}
@@ -8,7 +8,7 @@ use Rattle.policy_set.specs.declared.constraint.PrincipalOrResourceConstraint.{P
 use Rattle.policy_set.specs.declared.constraint.PrincipalOrResourceConstraint.TheVariants.{Any, Eq, In}
 use Rattle.policy_set.specs.declared.constraint.ActionConstraint.{ActionConstraint}
 use Rattle.policy_set.specs.declared.constraint.ActionConstraint.TheVariants as action
-use Rattle.policy_set.specs.Condition.{Plain, scope_part, action_part, scope_of, condition_of}
+use Rattle.policy_set.specs.Condition.{Plain, scope_part, action_part, condition_of}
 
 part_depth : (v : Var) (p : PrincipalOrResourceConstraint) → depth_of (scope_part v p) ≤ 2
 part_depth v Any = omega arith

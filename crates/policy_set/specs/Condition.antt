@@ -1,6 +1,6 @@
 -- The condition of a policy: ((principal && action) && resource) && body, where a part of the scope that asks for nothing
 -- is the literal true.
-use Rattle.std.specs.Prelude.{true, Option, None, List, ℕ}
+use Rattle.std.specs.Prelude.{true, None, List, ℕ}
 use Rattle.policy_names.specs.declared.entity_uid.EntityUID.{EntityUID}
 use Rattle.policy_core.specs.Tree.{Tree, Mark, lit, var, conj, binary}
 use Rattle.policy_core.specs.declared.kinds.Literal.TheVariants as literal

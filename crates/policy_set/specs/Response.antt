@@ -1,11 +1,10 @@
 -- The response to a request, from the outcomes of the policies' conditions.
-use Rattle.std.specs.Prelude.{ℕ, Bool, true, false, List, [], ◌∷◌, refl}
+use Rattle.std.specs.Prelude.{ℕ, true, List, [], ◌∷◌, refl}
 use Rattle.std.specs.Coded.{Coded, coded_ℕ, coded_list, coded×, code_by}
 use Rattle.policy_values.specs.Value.{truth}
 use Rattle.policy_store.specs.Store.{Store}
 use Rattle.policy_store.specs.declared.request.Request.{Request}
 use Rattle.policy_core.specs.Eval.{eval}
-use Rattle.policy_core.specs.declared.outcome.EvalError.{EvalError}
 use Rattle.policy_core.specs.declared.outcome.Outcome.{Outcome}
 use Rattle.policy_core.specs.declared.outcome.Outcome.TheVariants.{Value, Error}
 use Rattle.policy_set.specs.declared.constraint.Effect.{Effect}

@@ -7,8 +7,8 @@ use Rattle.std.specs.declared.cmp.Ordering.{Ordering}
 use Rattle.std.specs.Ordering.{match_ordering, ordering_reverse}
 use Rattle.std.specs.List.{AllByRecursion}
 use Rattle.std.specs.List.Sorted.{IsStrictlySortedBy}
-use Rattle.std.specs.Map.{keys_of}
 use Rattle.std.specs.BTreeSet.{insert_key}
+use Rattle.std.specs.Map.{keys_of}
 use Rattle.policy_values.specs.Ascending.{ascending_of}
 use Rattle.policy_values.specs.ValueLaws.{val_cmp_total}
 use Rattle.policy_values.specs.ValueOrder.{vals_cmp, val_cmp, insert_val, set_of, IsBelow, Ascends, IsBelowField, AscendsFields}

@@ -3,9 +3,11 @@ use Rattle.std.specs.Prelude.{ℕ, ◌+◌, max, Bool, ℤ, List, [], ◌∷◌,
 use Rattle.std.specs.Ordering.{is_eq}
 use Rattle.policy_names.specs.declared.entity_uid.EntityUID.{EntityUID}
 use Rattle.policy_names.specs.Uid.{text_cmp}
+use Rattle.policy_ext.specs.IpAddr.{Range}
 
 mutual
-  -- a boolean, a long, a string, an entity's id, a set or a record
+  -- a boolean, a long, a string, an entity's id, a set, a record or an extension value: a decimal by its ten-thousandths, a
+  -- range of IP addresses, a datetime by its milliseconds from 1970 on, a duration by its milliseconds
   pub data Val : Type 0 where
     truth : Bool → Val
     long : ℤ → Val
@@ -13,6 +15,10 @@ mutual
     entity : EntityUID → Val
     set : Vals → Val
     rec : Fields → Val
+    decimal : ℤ → Val
+    ip : Range → Val
+    datetime : ℤ → Val
+    duration : ℤ → Val
 
   -- the elements of a set
   pub data Vals : Type 0 where
@@ -33,6 +39,10 @@ abbrev mutual
   size_of (entity u) = 1
   size_of (set vs) = size_of_all vs + 1
   size_of (rec fs) = size_of_fields fs + 1
+  size_of (decimal n) = 1
+  size_of (ip r) = 1
+  size_of (datetime n) = 1
+  size_of (duration n) = 1
 
   pub size_of_all : Vals → ℕ
   size_of_all no_vals = 0

@@ -5,7 +5,8 @@ use Rattle.std.proofs.Common.{arith, ap}
 use base.Stored.{Gv, gnil, gnum, gcons, num}
 use Rattle.policy_names.specs.Uid.{coded_uid}
 use Rattle.policy_values.specs.Gv.{head, tail}
-use Rattle.policy_values.specs.Value.{Val, truth, long, string, entity, set, rec, Vals, no_vals, val, Fields, no_fields, field}
+use Rattle.policy_values.specs.RangeOrder.{coded_range}
+use Rattle.policy_values.specs.Value.{Val, truth, long, string, entity, set, rec, decimal, ip, datetime, duration, Vals, no_vals, val, Fields, no_fields, field}
 
 abbrev text : Coded (List ℕ)
 text = coded_list coded_ℕ
@@ -18,6 +19,10 @@ abbrev mutual
   code (entity u) = gcons (gnum 3) (coded_uid.code u)
   code (set vs) = gcons (gnum 4) (codes vs)
   code (rec fs) = gcons (gnum 5) (codes_fields fs)
+  code (decimal n) = gcons (gnum 6) (coded_ℤ.code n)
+  code (ip r) = gcons (gnum 7) (coded_range.code r)
+  code (datetime n) = gcons (gnum 8) (coded_ℤ.code n)
+  code (duration n) = gcons (gnum 9) (coded_ℤ.code n)
 
   pub codes : Vals → Gv
   codes no_vals = gnil
@@ -35,6 +40,10 @@ mutual
   inj (entity a) (entity b) p = ap entity (coded_uid.inj a b (ap tail p))
   inj (set a) (set b) p = ap set (inj_all a b (ap tail p))
   inj (rec a) (rec b) p = ap rec (inj_fields a b (ap tail p))
+  inj (decimal a) (decimal b) p = ap decimal (coded_ℤ.inj a b (ap tail p))
+  inj (ip a) (ip b) p = ap ip (coded_range.inj a b (ap tail p))
+  inj (datetime a) (datetime b) p = ap datetime (coded_ℤ.inj a b (ap tail p))
+  inj (duration a) (duration b) p = ap duration (coded_ℤ.inj a b (ap tail p))
   inj x y p = absurd (omega (arith, ap (λ g. num (head g)) p))
 
   pub inj_all : (xs ys : Vals) → codes xs ≡ codes ys → xs ≡ ys

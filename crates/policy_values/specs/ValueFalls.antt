@@ -5,7 +5,7 @@ use denote.Param.Weighed.{most}
 use Rattle.policy_values.specs.Value.{Val, size_of, size_of_all, size_of_fields, vals_of, fields_of}
 use Rattle.policy_values.specs.ValueView.{val_of}
 use Rattle.policy_values.specs.declared.value.ValueKind.{ValueKind}
-use Rattle.policy_values.specs.declared.value.ValueKind.TheVariants.{Bool, Long, String, EntityUID, Set, Record}
+use Rattle.policy_values.specs.declared.value.ValueKind.TheVariants.{Bool, Long, String, EntityUID, Set, Record, Decimal, IpAddr, DateTime, Duration}
 use Rattle.policy_values.specs.declared.value.Value.TheInside.{Inside}
 use Rattle.policy_values.specs.declared.value.Value.TheDeep.{deep-Value, deep-ValueKind}
 
@@ -24,6 +24,10 @@ kind_falls (String b) = omega arith
 kind_falls (EntityUID b) = omega arith
 kind_falls (Set xs) = omega (arith, most_le-size xs.items)
 kind_falls (Record m) = omega (arith, most_le-fields m.entries)
+kind_falls (Decimal d) = omega arith
+kind_falls (IpAddr r) = omega arith
+kind_falls (DateTime d) = omega arith
+kind_falls (Duration d) = omega arith
 
 pub falls : (a : Inside) → deep-Value a ≤ size_of (val_of a.kind)
 falls a = omega (arith, kind_falls a.kind)

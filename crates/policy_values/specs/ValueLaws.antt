@@ -3,11 +3,14 @@ use Rattle.std.proofs.Common.{◌≡◌, ℕ, Ordering, true, false, ap, ◌∙�
 use Rattle.std.proofs.lemmas.Bool.Decides.{nat_tests}
 use Rattle.std.specs.declared.cmp.Ordering.TheVariants.{Less, Equal, Greater}
 use Rattle.std.specs.Ordering.{nat_cmp, bool_cmp, ordering_then, ordering_reverse}
-use Rattle.std.specs.Cmp.{IsTotalOrder, then_flip, bool_cmp_total, int_cmp_total}
+use Rattle.std.specs.Cmp.{IsTotalOrder, then_flip, then_total, on_total, nat_cmp_total, bool_cmp_total, int_cmp_total}
 use Rattle.std.proofs.lemmas.Cmp.{nat_list_cmp_total}
-use Rattle.std.proofs.lemmas.Map.Lookups.{CmpEqualImpliesEq, exact_signed, exact_bytes}
-use Rattle.policy_values.specs.Value.{Val, truth, long, string, entity, set, rec, Vals, no_vals, val, Fields, no_fields, field}
+use Rattle.std.proofs.lemmas.Map.Lookups.{CmpEqualImpliesEq, exact_signed, exact_unsigned, exact_bytes}
+use Rattle.policy_values.specs.Value.{Val, truth, long, string, entity, set, rec, decimal, ip, datetime, duration, Vals, no_vals, val, Fields, no_fields, field}
 use Rattle.policy_names.specs.Uid.{text_cmp, uid_cmp_total, exact_uid}
+use Rattle.policy_ext.specs.declared.ip_addr.Family.{Family}
+use Rattle.policy_ext.specs.declared.ip_addr.Family.TheVariants.{V4, V6}
+use Rattle.policy_values.specs.RangeOrder.{family_rank, range_cmp}
 use Rattle.policy_values.specs.ValueOrder.{rank, val_cmp, vals_cmp, fields_cmp}
 
 pub exact_bool : CmpEqualImpliesEq bool_cmp
@@ -20,6 +23,25 @@ then_equal : (a b : Ordering) → ordering_then a b ≡ Equal → (a ≡ Equal) 
 then_equal Equal b h = (refl, h)
 then_equal Less b h = cc
 then_equal Greater b h = cc
+
+exact_family : (a b : Family) → family_rank a ≡ family_rank b → a ≡ b
+exact_family V4 V4 h = refl
+exact_family V6 V6 h = refl
+exact_family V4 V6 h = absurd (omega arith)
+exact_family V6 V4 h = absurd (omega arith)
+
+exact_range : CmpEqualImpliesEq range_cmp
+exact_range v w h =
+    let e = then_equal (nat_cmp (family_rank v.family) (family_rank w.family)) (ordering_then (nat_cmp v.bits w.bits) (nat_cmp v.prefix w.prefix)) h in
+    let f = then_equal (nat_cmp v.bits w.bits) (nat_cmp v.prefix w.prefix) e.1 in
+    λ i. record {
+      family = exact_family v.family w.family (exact_unsigned (family_rank v.family) (family_rank w.family) e.0) i;
+      bits = exact_unsigned v.bits w.bits f.0 i;
+      prefix = exact_unsigned v.prefix w.prefix f.1 i;
+    }
+
+range_total : IsTotalOrder range_cmp
+range_total = then_total (on_total (λ r. family_rank r.family) nat_cmp_total) (then_total (on_total (λ r. r.bits) nat_cmp_total) (on_total (λ r. r.prefix) nat_cmp_total))
 
 by_rank : (m n : ℕ) → m < n → nat_cmp m n ≡ Less
 by_rank m n h = grind (arith, nat_tests)
@@ -36,6 +58,10 @@ mutual
   exact_val (entity a) (entity b) h = ap entity (exact_uid a b h)
   exact_val (set a) (set b) h = ap set (exact_vals a b h)
   exact_val (rec a) (rec b) h = ap rec (exact_fields a b h)
+  exact_val (decimal a) (decimal b) h = ap decimal (exact_signed a b h)
+  exact_val (ip a) (ip b) h = ap ip (exact_range a b h)
+  exact_val (datetime a) (datetime b) h = ap datetime (exact_signed a b h)
+  exact_val (duration a) (duration b) h = ap duration (exact_signed a b h)
   exact_val a b h = cc
 
   pub exact_vals : (xs ys : Vals) → vals_cmp xs ys ≡ Equal → xs ≡ ys
@@ -64,6 +90,10 @@ mutual
   val_flip (entity a) (entity b) = uid_cmp_total.antisymm a b
   val_flip (set a) (set b) = vals_flip a b
   val_flip (rec a) (rec b) = fields_flip a b
+  val_flip (decimal a) (decimal b) = int_cmp_total.antisymm a b
+  val_flip (ip a) (ip b) = range_total.antisymm a b
+  val_flip (datetime a) (datetime b) = int_cmp_total.antisymm a b
+  val_flip (duration a) (duration b) = int_cmp_total.antisymm a b
   val_flip a b = refl
 
   pub vals_flip : (xs ys : Vals) → vals_cmp xs ys ≡ ordering_reverse (vals_cmp ys xs)
@@ -100,6 +130,10 @@ less_rank (string a) (string b) h = absurd (omega arith)
 less_rank (entity a) (entity b) h = absurd (omega arith)
 less_rank (set a) (set b) h = absurd (omega arith)
 less_rank (rec a) (rec b) h = absurd (omega arith)
+less_rank (decimal a) (decimal b) h = absurd (omega arith)
+less_rank (ip a) (ip b) h = absurd (omega arith)
+less_rank (datetime a) (datetime b) h = absurd (omega arith)
+less_rank (duration a) (duration b) h = absurd (omega arith)
 less_rank a b h = by_rank (rank a) (rank b) h
 
 -- what comes before is of no later kind
@@ -110,6 +144,10 @@ rank_le (string a) (string b) h = omega arith
 rank_le (entity a) (entity b) h = omega arith
 rank_le (set a) (set b) h = omega arith
 rank_le (rec a) (rec b) h = omega arith
+rank_le (decimal a) (decimal b) h = omega arith
+rank_le (ip a) (ip b) h = omega arith
+rank_le (datetime a) (datetime b) h = omega arith
+rank_le (duration a) (duration b) h = omega arith
 rank_le a b h = from_rank (rank a) (rank b) h
 
 -- before what comes before
@@ -121,6 +159,10 @@ mutual
   val_trans (entity a) (entity b) (entity c) h k = uid_cmp_total.trans a b c h k
   val_trans (set a) (set b) (set c) h k = vals_trans a b c h k
   val_trans (rec a) (rec b) (rec c) h k = fields_trans a b c h k
+  val_trans (decimal a) (decimal b) (decimal c) h k = int_cmp_total.trans a b c h k
+  val_trans (ip a) (ip b) (ip c) h k = range_total.trans a b c h k
+  val_trans (datetime a) (datetime b) (datetime c) h k = int_cmp_total.trans a b c h k
+  val_trans (duration a) (duration b) (duration c) h k = int_cmp_total.trans a b c h k
   val_trans a b c h k = less_rank a c (omega (arith, rank_le a b h, rank_le b c k))
 
   pub vals_trans : (xs ys zs : Vals) → vals_cmp xs ys ≡ Less → vals_cmp ys zs ≡ Less → vals_cmp xs zs ≡ Less

@@ -4,9 +4,10 @@ use Rattle.std.specs.declared.cmp.Ordering.{Ordering}
 use Rattle.std.specs.declared.cmp.Ordering.TheVariants.{Less, Equal, Greater}
 use Rattle.std.specs.Ordering.{nat_cmp, int_cmp, bool_cmp, ordering_then, match_ordering}
 use Rattle.policy_names.specs.Uid.{text_cmp, uid_cmp}
-use Rattle.policy_values.specs.Value.{Val, truth, long, string, entity, set, rec, Vals, no_vals, val, Fields, no_fields, field}
+use Rattle.policy_values.specs.RangeOrder.{range_cmp}
+use Rattle.policy_values.specs.Value.{Val, truth, long, string, entity, set, rec, decimal, ip, datetime, duration, Vals, no_vals, val, Fields, no_fields, field}
 
--- the place of a kind: booleans, longs, strings, ids, sets, records
+-- the place of a kind: booleans, longs, strings, ids, sets, records, decimals, ranges of IP addresses, datetimes, durations
 abbrev pub rank : Val → ℕ
 rank (truth b) = 0
 rank (long n) = 1
@@ -14,6 +15,10 @@ rank (string t) = 2
 rank (entity u) = 3
 rank (set vs) = 4
 rank (rec fs) = 5
+rank (decimal n) = 6
+rank (ip r) = 7
+rank (datetime n) = 8
+rank (duration n) = 9
 
 -- values by kind; inside a kind by content, sets and records as lists in their order
 abbrev mutual
@@ -24,6 +29,10 @@ abbrev mutual
   val_cmp (entity a) (entity b) = uid_cmp a b
   val_cmp (set a) (set b) = vals_cmp a b
   val_cmp (rec a) (rec b) = fields_cmp a b
+  val_cmp (decimal a) (decimal b) = int_cmp a b
+  val_cmp (ip a) (ip b) = range_cmp a b
+  val_cmp (datetime a) (datetime b) = int_cmp a b
+  val_cmp (duration a) (duration b) = int_cmp a b
   val_cmp a b = nat_cmp (rank a) (rank b)
 
   pub vals_cmp : Vals → Vals → Ordering

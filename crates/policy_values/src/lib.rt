@@ -1,4 +1,4 @@
-//! Values: booleans, longs, strings, entity ids, sets and records, in one total order.
+//! Values: booleans, longs, strings, entity ids, sets, records and extension values, in one total order.
 #![tactic(auto)]
 
 mod ascending;

@@ -3,11 +3,13 @@
 ghost use Rattle.std.specs.Prelude.{◌≡◌, IfOk};
 ghost use Rattle.policy_values.specs.Sets.{elements_of, is_element};
 ghost use Rattle.policy_values.specs.ValueView.{val_of};
-ghost use Rattle.policy_values.specs.Value.{Val, truth, long, string, entity, set, rec, vals_of, fields_of};
+ghost use Rattle.policy_values.specs.Value.{Val, truth, long, string, entity, set, rec, decimal, ip, datetime, duration, vals_of, fields_of};
+ghost use Rattle.policy_values.specs.RangeOrder.{range_cmp};
 ghost use Rattle.policy_values.specs.ValueOrder.{rank, val_cmp, vals_cmp, fields_cmp, set_of, Ascends};
 
 use crate::ascending::ascending_items;
 use crate::push_entry;
+use policy_ext::{DateTimeValue, Decimal, Duration, IpAddr};
 use policy_names::{EntityUID, Text};
 use std::alloc::{AllocError, Global};
 use std::cmp::Ordering;
@@ -17,8 +19,9 @@ use std::marker::Model;
 /// A value. What is equal in Cedar is equal here: a set has no order and no repeats, so its elements are kept
 /// ascending, each once.
 ///
-/// Values are ordered by kind (booleans, longs, strings, ids, sets, records), and inside a kind by content: texts by
-/// their bytes, ids by type and then by eid, sets and records as the lists of their elements and of their fields.
+/// Values are ordered by kind (booleans, longs, strings, ids, sets, records, decimals, ranges of IP addresses, datetimes,
+/// durations), and inside a kind by content: texts by their bytes, ids by type and then by eid, sets and records as the
+/// lists of their elements and of their fields, ranges by family, address and prefix.
 #[derive(Debug, Drop)]
 #[cycle(value)]
 pub struct Value {
@@ -41,6 +44,14 @@ pub enum ValueKind {
     Set(Vec<Value>),
     /// The fields of a record under their keys.
     Record(BTreeMap<Text, Value>),
+    /// A decimal.
+    Decimal(Decimal),
+    /// A range of IP addresses.
+    IpAddr(IpAddr),
+    /// A point in time.
+    DateTime(DateTimeValue),
+    /// A span of time.
+    Duration(Duration),
 }
 
 impl Model for Value {
@@ -122,6 +133,42 @@ impl Value {
         let _count = fields.len();
         Value {
             kind: ValueKind::Record(fields),
+        }
+    }
+
+    /// A decimal.
+    pub fn decimal(d: Decimal) -> Value
+        ensures { result ≡ decimal d }
+    {
+        Value {
+            kind: ValueKind::Decimal(d),
+        }
+    }
+
+    /// A range of IP addresses.
+    pub fn ip(range: IpAddr) -> Value
+        ensures { result ≡ ip range }
+    {
+        Value {
+            kind: ValueKind::IpAddr(range),
+        }
+    }
+
+    /// A point in time.
+    pub fn datetime(d: DateTimeValue) -> Value
+        ensures { result ≡ datetime d }
+    {
+        Value {
+            kind: ValueKind::DateTime(d),
+        }
+    }
+
+    /// A span of time.
+    pub fn duration(d: Duration) -> Value
+        ensures { result ≡ duration d }
+    {
+        Value {
+            kind: ValueKind::Duration(d),
         }
     }
 
@@ -229,7 +276,17 @@ fn rank(v: &Value) -> u8
         ValueKind::EntityUID(_) => 3,
         ValueKind::Set(_) => 4,
         ValueKind::Record(_) => 5,
+        ValueKind::Decimal(_) => 6,
+        ValueKind::IpAddr(_) => 7,
+        ValueKind::DateTime(_) => 8,
+        ValueKind::Duration(_) => 9,
     }
+}
+
+fn compare_ranges(a: &IpAddr, b: &IpAddr) -> Ordering
+    ensures { result ≡ range_cmp a.now b.now }
+{
+    a.cmp(b)
 }
 
 #[cycle(compare)]
@@ -243,6 +300,10 @@ fn compare(a: &Value, b: &Value) -> Ordering
         (ValueKind::EntityUID(x), ValueKind::EntityUID(y)) => x.cmp(y),
         (ValueKind::Set(x), ValueKind::Set(y)) => compare_all(x, y),
         (ValueKind::Record(x), ValueKind::Record(y)) => compare_fields(x, y),
+        (ValueKind::Decimal(x), ValueKind::Decimal(y)) => x.cmp(y),
+        (ValueKind::IpAddr(x), ValueKind::IpAddr(y)) => compare_ranges(x, y),
+        (ValueKind::DateTime(x), ValueKind::DateTime(y)) => x.cmp(y),
+        (ValueKind::Duration(x), ValueKind::Duration(y)) => x.cmp(y),
         _ => rank(a).cmp(&rank(b)),
     }
 }
@@ -315,6 +376,10 @@ fn copy_of(alloc: Global, v: &Value) -> Result<Value, AllocError>
             let fields = try_clone_fields(alloc, fields)?;
             Ok(like(v, ValueKind::Record(fields)))
         }
+        ValueKind::Decimal(d) => Ok(Value::decimal(*d)),
+        ValueKind::IpAddr(range) => Ok(Value::ip(*range)),
+        ValueKind::DateTime(d) => Ok(Value::datetime(*d)),
+        ValueKind::Duration(d) => Ok(Value::duration(*d)),
     }
 }
 

@@ -1,7 +1,7 @@
 -- No answer is written with a float.
 use Rattle.std.proofs.Common.{◌≡◌, ℤ, pos, negsuc, List, [], ◌∷◌, map, false, refl}
 use Rattle.policy_store.specs.Store.{StoredEntity, Store}
-use Rattle.policy_values.specs.Value.{Val, truth, long, string, entity, set, rec, Vals, no_vals, val, Fields, no_fields, field}
+use Rattle.policy_values.specs.Value.{Val, truth, long, string, entity, set, rec, decimal, ip, datetime, duration, Vals, no_vals, val, Fields, no_fields, field}
 use Rattle.policy_set.specs.Response.{ResponseData}
 use Rattle.serde_json.specs.Data as json
 use Rattle.serde_json.specs.Data.{Data}
@@ -23,6 +23,10 @@ mutual
   value_has_none (entity u) = refl
   value_has_none (set vs) = items_have_none vs
   value_has_none (rec fs) = rw (fields_have_none fs) refl
+  value_has_none (decimal n) = refl
+  value_has_none (ip r) = refl
+  value_has_none (datetime n) = rw (integer_has_none n) refl
+  value_has_none (duration n) = rw (integer_has_none n) refl
 
   items_have_none : (vs : Vals) → items_have_float (items_data vs) ≡ false
   items_have_none no_vals = refl

@@ -1,7 +1,9 @@
 -- Values as JSON.
 use Rattle.std.specs.Prelude.{ℕ, List, codes}
 use Rattle.policy_names.specs.declared.entity_uid.EntityUID.{EntityUID}
-use Rattle.policy_values.specs.Value.{Val, truth, long, string, entity, set, rec, Vals, no_vals, val, Fields, no_fields, field}
+use Rattle.policy_ext.specs.Decimal.{decimal_text}
+use Rattle.policy_ext.specs.IpText.{range_text}
+use Rattle.policy_values.specs.Value.{Val, truth, long, string, entity, set, rec, decimal, ip, datetime, duration, Vals, no_vals, val, Fields, no_fields, field}
 use Rattle.serde_json.specs.Data as json
 use Rattle.serde_json.specs.Data.{Data, boolean, number, array, object, Items, no_items, item, Members, no_members, member}
 use Rattle.serde_json.specs.Find.{of_integer}
@@ -18,8 +20,9 @@ uid_data u = pair_data u.entity_type u.eid
 abbrev pub alone : List ℕ → Data → Data
 alone name d = object (member name d no_members)
 
--- A boolean, a long and a text stand for themselves; a set is the array of its elements, in their order; an id and a
--- record stand under a name of their kind.
+-- A boolean, a long and a text stand for themselves; a set is the array of its elements, in their order; all else stands
+-- under a name of its kind: an id, a record, the texts of a decimal and of a range of IP addresses, and the milliseconds of
+-- a datetime and of a duration.
 abbrev mutual
   pub value_data : Val → Data
   value_data (truth b) = boolean b
@@ -28,6 +31,10 @@ abbrev mutual
   value_data (entity u) = alone (codes "id") (uid_data u)
   value_data (set vs) = array (items_data vs)
   value_data (rec fs) = alone (codes "record") (object (members_data fs))
+  value_data (decimal n) = alone (codes "decimal") (json.string (decimal_text n))
+  value_data (ip r) = alone (codes "ip") (json.string (range_text r))
+  value_data (datetime n) = alone (codes "datetime") (number (of_integer n))
+  value_data (duration n) = alone (codes "duration") (number (of_integer n))
 
   pub items_data : Vals → Items
   items_data no_vals = no_items

@@ -1,5 +1,8 @@
 use crate::{slice_text, write_value};
-use policy_core::{Eid, Entities, Entity, EntityType, EntityUID, EvalError, Name, Text, Value};
+use policy_core::{
+    DateTimeValue, Decimal, Duration, Eid, Entities, Entity, EntityType, EntityUID, EvalError,
+    IpAddr, Name, Text, Value,
+};
 use policy_set::{Decision, PolicyFailure, Response};
 use std::alloc::Global;
 use std::collections::{BTreeMap, BTreeSet};
@@ -49,6 +52,28 @@ fn values_are_written_by_their_kinds(rt: HostRuntime) -> Result<(), Fail> {
     assert!(rt; is_written(alloc, set(alloc, items)?, "[true,1,2]")?);
     let named_id = record(alloc, "id", Value::long(1))?;
     assert!(rt; is_written(alloc, named_id, r#"{"record":{"id":1}}"#)?);
+    Ok(())
+}
+
+#[test]
+fn extension_values_are_written_by_their_kinds(rt: HostRuntime) -> Result<(), Fail> {
+    let alloc = rt.alloc();
+    match (
+        Decimal::read("-1.5"),
+        IpAddr::read("10.0.0.1"),
+        IpAddr::read("::A/64"),
+    ) {
+        (Some(d), Some(v4), Some(v6)) => {
+            assert!(rt; is_written(alloc, Value::decimal(d), r#"{"decimal":"-1.5000"}"#)?);
+            assert!(rt; is_written(alloc, Value::ip(v4), r#"{"ip":"10.0.0.1/32"}"#)?);
+            assert!(rt; is_written(alloc, Value::ip(v6), r#"{"ip":"0:0:0:0:0:0:0:a/64"}"#)?);
+        }
+        _other => assert!(rt; false),
+    }
+    let start = Value::datetime(DateTimeValue::from_millis(-1));
+    assert!(rt; is_written(alloc, start, r#"{"datetime":-1}"#)?);
+    let span = Value::duration(Duration::from_millis(5));
+    assert!(rt; is_written(alloc, span, r#"{"duration":5}"#)?);
     Ok(())
 }
 

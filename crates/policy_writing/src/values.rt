@@ -36,9 +36,10 @@ fn write_alone(alloc: Global, name: &str, value: Json) -> Result<Json, AllocErro
     Ok(Json::Object(members))
 }
 
-/// A value. A boolean, a long and a text stand for themselves, and a set is the array of its elements, ascending. An id
-/// is the object with the one member `id`, a record the object with the one member `record`, the object of its fields:
-/// so a record whose one field is named `id` is no id.
+/// A value. A boolean, a long and a text stand for themselves, and a set is the array of its elements, ascending. Any other
+/// value is the object with one member, which has the name of its kind: `id`; `record`, the object of its fields, so that
+/// a record whose one field is named `id` is no id; `decimal` and `ip`, their texts; `datetime` and `duration`, their
+/// milliseconds.
 #[cycle(write)]
 pub fn write_value(alloc: Global, value: &Value) -> Result<Json, AllocError>
     ensures { IfOk result (λ v. view v ≡ value_data value.now) }
@@ -59,6 +60,16 @@ pub fn write_value(alloc: Global, value: &Value) -> Result<Json, AllocError>
             let fields = write_fields(alloc, fields)?;
             write_alone(alloc, "record", fields)
         }
+        ValueKind::Decimal(d) => {
+            let text = d.text(alloc)?;
+            write_alone(alloc, "decimal", Json::String(text))
+        }
+        ValueKind::IpAddr(range) => {
+            let text = range.text(alloc)?;
+            write_alone(alloc, "ip", Json::String(text))
+        }
+        ValueKind::DateTime(d) => write_alone(alloc, "datetime", Json::from(d.millis())),
+        ValueKind::Duration(d) => write_alone(alloc, "duration", Json::from(d.millis())),
     }
 }
 

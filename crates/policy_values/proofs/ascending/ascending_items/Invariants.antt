@@ -1,4 +1,4 @@
-use Rattle.std.proofs.Common.{◌≡◌, ◌++◌, vec_len}
+use Rattle.std.proofs.Common.{◌≡◌, vec_len}
 use Rattle.policy_values.specs.Ascending.{with_items, ascending_of}
 use Rattle.policy_values.proofs.ascending.ascending_items.Given as goal
 

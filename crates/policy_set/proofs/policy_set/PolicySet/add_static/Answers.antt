@@ -1,4 +1,4 @@
-use Rattle.std.proofs.Common.{◌≡◌, ℕ, Bool, true, false, List, Option, Some, None, ◌∙◌, ap, sym, subst, refl}
+use Rattle.std.proofs.Common.{◌≡◌, false, Option, Some, None, ◌∙◌, ap, sym, subst, refl}
 use Rattle.std.specs.Prelude.{is_some}
 use Rattle.std.specs.List.{AllByRecursion}
 use Rattle.std.specs.Map.{values_of}
@@ -6,7 +6,6 @@ use Rattle.std.specs.BTreeMap.{values, insert_entry}
 use Rattle.std.proofs.lemmas.Map.Lookups.{exact_bytes}
 use Rattle.hierarchy.proofs.Keyed.{value_found, value_put, own_put}
 use Rattle.policy_names.specs.Uid.{text_cmp}
-use Rattle.policy_set.specs.declared.template.TemplateBody.{TemplateBody}
 use Rattle.policy_set.specs.PolicySet.{policy_at, with_policy}
 use Rattle.policy_set.proofs.policy_set.PolicySet.add_static.Goals as goal
 
