@@ -59,7 +59,8 @@ two_by f x y left right false false e g = refl
 two_read : (f : Plain → Plain → Plain) (x y : Plain) → depth_of x < depth_of (f x y) → depth_of y < depth_of (f x y) → on_two f (bounded x) (bounded y) ≡ bounded (f x y)
 two_read f x y left right = two_by f x y left right (nat_lt 400 (depth_of x)) (nat_lt 400 (depth_of y)) refl refl
 
-join_read : (j : Junction) (x y : Plain) → on_two (join_tree j) (bounded x) (bounded y) ≡ bounded (join_tree j x y)
+-- two that were read, joined, are what is read of both
+pub join_read : (j : Junction) (x y : Plain) → on_two (join_tree j) (bounded x) (bounded y) ≡ bounded (join_tree j x y)
 join_read All x y = two_read (join_tree All) x y (omega arith) (omega arith)
 join_read Any x y = two_read (join_tree Any) x y (omega arith) (omega arith)
 

@@ -41,7 +41,7 @@ pub(crate) enum ListForm {
 
 /// How operands are joined.
 #[derive(Clone, Copy)]
-pub(crate) enum Junction {
+pub enum Junction {
     /// By `&&`.
     All,
     /// By `||`.

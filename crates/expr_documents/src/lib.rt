@@ -9,4 +9,6 @@ mod parts;
 mod reads;
 
 pub use exprs::read_expr;
+pub use forms::Junction;
 pub use nesting::Bounded;
+pub use reads::{binary, joined, unary};

@@ -149,7 +149,7 @@ fn both(x: Bounded<Expr<()>>, y: Bounded<Expr<()>>) -> Option<(Expr<()>, Expr<()
 }
 
 /// An operator applied to what was read.
-pub(crate) fn unary(
+pub fn unary(
     alloc: Global,
     op: UnaryOp,
     x: Option<Bounded<Expr<()>>>,
@@ -163,7 +163,8 @@ pub(crate) fn unary(
     }
 }
 
-fn binary(
+/// An operator applied to two that were read.
+pub fn binary(
     alloc: Global,
     op: BinaryOp,
     x: Bounded<Expr<()>>,
@@ -177,7 +178,8 @@ fn binary(
     }
 }
 
-fn joined(
+/// Two that were read, joined.
+pub fn joined(
     alloc: Global,
     junction: Junction,
     x: Bounded<Expr<()>>,

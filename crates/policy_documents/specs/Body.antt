@@ -12,8 +12,12 @@ use Rattle.policy_core.specs.declared.kinds.UnaryOp.TheVariants.{Not}
 use Rattle.policy_core.specs.declared.kinds.Var.{Var}
 use Rattle.policy_core.specs.declared.kinds.Var.TheVariants as variable
 use Rattle.policy_set.specs.Condition.{Plain, anything, unmarked}
+use Rattle.expr_documents.specs.declared.nesting.Bounded.{Bounded}
+use Rattle.expr_documents.specs.declared.nesting.Bounded.TheVariants.{Within}
 use Rattle.json_parts.specs.Json.{◌>>=◌, list_of, only_member, pair_of}
 use Rattle.json_parts.specs.Names.{uid_of}
+use Rattle.policy_documents.specs.declared.body.Term.{Term}
+use Rattle.policy_documents.specs.declared.body.Term.TheVariants as term
 
 abbrev pub var_of : List ℕ → Option Var
 var_of text = if bytes_eq text (codes "principal") then Some variable.Principal else (if bytes_eq text (codes "action") then Some variable.Action else (if bytes_eq text (codes "resource") then Some variable.Resource else None))
@@ -125,3 +129,13 @@ or_anything (Some x) = x
 -- the clauses folded from the left by &&; an absent body has none
 abbrev pub body_of : Option Data → Option Plain
 body_of o = option_map (λ cs. or_anything (left_fold conjunction None cs)) (option_and_then clauses_of (list_of o))
+
+-- an operand of == and in, as it is built
+abbrev pub term_tree : Term → Plain
+term_tree (term.Id uid) = id_term uid
+term_tree (term.Var v) = var_term v
+
+-- where nothing was read, the literal true
+abbrev pub or_true : Option (Bounded Plain) → Bounded Plain
+or_true None = Within anything
+or_true (Some r) = r

@@ -4,7 +4,6 @@ pub mod Faults
 pub mod Request
 pub mod Parts
 pub mod Body
-pub mod Bounded
 pub mod Policy
 pub mod Store
 pub mod Policies

@@ -4,6 +4,8 @@ use Rattle.std.specs.Str.{bytes_eq}
 use Rattle.policy_names.specs.declared.entity_uid.EntityUID.{EntityUID}
 use Rattle.serde_json.specs.Data.{Data, Members}
 use Rattle.serde_json.specs.Find.{get, as_str, as_object}
+use Rattle.expr_documents.specs.declared.nesting.Bounded.{Bounded}
+use Rattle.expr_documents.specs.declared.nesting.Bounded.TheVariants as read
 use Rattle.json_parts.specs.Json.{◌>>=◌, has_only, only_member}
 use Rattle.json_parts.specs.Names.{uid_of}
 use Rattle.policy_set.specs.declared.constraint.Effect.{Effect}
@@ -17,8 +19,6 @@ use Rattle.policy_set.specs.declared.template.TemplateBody.{TemplateBody}
 use Rattle.policy_core.specs.Tree.{depth_of}
 use Rattle.policy_set.specs.Condition.{Plain, template_of}
 use Rattle.policy_documents.specs.Body.{body_of}
-use Rattle.policy_documents.specs.declared.body.BodyRead.{BodyRead}
-use Rattle.policy_documents.specs.declared.body.BodyRead.TheVariants as body
 use Rattle.policy_documents.specs.declared.policy.PolicyParts.{PolicyParts}
 use Rattle.policy_documents.specs.declared.policy.PolicyRead.{PolicyRead}
 use Rattle.policy_documents.specs.declared.policy.PolicyRead.TheVariants.{Policy, Nested}
@@ -90,6 +90,6 @@ abbrev pub bounded_policy : TemplateBody → PolicyRead
 bounded_policy t = if is_too_deep t then Nested else Policy t
 
 -- what is read of the parts and the body
-abbrev pub read_with : PolicyParts → BodyRead → PolicyRead
-read_with p (body.Expression x) = bounded_policy (policy_of_parts p x)
-read_with p body.Nested = Nested
+abbrev pub read_with : PolicyParts → Bounded Plain → PolicyRead
+read_with p (read.Within x) = bounded_policy (policy_of_parts p x)
+read_with p read.Nested = Nested

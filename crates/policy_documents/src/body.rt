@@ -3,31 +3,15 @@
 ghost use Rattle.std.specs.Prelude.{◌≡◌, IfOk, None, map, option_map, option_and_then};
 ghost use Rattle.serde_json.specs.View.{view, items_view, members_view};
 ghost use Rattle.policy_set.specs.Condition.{anything};
-ghost use Rattle.policy_documents.specs.Body.{behind, body_of, bool_list_of, bool_of, bools_of, clause_form, clause_of, clauses_of, comparison, comparison_form, comparison_of, form, form_of, joined, left_fold, negated, term_form, term_of, terms_compared, var_of};
-ghost use Rattle.policy_documents.specs.Bounded.{bounded, build_of, join, on_one, on_two, or_true, term_tree};
+ghost use Rattle.expr_documents.specs.Forms.{join_tree};
+ghost use Rattle.expr_documents.specs.Reads.{bounded, on_two};
+ghost use Rattle.policy_documents.specs.Body.{behind, body_of, bool_list_of, bool_of, bools_of, clause_form, clause_of, clauses_of, comparison, comparison_form, comparison_of, form, form_of, joined, left_fold, negated, or_true, term_form, term_of, term_tree, terms_compared, var_of};
 
+use expr_documents::{Bounded, Junction, binary, joined, unary};
 use json_parts::{list_items, lone_member, pair, read_uid};
-use policy_core::{BinaryOp, BuildError, EntityUID, Expr, Literal, UnaryOp, Var};
+use policy_core::{BinaryOp, EntityUID, Expr, Literal, UnaryOp, Var};
 use serde_json::{Map, Value};
 use std::alloc::{AllocError, Global};
-
-/// What is read where a document has an expression.
-#[derive(Drop)]
-pub(crate) enum BodyRead {
-    /// The expression.
-    Expression(Expr<()>),
-    /// One that is nested deeper than 400, which is not built.
-    Nested,
-}
-
-/// How the expressions of a list are joined.
-#[derive(Clone, Copy)]
-pub(crate) enum Junction {
-    /// By `&&`.
-    All,
-    /// By `||`.
-    Any,
-}
 
 /// An operand of `==` and `in`.
 #[derive(Drop)]
@@ -36,39 +20,6 @@ pub(crate) enum Term {
     Id(EntityUID),
     /// A variable.
     Var(Var),
-}
-
-// What was built, or that it would be nested too deep.
-fn read_of(built: Result<Expr<()>, BuildError>) -> Result<BodyRead, AllocError>
-    ensures { IfOk result (λ r. built ≡ build_of r) }
-{
-    match built {
-        Ok(expression) => Ok(BodyRead::Expression(expression)),
-        Err(BuildError::Nested) => Ok(BodyRead::Nested),
-        Err(BuildError::OutOfMemory) => Err(AllocError),
-    }
-}
-
-#[tactic(auto, using(crate::proofs::Bounds::settled))]
-fn negate_expression(alloc: Global, x: Expr<()>) -> Result<BodyRead, AllocError>
-    ensures { IfOk result (λ r. r ≡ bounded (negated x)) }
-{
-    read_of(Expr::unary_app(alloc, UnaryOp::Not, x, (), None))
-}
-
-#[tactic(auto, using(crate::proofs::Bounds::settled))]
-fn join_expressions(
-    alloc: Global,
-    junction: Junction,
-    x: Expr<()>,
-    y: Expr<()>,
-) -> Result<BodyRead, AllocError>
-    ensures { IfOk result (λ r. r ≡ bounded (join junction x y)) }
-{
-    match junction {
-        Junction::All => read_of(Expr::and(alloc, x, y, (), None)),
-        Junction::Any => read_of(Expr::or(alloc, x, y, (), None)),
-    }
 }
 
 fn term_expression(term: Term) -> Expr<()>
@@ -80,59 +31,31 @@ fn term_expression(term: Term) -> Expr<()>
     }
 }
 
-#[tactic(auto, using(crate::proofs::Bounds::settled))]
-fn compare_terms(alloc: Global, op: BinaryOp, x: Term, y: Term) -> Result<BodyRead, AllocError>
+fn compare_terms(
+    alloc: Global,
+    op: BinaryOp,
+    x: Term,
+    y: Term,
+) -> Result<Bounded<Expr<()>>, AllocError>
     ensures { IfOk result (λ r. r ≡ bounded (comparison op (term_tree x) (term_tree y))) }
 {
-    let x = term_expression(x);
-    let y = term_expression(y);
-    read_of(Expr::binary_app(alloc, op, x, y, (), None))
-}
-
-fn negate(alloc: Global, read: BodyRead) -> Result<BodyRead, AllocError>
-    ensures { IfOk result (λ r. r ≡ on_one negated read) }
-{
-    match read {
-        BodyRead::Expression(x) => negate_expression(alloc, x),
-        BodyRead::Nested => Ok(BodyRead::Nested),
-    }
-}
-
-fn join_reads(
-    alloc: Global,
-    junction: Junction,
-    x: BodyRead,
-    y: BodyRead,
-) -> Result<BodyRead, AllocError>
-    ensures { IfOk result (λ r. r ≡ on_two (join junction) x y) }
-{
-    match x {
-        BodyRead::Nested => {
-            drop(y);
-            Ok(BodyRead::Nested)
-        }
-        BodyRead::Expression(x) => match y {
-            BodyRead::Expression(y) => join_expressions(alloc, junction, x, y),
-            BodyRead::Nested => {
-                drop(x);
-                Ok(BodyRead::Nested)
-            }
-        },
-    }
+    let x = Bounded::Within(term_expression(x));
+    let y = Bounded::Within(term_expression(y));
+    binary(alloc, op, x, y)
 }
 
 // The next one behind what there is.
 fn add(
     alloc: Global,
     junction: Junction,
-    all: Option<BodyRead>,
-    next: BodyRead,
-) -> Result<BodyRead, AllocError>
-    ensures { IfOk result (λ r. r ≡ behind (on_two (join junction)) all next) }
+    all: Option<Bounded<Expr<()>>>,
+    next: Bounded<Expr<()>>,
+) -> Result<Bounded<Expr<()>>, AllocError>
+    ensures { IfOk result (λ r. r ≡ behind (on_two (join_tree junction)) all next) }
 {
     match all {
         None => Ok(next),
-        Some(all) => join_reads(alloc, junction, all, next),
+        Some(all) => joined(alloc, junction, all, next),
     }
 }
 
@@ -177,7 +100,7 @@ fn read_terms(
     op: BinaryOp,
     left: &Value,
     right: &Value,
-) -> Result<Option<BodyRead>, AllocError>
+) -> Result<Option<Bounded<Expr<()>>>, AllocError>
     ensures { IfOk result (λ o. o ≡ option_map bounded (terms_compared op (view left.now, view right.now))) }
 {
     let Some(left) = read_term(alloc, left)? else {
@@ -193,10 +116,13 @@ fn read_comparison(
     alloc: Global,
     op: BinaryOp,
     value: &Value,
-) -> Result<Option<BodyRead>, AllocError>
+) -> Result<Option<Bounded<Expr<()>>>, AllocError>
     ensures { IfOk result (λ o. o ≡ option_map bounded (comparison_of op (view value.now))) }
 {
-    match value.as_array().and_then(pair) {
+    let Some(items) = value.as_array() else {
+        return Ok(None);
+    };
+    match pair(items) {
         Some((left, right)) => read_terms(alloc, op, left, right),
         None => Ok(None),
     }
@@ -206,7 +132,7 @@ fn read_comparison_form(
     alloc: Global,
     key: &str,
     value: &Value,
-) -> Result<Option<BodyRead>, AllocError>
+) -> Result<Option<Bounded<Expr<()>>>, AllocError>
     ensures { IfOk result (λ o. o ≡ option_map bounded (comparison_form key.now (view value.now))) }
 {
     match key {
@@ -219,18 +145,21 @@ fn read_comparison_form(
 // The expression over ids that the value is. What it holds is looked at to its end also where it is nested too deep,
 // since a fault of the form comes first.
 #[cycle(body)]
-fn read_bool(alloc: Global, value: &Value) -> Result<Option<BodyRead>, AllocError>
+fn read_bool(alloc: Global, value: &Value) -> Result<Option<Bounded<Expr<()>>>, AllocError>
     ensures { IfOk result (λ o. o ≡ option_map bounded (bool_of (view value.now))) }
 {
     match value {
-        Value::Bool(b) => Ok(Some(BodyRead::Expression(Expr::lit(Literal::Bool(*b), (), None)))),
+        Value::Bool(b) => Ok(Some(Bounded::Within(Expr::lit(Literal::Bool(*b), (), None)))),
         Value::Object(members) => read_members(alloc, members),
         _ => Ok(None),
     }
 }
 
 #[cycle(body)]
-fn read_members(alloc: Global, members: &Map<String, Value>) -> Result<Option<BodyRead>, AllocError>
+fn read_members(
+    alloc: Global,
+    members: &Map<String, Value>,
+) -> Result<Option<Bounded<Expr<()>>>, AllocError>
     ensures { IfOk result (λ o. o ≡ option_map bounded (form_of (members_view members.now.entries))) }
 {
     let mut rest = members.iter();
@@ -244,7 +173,11 @@ fn read_members(alloc: Global, members: &Map<String, Value>) -> Result<Option<Bo
 }
 
 #[cycle(body)]
-fn read_form(alloc: Global, value: &Value, key: &str) -> Result<Option<BodyRead>, AllocError>
+fn read_form(
+    alloc: Global,
+    value: &Value,
+    key: &str,
+) -> Result<Option<Bounded<Expr<()>>>, AllocError>
     ensures { IfOk result (λ o. o ≡ option_map bounded (form key.now (view value.now) (bool_of (view value.now)) (bool_list_of (view value.now)))) }
 {
     match key {
@@ -256,13 +189,12 @@ fn read_form(alloc: Global, value: &Value, key: &str) -> Result<Option<BodyRead>
 }
 
 #[cycle(body)]
-fn read_negation(alloc: Global, value: &Value) -> Result<Option<BodyRead>, AllocError>
+#[tactic(auto, using(expr_documents::proofs::Bounds::unary_reads))]
+fn read_negation(alloc: Global, value: &Value) -> Result<Option<Bounded<Expr<()>>>, AllocError>
     ensures { IfOk result (λ o. o ≡ option_map bounded (option_map negated (bool_of (view value.now)))) }
 {
-    match read_bool(alloc, value)? {
-        Some(read) => Ok(Some(negate(alloc, read)?)),
-        None => Ok(None),
-    }
+    let read = read_bool(alloc, value)?;
+    unary(alloc, UnaryOp::Not, read)
 }
 
 #[cycle(body)]
@@ -270,8 +202,8 @@ fn read_list(
     alloc: Global,
     value: &Value,
     junction: Junction,
-) -> Result<Option<BodyRead>, AllocError>
-    ensures { IfOk result (λ o. o ≡ option_map bounded (joined (join junction) (bool_list_of (view value.now)))) }
+) -> Result<Option<Bounded<Expr<()>>>, AllocError>
+    ensures { IfOk result (λ o. o ≡ option_map bounded (joined (join_tree junction) (bool_list_of (view value.now)))) }
 {
     match value {
         Value::Array(items) => read_items(alloc, items, junction),
@@ -284,8 +216,8 @@ fn read_items(
     alloc: Global,
     items: &Vec<Value>,
     junction: Junction,
-) -> Result<Option<BodyRead>, AllocError>
-    ensures { IfOk result (λ o. o ≡ option_map bounded (joined (join junction) (bools_of (items_view items.now.items)))) }
+) -> Result<Option<Bounded<Expr<()>>>, AllocError>
+    ensures { IfOk result (λ o. o ≡ option_map bounded (joined (join_tree junction) (bools_of (items_view items.now.items)))) }
 {
     let mut all = None;
     for item in items {
@@ -302,7 +234,11 @@ fn read_items(
     Ok(all)
 }
 
-fn read_clause_form(alloc: Global, key: &str, value: &Value) -> Result<Option<BodyRead>, AllocError>
+fn read_clause_form(
+    alloc: Global,
+    key: &str,
+    value: &Value,
+) -> Result<Option<Bounded<Expr<()>>>, AllocError>
     ensures { IfOk result (λ o. o ≡ option_map bounded (clause_form key.now (bool_of (view value.now)))) }
 {
     match key {
@@ -312,7 +248,7 @@ fn read_clause_form(alloc: Global, key: &str, value: &Value) -> Result<Option<Bo
     }
 }
 
-fn read_clause(alloc: Global, value: &Value) -> Result<Option<BodyRead>, AllocError>
+fn read_clause(alloc: Global, value: &Value) -> Result<Option<Bounded<Expr<()>>>, AllocError>
     ensures { IfOk result (λ o. o ≡ option_map bounded (clause_of (view value.now))) }
 {
     match lone_member(value) {
@@ -321,8 +257,8 @@ fn read_clause(alloc: Global, value: &Value) -> Result<Option<BodyRead>, AllocEr
     }
 }
 
-fn read_clauses(alloc: Global, items: &[Value]) -> Result<Option<BodyRead>, AllocError>
-    ensures { IfOk result (λ o. o ≡ option_map (λ cs. or_true (left_fold (on_two (join Junction.All)) None (map bounded cs))) (clauses_of (items_view items.now))) }
+fn read_clauses(alloc: Global, items: &[Value]) -> Result<Option<Bounded<Expr<()>>>, AllocError>
+    ensures { IfOk result (λ o. o ≡ option_map (λ cs. or_true (left_fold (on_two (join_tree Junction.All)) None (map bounded cs))) (clauses_of (items_view items.now))) }
 {
     let mut all = None;
     for item in items {
@@ -339,12 +275,12 @@ fn read_clauses(alloc: Global, items: &[Value]) -> Result<Option<BodyRead>, Allo
     Ok(Some(or_true(all)))
 }
 
-fn or_true(all: Option<BodyRead>) -> BodyRead
+fn or_true(all: Option<Bounded<Expr<()>>>) -> Bounded<Expr<()>>
     ensures { result ≡ or_true all }
 {
     match all {
         Some(all) => all,
-        None => BodyRead::Expression(Expr::lit(Literal::Bool(true), (), None)),
+        None => Bounded::Within(Expr::lit(Literal::Bool(true), (), None)),
     }
 }
 
@@ -352,7 +288,7 @@ fn or_true(all: Option<BodyRead>) -> BodyRead
 pub(crate) fn read_body(
     alloc: Global,
     value: Option<&Value>,
-) -> Result<Option<BodyRead>, AllocError>
+) -> Result<Option<Bounded<Expr<()>>>, AllocError>
     ensures { IfOk result (λ o. o ≡ option_map bounded (body_of (option_map (λ v. view v.now) value.entry))) }
 {
     match list_items(value) {

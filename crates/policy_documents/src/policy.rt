@@ -7,7 +7,8 @@ ghost use Rattle.policy_documents.specs.Policy.{action_constraint_of, action_for
 ghost use Rattle.serde_json.specs.Find.{get};
 ghost use Rattle.json_parts.specs.Names.{uid_of};
 
-use crate::body::{BodyRead, read_body};
+use crate::body::read_body;
+use expr_documents::Bounded;
 use json_parts::{has_only, only_member, read_uid};
 use policy_core::Expr;
 use policy_names::Text;
@@ -200,12 +201,16 @@ fn with_expression(
     }
 }
 
-fn with_body(alloc: Global, parts: PolicyParts, body: BodyRead) -> Result<PolicyRead, AllocError>
+fn with_body(
+    alloc: Global,
+    parts: PolicyParts,
+    body: Bounded<Expr<()>>,
+) -> Result<PolicyRead, AllocError>
     ensures { IfOk result (λ r. r ≡ read_with parts body) }
 {
     match body {
-        BodyRead::Expression(body) => with_expression(alloc, parts, body),
-        BodyRead::Nested => Ok(PolicyRead::Nested),
+        Bounded::Within(body) => with_expression(alloc, parts, body),
+        Bounded::Nested => Ok(PolicyRead::Nested),
     }
 }
 

@@ -12,6 +12,7 @@ mod tests;
 mod tests_bodies;
 
 pub use command::{Command, command_of};
+pub use expr_documents::{Bounded, read_expr};
 pub use policy_documents::read_value;
 pub use policy_writing::write_value;
 pub use reply::Reply;

@@ -5,14 +5,15 @@ use Rattle.serde_json.specs.View.{view, items_view}
 use Rattle.serde_json.specs.declared.value.Value.{Value}
 use Rattle.policy_set.specs.Condition.{Plain}
 use Rattle.policy_documents.specs.Body.{bool_of, bools_of, joined, left_fold, with_one}
-use Rattle.policy_documents.specs.Bounded.{bounded, join, on_two}
-use Rattle.policy_documents.specs.declared.body.BodyRead.{BodyRead}
-use Rattle.policy_documents.specs.declared.body.Junction.{Junction}
+use Rattle.expr_documents.specs.Forms.{join_tree}
+use Rattle.expr_documents.specs.Reads.{bounded, on_two}
+use Rattle.expr_documents.specs.declared.nesting.Bounded.{Bounded}
+use Rattle.expr_documents.specs.declared.forms.Junction.{Junction}
 use Rattle.policy_documents.proofs.Bounds.{joined_read, none_read}
 use Rattle.policy_documents.proofs.body.+body.Goals as goal
 
-abbrev behind_all : Junction → Option BodyRead → Option (List Plain) → Option BodyRead
-behind_all j all os = option_and_then (left_fold (on_two (join j)) all) (option_map (map bounded) os)
+abbrev behind_all : Junction → Option (Bounded Plain) → Option (List Plain) → Option (Bounded Plain)
+behind_all j all os = option_and_then (left_fold (on_two (join_tree j)) all) (option_map (map bounded) os)
 
 pub read_items-returns-in_default-next : goal.read_items-returns-in_default-next
 read_items-returns-in_default-next t c =
@@ -27,7 +28,7 @@ read_items-returns-in_default-next t c =
     ∙ sym (ap (λ (ys : List Value). behind_all j l.all (bools_of (items_view ys))) here)
     ∙ l.invariant
     ∙ joined_read j (bools_of (items_view xs))
-    ∙ ap (λ (ys : List Value). option_map bounded (joined (join j) (bools_of (items_view ys)))) c.deref-item-items.ensures.value
+    ∙ ap (λ (ys : List Value). option_map bounded (joined (join_tree j) (bools_of (items_view ys)))) c.deref-item-items.ensures.value
 
 pub read_items-returns : goal.read_items-returns
 read_items-returns t c =
@@ -37,4 +38,4 @@ read_items-returns t c =
     sym (at_drop_all (λ ys. behind_all j l.all (bools_of (items_view ys))) xs l.item-index (omega arith))
     ∙ l.invariant
     ∙ joined_read j (bools_of (items_view xs))
-    ∙ ap (λ (ys : List Value). option_map bounded (joined (join j) (bools_of (items_view ys)))) c.deref-item-items.ensures.value
+    ∙ ap (λ (ys : List Value). option_map bounded (joined (join_tree j) (bools_of (items_view ys)))) c.deref-item-items.ensures.value

@@ -2,15 +2,16 @@ use Rattle.std.proofs.Common.{◌≡◌, None, IfOk, Option, option_map, ap, ◌
 use Rattle.std.specs.Prelude.{option_and_then}
 use Rattle.serde_json.specs.Data.{Items}
 use Rattle.serde_json.specs.View.{items_view}
+use Rattle.policy_set.specs.Condition.{Plain}
 use Rattle.policy_documents.specs.Body.{clauses_of, conjunction, left_fold, or_anything}
-use Rattle.policy_documents.specs.Bounded.{bounded}
-use Rattle.policy_documents.specs.declared.body.BodyRead.{BodyRead}
+use Rattle.expr_documents.specs.Reads.{bounded}
+use Rattle.expr_documents.specs.declared.nesting.Bounded.{Bounded}
 use Rattle.policy_documents.proofs.Bounds.{clauses_read}
 use Rattle.policy_documents.proofs.body.read_body.Goals as goal
 
 pub returns-in-Some : goal.returns-in-Some
 returns-in-Some c =
-    subst (λ (x : Option BodyRead). IfOk c.read_clauses.result (λ o. o ≡ x))
+    subst (λ (x : Option (Bounded Plain)). IfOk c.read_clauses.result (λ o. o ≡ x))
     (clauses_read (clauses_of (items_view c.in-Some.items.now))
     ∙ ap (λ (o : Option Items). option_map bounded (option_map (λ cs. or_anything (left_fold conjunction None cs)) (option_and_then clauses_of o))) c.in-Some.ensures)
     c.read_clauses.ensures
