@@ -1,2 +1,3 @@
 pub mod HoldSteps
 pub mod Outcomes
+pub mod PartSteps

@@ -1,7 +1,7 @@
 -- Capabilities: what is known of expressions, once a condition is true.
 use Rattle.std.specs.Prelude.{◌≡◌, ℕ, Bool, ◌&&◌, ◌⊎◌, List, [], ◌∷◌, ◌++◌, refl}
 use Rattle.std.proofs.Common.{inl, inr}
-use Rattle.std.specs.List.{list_any, list_all, filter}
+use Rattle.std.specs.List.{list_any, list_all, filter, flat_map}
 use Rattle.std.specs.Coded.{Coded, coded_ℕ, coded_list, coded×, coded⊎, code_by}
 use Rattle.std.specs.Hash as fed
 use Rattle.std.specs.Hash.{HashWrites}
@@ -74,6 +74,10 @@ has_cap cs k = list_any (is_alike k) cs
 -- those on the left that are known on the right
 abbrev pub common : List Capability → List Capability → List Capability
 common cs ds = filter (has_cap ds) cs
+
+-- the capabilities of several lists, one after another
+abbrev pub together : List (List Capability) → List Capability
+together ps = flat_map (λ p. p) ps
 
 -- each on the left is known on the right
 abbrev pub is_covered : List Capability → List Capability → Bool

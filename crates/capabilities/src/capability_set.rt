@@ -1,29 +1,31 @@
 //! What is known of all expressions.
 
 ghost use Rattle.std.specs.Prelude.{◌≡◌, ◌↔◌, ◌⊎◌, ◌++◌, ◌∷◌, [], IfOk, IsTrue};
-ghost use Rattle.capabilities.specs.Capability.{Capability as Known, IsKnown, has_cap, common, is_covered, same_known};
+ghost use Rattle.capabilities.specs.Capability.{Capability as Known, IsKnown, has_cap, common, is_covered, same_known, together};
 
 use crate::Capability;
 use crate::capability::are_alike;
+use crate::part::Part;
 use std::alloc::{AllocError, Global};
 use std::marker::Model;
 
-/// The capabilities that are known at a place of a condition.
+/// The capabilities that are known at a place of a condition. They are kept in parts that a union shares with the sets
+/// that it was made of.
 #[derive(Debug, Drop)]
 pub struct CapabilitySet<'a> {
-    items: Vec<Capability<'a>>,
+    parts: Vec<Part<'a>>,
 }
 
 impl<'a> Model for CapabilitySet<'a> {
     ghost use Rattle.std.specs.Prelude.{List};
     ghost use Rattle.std.specs.Coded.{coded_list};
-    ghost use Rattle.capabilities.specs.Capability.{Capability, coded_capability};
+    ghost use Rattle.capabilities.specs.Capability.{Capability, coded_capability, together};
 
     ghost Value = { List Capability };
 
     ghost coded = { coded_list coded_capability };
 
-    ghost view = { λ a. a.items.items };
+    ghost view = { λ a. together a.parts.items };
 }
 
 impl<'a> CapabilitySet<'a> {
@@ -32,7 +34,7 @@ impl<'a> CapabilitySet<'a> {
         ensures { result ≡ [] }
     {
         CapabilitySet {
-            items: Vec::new(alloc),
+            parts: Vec::new(alloc),
         }
     }
 
@@ -42,7 +44,8 @@ impl<'a> CapabilitySet<'a> {
     {
         let mut items = Vec::new(alloc);
         items.push(e)?;
-        Ok(CapabilitySet { items })
+        let set = set_of(alloc, items)?;
+        Ok(set)
     }
 
     /// Whether the capability is known, that is, whether an equal one is there.
@@ -50,7 +53,7 @@ impl<'a> CapabilitySet<'a> {
         ensures value { result ≡ has_cap self.now e.now }
         ensures known { IsTrue result ↔ IsKnown self.now e.now }
     {
-        has_equal(&self.items, e)
+        some_has(&self.parts, e)
     }
 
     /// The capabilities that either knows: these, and then the others.
@@ -58,10 +61,10 @@ impl<'a> CapabilitySet<'a> {
         ensures list { IfOk result (λ s. s ≡ self.now ++ other.now) }
         ensures known { IfOk result (λ s. (k : Known) → IsKnown s k ↔ (IsKnown self.now k ⊎ IsKnown other.now k)) }
     {
-        let mut items = Vec::new(*self.items.allocator());
-        push_all(&mut items, &self.items)?;
-        push_all(&mut items, &other.items)?;
-        Ok(CapabilitySet { items })
+        let mut parts = Vec::new(*self.parts.allocator());
+        share_all(&mut parts, &self.parts)?;
+        share_all(&mut parts, &other.parts)?;
+        Ok(CapabilitySet { parts })
     }
 
     /// The capabilities that both know: those of these that the other knows too.
@@ -69,23 +72,19 @@ impl<'a> CapabilitySet<'a> {
         ensures list { IfOk result (λ s. s ≡ common self.now other.now) }
         ensures known { IfOk result (λ s. (k : Known) → IsKnown s k ↔ (IsKnown self.now k × IsKnown other.now k)) }
     {
-        let mut items = Vec::new(*self.items.allocator());
-        for k in &self.items {
-            if other.contains(k) {
-                let k = k.try_clone(*items.allocator())?;
-                items.push(k)?;
-            }
-        }
-        Ok(CapabilitySet { items })
+        let alloc = *self.parts.allocator();
+        let items = known_to(alloc, &self.parts, other)?;
+        let set = set_of(alloc, items)?;
+        Ok(set)
     }
 
-    /// An equal set with memory of its own.
+    /// An equal set, which shares the capabilities.
     pub fn try_clone(&self) -> Result<CapabilitySet<'a>, AllocError>
         ensures { IfOk result (λ s. s ≡ self.now) }
     {
-        let mut items = Vec::new(*self.items.allocator());
-        push_all(&mut items, &self.items)?;
-        Ok(CapabilitySet { items })
+        let mut parts = Vec::new(*self.parts.allocator());
+        share_all(&mut parts, &self.parts)?;
+        Ok(CapabilitySet { parts })
     }
 }
 
@@ -99,7 +98,7 @@ impl<'a> PartialEq for CapabilitySet<'a> {
 
     // Whether the two know the same.
     fn eq(&self, other: &CapabilitySet<'a>) -> bool {
-        are_known(&self.items, other) && are_known(&other.items, self)
+        all_are_known(&self.parts, other) && all_are_known(&other.parts, self)
     }
 }
 
@@ -107,6 +106,55 @@ impl<'a> Eq for CapabilitySet<'a> {
     ghost use Rattle.capabilities.specs.CapabilityLaws.{known_equiv};
 
     ghost laws = { known_equiv };
+}
+
+// A part that is shorter than this one, beside another such one, is copied and not shared: of many short parts few
+// longer ones are made.
+const SHORT: usize = 128;
+
+#[tactic(auto, using(crate::proofs::PartSteps::together_push))]
+fn set_of<'a>(alloc: Global, items: Vec<Capability<'a>>) -> Result<CapabilitySet<'a>, AllocError>
+    ensures { IfOk result (λ s. s ≡ items.entry.items) }
+{
+    let part = Part::new(alloc, items)?;
+    let mut parts = Vec::new(alloc);
+    parts.push(part)?;
+    Ok(CapabilitySet { parts })
+}
+
+#[tactic(auto, using(crate::proofs::PartSteps::has_more))]
+fn some_has(parts: &Vec<Part<'_>>, e: &Capability<'_>) -> bool
+    ensures { result ≡ has_cap (together parts.now.items) e.now }
+{
+    for part in parts {
+        if has_equal(part.items(), e) {
+            return true;
+        }
+    }
+    false
+}
+
+fn has_equal(items: &Vec<Capability<'_>>, e: &Capability<'_>) -> bool
+    ensures { result ≡ has_cap items.now.items e.now }
+{
+    for k in items {
+        if are_alike(e, k) {
+            return true;
+        }
+    }
+    false
+}
+
+#[tactic(auto, using(crate::proofs::PartSteps::covered_more))]
+fn all_are_known(parts: &Vec<Part<'_>>, other: &CapabilitySet<'_>) -> bool
+    ensures { result ≡ is_covered (together parts.now.items) other.now }
+{
+    for part in parts {
+        if !are_known(part.items(), other) {
+            return false;
+        }
+    }
+    true
 }
 
 fn are_known(items: &Vec<Capability<'_>>, other: &CapabilitySet<'_>) -> bool
@@ -120,15 +168,82 @@ fn are_known(items: &Vec<Capability<'_>>, other: &CapabilitySet<'_>) -> bool
     true
 }
 
-fn has_equal(items: &Vec<Capability<'_>>, e: &Capability<'_>) -> bool
-    ensures { result ≡ has_cap items.now.items e.now }
+// The capabilities that the other set knows too.
+#[tactic(auto, using(crate::proofs::PartSteps::common_more))]
+fn known_to<'a>(
+    alloc: Global,
+    parts: &Vec<Part<'a>>,
+    other: &CapabilitySet<'a>,
+) -> Result<Vec<Capability<'a>>, AllocError>
+    ensures { IfOk result (λ v. v.items ≡ common (together parts.now.items) other.now) }
 {
-    for k in items {
-        if are_alike(e, k) {
-            return true;
+    let mut items = Vec::new(alloc);
+    for part in parts {
+        push_known(&mut items, part.items(), other)?;
+    }
+    Ok(items)
+}
+
+fn push_known<'a>(
+    items: &mut Vec<Capability<'a>>,
+    others: &Vec<Capability<'a>>,
+    known: &CapabilitySet<'a>,
+) -> Result<(), AllocError>
+    ensures { IfOk result (λ _. items.new.items ≡ items.old.items ++ common others.now.items known.now) }
+{
+    for k in others {
+        if known.contains(k) {
+            let k = k.try_clone(*items.allocator())?;
+            items.push(k)?;
         }
     }
-    false
+    Ok(())
+}
+
+#[tactic(auto, using(crate::proofs::PartSteps::together_more))]
+fn share_all<'a>(parts: &mut Vec<Part<'a>>, others: &Vec<Part<'a>>) -> Result<(), AllocError>
+    ensures { IfOk result (λ _. together parts.new.items ≡ together parts.old.items ++ together others.now.items) }
+{
+    for part in others {
+        share(parts, part)?;
+    }
+    Ok(())
+}
+
+// Puts one more part behind the parts.
+#[tactic(auto, using(crate::proofs::PartSteps::together_push))]
+fn share<'a>(parts: &mut Vec<Part<'a>>, part: &Part<'a>) -> Result<(), AllocError>
+    ensures { IfOk result (λ _. together parts.new.items ≡ together parts.old.items ++ part.now) }
+{
+    match parts.pop() {
+        None => push_part(parts, part.try_clone()?),
+        Some(last) => {
+            if last.items().len() < SHORT && part.items().len() < SHORT {
+                let both = joined(*parts.allocator(), &last, part)?;
+                push_part(parts, both)
+            } else {
+                push_part(parts, last)?;
+                push_part(parts, part.try_clone()?)
+            }
+        }
+    }
+}
+
+#[tactic(auto, using(crate::proofs::PartSteps::together_push))]
+fn push_part<'a>(parts: &mut Vec<Part<'a>>, part: Part<'a>) -> Result<(), AllocError>
+    ensures { IfOk result (λ _. together parts.new.items ≡ together parts.old.items ++ part.entry) }
+{
+    parts.push(part)?;
+    Ok(())
+}
+
+fn joined<'a>(alloc: Global, left: &Part<'a>, right: &Part<'a>) -> Result<Part<'a>, AllocError>
+    ensures { IfOk result (λ p. p ≡ left.now ++ right.now) }
+{
+    let mut items = Vec::new(alloc);
+    push_all(&mut items, left.items())?;
+    push_all(&mut items, right.items())?;
+    Part::new(alloc, items)
 }
 
 fn push_all<'a>(

@@ -4,6 +4,7 @@
 mod capability;
 mod capability_set;
 pub mod laws;
+mod part;
 
 pub use capability::Capability;
 pub use capability_set::CapabilitySet;

@@ -1,4 +1,5 @@
 pub mod Attrs
+pub mod CoreSchema
 pub mod HashLaws
 pub mod KindOrder
 pub mod Laws

@@ -3,6 +3,7 @@
 
 mod compared;
 mod copies;
+pub mod core_schema;
 mod declared;
 mod entity_lub;
 mod hash;

@@ -1,12 +1,10 @@
-use Rattle.std.proofs.Common.{◌≡◌, subst, sym}
+use Rattle.std.proofs.Common.{◌≡◌, subst, sym, rules}
 use Rattle.std.specs.Prelude.{◌↔◌}
-use Rattle.std.proofs.lemmas.Grind.{common_steps}
-use Rattle.std.proofs.Common.{arith}
 use Rattle.capabilities.specs.Capability.{IsKnown, common}
 use Rattle.capabilities.specs.CapabilityLaws.{known_common}
 use Rattle.capabilities.proofs.capability_set.CapabilitySet.intersect.Goals as goal
 
 pub returns-clause-known : goal.returns-clause-known
 returns-clause-known c = λ k.
-    let all : c.loop-k.items.items ≡ common c.args.self.now c.args.other.now = grind (arith, common_steps) in
+    let all : c.in_ok-set.set ≡ common c.args.self.now c.args.other.now = search rules in
     subst (λ cs. IsKnown cs k ↔ (IsKnown c.args.self.now k × IsKnown c.args.other.now k)) (sym all) (known_common c.args.self.now c.args.other.now k)
