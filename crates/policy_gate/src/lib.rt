@@ -12,7 +12,7 @@ mod tests;
 mod tests_bodies;
 
 pub use command::{Command, command_of};
-pub use policy_documents::read_value;
+pub use policy_documents::{DocumentFault, Place, read_schema, read_value};
 pub use policy_writing::write_value;
 pub use reply::Reply;
 pub use runner::run;
