@@ -1,3 +1,2 @@
 pub mod SameId
-pub mod Once
 pub mod Bounds

@@ -1,7 +1,7 @@
-pub mod Schema
 pub mod Entities
 pub mod Faults
 pub mod Request
+pub mod Limits
 pub mod Parts
 pub mod Body
 pub mod Policy

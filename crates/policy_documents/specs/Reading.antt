@@ -12,7 +12,7 @@ use Rattle.policy_documents.specs.Faults.{Then}
 use Rattle.policy_documents.specs.Parts.{DocumentParts, parts_of}
 use Rattle.policy_documents.specs.Policies.{policies_of}
 use Rattle.policy_documents.specs.Request.{request_of}
-use Rattle.policy_documents.specs.Schema.{schema_of}
+use Rattle.policy_documents.specs.Limits.{limited_schema_of}
 use Rattle.policy_documents.specs.Store.{IsStoreOf}
 use Rattle.policy_documents.specs.declared.document.Document.{Document}
 use Rattle.policy_documents.specs.declared.place.Place.{Place}
@@ -50,7 +50,7 @@ IsReadBehindSchema parts schema = Then (λ r. r ≡ policies_of [] parts.policie
 
 -- the document that the parts make, or the place of the first fault
 abbrev pub IsReadFrom : DocumentParts → Result Document Place → Type 0
-IsReadFrom parts = Then (IsSchemaFrom (schema_of parts.schema)) (IsReadBehindSchema parts)
+IsReadFrom parts = Then (IsSchemaFrom (limited_schema_of parts.schema)) (IsReadBehindSchema parts)
 
 -- document reading: the document that the value is, or the place of the first fault
 unfoldable pub IsRead : Data → Result Document Place → Type 0

@@ -9,7 +9,7 @@ use crate::parts::{Parts, parts_of};
 use crate::place::{DocumentFault, Place};
 use crate::policies::read_policies;
 use crate::request::read_request;
-use crate::schema::read_schema;
+use crate::schema::read_limited_schema;
 use crate::store::read_store;
 use policy_set::PolicySet;
 use policy_store::{Entities, Request};
@@ -76,7 +76,7 @@ fn with_policies(
 fn read_parts(alloc: Global, parts: &Parts<'_>) -> Result<Document, DocumentFault>
     ensures { Reads result (IsReadFrom (parts_view parts.now)) }
 {
-    let schema = read_schema(alloc, parts.schema)?;
+    let schema = read_limited_schema(alloc, parts.schema)?;
     with_policies(alloc, parts, schema)
 }
 

@@ -20,6 +20,7 @@ pub use place::{DocumentFault, Place};
 pub use policies::read_policies;
 pub use policy::{PolicyParts, PolicyRead, read_policy};
 pub use request::read_request;
-pub use schema::{read_declarations, read_schema};
+pub use schema::read_schema;
+pub use schema_documents::read_declarations;
 pub use store::read_store;
 pub use values::read_value;

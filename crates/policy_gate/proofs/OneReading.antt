@@ -1,5 +1,6 @@
 -- A JSON value that is a document is no other document, and has no fault.
 use Rattle.std.proofs.Common.{◌≡◌, ℕ, List, [], ◌∷◌, inl, inr, Option, Some, None, Result, Ok, Err, Contains, sym, ◌∙◌, ap, refl, subst}
+use Rattle.std.specs.Prelude.{IfSome, IsSomeAnd}
 use Rattle.serde_json.specs.Data.{Data, Items}
 use Rattle.hierarchy.specs.Least.{IsLeast}
 use Rattle.hierarchy.specs.Repeated.{IsRepeated, StandsEarlier}
@@ -12,7 +13,7 @@ use Rattle.policy_set.specs.declared.template.TemplateBody.{TemplateBody}
 use Rattle.policy_store.specs.declared.request.Request.{Request}
 use Rattle.schema_core.specs.Schema.{SchemaData}
 use Rattle.schema_core.specs.Entries.{Declarations}
-use Rattle.schema_core.specs.Declarations.{IsSchemaOf, IsRefused}
+use Rattle.schema_core.specs.Declarations.{IsSchemaOf, IsRefused, declared_outline}
 use Rattle.schema_core.proofs.OneSchema.{one_schema}
 use Rattle.schema_core.specs.declared.fault.SchemaFault.{SchemaFault}
 use Rattle.schema_core.specs.declared.fault.SchemaFault.TheVariants as refused
@@ -20,7 +21,7 @@ use Rattle.policy_documents.specs.Faults.{Then}
 use Rattle.policy_documents.specs.Parts.{DocumentParts, parts_of}
 use Rattle.policy_documents.specs.Policies.{policies_of}
 use Rattle.policy_documents.specs.Request.{request_of}
-use Rattle.policy_documents.specs.Schema.{schema_of}
+use Rattle.policy_documents.specs.Limits.{limited_schema_of}
 use Rattle.policy_documents.specs.Entities.{entities_of}
 use Rattle.policy_documents.specs.Store.{IsStoreOf, IsStoreFrom, IsStoreFault}
 use Rattle.policy_documents.specs.Reading.{IsRead, IsReadFrom, IsReadBehindSchema, IsReadBehindPolicies, IsReadBehindStore, IsSchemaFrom, IsSchemaFault, document, or_place}
@@ -45,16 +46,25 @@ one_then {A} First Next one next y r (inr (x, f, n)) (inr (z, g, m)) =
 one_value : {A : Type 0} (e : Result A Place) → IsOne (λ r. r ≡ e)
 one_value e x r f g = g ∙ sym f
 
+unlike : {A : Type 0} {P Q : A → Type 0} (o : Option A) → IfSome o P → IsSomeAnd o Q → ((x : A) → P x → Q x → ⊥) → ⊥
+unlike None p q never = q
+unlike (Some x) p q never = never x p q
+
 no_schema_fault : (d : Declarations) (s : SchemaData) (f : SchemaFault) → IsSchemaOf d s → IsSchemaFault d (place.SchemaFault f) → ⊥
 no_schema_fault d s refused.OutOfMemory is fault = fault
 no_schema_fault d s (refused.DuplicateAction u) is fault = is.once u fault.holds
-no_schema_fault d s (refused.ActionCycle u) is fault = is.no_cycle u fault.2.holds
 no_schema_fault d s (refused.ActionTypeDeclared x) is (once, least) = cc (is.names.types x least.holds.0, least.holds.1)
-no_schema_fault d s (refused.NotAnAction u) is (once, (a, least)) = cc (is.names.actions u least.holds.0, least.holds.1)
-no_schema_fault d s (refused.UndeclaredType x) is (once, (a, b, least)) = cc (is.names.named_types x least.holds.1, least.holds.0)
-no_schema_fault d s (refused.UndeclaredAction u) is (once, (a, b, e, least)) = cc (is.names.named_actions u least.holds.1, least.holds.0)
+no_schema_fault d s (refused.EmptyEnum x) is (once, (a, least)) = unlike ((declared_outline d).kind_at x) (is.names.enums x) least.holds (λ k p q. cc (p, q))
+no_schema_fault d s (refused.NotAnAction u) is (once, (a, b, least)) = cc (is.names.actions u least.holds.0, least.holds.1)
+no_schema_fault d s (refused.UndeclaredType x) is (once, (a, b, e, least)) = cc (is.names.named_types x least.holds.1, least.holds.0)
+no_schema_fault d s (refused.UndeclaredAction u) is (once, (a, b, e, g, least)) = cc (is.names.named_actions u least.holds.1, least.holds.0)
+no_schema_fault d s (refused.ActionCycle u) is (named, least) = is.no_cycle u least.holds
+no_schema_fault d s (refused.EnumHasAncestor x) is (named, a, least) = is.no_enum x least.holds
 no_schema_fault d s (refused.NotClosed x) is (once, never) = never
 no_schema_fault d s (refused.ActionNotClosed u) is (once, never) = never
+no_schema_fault d s (refused.BadType x) is (members, least) = unlike ((declared_outline d).kind_at x) (is.types.kinds x) least.holds (λ k p q. cc (p, q))
+no_schema_fault d s (refused.BadContext u) is (members, (a, least)) = unlike ((declared_outline d).context_at u) (is.types.contexts u) least.holds (λ xs p q. cc (p, q))
+no_schema_fault d s (refused.UnknownExtension n) is (members, (a, b, least)) = cc (is.types.extensions n least.holds.1, least.holds.0)
 
 no_schema_place : (d : Declarations) (s : SchemaData) (p : Place) → IsSchemaOf d s → IsSchemaFault d p → ⊥
 no_schema_place d s (place.SchemaFault f) is fault = no_schema_fault d s f is fault
@@ -102,7 +112,7 @@ behind_schema : (parts : DocumentParts) (schema : SchemaData) → IsOne (IsReadB
 behind_schema parts schema = one_then _ _ (one_value (policies_of [] parts.policies)) (behind_policies parts schema)
 
 read_from : (parts : DocumentParts) → IsOne (IsReadFrom parts)
-read_from parts = one_then _ _ (schema_once (schema_of parts.schema)) (behind_schema parts)
+read_from parts = one_then _ _ (schema_once (limited_schema_of parts.schema)) (behind_schema parts)
 
 pub one_reading : (v : Data) (d : Document) (r : Result Document Place) → IsRead v (Ok d) → IsRead v r → r ≡ Ok d
 unfolding IsRead

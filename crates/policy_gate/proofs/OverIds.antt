@@ -16,7 +16,7 @@ use Rattle.policy_gate.proofs.BodyOverIds.{IsIf, IsOver, policy_over}
 use Rattle.schema_core.specs.Schema.{SchemaData}
 use Rattle.schema_core.specs.Faults.{IsSchema}
 use Rattle.schema_core.specs.Entries.{Declarations}
-use Rattle.policy_documents.specs.Schema.{schema_of}
+use Rattle.policy_documents.specs.Limits.{limited_schema_of}
 use Rattle.policy_documents.specs.Reading.{IsRead, IsSchemaFrom, document}
 use Rattle.policy_documents.specs.declared.document.Document.{Document}
 use Rattle.policy_documents.specs.declared.place.Place.{Place}
@@ -72,4 +72,4 @@ read_good v d (inr (parts, f, inr (schema, g, inr (policies, h, inl (p, k, e))))
 read_good v d (inr (parts, f, inr (schema, g, inr (policies, h, inr (entities, k, inl (p, l, e)))))) = absurd (cc (e))
 read_good v d (inr (parts, f, inr (schema, g, inr (policies, h, inr (entities, k, inr (request, l, e)))))) =
     let same : d ≡ document schema policies entities request = cc (e) in
-    subst IsGood (sym same) (schema_kept (schema_of parts.schema) schema g, subst OkOver (sym h) (policies_over [] parts.policies tt))
+    subst IsGood (sym same) (schema_kept (limited_schema_of parts.schema) schema g, subst OkOver (sym h) (policies_over [] parts.policies tt))

@@ -13,7 +13,7 @@ mod tests_bodies;
 
 pub use command::{Command, command_of};
 pub use expr_documents::{Bounded, read_expr};
-pub use policy_documents::read_value;
+pub use policy_documents::{DocumentFault, Place, read_schema, read_value};
 pub use policy_writing::write_value;
 pub use reply::Reply;
 pub use runner::run;

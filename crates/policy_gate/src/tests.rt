@@ -1,6 +1,7 @@
 //! The top call over sources and sinks in memory.
 
 mod causes;
+mod schemas;
 
 use crate::{Status, run};
 use outside::{MemorySink, MemorySource, NoSink, SliceSource};
@@ -101,7 +102,7 @@ fn bounds_the_document(rt: HostRuntime) -> Result<(), Fail> {
 // Documents, with the status and the text that are due for each. The texts come from the rules in docs/FORMAT.md.
 #[test]
 fn answers_documents(rt: HostRuntime) -> Result<(), Fail> {
-    let rows: [(&str, Status, &str); 22] = [
+    let rows: [(&str, Status, &str); 26] = [
         // one group of two is kept
         (
             "{\"schema\":{\"entityTypes\":{\"Group\":{},\"Photo\":{},\"User\":{\"memberOf\":[\"Group\"]}},\"actions\":[{\"id\":[\"Action\",\"view\"],\"principals\":[\"User\"],\"resources\":[\"Photo\"]}]},\"policies\":[{\"id\":\"p0\",\"effect\":\"permit\",\"principal\":{\"in\":[\"Group\",\"g\"]}}],\"entities\":[{\"id\":[\"User\",\"alice\"],\"parents\":[[\"Group\",\"g\"],[\"Group\",\"h\"]]}],\"request\":{\"principal\":[\"User\",\"alice\"],\"action\":[\"Action\",\"view\"],\"resource\":[\"Photo\",\"x\"],\"context\":{}}}",
@@ -146,6 +147,27 @@ fn answers_documents(rt: HostRuntime) -> Result<(), Fail> {
         ),
         // schema form
         ("{\"schema\":[]}", Status::Document, "document: schema\n"),
+        // what commands do not read of a schema
+        (
+            "{\"schema\":{\"entityTypes\":{\"A\":{\"attributes\":{}}}}}",
+            Status::Document,
+            "document: schema\n",
+        ),
+        (
+            "{\"schema\":{\"entityTypes\":{\"A\":{\"memberOf\":[],\"tags\":\"Long\"}}}}",
+            Status::Document,
+            "document: schema\n",
+        ),
+        (
+            "{\"schema\":{\"entityTypes\":{\"A\":{\"enum\":[\"a\"]}}}}",
+            Status::Document,
+            "document: schema\n",
+        ),
+        (
+            "{\"schema\":{\"actions\":[{\"id\":[\"Action\",\"a\"],\"context\":{}}]}}",
+            Status::Document,
+            "document: schema\n",
+        ),
         // undeclared type
         (
             "{\"schema\":{\"entityTypes\":{\"A\":{\"memberOf\":[\"B\"]}}}}",

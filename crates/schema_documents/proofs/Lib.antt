@@ -1,1 +1,3 @@
-pub mod Named
+mod Fit
+mod Named
+mod Once

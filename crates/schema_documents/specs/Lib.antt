@@ -1,1 +1,3 @@
+pub mod Laws
+pub mod Schema
 pub mod Types

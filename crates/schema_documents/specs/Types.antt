@@ -1,12 +1,12 @@
 -- Types and attributes in JSON.
 use Rattle.std.specs.Prelude.{ℕ, List, [], ◌∷◌, true, false, if◌then◌else◌, Option, Some, None, option_map, codes}
-use Rattle.std.specs.List.{list_any}
 use Rattle.std.specs.Str.{bytes_eq}
 use Rattle.schema_types.specs.declared.kinds.Primitive.TheVariants.{Bool, Long, String}
 use Rattle.schema_types.specs.declared.kinds.OpenTag.TheVariants.{ClosedAttributes}
 use Rattle.schema_types.specs.declared.ty.AttributeType.{AttributeType}
 use Rattle.schema_types.specs.Ty.{Ty, primitive, set_of, record_of, entity, extension}
 use Rattle.schema_types.specs.TyView.{attrs_of}
+use Rattle.schema_core.specs.Inside.{is_known_extension}
 use Rattle.serde_json.specs.Data as json
 use Rattle.serde_json.specs.Data.{Data, null, boolean, number, array, object, Members, no_members, member}
 use Rattle.json_parts.specs.Lists.{with_field}
@@ -16,12 +16,9 @@ use Rattle.json_parts.specs.Names.{name_of}
 abbrev pub Entries : Type 0
 Entries = List (List ℕ × AttributeType)
 
-abbrev pub extension_names : List (List ℕ)
-extension_names = codes "decimal" ∷ codes "ipaddr" ∷ codes "datetime" ∷ codes "duration" ∷ []
-
 -- a primitive type, or that of an extension
 abbrev pub type_named : List ℕ → Option Ty
-type_named t = if bytes_eq t (codes "Bool") then Some (primitive Bool) else (if bytes_eq t (codes "Long") then Some (primitive Long) else (if bytes_eq t (codes "String") then Some (primitive String) else (if list_any (λ n. bytes_eq t n) extension_names then Some (extension t) else None)))
+type_named t = if bytes_eq t (codes "Bool") then Some (primitive Bool) else (if bytes_eq t (codes "Long") then Some (primitive Long) else (if bytes_eq t (codes "String") then Some (primitive String) else (if is_known_extension t then Some (extension t) else None)))
 
 -- the object with this one member: sets of a type, the entities of a type, or records, which are closed
 abbrev pub type_form : List ℕ → Data → Option Ty → Option Entries → Option Ty

@@ -1,7 +1,7 @@
 use Rattle.std.proofs.Common.{◌≡◌, ◌++◌, drop, option_map}
 use Rattle.serde_json.specs.View.{items_view}
-use Rattle.policy_documents.specs.Schema.{actions_of_items}
-use Rattle.policy_documents.proofs.schema.read_actions.Given as goal
+use Rattle.schema_documents.specs.Schema.{actions_of_items}
+use Rattle.schema_documents.proofs.schema.read_actions.Given as goal
 
 -- the actions so far, and then those of the items that are left, are all
 abbrev pub invariant-loop-item : goal.invariant-loop-item
