@@ -1,7 +1,12 @@
 pub mod Actions
+pub mod Entries
 pub mod Filled
+pub mod Firsts
 pub mod Found
+pub mod InListing
+pub mod Kept
 pub mod Lists
+pub mod Lowest
 pub mod Mapped
 pub mod Members
 pub mod Queries

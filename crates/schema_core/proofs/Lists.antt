@@ -13,7 +13,7 @@ use Rattle.std.proofs.lemmas.Map.Views.{All-values_from_lookup}
 use Rattle.std.proofs.lemmas.List.{take_more, flat_map_more}
 use Rattle.schema_core.specs.Listing.{HasAscending}
 
-append_nil : {T : Type 0} (xs : List T) → xs ++ [] ≡ xs
+pub append_nil : {T : Type 0} (xs : List T) → xs ++ [] ≡ xs
 append_nil [] = refl
 append_nil (x ∷ xs) = ap (λ ys. x ∷ ys) (append_nil xs)
 

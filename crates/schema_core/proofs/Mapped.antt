@@ -64,11 +64,11 @@ pub record IsMapped {X A K : Type 0} (cmp_a : A → A → Ordering) (cmp : K →
   pub ascending : (q : A) → IfSome (at cmp_a sets q) (λ s. IsStrictlySortedBy cmp s.keys)
 
 module _ {A : Type 0} {cmp_a : A → A → Ordering} (o : IsTotalOrder cmp_a) where
-  turned : (x q : A) → is_eq (cmp_a q x) ≡ is_eq (cmp_a x q)
+  pub turned : (x q : A) → is_eq (cmp_a q x) ≡ is_eq (cmp_a x q)
   turned x q = (eq_by_cmp_equiv o).symm q x
 
 -- a key that differs from all names is at no item
-fresh : {X A : Type 0} (cmp_a : A → A → Ordering) (name : X → A) (x : X) (rest : List X) → AllByRecursion (λ y. eq_by_cmp cmp_a (name x) y ≡ false) (map name rest) → find (is_at_key cmp_a name (name x)) rest ≡ None
+pub fresh : {X A : Type 0} (cmp_a : A → A → Ordering) (name : X → A) (x : X) (rest : List X) → AllByRecursion (λ y. eq_by_cmp cmp_a (name x) y ≡ false) (map name rest) → find (is_at_key cmp_a name (name x)) rest ≡ None
 fresh cmp_a name x [] all = refl
 fresh cmp_a name x (y ∷ rest) all = rw all.0 (fresh cmp_a name x rest all.1)
 

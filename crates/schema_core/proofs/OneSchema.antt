@@ -1,7 +1,7 @@
 -- Declarations give one schema.
 use Rattle.std.proofs.Common.{◌≡◌, ◌↔◌, ℕ, Bool, true, false, List, [], ◌∷◌, Option, Some, None, cond, ap, sym, ◌∙◌, refl, subst}
 use Rattle.std.specs.Prelude.{is_some, IsTrue, All}
-use Rattle.std.specs.Option.{option_map_or}
+use Rattle.std.specs.Option.{option_map, option_map_or}
 use Rattle.std.specs.Ordering.{is_eq}
 use Rattle.std.specs.declared.cmp.Ordering.{Ordering}
 use Rattle.std.specs.declared.cmp.Ordering.TheVariants.{Less, Equal, Greater}
@@ -27,6 +27,13 @@ same_bool true true h k = refl
 same_bool false false h k = refl
 same_bool true false h k = sym (h refl)
 same_bool false true h k = k refl
+
+one_value : {W : Type 0} (v w : W) → Some v ≡ Some w → v ≡ w
+one_value v w h = cc
+
+-- what two that are found have, where it is the same
+same_value : {V W : Type 0} (part : V → W) (a b : V) {o p : Option V} → o ≡ Some a → p ≡ Some b → option_map part o ≡ option_map part p → part a ≡ part b
+same_value part a b e f h = one_value (part a) (part b) (sym (ap (option_map part) e) ∙ h ∙ ap (option_map part) f)
 
 module _ {K V : Type 0} (cmp : K → K → Ordering) (exact : (x y : K) → cmp x y ≡ Equal → x ≡ y) (key : V → K) where
   is_equal : (o : Ordering) → is_eq o ≡ true → o ≡ Equal
@@ -65,7 +72,8 @@ module _ (d : Outline) (s t : SchemaData) (is_s : IsSchema s) (is_t : IsSchema t
       let of_b = found text_cmp exact_bytes (λ (z : TypeData). z.name) (λ z. IsStrictlySortedBy text_cmp z.descendants) x b t.entity_types (recursion_from_All _ t.entity_types is_t.type_sets) f in
       let names : a.name ≡ b.name = sym of_a.0 ∙ of_b.0 in
       let below : a.descendants ≡ b.descendants = same_names a.descendants b.descendants of_a.1 of_b.1 (λ y. ap (λ o. option_map_or (λ z. has text_cmp z.descendants y) o false) (sym e) ∙ types_listed x y ∙ ap (λ o. option_map_or (λ z. has text_cmp z.descendants y) o false) f) in
-      λ i. Some (record { name = names i; descendants = below i })
+      let kinds : a.kind ≡ b.kind = same_value (λ (z : TypeData). z.kind) a b e f (of_s.kinds x ∙ sym (of_t.kinds x)) in
+      λ i. Some (record { name = names i; descendants = below i; kind = kinds i })
 
   action_same : (u : EntityUID) (o p : Option ActionData) → action_at s u ≡ o → action_at t u ≡ p → is_some o ≡ is_some p → o ≡ p
   action_same u None None e f some = refl
@@ -78,7 +86,8 @@ module _ (d : Outline) (s t : SchemaData) (is_s : IsSchema s) (is_t : IsSchema t
       let below : a.descendants ≡ b.descendants = same_uids a.descendants b.descendants of_a.1.descendants of_b.1.descendants (λ v. ap (λ o. option_map_or (λ z. has uid_cmp z.descendants v) o false) (sym e) ∙ actions_listed u v ∙ ap (λ o. option_map_or (λ z. has uid_cmp z.descendants v) o false) f) in
       let whom : a.principals ≡ b.principals = same_names a.principals b.principals of_a.1.principals of_b.1.principals (λ y. ap (λ o. option_map_or (λ z. has text_cmp z.principals y) o false) (sym e) ∙ of_s.principals u y ∙ sym (of_t.principals u y) ∙ ap (λ o. option_map_or (λ z. has text_cmp z.principals y) o false) f) in
       let what : a.resources ≡ b.resources = same_names a.resources b.resources of_a.1.resources of_b.1.resources (λ y. ap (λ o. option_map_or (λ z. has text_cmp z.resources y) o false) (sym e) ∙ of_s.resources u y ∙ sym (of_t.resources u y) ∙ ap (λ o. option_map_or (λ z. has text_cmp z.resources y) o false) f) in
-      λ i. Some (record { name = names i; principals = whom i; resources = what i; descendants = below i })
+      let contexts : a.context ≡ b.context = same_value (λ (z : ActionData). z.context) a b e f (of_s.contexts u ∙ sym (of_t.contexts u)) in
+      λ i. Some (record { name = names i; principals = whom i; resources = what i; descendants = below i; context = contexts i })
 
   same_schema : s ≡ t
   same_schema =

@@ -1,6 +1,6 @@
 -- The rules of a schema, from what a listing's maps are found to keep.
-use Rattle.std.proofs.Common.{subst, Result, Ok, Err, MatchResult, ◌≡◌, ℕ, Bool, true, false, ◌↔◌, ◌⊎◌, inl, inr, List, Option, Some, None, Contains, refl, sym, ◌∙◌}
-use Rattle.std.specs.Option.{option_map_or, IsSomeAnd}
+use Rattle.std.proofs.Common.{subst, Result, Ok, Err, MatchResult, ◌≡◌, ℕ, Bool, true, false, ◌↔◌, ◌⊎◌, inl, inr, List, Option, Some, None, IsTrue, Contains, refl, sym, ◌∙◌}
+use Rattle.std.specs.Option.{option_map_or, IsSomeAnd, IfSome}
 use Rattle.std.specs.Result.{IsErrAnd}
 use Rattle.std.specs.BTreeSet.{BTreeSet}
 use Rattle.std.specs.Cmp.Lexicographic.{nat_list_cmp_total}
@@ -16,13 +16,15 @@ use Rattle.policy_names.specs.declared.entity_uid.EntityUID.{EntityUID}
 use Rattle.policy_names.specs.Basename.{is_action_type}
 use Rattle.policy_names.specs.Uid.{text_cmp, uid_cmp, uid_cmp_total, exact_uid}
 use Rattle.schema_core.specs.declared.listing.Listing.{Listing}
-use Rattle.schema_core.specs.Outline.{Outline, outline_of, HasSoundNames, IsClosed, IsDeclaredActionType, IsNoAction, IsUndeclaredType, IsUndeclaredAction, IsOwnMember, IsOpenType, IsOpenAction}
+use Rattle.schema_core.specs.Outline.{Outline, outline_of, HasSoundNames, IsClosed, HasSoundTypes, IsListedType, IsTypeInside, IsDeclaredActionType, IsEmptyEnum, IsNoAction, IsUndeclaredType, IsUndeclaredAction, IsOwnMember, IsListedEnum, IsOpenType, IsOpenAction, IsBadType, IsBadContext, IsUnknownExtension}
 use Rattle.schema_core.specs.declared.fault.SchemaFault.{SchemaFault}
-use Rattle.schema_core.specs.declared.fault.SchemaFault.TheVariants.{DuplicateAction, ActionTypeDeclared, NotAnAction, UndeclaredType, UndeclaredAction, ActionCycle, NotClosed, ActionNotClosed, OutOfMemory}
+use Rattle.schema_core.specs.declared.fault.SchemaFault.TheVariants.{DuplicateAction, ActionTypeDeclared, EmptyEnum, NotAnAction, UndeclaredType, UndeclaredAction, ActionCycle, EnumHasAncestor, NotClosed, ActionNotClosed, BadType, BadContext, UnknownExtension, OutOfMemory}
 use Rattle.schema_core.specs.Schema.{SchemaData}
 use Rattle.schema_core.specs.Entries.{Declarations}
-use Rattle.schema_core.specs.Declarations.{declared_outline, IsDeclaredTwice, IsRefused}
-use Rattle.schema_core.specs.Faults.{Nowhere, IsOnce, IsNameFault, IsRefusedData, action_ids_of}
+use Rattle.schema_core.specs.Declarations.{declared_outline, IsDeclaredTwice, IsRefused, HasMembers}
+use Rattle.schema_core.specs.Faults.{Nowhere, IsOnce, IsNameFault, IsTypeFault, IsRefusedData, HasOnceNamed, action_ids_of}
+use Rattle.schema_core.specs.Inside.{are_held}
+use Rattle.schema_core.specs.Kinds.{is_enum, is_empty_enum, is_held_kind}
 use Rattle.schema_core.specs.Listing.{listed_outline, types_lead}
 
 -- the test says what the map holds
@@ -39,27 +41,41 @@ module _ (l : Listing) where
   leads_action : (u v : EntityUID) → (leads uid_cmp l.actions.entries u v ≡ true) ↔ Leads uid_cmp l.actions.entries u v
   leads_action = leads-Leads uid_cmp_total exact_uid l.actions.entries
 
-  -- a type that is named and not declared, by the three maps
-  undeclared_type : (q : List ℕ) → (IsUnlisted text_cmp l.types.entries q ⊎ (IsOutside uid_cmp text_cmp l.types.entries l.principals.entries q ⊎ IsOutside uid_cmp text_cmp l.types.entries l.resources.entries q)) ↔ IsUndeclaredType (listed_outline l) q
+  -- a type that is listed and not declared, by the three maps
+  undeclared_type : (q : List ℕ) → (IsUnlisted text_cmp l.types.entries q ⊎ (IsOutside uid_cmp text_cmp l.types.entries l.principals.entries q ⊎ IsOutside uid_cmp text_cmp l.types.entries l.resources.entries q)) ↔ (((listed_outline l).has_type q ≡ false) × IsListedType (listed_outline l) q)
   undeclared_type q = (to, from) where
-    to : IsUnlisted text_cmp l.types.entries q ⊎ (IsOutside uid_cmp text_cmp l.types.entries l.principals.entries q ⊎ IsOutside uid_cmp text_cmp l.types.entries l.resources.entries q) → IsUndeclaredType (listed_outline l) q
+    to : IsUnlisted text_cmp l.types.entries q ⊎ (IsOutside uid_cmp text_cmp l.types.entries l.principals.entries q ⊎ IsOutside uid_cmp text_cmp l.types.entries l.resources.entries q) → ((listed_outline l).has_type q ≡ false) × IsListedType (listed_outline l) q
     to (inl h) = (h.0, inl (h.1.0, (leads_type h.1.0 q).1 h.1.1))
     to (inr (inl h)) = (h.0, inr (inl (h.1.0, (types_lead-Holds l.principals.entries h.1.0 q).1 h.1.1)))
     to (inr (inr h)) = (h.0, inr (inr (h.1.0, (types_lead-Holds l.resources.entries h.1.0 q).1 h.1.1)))
 
-    from : IsUndeclaredType (listed_outline l) q → IsUnlisted text_cmp l.types.entries q ⊎ (IsOutside uid_cmp text_cmp l.types.entries l.principals.entries q ⊎ IsOutside uid_cmp text_cmp l.types.entries l.resources.entries q)
+    from : ((listed_outline l).has_type q ≡ false) × IsListedType (listed_outline l) q → IsUnlisted text_cmp l.types.entries q ⊎ (IsOutside uid_cmp text_cmp l.types.entries l.principals.entries q ⊎ IsOutside uid_cmp text_cmp l.types.entries l.resources.entries q)
     from (absent, inl (x, h)) = inl (absent, (x, (leads_type x q).0 h))
     from (absent, inr (inl (u, h))) = inr (inl (absent, (u, (types_lead-Holds l.principals.entries u q).0 h)))
     from (absent, inr (inr (u, h))) = inr (inr (absent, (u, (types_lead-Holds l.resources.entries u q).0 h)))
 
-  pub least_undeclared : (a b c : Option (List ℕ)) → IsLeastIfAny text_cmp (IsUnlisted text_cmp l.types.entries) a
+  -- or named inside a type
+  undeclared_any : (q : List ℕ) → ((((listed_outline l).has_type q ≡ false) × IsListedType (listed_outline l) q) ⊎ (((listed_outline l).has_type q ≡ false) × IsTypeInside (listed_outline l) q)) ↔ IsUndeclaredType (listed_outline l) q
+  undeclared_any q = (to, from) where
+    to : (((listed_outline l).has_type q ≡ false) × IsListedType (listed_outline l) q) ⊎ (((listed_outline l).has_type q ≡ false) × IsTypeInside (listed_outline l) q) → IsUndeclaredType (listed_outline l) q
+    to (inl h) = (h.0, inl h.1)
+    to (inr h) = (h.0, inr h.1)
+
+    from : IsUndeclaredType (listed_outline l) q → (((listed_outline l).has_type q ≡ false) × IsListedType (listed_outline l) q) ⊎ (((listed_outline l).has_type q ≡ false) × IsTypeInside (listed_outline l) q)
+    from (absent, inl h) = inl (absent, h)
+    from (absent, inr h) = inr (absent, h)
+
+  pub least_undeclared : (a b c d : Option (List ℕ)) → IsLeastIfAny text_cmp (IsUnlisted text_cmp l.types.entries) a
       → IsLeastIfAny text_cmp (IsOutside uid_cmp text_cmp l.types.entries l.principals.entries) b
       → IsLeastIfAny text_cmp (IsOutside uid_cmp text_cmp l.types.entries l.resources.entries) c
-      → IsLeastIfAny text_cmp (IsUndeclaredType (listed_outline l)) (lower_of text_cmp a (lower_of text_cmp b c))
-  least_undeclared a b c la lb lc =
-      IsLeastIfAny-same text_cmp _ (IsUndeclaredType (listed_outline l)) undeclared_type (lower_of text_cmp a (lower_of text_cmp b c))
-      (lower_least nat_list_cmp_total (IsUnlisted text_cmp l.types.entries) _ a (lower_of text_cmp b c) la
-      (lower_least nat_list_cmp_total (IsOutside uid_cmp text_cmp l.types.entries l.principals.entries) (IsOutside uid_cmp text_cmp l.types.entries l.resources.entries) b c lb lc))
+      → IsLeastIfAny text_cmp (λ q. ((listed_outline l).has_type q ≡ false) × IsTypeInside (listed_outline l) q) d
+      → IsLeastIfAny text_cmp (IsUndeclaredType (listed_outline l)) (lower_of text_cmp (lower_of text_cmp a (lower_of text_cmp b c)) d)
+  least_undeclared a b c d la lb lc ld =
+      let listed = IsLeastIfAny-same text_cmp _ (λ q. ((listed_outline l).has_type q ≡ false) × IsListedType (listed_outline l) q) undeclared_type (lower_of text_cmp a (lower_of text_cmp b c))
+          (lower_least nat_list_cmp_total (IsUnlisted text_cmp l.types.entries) _ a (lower_of text_cmp b c) la
+          (lower_least nat_list_cmp_total (IsOutside uid_cmp text_cmp l.types.entries l.principals.entries) (IsOutside uid_cmp text_cmp l.types.entries l.resources.entries) b c lb lc)) in
+      IsLeastIfAny-same text_cmp _ (IsUndeclaredType (listed_outline l)) undeclared_any (lower_of text_cmp (lower_of text_cmp a (lower_of text_cmp b c)) d)
+      (lower_least nat_list_cmp_total (λ q. ((listed_outline l).has_type q ≡ false) × IsListedType (listed_outline l) q) (λ q. ((listed_outline l).has_type q ≡ false) × IsTypeInside (listed_outline l) q) (lower_of text_cmp a (lower_of text_cmp b c)) d listed ld)
 
   pub undeclared_action : (q : EntityUID) → IsUnlisted uid_cmp l.actions.entries q ↔ IsUndeclaredAction (listed_outline l) q
   undeclared_action q = (λ h. (h.0, (h.1.0, (leads_action h.1.0 q).1 h.1.1)), λ h. (h.0, (h.1.0, (leads_action h.1.0 q).0 h.1.1)))
@@ -92,21 +108,40 @@ module _ (o : Outline) where
   not_true true h = absurd (h refl)
   not_true false h = refl
 
+  -- what holds of no value that there is
+  pub if_some : {X : Type 0} (p : X → Bool) (r : Option X) → (IsSomeAnd r (λ x. IsTrue (p x)) → ⊥) → IfSome r (λ x. p x ≡ false)
+  if_some p None none = tt
+  if_some p (Some x) none = not_true (p x) none
+
+  if_good : {X : Type 0} (p : X → Bool) (r : Option X) → (IsSomeAnd r (λ x. p x ≡ false) → ⊥) → IfSome r (λ x. IsTrue (p x))
+  if_good p None none = tt
+  if_good p (Some x) none = by_test (p x) none
+
   -- where no rule about names is broken
-  pub sound_names : Nowhere (IsDeclaredActionType o) → Nowhere (IsNoAction o) → Nowhere (IsUndeclaredType o) → Nowhere (IsUndeclaredAction o) → HasSoundNames o
-  sound_names a b c d = record {
+  pub sound_names : Nowhere (IsDeclaredActionType o) → Nowhere (IsEmptyEnum o) → Nowhere (IsNoAction o) → Nowhere (IsUndeclaredType o) → Nowhere (IsUndeclaredAction o) → HasSoundNames o
+  sound_names a e b c d = record {
     types = λ x h. not_true (is_action_type x) (λ is. a x (h, is));
+    enums = λ x. if_some is_empty_enum (o.kind_at x) (e x);
     actions = λ u h. by_test (is_action_type u.entity_type) (λ is. b u (h, is));
     named_types = λ y h. by_test (o.has_type y) (λ is. c y (is, h));
     named_actions = λ v h. by_test (o.has_action v) (λ is. d v (is, h));
   }
 
   -- where no descendants are open
-  pub closed_outline : Nowhere (IsOwnMember o) → Nowhere (IsOpenType o) → Nowhere (IsOpenAction o) → IsClosed o
-  closed_outline a b c = record {
+  pub closed_outline : Nowhere (IsOwnMember o) → Nowhere (IsListedEnum o) → Nowhere (IsOpenType o) → Nowhere (IsOpenAction o) → IsClosed o
+  closed_outline a e b c = record {
     types = λ x y z h k. by_test (o.type_lists x z) (λ is. b x (y, z, h, k, is));
     actions = λ u v w h k. by_test (o.action_lists u w) (λ is. c u (v, w, h, k, is));
     no_own = λ u. not_true (o.action_lists u u) (a u);
+    no_enum = λ x y h. if_some is_enum (o.kind_at y) (λ is. e y (is, (x, h)));
+  }
+
+  -- where no rule about types inside is broken
+  pub sound_types : Nowhere (IsBadType o) → Nowhere (IsBadContext o) → Nowhere (IsUnknownExtension o) → HasSoundTypes o
+  sound_types a b c = record {
+    kinds = λ x. if_good is_held_kind (o.kind_at x) (a x);
+    contexts = λ u. if_good are_held (o.context_at u) (b u);
+    extensions = λ n h. by_test _ (λ is. c n (is, h));
   }
 
 -- what the maps are found to keep, by an outline that says the same
@@ -129,32 +164,85 @@ module _ (l : Listing) (o : Outline) (e : listed_outline l ≡ o) where
   pub no_open_action : ((q : EntityUID) → IsNotClosed uid_cmp l.actions.entries q → ⊥) → Nowhere (IsOpenAction o)
   no_open_action none = subst (λ p. Nowhere (IsOpenAction p)) e (λ q h. none q ((open_action l q).1 h))
 
+-- the same of enumerated types
+module _ (p o : Outline) (e : p ≡ o) where
+  pub enum_least : (x : List ℕ) → IsLeast text_cmp (IsListedEnum p) x → IsLeast text_cmp (IsListedEnum o) x
+  enum_least x h = subst (λ q. IsLeast text_cmp (IsListedEnum q) x) e h
+
+  pub no_enum : Nowhere (IsListedEnum p) → Nowhere (IsListedEnum o)
+  no_enum h = subst (λ q. Nowhere (IsListedEnum q)) e h
+
 -- a fault of the names refuses the schema
 pub refused_data : (s : SchemaData) (o : Outline) (fault : SchemaFault) → o ≡ outline_of s → IsOnce (action_ids_of s) → IsNameFault o fault → IsRefusedData s fault
 refused_data s o fault e once h = by_fault fault (subst (λ p. IsNameFault p fault) e h) where
   by_fault : (fault : SchemaFault) → IsNameFault (outline_of s) fault → IsRefusedData s fault
   by_fault (DuplicateAction u) h = absurd h
   by_fault (ActionTypeDeclared x) h = (once, h)
+  by_fault (EmptyEnum x) h = (once, h)
   by_fault (NotAnAction u) h = (once, h)
   by_fault (UndeclaredType x) h = (once, h)
   by_fault (UndeclaredAction u) h = (once, h)
   by_fault (ActionCycle u) h = absurd h
+  by_fault (EnumHasAncestor x) h = absurd h
   by_fault (NotClosed x) h = absurd h
   by_fault (ActionNotClosed u) h = absurd h
+  by_fault (BadType x) h = absurd h
+  by_fault (BadContext u) h = absurd h
+  by_fault (UnknownExtension n) h = absurd h
   by_fault OutOfMemory h = tt
+
+-- and so does one of the types inside
+pub refused_types : (s : SchemaData) (o : Outline) (fault : SchemaFault) → o ≡ outline_of s → HasOnceNamed s → IsClosed (outline_of s) → IsTypeFault o fault → IsRefusedData s fault
+refused_types s o fault e names closed h = by_fault fault (subst (λ p. IsTypeFault p fault) e h) where
+  by_fault : (fault : SchemaFault) → IsTypeFault (outline_of s) fault → IsRefusedData s fault
+  by_fault (BadType x) h = (names, closed, h)
+  by_fault (BadContext u) h = (names, closed, h)
+  by_fault (UnknownExtension n) h = (names, closed, h)
+  by_fault OutOfMemory h = tt
+  by_fault (DuplicateAction u) h = absurd h
+  by_fault (ActionTypeDeclared x) h = absurd h
+  by_fault (EmptyEnum x) h = absurd h
+  by_fault (NotAnAction u) h = absurd h
+  by_fault (UndeclaredType x) h = absurd h
+  by_fault (UndeclaredAction u) h = absurd h
+  by_fault (ActionCycle u) h = absurd h
+  by_fault (EnumHasAncestor x) h = absurd h
+  by_fault (NotClosed x) h = absurd h
+  by_fault (ActionNotClosed u) h = absurd h
 
 pub refused_declarations : (d : Declarations) (o : Outline) (fault : SchemaFault) → o ≡ declared_outline d → Nowhere (IsDeclaredTwice d) → IsNameFault o fault → IsRefused d fault
 refused_declarations d o fault e once h = by_fault fault (subst (λ p. IsNameFault p fault) e h) where
   by_fault : (fault : SchemaFault) → IsNameFault (declared_outline d) fault → IsRefused d fault
   by_fault (DuplicateAction u) h = absurd h
   by_fault (ActionTypeDeclared x) h = (once, h)
+  by_fault (EmptyEnum x) h = (once, h)
   by_fault (NotAnAction u) h = (once, h)
   by_fault (UndeclaredType x) h = (once, h)
   by_fault (UndeclaredAction u) h = (once, h)
   by_fault (ActionCycle u) h = absurd h
+  by_fault (EnumHasAncestor x) h = absurd h
   by_fault (NotClosed x) h = (once, absurd h)
   by_fault (ActionNotClosed u) h = (once, absurd h)
+  by_fault (BadType x) h = absurd h
+  by_fault (BadContext u) h = absurd h
+  by_fault (UnknownExtension n) h = absurd h
   by_fault OutOfMemory h = tt
+
+pub refused_declared_types : (d : Declarations) (fault : SchemaFault) → HasMembers d → IsTypeFault (declared_outline d) fault → IsRefused d fault
+refused_declared_types d (BadType x) m h = (m, h)
+refused_declared_types d (BadContext u) m h = (m, h)
+refused_declared_types d (UnknownExtension n) m h = (m, h)
+refused_declared_types d OutOfMemory m h = tt
+refused_declared_types d (DuplicateAction u) m h = absurd h
+refused_declared_types d (ActionTypeDeclared x) m h = absurd h
+refused_declared_types d (EmptyEnum x) m h = absurd h
+refused_declared_types d (NotAnAction u) m h = absurd h
+refused_declared_types d (UndeclaredType x) m h = absurd h
+refused_declared_types d (UndeclaredAction u) m h = absurd h
+refused_declared_types d (ActionCycle u) m h = absurd h
+refused_declared_types d (EnumHasAncestor x) m h = absurd h
+refused_declared_types d (NotClosed x) m h = absurd h
+refused_declared_types d (ActionNotClosed u) m h = absurd h
 
 -- a fault that `?` hands on
 pub refused_by : {X : Type 0} (r : Result X SchemaFault) (fault : SchemaFault) (P : X → Type 0) (Q : SchemaFault → Type 0) → IsErrAnd r (λ e. e ≡ fault) → Q fault → MatchResult r P Q

@@ -1,114 +1,106 @@
 -- The schema that is arranged from a listing says what the listing says.
-use Rattle.std.proofs.Common.{◌≡◌, ℕ, Bool, true, false, ◌&&◌, cond, List, [], ◌∷◌, map, Option, Some, None, is_some, refl, sym, ◌∙◌, ap}
+use Rattle.std.proofs.Common.{◌≡◌, ℕ, Bool, true, false, cond, List, [], ◌∷◌, map, Option, Some, None, is_some, refl, sym, ◌∙◌, ap}
 use Rattle.std.specs.List.{AllByRecursion, find}
 use Rattle.std.specs.List.Sorted.{IsStrictlySortedBy}
-use Rattle.std.specs.Option.{option_map_or, IfSome}
+use Rattle.std.specs.Option.{option_map, option_map_or, IfSome}
 use Rattle.std.specs.Ordering.{is_eq}
-use Rattle.std.specs.Map.{keys_of, values_of}
+use Rattle.std.specs.declared.cmp.Ordering.{Ordering}
+use Rattle.std.specs.Map.{keys_of}
 use Rattle.std.specs.BTreeSet.{BTreeSet}
-use Rattle.std.specs.Cmp.Lexicographic.{nat_list_cmp_total}
 use Rattle.std.proofs.lemmas.Bool.{false≢true}
 use Rattle.std.proofs.lemmas.List.Elements.{All-from_recursion}
+use Rattle.std.proofs.lemmas.Map.Lookups.{CmpEqualImpliesEq, exact_bytes}
 use Rattle.std.proofs.lemmas.Map.Views.{tells_apart}
 use Rattle.hierarchy.specs.Reaches.{at, has, leads}
 use Rattle.policy_names.specs.declared.entity_uid.EntityUID.{EntityUID}
-use Rattle.policy_names.specs.Uid.{text_cmp, uid_cmp, uid_cmp_total, exact_uid}
+use Rattle.policy_names.specs.Uid.{text_cmp, uid_cmp, exact_uid}
+use Rattle.schema_types.specs.Ty.{Attrs}
+use Rattle.schema_core.specs.declared.kind.ValidatorEntityTypeKind.{ValidatorEntityTypeKind}
 use Rattle.schema_core.specs.declared.listing.Listing.{Listing}
-use Rattle.schema_core.specs.Schema.{TypeData, ActionData, SchemaData, is_type_named, is_action_named}
-use Rattle.schema_core.specs.Outline.{outline_of, HasSoundNames, IsClosed}
+use Rattle.schema_core.specs.KindView.{kind_of}
+use Rattle.schema_core.specs.Schema.{TypeData, ActionData, SchemaData, type_at, action_at}
+use Rattle.schema_core.specs.Outline.{outline_of, HasSoundNames, HasSoundTypes, IsClosed}
 use Rattle.schema_core.specs.Faults.{HasSets, IsSchema}
-use Rattle.schema_core.specs.Listing.{listed_outline, types_lead, HasAscending, IsListing}
-use Rattle.schema_core.specs.Arranged.{type_of, action_of, types_found}
+use Rattle.schema_core.specs.Listing.{listed_outline, HasAscending, IsListing}
+use Rattle.schema_core.specs.Arranged.{type_of, action_of, keys_found}
 use Rattle.schema_core.proofs.Actions.{same_outline}
-use Rattle.schema_core.proofs.Lists.{sets_ascend}
+use Rattle.schema_core.proofs.Kept.{as_it_is}
 
--- types, one by one
-type_found : (x : List ℕ) (es : List (List ℕ × BTreeSet (List ℕ))) → is_some (find (is_type_named x) (map type_of es)) ≡ is_some (at text_cmp es x)
-type_found x [] = refl
-type_found x (e ∷ es) = elim (is_eq (text_cmp x e.0)) as (λ b. is_some (cond b (Some (type_of e)) (find (is_type_named x) (map type_of es))) ≡ is_some (cond b (Some e.1) (at text_cmp es x))) [ true ↦ refl | false ↦ type_found x es ]
+-- what is made of the entries of a map, under its keys
+module _ {A V D : Type 0} {cmp : A → A → Ordering} (exact : CmpEqualImpliesEq cmp) (make : A × V → D) (name : D → A) (named : (e : A × V) → name (make e) ≡ e.0) where
+  found_made : (q : A) (es : List (A × V)) → find (λ d. is_eq (cmp q (name d))) (map make es) ≡ option_map (λ v. make (q, v)) (at cmp es q)
+  found_made q [] = refl
+  found_made q (e ∷ es) = rw (named e) (by_test (is_eq (cmp q e.0)) refl (found_made q es)) where
+    by_test : (b : Bool) → is_eq (cmp q e.0) ≡ b → find (λ d. is_eq (cmp q (name d))) (map make es) ≡ option_map (λ v. make (q, v)) (at cmp es q)
+        → cond b (Some (make e)) (find (λ d. is_eq (cmp q (name d))) (map make es)) ≡ option_map (λ v. make (q, v)) (cond b (Some e.1) (at cmp es q))
+    by_test true same later = ap (λ k. Some (make (k, e.1))) (sym (tells_apart exact q e.0 same))
+    by_test false other later = later
 
-type_lists : (x y : List ℕ) (es : List (List ℕ × BTreeSet (List ℕ))) → option_map_or (λ (t : TypeData). has text_cmp t.descendants y) (find (is_type_named x) (map type_of es)) false ≡ leads text_cmp es x y
-type_lists x y [] = refl
-type_lists x y (e ∷ es) =
-    elim (is_eq (text_cmp x e.0)) as (λ b. option_map_or (λ (t : TypeData). has text_cmp t.descendants y) (cond b (Some (type_of e)) (find (is_type_named x) (map type_of es))) false ≡ option_map_or (λ s. has text_cmp s.keys y) (cond b (Some e.1) (at text_cmp es x)) false) [
-      | true ↦ refl
-      | false ↦ type_lists x y es
-    ]
+  names_made : (es : List (A × V)) → map name (map make es) ≡ keys_of es
+  names_made [] = refl
+  names_made (e ∷ es) = λ i. named e i ∷ names_made es i
 
-type_names : (es : List (List ℕ × BTreeSet (List ℕ))) → map (λ (t : TypeData). t.name) (map type_of es) ≡ keys_of es
-type_names [] = refl
-type_names (e ∷ es) = ap (λ ks. e.0 ∷ ks) (type_names es)
+all_made : {E D : Type 0} (make : E → D) (P : D → Type 0) → ((e : E) → P (make e)) → (es : List E) → AllByRecursion P (map make es)
+all_made make P holds [] = tt
+all_made make P holds (e ∷ es) = (holds e, all_made make P holds es)
 
-type_sets : (es : List (List ℕ × BTreeSet (List ℕ))) → AllByRecursion (λ s. IsStrictlySortedBy text_cmp s.keys) (values_of es) → AllByRecursion (λ (t : TypeData). IsStrictlySortedBy text_cmp t.descendants) (map type_of es)
-type_sets [] all = tt
-type_sets (e ∷ es) all = (all.0, type_sets es all.1)
-
--- the types at an action, by the test
-types_found-lead : (sets : List (EntityUID × BTreeSet (List ℕ))) (u : EntityUID) (y : List ℕ) → has text_cmp (types_found sets u) y ≡ types_lead sets u y
-types_found-lead sets u y = elim (at uid_cmp sets u) as (λ r. has text_cmp (option_map_or (λ s. s.keys) r []) y ≡ option_map_or (λ s. has text_cmp s.keys y) r false) [ None ↦ refl | Some s ↦ refl ]
-
-types_found_ascend : (sets : List (EntityUID × BTreeSet (List ℕ))) → HasAscending uid_cmp text_cmp sets → (u : EntityUID) → IsStrictlySortedBy text_cmp (types_found sets u)
+keys_ascend : {A K : Type 0} (cmp_a : A → A → Ordering) (cmp : K → K → Ordering) (sets : List (A × BTreeSet K)) → HasAscending cmp_a cmp sets → (u : A) → IsStrictlySortedBy cmp (keys_found cmp_a sets u)
 unfolding IsStrictlySortedBy
-types_found_ascend sets all u = elim (at uid_cmp sets u) as (λ r. IfSome r (λ s. IsStrictlySortedBy text_cmp s.keys) → IsStrictlySortedBy text_cmp (option_map_or (λ s. s.keys) r [])) [ None ↦ λ _. tt | Some s ↦ λ h. h ] (all u)
+keys_ascend cmp_a cmp sets all u = elim (at cmp_a sets u) as (λ r. IfSome r (λ s. IsStrictlySortedBy cmp s.keys) → IsStrictlySortedBy cmp (option_map_or (λ s. s.keys) r [])) [ None ↦ λ _. tt | Some s ↦ λ h. h ] (all u)
 
--- a type that is led to at an action of the map alone
-led : {S : Type 0} (r : Option (BTreeSet (List ℕ))) (a : Option S) (y : List ℕ) → is_some r ≡ is_some a → (is_some a && option_map_or (λ s. has text_cmp s.keys y) r false) ≡ option_map_or (λ s. has text_cmp s.keys y) r false
-led None None y h = refl
-led None (Some a) y h = absurd (false≢true h)
-led (Some s) None y h = absurd (false≢true (sym h))
-led (Some s) (Some a) y h = refl
+-- what is listed at a name, where all names have a value and a set
+listed_made : {K V D : Type 0} (cmp : K → K → Ordering) (make : V → D) (part : D → List K) (r : Option V) (s : Option (BTreeSet K)) (y : K) → is_some r ≡ is_some s
+    → ((v : V) → part (make v) ≡ option_map_or (λ x. x.keys) s []) → option_map_or (λ d. has cmp (part d) y) (option_map make r) false ≡ option_map_or (λ x. has cmp x.keys y) s false
+listed_made cmp make part None None y h is = refl
+listed_made cmp make part None (Some s) y h is = absurd (false≢true h)
+listed_made cmp make part (Some v) None y h is = absurd (false≢true (sym h))
+listed_made cmp make part (Some v) (Some s) y h is = ap (λ ks. has cmp ks y) (is v)
 
-module _ (ps rs : List (EntityUID × BTreeSet (List ℕ))) where
-  action_found : (u : EntityUID) (es : List (EntityUID × BTreeSet EntityUID)) → is_some (find (is_action_named u) (map (action_of ps rs) es)) ≡ is_some (at uid_cmp es u)
-  action_found u [] = refl
-  action_found u (e ∷ es) = elim (is_eq (uid_cmp u e.0)) as (λ b. is_some (cond b (Some (action_of ps rs e)) (find (is_action_named u) (map (action_of ps rs) es))) ≡ is_some (cond b (Some e.1) (at uid_cmp es u))) [ true ↦ refl | false ↦ action_found u es ]
+there : {V D : Type 0} (make : V → D) (r : Option V) → is_some (option_map make r) ≡ is_some r
+there make None = refl
+there make (Some v) = refl
 
-  action_lists : (u v : EntityUID) (es : List (EntityUID × BTreeSet EntityUID)) → option_map_or (λ (a : ActionData). has uid_cmp a.descendants v) (find (is_action_named u) (map (action_of ps rs) es)) false ≡ leads uid_cmp es u v
-  action_lists u v [] = refl
-  action_lists u v (e ∷ es) =
-      elim (is_eq (uid_cmp u e.0)) as (λ b. option_map_or (λ (a : ActionData). has uid_cmp a.descendants v) (cond b (Some (action_of ps rs e)) (find (is_action_named u) (map (action_of ps rs) es))) false ≡ option_map_or (λ s. has uid_cmp s.keys v) (cond b (Some e.1) (at uid_cmp es u)) false) [
-        | true ↦ refl
-        | false ↦ action_lists u v es
-      ]
-
-  -- what an action has of its types, by a part of it that is found under its id
-  part_lists : (part : ActionData → List (List ℕ)) (sets : List (EntityUID × BTreeSet (List ℕ))) → ((e : EntityUID × BTreeSet EntityUID) → part (action_of ps rs e) ≡ types_found sets e.0)
-      → (u : EntityUID) (y : List ℕ) (es : List (EntityUID × BTreeSet EntityUID)) → option_map_or (λ a. has text_cmp (part a) y) (find (is_action_named u) (map (action_of ps rs) es)) false ≡ (is_some (at uid_cmp es u) && types_lead sets u y)
-  part_lists part sets is u y [] = refl
-  part_lists part sets is u y (e ∷ es) = by_test (is_eq (uid_cmp u e.0)) refl (part_lists part sets is u y es) where
-    by_test : (b : Bool) → is_eq (uid_cmp u e.0) ≡ b → option_map_or (λ a. has text_cmp (part a) y) (find (is_action_named u) (map (action_of ps rs) es)) false ≡ (is_some (at uid_cmp es u) && types_lead sets u y)
-        → option_map_or (λ a. has text_cmp (part a) y) (cond (is_eq (uid_cmp u e.0)) (Some (action_of ps rs e)) (find (is_action_named u) (map (action_of ps rs) es))) false ≡ (is_some (cond (is_eq (uid_cmp u e.0)) (Some e.1) (at uid_cmp es u)) && types_lead sets u y)
-    by_test true same later = rw same (rw (is e) (types_found-lead sets e.0 y ∙ ap (λ k. types_lead sets k y) (sym (tells_apart exact_uid u e.0 same))))
-    by_test false other later = rw other later
-
-  action_names : (es : List (EntityUID × BTreeSet EntityUID)) → map (λ (a : ActionData). a.name) (map (action_of ps rs) es) ≡ keys_of es
-  action_names [] = refl
-  action_names (e ∷ es) = ap (λ ks. e.0 ∷ ks) (action_names es)
-
-  action_sets : HasAscending uid_cmp text_cmp ps → HasAscending uid_cmp text_cmp rs → (es : List (EntityUID × BTreeSet EntityUID)) → AllByRecursion (λ s. IsStrictlySortedBy uid_cmp s.keys) (values_of es) → AllByRecursion HasSets (map (action_of ps rs) es)
-  action_sets p r [] all = tt
-  action_sets p r (e ∷ es) all = (record { principals = types_found_ascend ps p e.0; resources = types_found_ascend rs r e.0; descendants = all.0 }, action_sets p r es all.1)
+seen : {V D W : Type 0} (make : V → D) (part : D → W) (view : V → W) → ((v : V) → part (make v) ≡ view v) → (r : Option V) → option_map part (option_map make r) ≡ option_map view r
+seen make part view is None = refl
+seen make part view is (Some v) = ap Some (is v)
 
 -- the data of a listing
 abbrev pub data_of : Listing → SchemaData
-data_of l = record { entity_types = map type_of l.types.entries; action_ids = map (action_of l.principals.entries l.resources.entries) l.actions.entries }
+data_of l = record {
+  entity_types = map (type_of l.types.entries) l.kinds.entries;
+  action_ids = map (action_of l.actions.entries l.principals.entries l.resources.entries) l.contexts.entries;
+}
 
 module _ (l : Listing) (t : IsListing l) where
+  types : (x : List ℕ) → type_at (data_of l) x ≡ option_map (λ k. type_of l.types.entries (x, k)) (at text_cmp l.kinds.entries x)
+  types x = found_made exact_bytes (type_of l.types.entries) (λ (d : TypeData). d.name) (λ e. refl) x l.kinds.entries
+
+  actions : (u : EntityUID) → action_at (data_of l) u ≡ option_map (λ c. action_of l.actions.entries l.principals.entries l.resources.entries (u, c)) (at uid_cmp l.contexts.entries u)
+  actions u = found_made exact_uid (action_of l.actions.entries l.principals.entries l.resources.entries) (λ (d : ActionData). d.name) (λ e. refl) u l.contexts.entries
+
   pub shown_outline : outline_of (data_of l) ≡ listed_outline l
   shown_outline =
       same_outline (outline_of (data_of l)) (listed_outline l)
-      (λ x. type_found x l.types.entries) (λ x y. type_lists x y l.types.entries)
-      (λ u. action_found l.principals.entries l.resources.entries u l.actions.entries)
-      (λ u v. action_lists l.principals.entries l.resources.entries u v l.actions.entries)
-      (λ u y. part_lists l.principals.entries l.resources.entries (λ a. a.principals) l.principals.entries (λ e. refl) u y l.actions.entries ∙ led (at uid_cmp l.principals.entries u) (at uid_cmp l.actions.entries u) y (t.with_principals u))
-      (λ u y. part_lists l.principals.entries l.resources.entries (λ a. a.resources) l.resources.entries (λ e. refl) u y l.actions.entries ∙ led (at uid_cmp l.resources.entries u) (at uid_cmp l.actions.entries u) y (t.with_resources u))
+      (λ x. ap is_some (types x) ∙ there _ (at text_cmp l.kinds.entries x) ∙ t.with_kinds x)
+      (λ x y. ap (λ r. option_map_or (λ (d : TypeData). has text_cmp d.descendants y) r false) (types x) ∙ listed_made text_cmp _ (λ d. d.descendants) (at text_cmp l.kinds.entries x) (at text_cmp l.types.entries x) y (t.with_kinds x) (λ v. refl))
+      (λ u. ap is_some (actions u) ∙ there _ (at uid_cmp l.contexts.entries u) ∙ t.with_contexts u)
+      (λ u v. ap (λ r. option_map_or (λ (d : ActionData). has uid_cmp d.descendants v) r false) (actions u) ∙ listed_made uid_cmp _ (λ d. d.descendants) (at uid_cmp l.contexts.entries u) (at uid_cmp l.actions.entries u) v (t.with_contexts u) (λ w. refl))
+      (λ u y. ap (λ r. option_map_or (λ (d : ActionData). has text_cmp d.principals y) r false) (actions u) ∙ listed_made text_cmp _ (λ d. d.principals) (at uid_cmp l.contexts.entries u) (at uid_cmp l.principals.entries u) y (t.with_contexts u ∙ sym (t.with_principals u)) (λ w. refl))
+      (λ u y. ap (λ r. option_map_or (λ (d : ActionData). has text_cmp d.resources y) r false) (actions u) ∙ listed_made text_cmp _ (λ d. d.resources) (at uid_cmp l.contexts.entries u) (at uid_cmp l.resources.entries u) y (t.with_contexts u ∙ sym (t.with_resources u)) (λ w. refl))
+      (λ x. ap (option_map (λ (d : TypeData). d.kind)) (types x) ∙ seen _ (λ d. d.kind) kind_of (λ v. refl) (at text_cmp l.kinds.entries x))
+      (λ u. ap (option_map (λ (d : ActionData). d.context)) (actions u) ∙ seen _ (λ d. d.context) (λ c. c) (λ v. refl) (at uid_cmp l.contexts.entries u) ∙ as_it_is (at uid_cmp l.contexts.entries u))
 
-  pub shown_schema : IsStrictlySortedBy text_cmp (keys_of l.types.entries) → IsStrictlySortedBy uid_cmp (keys_of l.actions.entries) → HasSoundNames (listed_outline l) → IsClosed (listed_outline l) → IsSchema (data_of l)
-  shown_schema ts us names closed = record {
-    types_ascend = rw (type_names l.types.entries) ts;
-    actions_ascend = rw (action_names l.principals.entries l.resources.entries l.actions.entries) us;
-    type_sets = All-from_recursion (λ (a : TypeData). IsStrictlySortedBy text_cmp a.descendants) (map type_of l.types.entries) (type_sets l.types.entries (sets_ascend nat_list_cmp_total text_cmp l.types.entries ts t.types));
-    action_sets = All-from_recursion HasSets (map (action_of l.principals.entries l.resources.entries) l.actions.entries) (action_sets l.principals.entries l.resources.entries t.principals t.resources l.actions.entries (sets_ascend uid_cmp_total uid_cmp l.actions.entries us t.actions));
+  pub shown_schema : IsStrictlySortedBy text_cmp (keys_of l.kinds.entries) → IsStrictlySortedBy uid_cmp (keys_of l.contexts.entries) → HasSoundNames (listed_outline l) → IsClosed (listed_outline l) → HasSoundTypes (listed_outline l) → IsSchema (data_of l)
+  shown_schema ts us names closed inside = record {
+    types_ascend = rw (names_made exact_bytes (type_of l.types.entries) (λ (d : TypeData). d.name) (λ e. refl) l.kinds.entries) ts;
+    actions_ascend = rw (names_made exact_uid (action_of l.actions.entries l.principals.entries l.resources.entries) (λ (d : ActionData). d.name) (λ e. refl) l.contexts.entries) us;
+    type_sets = All-from_recursion (λ (a : TypeData). IsStrictlySortedBy text_cmp a.descendants) (data_of l).entity_types (all_made (type_of l.types.entries) _ (λ e. keys_ascend text_cmp text_cmp l.types.entries t.types e.0) l.kinds.entries);
+    action_sets = All-from_recursion HasSets (data_of l).action_ids (all_made (action_of l.actions.entries l.principals.entries l.resources.entries) HasSets (λ e. record {
+      principals = keys_ascend uid_cmp text_cmp l.principals.entries t.principals e.0;
+      resources = keys_ascend uid_cmp text_cmp l.resources.entries t.resources e.0;
+      descendants = keys_ascend uid_cmp uid_cmp l.actions.entries t.actions e.0;
+    }) l.contexts.entries);
     names = rw shown_outline names;
     closed = rw shown_outline closed;
+    types = rw shown_outline inside;
   }

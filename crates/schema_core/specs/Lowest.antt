@@ -14,7 +14,7 @@ module _ (passes : List ℕ → Bool) where
   lowest_names low [] = low
   lowest_names low (n ∷ ns) = lowest_names (lowest_name low n) ns
 
-abbrev Next : Type 0
+abbrev pub Next : Type 0
 Next = Option (List ℕ) → Ty → Option (List ℕ)
 
 -- from one type without parts to the next

@@ -92,10 +92,8 @@ impl ValidatorEntityType {
         ensures ascending { IfOk result (λ t. IsStrictlySortedBy text_cmp t.descendants) }
         ensures kind { IfOk result (λ t. t.kind ≡ kind_of kind) }
     {
-        match set_of(alloc, descendants) {
-            Ok(descendants) => Ok(ValidatorEntityType::with_set(alloc, name, descendants, kind)),
-            Err(error) => Err(error),
-        }
+        let descendants = set_of(alloc, descendants)?;
+        Ok(ValidatorEntityType::with_set(alloc, name, descendants, kind))
     }
 
     // The type with an ascending set of descendants.

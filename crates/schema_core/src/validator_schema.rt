@@ -289,10 +289,12 @@ fn with_descendants(alloc: Global, listing: Listing) -> Result<Listing, AllocErr
     ensures descendants { IfOk result (λ members. HasDescendants (listed_outline listing) (listed_outline members)) }
     ensures listing { IfOk result IsListing }
 {
-    let mut listing = listing;
-    listing.types = descendants_of(alloc, &listing.types)?;
-    listing.actions = descendants_of(alloc, &listing.actions)?;
-    Ok(listing)
+    let types = descendants_of(alloc, &listing.types)?;
+    let actions = descendants_of(alloc, &listing.actions)?;
+    let mut members = listing;
+    members.types = types;
+    members.actions = actions;
+    Ok(members)
 }
 
 // The schema of a listing that keeps its rules.
