@@ -2,14 +2,14 @@
 use Rattle.std.proofs.Common.{◌≡◌, ℕ, ◌<◌, ◌↔◌, List, [], ◌∷◌, fold, max, map, Bool, true, false, Option, Some, None, option_map, Result, Ok, Err, IfOk, arith, refl, sym, ap, ◌∙◌}
 use Rattle.std.specs.Prelude.{nat_lt, option_and_then, if◌then◌else◌}
 use Rattle.std.proofs.lemmas.Bool.Decides.{nat_tests}
-use Rattle.policy_core.specs.Tree.{Mark, lit, var, slot, ite, conj, disj, unary, binary, attr, has, like, is_type, set, rec, depth_of, deepest, deepest_named, trees_of, named_of, with_mark}
+use Rattle.policy_core.specs.Tree.{Mark, lit, var, slot, ite, conj, disj, unary, binary, attr, has, like, is_type, call, set, rec, depth_of, deepest, deepest_named, trees_of, named_of, with_mark}
 use Rattle.policy_core.specs.declared.expr.BuildError.{BuildError}
 use Rattle.policy_core.specs.declared.expr.BuildError.TheVariants as build
 use Rattle.policy_core.specs.declared.kinds.Loc.{Loc}
 use Rattle.policy_core.specs.declared.kinds.PatternElem.{PatternElem}
 use Rattle.policy_core.specs.declared.kinds.UnaryOp.{UnaryOp}
 use Rattle.expr_documents.specs.Nesting.{within, all_within, fields_within}
-use Rattle.expr_documents.specs.Forms.{Plain, binary_tree, chained, else_of, folded, get_tree, has_tree, if_tree, in_turn, join_tree, like_tree, listed_tree, of_one, paired, placed, record_tree, set_tree, type_test_tree, unary_tree}
+use Rattle.expr_documents.specs.Forms.{Plain, binary_tree, call_tree, chained, else_of, folded, get_tree, has_tree, if_tree, in_turn, join_tree, like_tree, listed_tree, of_one, paired, placed, record_tree, set_tree, type_test_tree, unary_tree}
 use Rattle.expr_documents.specs.Reads.{Read, bounded, bounded_field, build_of, listed_read, on_all, on_name, on_one, on_three, on_two, placed_read}
 use Rattle.expr_documents.specs.Exprs.{named_tree}
 use Rattle.json_parts.specs.Lists.{with_first, with_field}
@@ -167,13 +167,20 @@ all_read : (xs : List Plain) → all_within (map bounded xs) ≡ (if nat_lt 400 
 all_read [] = refl
 all_read (x ∷ xs) = ap (with_first (within (bounded x))) (all_read xs) ∙ all_by x xs (nat_lt 400 (depth_of x)) (nat_lt 400 (deepest (trees_of xs))) refl refl
 
-set_by : (xs : List Plain) (b : Bool) → nat_lt 400 (deepest (trees_of xs)) ≡ b → on_all set_tree (if b then None else Some xs) ≡ bounded (set_tree xs)
-set_by xs true e = too_deep (set_tree xs) (grind (arith, nat_tests))
-set_by xs false e = refl
+module _ (f : List Plain → Plain) (deeper : (xs : List Plain) → deepest (trees_of xs) < depth_of (f xs)) where
+  all_by_test : (xs : List Plain) (b : Bool) → nat_lt 400 (deepest (trees_of xs)) ≡ b → on_all f (if b then None else Some xs) ≡ bounded (f xs)
+  all_by_test xs true e = let d = deeper xs in too_deep (f xs) (grind (arith, nat_tests))
+  all_by_test xs false e = refl
+
+  all_reads : (os : Option (List Plain)) → option_map (λ rs. on_all f (all_within rs)) (option_map (map bounded) os) ≡ option_map bounded (option_map f os)
+  all_reads None = refl
+  all_reads (Some xs) = ap Some (ap (on_all f) (all_read xs) ∙ all_by_test xs (nat_lt 400 (deepest (trees_of xs))) refl)
 
 pub set_reads : (os : Option (List Plain)) → option_map (λ rs. on_all set_tree (all_within rs)) (option_map (map bounded) os) ≡ option_map bounded (option_map set_tree os)
-set_reads None = refl
-set_reads (Some xs) = ap Some (ap (on_all set_tree) (all_read xs) ∙ set_by xs (nat_lt 400 (deepest (trees_of xs))) refl)
+set_reads os = all_reads set_tree (λ xs. omega arith) os
+
+pub call_reads : (name : List ℕ) (os : Option (List Plain)) → option_map (λ rs. on_all (call_tree name) (all_within rs)) (option_map (map bounded) os) ≡ option_map bounded (option_map (call_tree name) os)
+call_reads name os = all_reads (call_tree name) (λ xs. omega arith) os
 
 fields_by : (k : List ℕ) (x : Plain) (es : List (List ℕ × Plain)) (b c d : Bool) → nat_lt 400 (depth_of x) ≡ b → nat_lt 400 (deepest_named (named_of es)) ≡ c → nat_lt 400 (max (depth_of x) (deepest_named (named_of es))) ≡ d
     → with_field k (within (if b then Nested else Within x)) (if c then None else Some es) ≡ (if d then None else Some ((k, x) ∷ es))
@@ -211,6 +218,7 @@ depth_of-with_mark (attr x n a) m = refl
 depth_of-with_mark (has x n a) m = refl
 depth_of-with_mark (like x p a) m = refl
 depth_of-with_mark (is_type x t a) m = refl
+depth_of-with_mark (call f xs a) m = refl
 depth_of-with_mark (set xs a) m = refl
 depth_of-with_mark (rec xs a) m = refl
 

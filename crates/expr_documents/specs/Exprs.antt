@@ -5,27 +5,28 @@ use Rattle.policy_core.specs.Tree.{lit}
 use Rattle.policy_core.specs.declared.kinds.Literal.TheVariants as literal
 use Rattle.serde_json.specs.Data as json
 use Rattle.serde_json.specs.Data.{Data, null, boolean, number, array, object, Items, no_items, item, Members, no_members, member}
-use Rattle.expr_documents.specs.Forms.{Plain, unmarked, form_named, listed_tree, unary_tree, get_tree, has_tree, like_tree, type_test_tree, set_tree, record_tree, placed, in_turn, of_one, id_tree, long_tree, var_tree}
-use Rattle.expr_documents.specs.Parts.{names_of, pattern_of, type_of, loc_of}
+use Rattle.expr_documents.specs.Forms.{Plain, unmarked, form_named, listed_tree, unary_tree, get_tree, has_tree, like_tree, type_test_tree, call_tree, set_tree, record_tree, placed, in_turn, of_one, id_tree, long_tree, var_tree}
+use Rattle.expr_documents.specs.Parts.{names_of, pattern_of, type_of, function_of, loc_of}
 use Rattle.json_parts.specs.Lists.{with_first, with_field}
 use Rattle.expr_documents.specs.declared.forms.Form.{Form}
 use Rattle.expr_documents.specs.declared.forms.Form.TheVariants as form
 
 -- what the value of an object's one member may be read as: an expression, a list of them, a list that begins with one,
--- and named ones
+-- a list that has them behind its first item, and named ones
 pub record Operands : Type 0 where
   pub one : Option Plain
   pub all : Option (List Plain)
   pub first : Option Plain
+  pub behind : Option (List Plain)
   pub fields : Option (List (List ℕ × Plain))
 
 -- first the names behind it, then the expression
 abbrev pub named_tree : Option (List (List ℕ)) → (List (List ℕ) → Plain → Option Plain) → Option Plain → Option Plain
 named_tree names f first = option_and_then (λ ns. option_and_then (f ns) first) names
 
--- first the part behind it, then the expression
-abbrev pub with_part : {A : Type 0} → (A → Plain → Plain) → Option A → Option Plain → Option Plain
-with_part f part first = option_and_then (λ a. option_map (f a) first) part
+-- first the part that is no expression, then the operands
+abbrev pub with_part : {A B : Type 0} → (A → B → Plain) → Option A → Option B → Option Plain
+with_part f part operands = option_and_then (λ a. option_map (f a) operands) part
 
 -- the expression of a form
 abbrev pub formed_tree : Form → Data → Operands → Option Plain
@@ -37,6 +38,7 @@ formed_tree form.Get d o = named_tree (names_of d) (in_turn get_tree) o.first
 formed_tree form.Has d o = named_tree (names_of d) (of_one has_tree) o.first
 formed_tree form.Like d o = with_part like_tree (pattern_of d) o.first
 formed_tree form.Is d o = with_part type_test_tree (type_of d) o.first
+formed_tree form.Call d o = with_part call_tree (function_of d) o.behind
 formed_tree form.Record d o = option_map record_tree o.fields
 
 unfoldable pub named_form_tree : List ℕ → Data → Operands → Option Plain
@@ -67,6 +69,10 @@ abbrev mutual
   first_expr_of no_items = None
   first_expr_of (item d ds) = expr_of d
 
+  pub exprs_behind_first : Items → Option (List Plain)
+  exprs_behind_first no_items = None
+  exprs_behind_first (item d ds) = exprs_of ds
+
   pub named_exprs_of : Members → Option (List (List ℕ × Plain))
   named_exprs_of no_members = Some []
   named_exprs_of (member k d ms) = with_field k (expr_of d) (named_exprs_of ms)
@@ -87,6 +93,14 @@ abbrev mutual
   operands_first (array ds) = first_expr_of ds
   operands_first (object ms) = None
 
+  pub operands_behind : Data → Option (List Plain)
+  operands_behind null = None
+  operands_behind (boolean b) = None
+  operands_behind (number n) = None
+  operands_behind (json.string t) = None
+  operands_behind (array ds) = exprs_behind_first ds
+  operands_behind (object ms) = None
+
   pub operands_fields : Data → Option (List (List ℕ × Plain))
   operands_fields null = None
   operands_fields (boolean b) = None
@@ -98,6 +112,6 @@ abbrev mutual
   -- an object with one member, or with a place and the expression that stands there
   pub expr_of_members : Members → Option Plain
   expr_of_members no_members = None
-  expr_of_members (member k d no_members) = named_form_tree k d (record { one = expr_of d; all = operands_all d; first = operands_first d; fields = operands_fields d })
+  expr_of_members (member k d no_members) = named_form_tree k d (record { one = expr_of d; all = operands_all d; first = operands_first d; behind = operands_behind d; fields = operands_fields d })
   expr_of_members (member k d (member l e no_members)) = placed_tree k d l (expr_of e)
   expr_of_members (member k d (member l e (member m f ms))) = None

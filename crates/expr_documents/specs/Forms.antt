@@ -1,7 +1,7 @@
 -- What the objects say that stand for expressions, once their parts are read.
 use Rattle.std.specs.Prelude.{ℕ, List, [], ◌∷◌, fold, if◌then◌else◌, Option, Some, None, option_map, option_and_then, codes}
 use Rattle.std.specs.Str.{bytes_eq}
-use Rattle.policy_core.specs.Tree.{Tree, Mark, lit, var, ite, conj, disj, unary, binary, attr, has, like, is_type, set, rec, with_mark, trees_of, named_of}
+use Rattle.policy_core.specs.Tree.{Tree, Mark, lit, var, ite, conj, disj, unary, binary, attr, has, like, is_type, call, set, rec, with_mark, trees_of, named_of}
 use Rattle.policy_core.specs.declared.kinds.BinaryOp.{BinaryOp}
 use Rattle.policy_core.specs.declared.kinds.BinaryOp.TheVariants as operator
 use Rattle.policy_core.specs.declared.kinds.Literal.TheVariants as literal
@@ -52,7 +52,7 @@ abbrev pub list_form_named : List ℕ → Option ListForm
 list_form_named key = if bytes_eq key (codes "all") then Some (listed.Fold All) else (if bytes_eq key (codes "any") then Some (listed.Fold Any) else (if bytes_eq key (codes "if") then Some listed.If else option_map listed.Binary (binary_named key)))
 
 abbrev pub other_form_named : List ℕ → Option Form
-other_form_named key = if bytes_eq key (codes "id") then Some form.Id else (if bytes_eq key (codes "var") then Some form.Var else (if bytes_eq key (codes "get") then Some form.Get else (if bytes_eq key (codes "has") then Some form.Has else (if bytes_eq key (codes "like") then Some form.Like else (if bytes_eq key (codes "is") then Some form.Is else (if bytes_eq key (codes "record") then Some form.Record else option_map form.Unary (unary_named key)))))))
+other_form_named key = if bytes_eq key (codes "id") then Some form.Id else (if bytes_eq key (codes "var") then Some form.Var else (if bytes_eq key (codes "get") then Some form.Get else (if bytes_eq key (codes "has") then Some form.Has else (if bytes_eq key (codes "like") then Some form.Like else (if bytes_eq key (codes "is") then Some form.Is else (if bytes_eq key (codes "record") then Some form.Record else (if bytes_eq key (codes "call") then Some form.Call else option_map form.Unary (unary_named key))))))))
 
 -- the form that the name of an object's one member tells
 abbrev pub form_named : List ℕ → Option Form
@@ -132,6 +132,9 @@ type_test_tree t x = is_type x t unmarked
 
 abbrev pub set_tree : List Plain → Plain
 set_tree xs = set (trees_of xs) unmarked
+
+abbrev pub call_tree : List ℕ → List Plain → Plain
+call_tree f xs = call f (trees_of xs) unmarked
 
 abbrev pub record_tree : List (List ℕ × Plain) → Plain
 record_tree es = rec (named_of es) unmarked

@@ -48,6 +48,14 @@ pattern_of d = option_and_then pattern_of_items (option_and_then as_array (secon
 abbrev pub type_of : Data → Option (List ℕ)
 type_of d = option_and_then name_of (second_of d)
 
+-- the function that the first item names
+abbrev pub function_of_items : Items → Option (List ℕ)
+function_of_items no_items = None
+function_of_items (item d ds) = name_of d
+
+abbrev pub function_of : Data → Option (List ℕ)
+function_of d = option_and_then function_of_items (as_array d)
+
 abbrev pub offset_from : ℤ → Option ℕ
 offset_from (pos n) = if nat_le n 4294967295 then Some n else None
 offset_from (negsuc n) = None

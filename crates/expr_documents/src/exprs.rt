@@ -3,17 +3,19 @@
 ghost use Rattle.std.specs.Prelude.{◌≡◌, IfOk, map, option_map, option_and_then};
 ghost use Rattle.serde_json.specs.View.{view, items_view, members_view, number_view};
 ghost use Rattle.policy_core.specs.Tree.{lit};
-ghost use Rattle.expr_documents.specs.Forms.{get_tree, has_tree, id_tree, in_turn, like_tree, listed_tree, long_tree, of_one, placed, record_tree, set_tree, type_test_tree, unary_tree, unmarked, var_tree};
-ghost use Rattle.expr_documents.specs.Parts.{names_of, pattern_of, type_of};
+ghost use Rattle.expr_documents.specs.Forms.{call_tree, get_tree, has_tree, id_tree, in_turn, like_tree, listed_tree, long_tree, of_one, placed, record_tree, set_tree, type_test_tree, unary_tree, unmarked, var_tree};
+ghost use Rattle.expr_documents.specs.Parts.{function_of, names_of, pattern_of, type_of};
 ghost use Rattle.expr_documents.specs.Reads.{bounded, bounded_field};
-ghost use Rattle.expr_documents.specs.Exprs.{expr_of, expr_of_members, exprs_of, first_expr_of, formed_tree, named_exprs_of, named_form_tree, named_tree, operands_all, operands_fields, operands_first, is_place, placed_tree, with_part};
+ghost use Rattle.expr_documents.specs.Exprs.{expr_of, expr_of_members, exprs_of, first_expr_of, formed_tree, named_exprs_of, named_form_tree, named_tree, operands_all, operands_fields, operands_behind, operands_first, is_place, placed_tree, with_part};
 
 use crate::forms::{Form, ListForm, form_named, var_named};
 use crate::nesting::Bounded;
-use crate::parts::{read_loc, read_names, read_pattern, read_type};
-use crate::reads::{get_all, has_one, is_of_type, like, list_form, place, record, set, unary};
+use crate::parts::{read_function, read_loc, read_names, read_pattern, read_type};
+use crate::reads::{
+    call, get_all, has_one, is_of_type, like, list_form, place, record, set, unary,
+};
 use json_parts::{read_uid, with_field, with_item};
-use policy_core::{EntityType, Expr, Literal, Loc, Pattern, Text, UnaryOp};
+use policy_core::{EntityType, Expr, Literal, Loc, Name, Pattern, Text, UnaryOp};
 use serde_json::{Map, Number, Value};
 use std::alloc::{AllocError, Global};
 use std::collections::BTreeMap;
@@ -81,16 +83,13 @@ pub fn read_expr(alloc: Global, value: &Value) -> Result<Option<Bounded<Expr<()>
 fn read_set(alloc: Global, items: &Vec<Value>) -> Result<Option<Bounded<Expr<()>>>, AllocError>
     ensures { IfOk result (λ o. o ≡ option_map bounded (option_map set_tree (exprs_of (items_view items.now.items)))) }
 {
-    let reads = read_items(alloc, items)?;
+    let reads = read_items(alloc, items.as_slice())?;
     set(alloc, reads)
 }
 
 #[cycle(expr)]
-fn read_items(
-    alloc: Global,
-    items: &Vec<Value>,
-) -> Result<Option<Vec<Bounded<Expr<()>>>>, AllocError>
-    ensures { IfOk result (λ o. option_map (λ v. v.items) o ≡ option_map (map bounded) (exprs_of (items_view items.now.items))) }
+fn read_items(alloc: Global, items: &[Value]) -> Result<Option<Vec<Bounded<Expr<()>>>>, AllocError>
+    ensures { IfOk result (λ o. option_map (λ v. v.items) o ≡ option_map (map bounded) (exprs_of (items_view items.now))) }
 {
     let mut all = Vec::new(alloc);
     for item in items {
@@ -163,7 +162,7 @@ fn read_named_form(
     value: &Value,
     key: &str,
 ) -> Result<Option<Bounded<Expr<()>>>, AllocError>
-    ensures { IfOk result (λ o. o ≡ option_map bounded (named_form_tree key.now (view value.now) (record { one = expr_of (view value.now); all = operands_all (view value.now); first = operands_first (view value.now); fields = operands_fields (view value.now) }))) }
+    ensures { IfOk result (λ o. o ≡ option_map bounded (named_form_tree key.now (view value.now) (record { one = expr_of (view value.now); all = operands_all (view value.now); first = operands_first (view value.now); behind = operands_behind (view value.now); fields = operands_fields (view value.now) }))) }
 {
     match form_named(key) {
         Some(form) => read_form(alloc, value, form),
@@ -177,7 +176,7 @@ fn read_form(
     value: &Value,
     form: Form,
 ) -> Result<Option<Bounded<Expr<()>>>, AllocError>
-    ensures { IfOk result (λ o. o ≡ option_map bounded (formed_tree form (view value.now) (record { one = expr_of (view value.now); all = operands_all (view value.now); first = operands_first (view value.now); fields = operands_fields (view value.now) }))) }
+    ensures { IfOk result (λ o. o ≡ option_map bounded (formed_tree form (view value.now) (record { one = expr_of (view value.now); all = operands_all (view value.now); first = operands_first (view value.now); behind = operands_behind (view value.now); fields = operands_fields (view value.now) }))) }
 {
     match form {
         Form::Id => read_id(alloc, value),
@@ -188,6 +187,7 @@ fn read_form(
         Form::Has => read_has(alloc, value),
         Form::Like => read_like(alloc, value),
         Form::Is => read_is(alloc, value),
+        Form::Call => read_call(alloc, value),
         Form::Record => read_record(alloc, value),
     }
 }
@@ -214,7 +214,7 @@ fn read_list(
     ensures { IfOk result (λ o. o ≡ option_map bounded (option_and_then (listed_tree form) (operands_all (view value.now)))) }
 {
     match value {
-        Value::Array(items) => read_operands(alloc, items, form),
+        Value::Array(items) => read_operands(alloc, items.as_slice(), form),
         _ => Ok(None),
     }
 }
@@ -223,10 +223,10 @@ fn read_list(
 #[tactic(auto, using(crate::proofs::Bounds::listed_reads))]
 fn read_operands(
     alloc: Global,
-    items: &Vec<Value>,
+    items: &[Value],
     form: ListForm,
 ) -> Result<Option<Bounded<Expr<()>>>, AllocError>
-    ensures { IfOk result (λ o. o ≡ option_map bounded (option_and_then (listed_tree form) (exprs_of (items_view items.now.items)))) }
+    ensures { IfOk result (λ o. o ≡ option_map bounded (option_and_then (listed_tree form) (exprs_of (items_view items.now)))) }
 {
     let reads = read_items(alloc, items)?;
     list_form(alloc, form, reads)
@@ -311,6 +311,44 @@ fn read_typed(
 {
     let read = read_first(alloc, value)?;
     is_of_type(alloc, entity_type, read)
+}
+
+#[cycle(expr)]
+fn read_call(alloc: Global, value: &Value) -> Result<Option<Bounded<Expr<()>>>, AllocError>
+    ensures { IfOk result (λ o. o ≡ option_map bounded (with_part call_tree (function_of (view value.now)) (operands_behind (view value.now)))) }
+{
+    match read_function(alloc, value)? {
+        Some(name) => read_called(alloc, value, name),
+        None => Ok(None),
+    }
+}
+
+#[cycle(expr)]
+fn read_called(
+    alloc: Global,
+    value: &Value,
+    name: Name,
+) -> Result<Option<Bounded<Expr<()>>>, AllocError>
+    ensures { IfOk result (λ o. o ≡ option_map bounded (option_map (call_tree name) (operands_behind (view value.now)))) }
+{
+    let reads = read_behind_first(alloc, value)?;
+    call(alloc, name, reads)
+}
+
+#[cycle(expr)]
+fn read_behind_first(
+    alloc: Global,
+    value: &Value,
+) -> Result<Option<Vec<Bounded<Expr<()>>>>, AllocError>
+    ensures { IfOk result (λ o. option_map (λ v. v.items) o ≡ option_map (map bounded) (operands_behind (view value.now))) }
+{
+    let Value::Array(items) = value else {
+        return Ok(None);
+    };
+    match items.as_slice() {
+        [_, rest @ ..] => read_items(alloc, rest),
+        [] => Ok(None),
+    }
 }
 
 #[cycle(expr)]

@@ -24,6 +24,8 @@ pub(crate) enum Form {
     Like,
     /// The test for the type of an id.
     Is,
+    /// The call of an extension function.
+    Call,
     /// A record.
     Record,
 }
@@ -120,6 +122,7 @@ fn other_form_named(key: &str) -> Option<Form>
         "like" => Some(Form::Like),
         "is" => Some(Form::Is),
         "record" => Some(Form::Record),
+        "call" => Some(Form::Call),
         _ => unary_named(key).map(Form::Unary),
     }
 }

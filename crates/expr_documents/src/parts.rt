@@ -4,10 +4,11 @@ ghost use Rattle.std.specs.Prelude.{◌≡◌, ◌++◌, IfOk, map, option_map};
 ghost use Rattle.std.specs.Str.{chars};
 ghost use Rattle.policy_core.specs.declared.kinds.PatternElem.TheVariants.{Char};
 ghost use Rattle.serde_json.specs.View.{view, items_view};
-ghost use Rattle.expr_documents.specs.Parts.{elements_of, loc_of, loc_of_ends, loc_of_items, names_of, offset_of, pattern_of, pattern_of_items, second_of, texts_of, type_of};
+ghost use Rattle.json_parts.specs.Names.{name_of, name_of_text};
+ghost use Rattle.expr_documents.specs.Parts.{elements_of, function_of, loc_of, loc_of_ends, loc_of_items, names_of, offset_of, pattern_of, pattern_of_items, second_of, texts_of, type_of};
 
 use json_parts::{pair, read_name, with_item};
-use policy_core::{EntityType, Loc, Pattern, PatternElem, Text};
+use policy_core::{EntityType, Loc, Name, Pattern, PatternElem, Text};
 use serde_json::Value;
 use std::alloc::{AllocError, Global};
 
@@ -103,6 +104,38 @@ pub(crate) fn read_type(alloc: Global, value: &Value) -> Result<Option<EntityTyp
     match second(value) {
         Some(name) => read_name(alloc, name),
         None => Ok(None),
+    }
+}
+
+// The function that a text names.
+fn function_named(alloc: Global, text: &str) -> Result<Option<Name>, AllocError>
+    ensures { IfOk result (λ o. o ≡ name_of_text text.now) }
+{
+    match Name::parse(alloc, text)? {
+        Some(name) => Ok(Some(name)),
+        None => Ok(None),
+    }
+}
+
+fn read_function_name(alloc: Global, value: &Value) -> Result<Option<Name>, AllocError>
+    ensures { IfOk result (λ o. o ≡ name_of (view value.now)) }
+{
+    match value.as_str() {
+        Some(text) => function_named(alloc, text),
+        None => Ok(None),
+    }
+}
+
+/// The function that the first item names.
+pub(crate) fn read_function(alloc: Global, value: &Value) -> Result<Option<Name>, AllocError>
+    ensures { IfOk result (λ o. o ≡ function_of (view value.now)) }
+{
+    let Some(items) = value.as_array() else {
+        return Ok(None);
+    };
+    match items.as_slice() {
+        [first, ..] => read_function_name(alloc, first),
+        [] => Ok(None),
     }
 }
 

@@ -2,14 +2,14 @@
 
 ghost use Rattle.std.specs.Prelude.{◌≡◌, IfOk, option_map, option_and_then};
 ghost use Rattle.policy_core.specs.Tree.{conj, disj};
-ghost use Rattle.expr_documents.specs.Forms.{binary_tree, chained, folded, get_tree, has_tree, if_tree, in_turn, join_tree, like_tree, of_one, paired, record_tree, set_tree, type_test_tree, unary_tree, unmarked};
+ghost use Rattle.expr_documents.specs.Forms.{binary_tree, call_tree, chained, folded, get_tree, has_tree, if_tree, in_turn, join_tree, like_tree, of_one, paired, record_tree, set_tree, type_test_tree, unary_tree, unmarked};
 ghost use Rattle.expr_documents.specs.Nesting.{all_within, fields_within};
 ghost use Rattle.expr_documents.specs.Reads.{both, bounded, build_of, listed_read, on_all, on_name, on_one, on_three, on_two, placed_read};
 
 use crate::forms::{Junction, ListForm};
 use crate::lists::{only, two};
 use crate::nesting::{Bounded, take_all, take_fields};
-use policy_core::{BinaryOp, BuildError, EntityType, Expr, Loc, Pattern, Text, UnaryOp};
+use policy_core::{BinaryOp, BuildError, EntityType, Expr, Loc, Name, Pattern, Text, UnaryOp};
 use std::alloc::{AllocError, Global};
 use std::collections::BTreeMap;
 
@@ -106,6 +106,13 @@ fn build_set(items: Vec<Expr<()>>) -> Result<Bounded<Expr<()>>, AllocError>
     ensures { IfOk result (λ r. r ≡ bounded (set_tree items.items)) }
 {
     read_of(Expr::set(items, (), None))
+}
+
+#[tactic(auto, using(crate::proofs::Bounds::settled))]
+fn build_call(name: Name, arguments: Vec<Expr<()>>) -> Result<Bounded<Expr<()>>, AllocError>
+    ensures { IfOk result (λ r. r ≡ bounded (call_tree name arguments.items)) }
+{
+    read_of(Expr::extension_function_app(name, arguments, (), None))
 }
 
 #[tactic(auto, using(crate::proofs::Bounds::settled))]
@@ -441,6 +448,33 @@ pub(crate) fn set(
 {
     match reads {
         Some(reads) => Ok(Some(set_of_all(alloc, reads)?)),
+        None => Ok(None),
+    }
+}
+
+fn call_of_all(
+    alloc: Global,
+    name: Name,
+    reads: Vec<Bounded<Expr<()>>>,
+) -> Result<Bounded<Expr<()>>, AllocError>
+    ensures { IfOk result (λ r. r ≡ on_all (call_tree name) (all_within reads.items)) }
+{
+    match take_all(alloc, reads)? {
+        Some(arguments) => build_call(name, arguments),
+        None => Ok(Bounded::Nested),
+    }
+}
+
+/// The call of a function with what was read.
+pub(crate) fn call(
+    alloc: Global,
+    name: Name,
+    reads: Option<Vec<Bounded<Expr<()>>>>,
+) -> Result<Option<Bounded<Expr<()>>>, AllocError>
+    ensures { IfOk result (λ o. o ≡ option_map (λ rs. on_all (call_tree name) (all_within rs)) (option_map (λ v. v.items) reads)) }
+{
+    match reads {
+        Some(reads) => Ok(Some(call_of_all(alloc, name, reads)?)),
         None => Ok(None),
     }
 }

@@ -4,19 +4,20 @@ use Rattle.std.proofs.lemmas.List.{drop_more}
 use Rattle.serde_json.specs.View.{view, items_view, members_view}
 use Rattle.serde_json.specs.declared.value.Value.{Value}
 use Rattle.policy_values.specs.Maps.{IsNext}
-use Rattle.expr_documents.specs.Forms.{get_tree, has_tree, in_turn, of_one}
+use Rattle.expr_documents.specs.Forms.{call_tree, get_tree, has_tree, in_turn, of_one}
 use Rattle.expr_documents.specs.Parts.{names_of}
-use Rattle.expr_documents.specs.Reads.{bounded, bounded_field, listed_read, on_name}
-use Rattle.expr_documents.specs.Exprs.{expr_of, expr_of_members, exprs_of, named_exprs_of, named_tree, operands_first, placed_tree}
+use Rattle.expr_documents.specs.Nesting.{all_within}
+use Rattle.expr_documents.specs.Reads.{bounded, bounded_field, listed_read, on_all, on_name}
+use Rattle.expr_documents.specs.Exprs.{expr_of, expr_of_members, exprs_of, named_exprs_of, named_tree, operands_behind, operands_first, placed_tree}
 use Rattle.json_parts.proofs.Ascending.{next_key, keys_more}
-use Rattle.expr_documents.proofs.Bounds.{get_reads, has_reads, listed_reads}
+use Rattle.expr_documents.proofs.Bounds.{call_reads, get_reads, has_reads, listed_reads}
 use Rattle.expr_documents.proofs.Steps.{item_more, field_read, none_from}
 use Rattle.expr_documents.proofs.exprs.+expr.Goals as goal
 
 pub read_items-loop-item-preserved : goal.read_items-loop-item-preserved
 read_items-loop-item-preserved t c =
     let l = c.loop-item in
-    let xs = c.deref-item-items.result.now in
+    let xs = c.args.items.now in
     let x = c.item-item.result in
     let rest = drop (l.item-index + 1) xs in
     let here : drop l.item-index xs ≡ x ∷ rest = drop_more xs l.item-index x (omega arith) ∙ ap (λ y. y ∷ rest) (sym c.item-item.is) in
@@ -71,8 +72,14 @@ read_has-returns t c =
 pub read_operands-returns : goal.read_operands-returns
 read_operands-returns t c =
     subst (λ o. IfOk c.list_form.result (λ r. r ≡ o))
-    (ap (option_and_then (listed_read c.args.form)) c.in_ok-reads.ensures ∙ listed_reads c.args.form (exprs_of (items_view c.args.items.now.items)))
+    (ap (option_and_then (listed_read c.args.form)) c.in_ok-reads.ensures ∙ listed_reads c.args.form (exprs_of (items_view c.args.items.now)))
     c.list_form.ensures
+
+pub read_called-returns : goal.read_called-returns
+read_called-returns t c =
+    subst (λ o. IfOk c.call.result (λ r. r ≡ o))
+    (ap (option_map (λ rs. on_all (call_tree c.args.name) (all_within rs))) c.in_ok-reads.ensures ∙ call_reads c.args.name (operands_behind (view c.args.value.now)))
+    c.call.ensures
 
 pub read_members-returns : goal.read_members-returns
 read_members-returns t c =

@@ -7,7 +7,7 @@ use Rattle.expr_documents.proofs.exprs.+expr.Given as goal
 
 -- those so far, and then those of what is left, are all
 abbrev pub invariant-read_items-loop-item : goal.invariant-read_items-loop-item
-invariant-read_items-loop-item l = option_map (λ rs. l.all.items ++ rs) (option_map (map bounded) (exprs_of (items_view (drop l.item-index l.item-items)))) ≡ option_map (map bounded) (exprs_of (items_view l.item-items))
+invariant-read_items-loop-item l = option_map (λ rs. l.all.items ++ rs) (option_map (map bounded) (exprs_of (items_view (drop l.item-index l.items)))) ≡ option_map (map bounded) (exprs_of (items_view l.items))
 
 -- the same of fields; and their keys are those of the members
 abbrev pub invariant-read_fields-loop-key : goal.invariant-read_fields-loop-key
