@@ -19,7 +19,7 @@ others kept = filter (λ y. not (has text_cmp kept y))
 -- what is kept and what is left are all; the set has what is kept
 pub record AreFirsts (all left kept seen : List (List ℕ)) : Type 0 where
   pub same : (q : List ℕ) → has text_cmp seen q ≡ has text_cmp kept q
-  pub left : kept ++ others kept (firsts left) ≡ firsts all
+  pub whole : kept ++ others kept (firsts left) ≡ firsts all
 
 filter_both : (p q : List ℕ → Bool) (xs : List (List ℕ)) → filter p (filter q xs) ≡ filter (λ y. q y && p y) xs
 filter_both p q [] = refl
@@ -36,18 +36,18 @@ filter_all [] = refl
 filter_all (x ∷ xs) = ap (λ ys. x ∷ ys) (filter_all xs)
 
 pub firsts_none : (all seen : List (List ℕ)) → seen ≡ [] → AreFirsts all all [] seen
-firsts_none all seen empty = record { same = λ q. rw empty refl; left = filter_all (firsts all) }
+firsts_none all seen empty = record { same = λ q. rw empty refl; whole = filter_all (firsts all) }
 
 module _ (all left rest kept seen seen' : List (List ℕ)) (x : List ℕ) (t : AreFirsts all left kept seen) (e : left ≡ x ∷ rest) (u : (q : List ℕ) → has text_cmp seen' q ≡ cond (is_eq (text_cmp x q)) true (has text_cmp seen q)) where
-  whole : kept ++ others kept (x ∷ filter (λ y. not (is_eq (text_cmp x y))) (firsts rest)) ≡ firsts all
-  whole = rw e at t.left
+  before : kept ++ others kept (x ∷ filter (λ y. not (is_eq (text_cmp x y))) (firsts rest)) ≡ firsts all
+  before = rw e at t.whole
 
   both : others kept (filter (λ y. not (is_eq (text_cmp x y))) (firsts rest)) ≡ filter (λ y. not (is_eq (text_cmp x y)) && not (has text_cmp kept y)) (firsts rest)
   both = filter_both (λ y. not (has text_cmp kept y)) (λ y. not (is_eq (text_cmp x y))) (firsts rest)
 
   -- the next one is new
   pub firsts_new : has text_cmp seen x ≡ false → AreFirsts all rest (kept ++ x ∷ []) seen'
-  firsts_new new = record { same = same; left = append_assoc kept (x ∷ []) (others (kept ++ x ∷ []) (firsts rest)) ∙ ap (λ ys. kept ++ x ∷ ys) now ∙ rw here at whole } where
+  firsts_new new = record { same = same; whole = append_assoc kept (x ∷ []) (others (kept ++ x ∷ []) (firsts rest)) ∙ ap (λ ys. kept ++ x ∷ ys) now ∙ rw here at before } where
     added : (q : List ℕ) → has text_cmp (kept ++ x ∷ []) q ≡ (has text_cmp kept q || is_eq (text_cmp x q))
     added q = let a = list_any-append (λ y. is_eq (text_cmp q y)) kept (x ∷ []) in let f = (eq_by_cmp_equiv nat_list_cmp_total).symm q x in grind arith
 
@@ -65,7 +65,7 @@ module _ (all left rest kept seen seen' : List (List ℕ)) (x : List ℕ) (t : A
 
   -- the next one is kept already
   pub firsts_again : has text_cmp seen x ≡ true → AreFirsts all rest kept seen'
-  firsts_again there = record { same = same; left = ap (λ ys. kept ++ ys) (sym (both ∙ filter_same _ _ tests (firsts rest))) ∙ rw here at whole } where
+  firsts_again there = record { same = same; whole = ap (λ ys. kept ++ ys) (sym (both ∙ filter_same _ _ tests (firsts rest))) ∙ rw here at before } where
     here : has text_cmp kept x ≡ true
     here = sym (t.same x) ∙ there
 
@@ -85,4 +85,4 @@ module _ (all left rest kept seen seen' : List (List ℕ)) (x : List ℕ) (t : A
       by_test false is = rw is refl
 
 pub firsts_all : (all left kept seen : List (List ℕ)) → AreFirsts all left kept seen → left ≡ [] → kept ≡ firsts all
-firsts_all all left kept seen t e = sym (append_nil kept) ∙ rw e at t.left
+firsts_all all left kept seen t e = sym (append_nil kept) ∙ rw e at t.whole

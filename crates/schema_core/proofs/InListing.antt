@@ -117,9 +117,9 @@ module _ (l : Listing) where
   pub bad_context_least : IsStrictlySortedBy uid_cmp (keys_of l.contexts.entries) → (r : Option EntityUID) → r ≡ first_key are_bad l.contexts.entries → IsLeastIfAny uid_cmp (IsBadContext (listed_outline l)) r
   bad_context_least sorted r e = rw e (IsLeastIfAny-same uid_cmp _ (IsBadContext (listed_outline l)) (λ u. bad_at (at uid_cmp l.contexts.entries u)) (first_key are_bad l.contexts.entries)
       (first_key_least uid_cmp_total exact_uid are_bad l.contexts.entries sorted)) where
-    bad_at : (r : Option Attrs) → IsSomeAnd r (λ v. IsTrue (are_bad v)) ↔ IsSomeAnd r (λ xs. are_held xs ≡ false)
-    bad_at None = (λ h. h, λ h. h)
-    bad_at (Some xs) = is_not (are_held xs)
+        bad_at : (r : Option Attrs) → IsSomeAnd r (λ v. IsTrue (are_bad v)) ↔ IsSomeAnd r (λ xs. are_held xs ≡ false)
+        bad_at None = (λ h. h, λ h. h)
+        bad_at (Some xs) = is_not (are_held xs)
 
   module _ (kinds_ascend : IsStrictlySortedBy text_cmp (keys_of l.kinds.entries)) (contexts_ascend : IsStrictlySortedBy uid_cmp (keys_of l.contexts.entries)) where
     pub undeclared_least : (r : Option (List ℕ)) → r ≡ lowest_at (attrs_undeclared l) (lowest_at (kind_undeclared l) None l.kinds.entries) l.contexts.entries
@@ -127,40 +127,40 @@ module _ (l : Listing) where
     undeclared_least r e = rw e (IsLeastIfAny-same text_cmp _ _ same _
         (lowest_least (is_declared l) (attrs_undeclared l) (λ q xs. some_within (is_of_entity q) xs) (λ P low xs h. within_low (is_declared l) (undeclared_next (is_declared l)) is_of_entity (undeclared_step (is_declared l)) P low xs h) _ _ l.contexts.entries
         (lowest_least (is_declared l) (kind_undeclared l) (λ q k. some_of (is_of_entity q) (kind_of k)) (λ P low k h. kind_low (is_declared l) (undeclared_next (is_declared l)) is_of_entity (undeclared_step (is_declared l)) P low (kind_of k) h) (λ _. ⊥) None l.kinds.entries (λ q h. h)))) where
-      same : (q : List ℕ) → With (With (λ _. ⊥) (is_declared l) (λ r. some_entry (λ k. some_of (is_of_entity r) (kind_of k)) l.kinds.entries)) (is_declared l) (λ r. some_entry (λ xs. some_within (is_of_entity r) xs) l.contexts.entries) q ↔ ((is_declared l q ≡ false) × IsTypeInside (listed_outline l) q)
-      same q =
-          let both = both_entries (is_declared l) (λ r k. some_of (is_of_entity r) (kind_of k)) (λ r xs. some_within (is_of_entity r) xs) l.kinds.entries l.contexts.entries kinds_ascend contexts_ascend q in
-          let seen = inside_seen l.kinds.entries l.contexts.entries (λ k. some_of (is_of_entity q) k) (λ xs. some_within (is_of_entity q) xs) in
-          (λ h. ((both.0 h).0, seen.0 (both.0 h).1), λ h. both.1 (h.0, seen.1 h.1))
+          same : (q : List ℕ) → With (With (λ _. ⊥) (is_declared l) (λ r. some_entry (λ k. some_of (is_of_entity r) (kind_of k)) l.kinds.entries)) (is_declared l) (λ r. some_entry (λ xs. some_within (is_of_entity r) xs) l.contexts.entries) q ↔ ((is_declared l q ≡ false) × IsTypeInside (listed_outline l) q)
+          same q =
+              let both = both_entries (is_declared l) (λ r k. some_of (is_of_entity r) (kind_of k)) (λ r xs. some_within (is_of_entity r) xs) l.kinds.entries l.contexts.entries kinds_ascend contexts_ascend q in
+              let seen = inside_seen l.kinds.entries l.contexts.entries (λ k. some_of (is_of_entity q) k) (λ xs. some_within (is_of_entity q) xs) in
+              (λ h. ((both.0 h).0, seen.0 (both.0 h).1), λ h. both.1 (h.0, seen.1 h.1))
 
     pub unknown_least : (r : Option (List ℕ)) → r ≡ lowest_at attrs_unknown (lowest_at kind_unknown None l.kinds.entries) l.contexts.entries → IsLeastIfAny text_cmp (IsUnknownExtension (listed_outline l)) r
     unknown_least r e = rw e (IsLeastIfAny-same text_cmp _ _ same _
         (lowest_least is_known_extension attrs_unknown (λ q xs. some_within (is_of_extension q) xs) (λ P low xs h. within_low is_known_extension unknown_next is_of_extension unknown_step P low xs h) _ _ l.contexts.entries
         (lowest_least is_known_extension kind_unknown (λ q k. some_of (is_of_extension q) (kind_of k)) (λ P low k h. kind_low is_known_extension unknown_next is_of_extension unknown_step P low (kind_of k) h) (λ _. ⊥) None l.kinds.entries (λ q h. h)))) where
-      same : (q : List ℕ) → With (With (λ _. ⊥) is_known_extension (λ r. some_entry (λ k. some_of (is_of_extension r) (kind_of k)) l.kinds.entries)) is_known_extension (λ r. some_entry (λ xs. some_within (is_of_extension r) xs) l.contexts.entries) q ↔ IsUnknownExtension (listed_outline l) q
-      same q =
-          let both = both_entries is_known_extension (λ r k. some_of (is_of_extension r) (kind_of k)) (λ r xs. some_within (is_of_extension r) xs) l.kinds.entries l.contexts.entries kinds_ascend contexts_ascend q in
-          let seen = inside_seen l.kinds.entries l.contexts.entries (λ k. some_of (is_of_extension q) k) (λ xs. some_within (is_of_extension q) xs) in
-          (λ h. ((both.0 h).0, seen.0 (both.0 h).1), λ h. both.1 (h.0, seen.1 h.1))
+          same : (q : List ℕ) → With (With (λ _. ⊥) is_known_extension (λ r. some_entry (λ k. some_of (is_of_extension r) (kind_of k)) l.kinds.entries)) is_known_extension (λ r. some_entry (λ xs. some_within (is_of_extension r) xs) l.contexts.entries) q ↔ IsUnknownExtension (listed_outline l) q
+          same q =
+              let both = both_entries is_known_extension (λ r k. some_of (is_of_extension r) (kind_of k)) (λ r xs. some_within (is_of_extension r) xs) l.kinds.entries l.contexts.entries kinds_ascend contexts_ascend q in
+              let seen = inside_seen l.kinds.entries l.contexts.entries (λ k. some_of (is_of_extension q) k) (λ xs. some_within (is_of_extension q) xs) in
+              (λ h. ((both.0 h).0, seen.0 (both.0 h).1), λ h. both.1 (h.0, seen.1 h.1))
 
   -- an enumerated type that stands in a set
   pub listed_enum_least : IsStrictlySortedBy text_cmp (keys_of l.types.entries) → (r : Option (List ℕ)) → r ≡ lowest_at (set_enums l) None l.types.entries → IsLeastIfAny text_cmp (IsListedEnum (listed_outline l)) r
   listed_enum_least sorted r e = rw e (IsLeastIfAny-same text_cmp _ _ same _
       (lowest_least (is_no_enum l) (set_enums l) (λ q s. has text_cmp s.keys q) (λ P low s h. names_low (is_no_enum l) P low s.keys h) (λ _. ⊥) None l.types.entries (λ q h. h))) where
-    enum_at : (r : Option Kind) → (not (option_map_or is_enum r false) ≡ false) ↔ IsSomeAnd r (λ k. IsTrue (is_enum k))
-    enum_at None = (λ h. absurd (false≢true (sym h)), λ h. absurd h)
-    enum_at (Some k) = elim (is_enum k) as (λ b. (not b ≡ false) ↔ IsTrue b) [ true ↦ (λ h. refl, λ h. refl) | false ↦ (λ h. absurd (false≢true (sym h)), λ h. absurd (false≢true h)) ]
+        enum_at : (r : Option Kind) → (not (option_map_or is_enum r false) ≡ false) ↔ IsSomeAnd r (λ k. IsTrue (is_enum k))
+        enum_at None = (λ h. absurd (false≢true (sym h)), λ h. absurd h)
+        enum_at (Some k) = elim (is_enum k) as (λ b. (not b ≡ false) ↔ IsTrue b) [ true ↦ (λ h. refl, λ h. refl) | false ↦ (λ h. absurd (false≢true (sym h)), λ h. absurd (false≢true h)) ]
 
-    led : (q x : List ℕ) → IsSomeAnd (at text_cmp l.types.entries x) (λ s. IsTrue (has text_cmp s.keys q)) ↔ IsTrue (leads text_cmp l.types.entries x q)
-    led q x = elim (at text_cmp l.types.entries x) as (λ r. IsSomeAnd r (λ s. IsTrue (has text_cmp s.keys q)) ↔ IsTrue (option_map_or (λ s. has text_cmp s.keys q) r false)) [ None ↦ (λ h. absurd h, λ h. absurd (false≢true h)) | Some s ↦ (λ h. h, λ h. h) ]
+        led : (q x : List ℕ) → IsSomeAnd (at text_cmp l.types.entries x) (λ s. IsTrue (has text_cmp s.keys q)) ↔ IsTrue (leads text_cmp l.types.entries x q)
+        led q x = elim (at text_cmp l.types.entries x) as (λ r. IsSomeAnd r (λ s. IsTrue (has text_cmp s.keys q)) ↔ IsTrue (option_map_or (λ s. has text_cmp s.keys q) r false)) [ None ↦ (λ h. absurd h, λ h. absurd (false≢true h)) | Some s ↦ (λ h. h, λ h. h) ]
 
-    same : (q : List ℕ) → With (λ _. ⊥) (is_no_enum l) (λ r. some_entry (λ s. has text_cmp s.keys r) l.types.entries) q ↔ IsListedEnum (listed_outline l) q
-    same q = (to, from) where
-      to : With (λ _. ⊥) (is_no_enum l) (λ r. some_entry (λ s. has text_cmp s.keys r) l.types.entries) q → IsListedEnum (listed_outline l) q
-      to (inl h) = absurd h
-      to (inr h) =
-          let there = (some_entry_at nat_list_cmp_total exact_bytes (λ s. has text_cmp s.keys q) l.types.entries sorted).0 h.1 in
-          ((enum_at (kind_found l.kinds.entries q)).0 h.0, (there.0, (led q there.0).0 there.1))
+        same : (q : List ℕ) → With (λ _. ⊥) (is_no_enum l) (λ r. some_entry (λ s. has text_cmp s.keys r) l.types.entries) q ↔ IsListedEnum (listed_outline l) q
+        same q = (to, from) where
+          to : With (λ _. ⊥) (is_no_enum l) (λ r. some_entry (λ s. has text_cmp s.keys r) l.types.entries) q → IsListedEnum (listed_outline l) q
+          to (inl h) = absurd h
+          to (inr h) =
+              let there = (some_entry_at nat_list_cmp_total exact_bytes (λ s. has text_cmp s.keys q) l.types.entries sorted).0 h.1 in
+              ((enum_at (kind_found l.kinds.entries q)).0 h.0, (there.0, (led q there.0).0 there.1))
 
-      from : IsListedEnum (listed_outline l) q → With (λ _. ⊥) (is_no_enum l) (λ r. some_entry (λ s. has text_cmp s.keys r) l.types.entries) q
-      from h = inr ((enum_at (kind_found l.kinds.entries q)).1 h.0, (some_entry_at nat_list_cmp_total exact_bytes (λ s. has text_cmp s.keys q) l.types.entries sorted).1 (h.1.0, (led q h.1.0).1 h.1.1))
+          from : IsListedEnum (listed_outline l) q → With (λ _. ⊥) (is_no_enum l) (λ r. some_entry (λ s. has text_cmp s.keys r) l.types.entries) q
+          from h = inr ((enum_at (kind_found l.kinds.entries q)).1 h.0, (some_entry_at nat_list_cmp_total exact_bytes (λ s. has text_cmp s.keys q) l.types.entries sorted).1 (h.1.0, (led q h.1.0).1 h.1.1))

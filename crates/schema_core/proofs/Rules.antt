@@ -72,8 +72,8 @@ module _ (l : Listing) where
       → IsLeastIfAny text_cmp (IsUndeclaredType (listed_outline l)) (lower_of text_cmp (lower_of text_cmp a (lower_of text_cmp b c)) d)
   least_undeclared a b c d la lb lc ld =
       let listed = IsLeastIfAny-same text_cmp _ (λ q. ((listed_outline l).has_type q ≡ false) × IsListedType (listed_outline l) q) undeclared_type (lower_of text_cmp a (lower_of text_cmp b c))
-          (lower_least nat_list_cmp_total (IsUnlisted text_cmp l.types.entries) _ a (lower_of text_cmp b c) la
-          (lower_least nat_list_cmp_total (IsOutside uid_cmp text_cmp l.types.entries l.principals.entries) (IsOutside uid_cmp text_cmp l.types.entries l.resources.entries) b c lb lc)) in
+      (lower_least nat_list_cmp_total (IsUnlisted text_cmp l.types.entries) _ a (lower_of text_cmp b c) la
+      (lower_least nat_list_cmp_total (IsOutside uid_cmp text_cmp l.types.entries l.principals.entries) (IsOutside uid_cmp text_cmp l.types.entries l.resources.entries) b c lb lc)) in
       IsLeastIfAny-same text_cmp _ (IsUndeclaredType (listed_outline l)) undeclared_any (lower_of text_cmp (lower_of text_cmp a (lower_of text_cmp b c)) d)
       (lower_least nat_list_cmp_total (λ q. ((listed_outline l).has_type q ≡ false) × IsListedType (listed_outline l) q) (λ q. ((listed_outline l).has_type q ≡ false) × IsTypeInside (listed_outline l) q) (lower_of text_cmp a (lower_of text_cmp b c)) d listed ld)
 

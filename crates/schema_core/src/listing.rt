@@ -55,7 +55,14 @@ pub fn listed(
             descendants,
             context,
         } = action;
-        add_action(&mut listing, name, principals, resources, descendants, context)?;
+        add_action(
+            &mut listing,
+            name,
+            principals,
+            resources,
+            descendants,
+            context,
+        )?;
     }
     Ok(listing)
 }
@@ -110,10 +117,7 @@ fn listed_types(
 }
 
 // The types with what they are members of.
-fn declared_types(
-    alloc: Global,
-    entity_types: Vec<TypeDeclaration>,
-) -> Result<Listing, AllocError>
+fn declared_types(alloc: Global, entity_types: Vec<TypeDeclaration>) -> Result<Listing, AllocError>
     requires { IsOnce (map (λ t. t.name) entity_types.items) }
     ensures { let given : Declarations = record { entity_types = entity_types.items; actions = [] } in IfOk result (ListsTypes (declared_outline given)) }
 {

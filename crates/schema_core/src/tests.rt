@@ -44,9 +44,7 @@ fn odd_type(rt: &impl Abort, alloc: Global, sign: &str) -> Result<Type, AllocErr
         "*" => Ok(Type::any_set()),
         "+" => Ok(Type::any_record(alloc)),
         "?" => Ok(Type::any_entity_reference()),
-        name => Ok(Type::extension(
-            Name::parse(alloc, name)?.expect(rt, "a name"),
-        )),
+        name => Ok(Type::extension(Name::parse(alloc, name)?.expect(rt, "a name"))),
     }
 }
 
