@@ -1,6 +1,7 @@
 //! The top call over sources and sinks in memory.
 
 mod causes;
+mod expressions;
 
 use crate::{Status, run};
 use outside::{MemorySink, MemorySource, NoSink, SliceSource};
