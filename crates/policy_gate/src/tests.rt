@@ -1,6 +1,7 @@
 //! The top call over sources and sinks in memory.
 
 mod causes;
+mod expressions;
 mod schemas;
 
 use crate::{Status, run};
