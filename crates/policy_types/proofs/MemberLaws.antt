@@ -6,7 +6,7 @@ use Rattle.schema_types.specs.declared.kinds.Primitive.TheVariants.{Bool as Bool
 use Rattle.schema_types.specs.declared.kinds.OpenTag.{OpenTag}
 use Rattle.schema_types.specs.declared.kinds.OpenTag.TheVariants.{OpenAttributes, ClosedAttributes}
 use Rattle.policy_types.specs.declared.mode.SubtypeMode.TheVariants.{Strict}
-use Rattle.schema_types.specs.Ty.{Ty, true_type, false_type, primitive, any_set, set_of, record_of, any_entity, entity, action, Attrs, no_attrs, attr}
+use Rattle.schema_types.specs.Ty.{Ty, true_type, false_type, primitive, any_set, set_of, record_of, any_entity, entity, action, extension, Attrs, no_attrs, attr}
 use Rattle.schema_types.specs.declared.ty.AttributeType.{AttributeType}
 use Rattle.policy_types.specs.Subtype.{IsOpen, SubOpen, Subtype, SubAttrs}
 use Rattle.schema_types.specs.Names.{has_name}
@@ -66,6 +66,7 @@ mutual
   member_sub any_entity any_entity (id u) h k = tt
   member_sub (entity ms) (entity ns) (id u) h k = subst (λ ls. IsTrue (has_name ls u.entity_type)) h k
   member_sub (action m xs) (action n ys) (id u) h k = k ∙ h.0
+  member_sub (extension m) (extension n) v h k = subst (λ l. Member (extension l) v) h k
   member_sub t u v h k = grind arith
 
   members_sub : (t u : Ty) (vs : Vals) → Subtype Strict t u → Members t vs → Members u vs

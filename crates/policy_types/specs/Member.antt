@@ -1,15 +1,15 @@
 -- Membership: which values a type has.
-use Rattle.std.specs.Prelude.{◌≡◌, ◌⊎◌, ℕ, Bool, false, not, ◌||◌, List, Option, Some, None, IsTrue}
+use Rattle.std.specs.Prelude.{◌≡◌, ◌⊎◌, ℕ, Bool, false, not, ◌||◌, List, Option, Some, None, IsTrue, codes}
 use Rattle.std.specs.Ordering.{is_eq}
 use Rattle.policy_names.specs.Uid.{text_cmp}
 use Rattle.schema_types.specs.declared.kinds.Primitive.TheVariants.{Bool as BoolType, Long, String}
 use Rattle.schema_types.specs.declared.kinds.OpenTag.{OpenTag}
-use Rattle.schema_types.specs.Ty.{Ty, never, true_type, false_type, primitive, any_set, set_of, record_of, any_entity, entity, action, Attrs, no_attrs, attr}
+use Rattle.schema_types.specs.Ty.{Ty, never, true_type, false_type, primitive, any_set, set_of, record_of, any_entity, entity, action, extension, Attrs, no_attrs, attr}
 use Rattle.schema_types.specs.declared.ty.AttributeType.{AttributeType}
 use Rattle.schema_types.specs.Names.{has_name}
 use Rattle.schema_types.specs.Attrs.{attr_at}
 use Rattle.policy_types.specs.Subtype.{IsOpen}
-use Rattle.policy_values.specs.Value.{Val, truth, long, string, entity as id, set, rec, Vals, no_vals, val, Fields, no_fields, field}
+use Rattle.policy_values.specs.Value.{Val, truth, long, string, entity as id, set, rec, decimal, ip, datetime, duration, Vals, no_vals, val, Fields, no_fields, field}
 
 -- whether a record has a field under the key
 abbrev pub has_field : Fields → List ℕ → Bool
@@ -37,7 +37,8 @@ HasRequired no_attrs fs = Unit {0}
 HasRequired (attr k t q xs) fs = IsTrue (not q || has_field fs k) × HasRequired xs fs
 
 abbrev mutual
-  -- a record has each required key, and each field is of its declared type; an undeclared one is of an open record alone
+  -- a record has each required key, and each field is of its declared type; an undeclared one is of an open record alone; a
+  -- value of an extension is of the type of its name
   pub Member : Ty → Val → Type 0
   Member true_type (truth b) = IsTrue b
   Member false_type (truth b) = b ≡ false
@@ -50,6 +51,10 @@ abbrev mutual
   Member any_entity (id u) = Unit {0}
   Member (entity ns) (id u) = IsTrue (has_name ns u.entity_type)
   Member (action n xs) (id u) = u.entity_type ≡ n
+  Member (extension n) (decimal m) = n ≡ codes "decimal"
+  Member (extension n) (ip r) = n ≡ codes "ipaddr"
+  Member (extension n) (datetime m) = n ≡ codes "datetime"
+  Member (extension n) (duration m) = n ≡ codes "duration"
   Member t v = ⊥
 
   pub Members : Ty → Vals → Type 0

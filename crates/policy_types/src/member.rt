@@ -1,14 +1,14 @@
 //! Membership: which values a type has.
 
 ghost use Rattle.std.specs.Prelude.{◌≡◌, ◌↔◌, IsTrue, option_copied, false};
-ghost use Rattle.schema_types.specs.Ty.{primitive};
+ghost use Rattle.schema_types.specs.Ty.{primitive, extension};
 ghost use Rattle.schema_types.specs.TyView.{kind_of, attrs_of};
 ghost use Rattle.policy_types.specs.Subtype.{IsOpen};
 ghost use Rattle.policy_types.specs.Member.{has_field, HasRequired, Member, Members, Typed};
 ghost use Rattle.policy_values.specs.Value.{vals_of, fields_of};
 ghost use Rattle.policy_values.specs.ValueView.{val_of};
 
-use policy_names::{EntityType, Text};
+use policy_names::{EntityType, Name, Text};
 use policy_values::{Value, ValueKind};
 use schema_types::{Attributes, EntityRecordKind, OpenTag, Primitive, Type, TypeKind};
 use std::collections::BTreeMap;
@@ -52,6 +52,24 @@ fn primitive_has(p: Primitive, v: &Value) -> bool
     }
 }
 
+fn is_called(name: &Name, text: &str) -> bool
+    ensures { IsTrue result ↔ (name.now ≡ text.now) }
+{
+    name.as_str() == text
+}
+
+fn extension_has(name: &Name, v: &Value) -> bool
+    ensures { IsTrue result ↔ Member (extension name.now) v.now }
+{
+    match v.kind() {
+        ValueKind::Decimal(_) => is_called(name, "decimal"),
+        ValueKind::IpAddr(_) => is_called(name, "ipaddr"),
+        ValueKind::DateTime(_) => is_called(name, "datetime"),
+        ValueKind::Duration(_) => is_called(name, "duration"),
+        _ => false,
+    }
+}
+
 /// Whether a type has a value.
 #[cycle(member)]
 pub fn has_value(t: &Type, v: &Value) -> bool
@@ -69,6 +87,7 @@ pub fn has_value(t: &Type, v: &Value) -> bool
             ValueKind::Set(items),
         ) => have_all(element, items),
         (TypeKind::EntityOrRecord(kind), _) => kind_has(kind, v),
+        (TypeKind::ExtensionType { name }, _) => extension_has(name, v),
         _ => false,
     }
 }
