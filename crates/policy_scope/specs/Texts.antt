@@ -1,6 +1,5 @@
 -- How findings read.
 use Rattle.std.specs.Prelude.{ℕ, Bool, true, false, List, ◌++◌, Option, Some, None, option_map, codes}
-use Rattle.policy_names.specs.declared.entity_uid.EntityUID.{EntityUID}
 use Rattle.policy_names.specs.Show.{uid_text}
 use Rattle.policy_core.specs.declared.kinds.Loc.{Loc}
 use Rattle.policy_scope.specs.declared.finding.UnrecognizedEntityType.{UnrecognizedEntityType}

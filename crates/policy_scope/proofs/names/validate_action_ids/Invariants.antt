@@ -1,4 +1,4 @@
-use Rattle.std.proofs.Common.{◌≡◌, map}
+use Rattle.std.proofs.Common.{map}
 use Rattle.std.specs.List.{filter_map}
 use Rattle.std.specs.Vec.Iter.{into_iter_items}
 use Rattle.policy_scope.specs.Literals.{pair_of}
