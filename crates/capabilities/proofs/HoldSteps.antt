@@ -7,7 +7,7 @@ use Rattle.policy_core.specs.Eval.{eval}
 use Rattle.capabilities.specs.Capability.{Access, Attribute, Tag, Capability, SameAccess, AreAlike, IsKnown}
 use Rattle.capabilities.specs.CapabilityLaws.{alike_itself, alike_back}
 use Rattle.capabilities.specs.Holds.{HasAttribute, HasTag, IsThere, Holds, AllHold}
-use Rattle.capabilities.proofs.Outcomes.{same_outcome}
+use Rattle.policy_core.proofs.LawSteps.{same_outcome}
 
 module _ (q : Request) (s : Store) where
   access_there : (x y : Access) (o : Outcome) → SameAccess x y → IsThere x q s o → IsThere y q s o

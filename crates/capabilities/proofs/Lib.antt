@@ -1,3 +1,2 @@
 pub mod HoldSteps
-pub mod Outcomes
 pub mod PartSteps

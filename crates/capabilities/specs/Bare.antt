@@ -2,7 +2,7 @@
 use Rattle.std.specs.Prelude.{Bool, true, false, ◌&&◌, nat_eq, None}
 use Rattle.std.specs.Coded.{Coded}
 use base.Stored.{Gv, gnil, gnum, gcons, coded_unit}
-use Rattle.policy_core.specs.Tree.{Tree, lit, var, slot, ite, conj, disj, unary, binary, attr, has, like, is_type, set, rec, Trees, no_trees, tree, Named, no_named, named, Mark}
+use Rattle.policy_core.specs.Tree.{Tree, lit, var, slot, ite, conj, disj, unary, binary, attr, has, like, is_type, call, set, rec, Trees, no_trees, tree, Named, no_named, named, Mark}
 use Rattle.policy_core.specs.TreeCode.{coded_tree, coded_mark}
 
 -- an expression of a policy, whose notes say nothing
@@ -29,6 +29,7 @@ module _ {A : Type 0} where
     bare (has x n a) = has (bare x) n no_mark
     bare (like x p a) = like (bare x) p no_mark
     bare (is_type x t a) = is_type (bare x) t no_mark
+    bare (call f xs a) = call f (bare_trees xs) no_mark
     bare (set xs a) = set (bare_trees xs) no_mark
     bare (rec xs a) = rec (bare_named xs) no_mark
 

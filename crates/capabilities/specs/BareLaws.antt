@@ -4,7 +4,7 @@ use Rattle.std.specs.Bool.{Decides}
 use Rattle.std.specs.Cmp.{IsEquivalence, unsigned_Decides, decided, on_equiv}
 use Rattle.std.proofs.lemmas.Bool.Decides.{Decides-and, Decides-like}
 use base.Stored.{Gv, gnil, gnum, gcons}
-use Rattle.policy_core.specs.Tree.{Tree, lit, var, slot, ite, conj, disj, unary, binary, attr, has, like, is_type, set, rec, Trees, no_trees, tree, Named, no_named, named, depth_of, deepest, deepest_named}
+use Rattle.policy_core.specs.Tree.{Tree, lit, var, slot, ite, conj, disj, unary, binary, attr, has, like, is_type, call, set, rec, Trees, no_trees, tree, Named, no_named, named, depth_of, deepest, deepest_named}
 use Rattle.policy_core.specs.Shape.{SameShape, SameShapes, SameNamed}
 use Rattle.capabilities.specs.Bare.{no_mark, bare, bare_trees, bare_named, coded_plain, same_stored, same_tree}
 
@@ -23,6 +23,7 @@ module _ {A B : Type 0} where
     bare_alike (has x m a) (has u n b) h = λ i. has (bare_alike x u h.0 i) (h.1 i) no_mark
     bare_alike (like x p a) (like u q b) h = λ i. like (bare_alike x u h.0 i) (h.1 i) no_mark
     bare_alike (is_type x s a) (is_type u t b) h = λ i. is_type (bare_alike x u h.0 i) (h.1 i) no_mark
+    bare_alike (call f xs a) (call g us b) h = λ i. call (h.0 i) (trees_alike xs us h.1 i) no_mark
     bare_alike (set xs a) (set us b) h = λ i. set (trees_alike xs us h i) no_mark
     bare_alike (rec xs a) (rec us b) h = λ i. rec (named_alike xs us h i) no_mark
     bare_alike x u h = absurd h
@@ -51,6 +52,7 @@ module _ {A B : Type 0} where
     same_shape (has x m a) (has u n b) p = (same_shape x u (cc), cc)
     same_shape (like x q a) (like u r b) p = (same_shape x u (cc), cc)
     same_shape (is_type x s a) (is_type u t b) p = (same_shape x u (cc), cc)
+    same_shape (call f xs a) (call g us b) p = (cc, same_shapes xs us (cc))
     same_shape (set xs a) (set us b) p = same_shapes xs us (cc)
     same_shape (rec xs a) (rec us b) p = same_named xs us (cc)
     same_shape x u p = cc
@@ -100,6 +102,7 @@ module _ {A : Type 0} where
     depth_bare (has x n a) = λ i. depth_bare x i + 1
     depth_bare (like x p a) = λ i. depth_bare x i + 1
     depth_bare (is_type x t a) = λ i. depth_bare x i + 1
+    depth_bare (call f xs a) = λ i. deepest_bare xs i + 1
     depth_bare (set xs a) = λ i. deepest_bare xs i + 1
     depth_bare (rec xs a) = λ i. named_bare xs i + 1
 
