@@ -1,11 +1,11 @@
 -- Walks through the entries of a map.
-use Rattle.std.proofs.Common.{◌≡◌, ℕ, Bool, true, false, ◌||◌, ◌↔◌, ◌⊎◌, inl, inr, List, [], ◌∷◌, Option, Some, None, IsTrue, refl, sym, ◌∙◌, ap}
+use Rattle.std.proofs.Common.{◌≡◌, ℕ, Bool, true, false, ◌||◌, ◌↔◌, inl, inr, List, [], ◌∷◌, Option, Some, None, IsTrue, refl, sym, ◌∙◌}
 use Rattle.std.specs.Prelude.{cond}
-use Rattle.std.specs.List.{AllByRecursion, list_any, find}
+use Rattle.std.specs.List.{AllByRecursion}
 use Rattle.std.specs.List.Sorted.{IsStrictlySortedBy}
 use Rattle.std.specs.Map.{keys_of}
-use Rattle.std.specs.Option.{option_map, IsSomeAnd, IfSome}
-use Rattle.std.specs.Ordering.{is_eq, is_gt}
+use Rattle.std.specs.Option.{IsSomeAnd}
+use Rattle.std.specs.Ordering.{is_eq}
 use Rattle.std.specs.declared.cmp.Ordering.{Ordering}
 use Rattle.std.specs.declared.cmp.Ordering.TheVariants.{Less}
 use Rattle.std.specs.Cmp.{IsTotalOrder, tied_itself}
@@ -15,8 +15,7 @@ use Rattle.std.proofs.lemmas.Map.Lookups.{CmpEqualImpliesEq}
 use Rattle.std.proofs.lemmas.Map.Views.{tells_apart}
 use Rattle.hierarchy.specs.Least.{IsLeastIfAny}
 use Rattle.hierarchy.specs.Reaches.{at, has}
-use Rattle.hierarchy.proofs.Ascending.{least_here, IsRest}
-use Rattle.policy_names.specs.Uid.{text_cmp}
+use Rattle.hierarchy.proofs.Ascending.{least_here}
 use Rattle.schema_core.proofs.Lowest.{Low, With, with_both, low_same, low_none}
 
 -- the first key whose value passes

@@ -1,10 +1,9 @@
 -- What walks through the maps of a listing find.
-use Rattle.std.proofs.Common.{◌≡◌, ℕ, Bool, true, false, not, ◌||◌, ◌↔◌, ◌⊎◌, inl, inr, List, [], ◌∷◌, Option, Some, None, IsTrue, is_some, refl, sym, ◌∙◌, ap, cond}
-use Rattle.std.specs.Option.{option_map, option_map_or, IsSomeAnd, IfSome}
+use Rattle.std.proofs.Common.{◌≡◌, ℕ, Bool, true, false, not, ◌↔◌, ◌⊎◌, inl, inr, List, [], ◌∷◌, Option, Some, None, IsTrue, is_some, refl, sym, ◌∙◌, ap, cond}
+use Rattle.std.specs.Option.{option_map, option_map_or, IsSomeAnd}
 use Rattle.std.specs.List.Sorted.{IsStrictlySortedBy}
 use Rattle.std.specs.Map.{keys_of}
 use Rattle.std.specs.BTreeSet.{BTreeSet}
-use Rattle.std.specs.declared.cmp.Ordering.{Ordering}
 use Rattle.std.specs.Cmp.Lexicographic.{nat_list_cmp_total}
 use Rattle.std.proofs.lemmas.Bool.{false≢true}
 use Rattle.std.proofs.lemmas.Map.Lookups.{exact_bytes}
@@ -22,7 +21,7 @@ use Rattle.schema_core.specs.KindView.{kind_of}
 use Rattle.schema_core.specs.Lowest.{lowest_names, lowest_within, lowest_of, undeclared_next, unknown_next}
 use Rattle.schema_core.specs.Outline.{IsEmptyEnum, IsBadType, IsBadContext, IsTypeInside, IsUnknownExtension, IsListedEnum}
 use Rattle.schema_core.specs.Listing.{listed_outline, kind_found}
-use Rattle.schema_core.proofs.Lowest.{Low, With, within_low, kind_low, names_low, undeclared_step, unknown_step}
+use Rattle.schema_core.proofs.Lowest.{With, within_low, kind_low, names_low, undeclared_step, unknown_step}
 use Rattle.schema_core.proofs.Entries.{first_key, lowest_at, some_entry, some_entry_at, first_key_least, lowest_least}
 
 abbrev pub is_empty : ValidatorEntityTypeKind → Bool

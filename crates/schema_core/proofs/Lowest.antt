@@ -1,8 +1,7 @@
 -- The lowest of names, as the least that is named and does not pass.
 use Rattle.std.proofs.Common.{◌≡◌, ℕ, Bool, true, false, ◌||◌, ◌↔◌, ◌⊎◌, inl, inr, List, [], ◌∷◌, Option, Some, None, IsTrue, refl, sym, ◌∙◌, ap}
 use Rattle.std.specs.Prelude.{cond}
-use Rattle.std.specs.List.{list_any}
-use Rattle.std.specs.Ordering.{is_eq, is_gt}
+use Rattle.std.specs.Ordering.{is_eq}
 use Rattle.std.specs.Cmp.{tied_itself}
 use Rattle.std.specs.Cmp.Lexicographic.{nat_list_cmp_total}
 use Rattle.std.proofs.lemmas.Bool.{or_cases, or_left, or_right, false≢true}
@@ -12,7 +11,7 @@ use Rattle.hierarchy.specs.Least.{IsLeastIfAny, lower_of}
 use Rattle.hierarchy.proofs.LeastOf.{IsLeastIfAny-same, lower_least}
 use Rattle.policy_names.specs.Uid.{text_cmp}
 use Rattle.schema_types.specs.Names.{has_name}
-use Rattle.schema_types.specs.Ty.{Ty, never, true_type, false_type, primitive, any_set, set_of, record_of, any_entity, entity, action, extension, Attrs, no_attrs, attr}
+use Rattle.schema_types.specs.Ty.{Ty, set_of, record_of, entity, action, extension, Attrs, no_attrs, attr}
 use Rattle.schema_core.specs.Inside.{some_inside, some_within, is_of_entity, is_of_extension, is_known_extension}
 use Rattle.schema_core.specs.Kinds.{Kind, standard, enumerated, some_of}
 use Rattle.schema_core.specs.Lowest.{Next, lowest_name, lowest_names, lowest_inside, lowest_within, lowest_of, undeclared_next, unknown_next}

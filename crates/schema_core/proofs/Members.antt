@@ -1,6 +1,5 @@
 -- Members by one or more steps, as descendants.
 use Rattle.std.proofs.Common.{◌≡◌, ℕ, true, ◌↔◌, ◌⊎◌, inl, inr, List, IsTrue, is_some, sym, ◌∙◌, subst}
-use Rattle.std.specs.Option.{IsSomeAnd, IfSome}
 use Rattle.std.specs.Cmp.{IsTotalOrder}
 use Rattle.std.specs.declared.cmp.Ordering.{Ordering}
 use Rattle.std.specs.BTreeSet.{BTreeSet}
@@ -15,7 +14,7 @@ use Rattle.hierarchy.proofs.Closed.{Leads-is_some}
 use Rattle.policy_names.specs.declared.entity_uid.EntityUID.{EntityUID}
 use Rattle.policy_names.specs.Uid.{uid_cmp, uid_cmp_total, exact_uid}
 use Rattle.schema_core.specs.declared.listing.Listing.{Listing}
-use Rattle.schema_core.specs.Outline.{Outline, HasSoundNames, HasSoundTypes, HasDescendants, IsClosed, IsListedType, IsTypeInside, IsNamedType, IsNamedExtension, IsEnumType, IsListedEnum, IsListingEnum}
+use Rattle.schema_core.specs.Outline.{Outline, HasSoundNames, HasSoundTypes, HasDescendants, IsClosed, IsNamedType, IsEnumType, IsListedEnum, IsListingEnum}
 use Rattle.schema_core.specs.Faults.{Nowhere, IsTypeFault}
 use Rattle.schema_core.specs.declared.fault.SchemaFault.{SchemaFault}
 use Rattle.schema_core.specs.declared.fault.SchemaFault.TheVariants.{DuplicateAction, ActionTypeDeclared, EmptyEnum, NotAnAction, UndeclaredType, UndeclaredAction, ActionCycle, EnumHasAncestor, NotClosed, ActionNotClosed, BadType, BadContext, UnknownExtension, OutOfMemory}

@@ -1,6 +1,6 @@
 -- Declarations give one schema.
-use Rattle.std.proofs.Common.{◌≡◌, ◌↔◌, ℕ, Bool, true, false, List, [], ◌∷◌, Option, Some, None, cond, ap, sym, ◌∙◌, refl, subst}
-use Rattle.std.specs.Prelude.{is_some, IsTrue, All}
+use Rattle.std.proofs.Common.{◌≡◌, ℕ, Bool, true, false, List, [], ◌∷◌, Option, Some, None, cond, ap, sym, ◌∙◌, refl, subst}
+use Rattle.std.specs.Prelude.{is_some, IsTrue}
 use Rattle.std.specs.Option.{option_map, option_map_or}
 use Rattle.std.specs.Ordering.{is_eq}
 use Rattle.std.specs.declared.cmp.Ordering.{Ordering}
@@ -11,7 +11,7 @@ use Rattle.std.specs.Cmp.Lexicographic.{nat_list_cmp_total}
 use Rattle.std.proofs.lemmas.List.Elements.{recursion_from_All}
 use Rattle.std.proofs.lemmas.Map.Lookups.{exact_bytes}
 use Rattle.hierarchy.specs.Keyed.{has_key, value_at}
-use Rattle.hierarchy.specs.Reaches.{has, Reaches}
+use Rattle.hierarchy.specs.Reaches.{has}
 use Rattle.hierarchy.proofs.SameSorted.{same_sorted}
 use Rattle.hierarchy.proofs.SameValues.{same_values}
 use Rattle.policy_names.specs.declared.entity_uid.EntityUID.{EntityUID}

@@ -1,5 +1,4 @@
-use Rattle.std.proofs.Common.{Some, None, sym, ◌∙◌, ap}
-use Rattle.schema_core.proofs.Entries.{first_key}
+use Rattle.std.proofs.Common.{Some, None, sym, ◌∙◌}
 use Rattle.schema_core.proofs.InListing.{is_empty, empty_enum_least, key_here, key_nowhere}
 use Rattle.schema_core.proofs.checks.first_empty_enum.Goals as goal
 

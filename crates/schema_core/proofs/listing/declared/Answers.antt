@@ -1,4 +1,4 @@
-use Rattle.std.proofs.Common.{[], refl, ap, sym, arith}
+use Rattle.std.proofs.Common.{[], refl, ap, arith}
 use Rattle.std.proofs.lemmas.List.{nil_from_length}
 use Rattle.policy_names.specs.Uid.{exact_uid}
 use Rattle.schema_core.specs.Entries.{ActionEntry, Declarations}

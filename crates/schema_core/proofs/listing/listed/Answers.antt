@@ -1,9 +1,8 @@
-use Rattle.std.proofs.Common.{[], refl, arith}
+use Rattle.std.proofs.Common.{refl, arith}
 use Rattle.std.proofs.lemmas.List.{nil_from_length}
 use Rattle.policy_names.specs.Uid.{exact_uid}
 use Rattle.schema_core.specs.Schema.{ActionData, SchemaData}
 use Rattle.schema_core.specs.Outline.{outline_of}
-use Rattle.schema_core.specs.Listing.{ListsTypes}
 use Rattle.schema_core.proofs.Mapped.{distinct_from_once}
 use Rattle.schema_core.proofs.Actions.{actions_first, actions_more, actions_outline, actions_listing, other_actions}
 use Rattle.schema_core.proofs.listing.listed.Goals as goal

@@ -5,7 +5,7 @@ use Rattle.hierarchy.proofs.Ascending.{IsLeast-same}
 use Rattle.policy_names.specs.Uid.{text_cmp, uid_cmp, copied_uid}
 use Rattle.schema_core.specs.Outline.{Outline, outline_of, HasSoundNames, HasSoundTypes, HasDescendants, IsListingEnum}
 use Rattle.schema_core.specs.Faults.{Nowhere, IsTypeFault}
-use Rattle.schema_core.specs.Declarations.{IsInCycle, IsRefused, declared_outline}
+use Rattle.schema_core.specs.Declarations.{IsInCycle, IsRefused}
 use Rattle.schema_core.specs.Listing.{listed_outline}
 use Rattle.schema_core.proofs.Rules.{refused_by, refused_declarations, refused_declared_types, own_least, no_own}
 use Rattle.schema_core.proofs.Members.{members_names, members_closed, cycle_least, enum_member, same_fault, same_types}
