@@ -1,5 +1,5 @@
 -- Entities in which an ancestor of their action is missing: the least of their ids, and a walk through all entities up to it.
-use Rattle.std.proofs.Common.{◌≡◌, Bool, true, false, ◌||◌, ◌&&◌, not, ◌↔◌, ◌⊎◌, inl, inr, IsTrue, List, [], ◌∷◌, ◌++◌, Option, Some, None, IsSome, IfSome, map, cond, refl, sym, ◌∙◌, ap, subst}
+use Rattle.std.proofs.Common.{◌≡◌, Bool, true, false, ◌||◌, ◌&&◌, not, ◌↔◌, inl, inr, IsTrue, List, [], ◌∷◌, ◌++◌, Option, Some, None, IsSome, IfSome, cond, refl, sym, ◌∙◌, ap, subst}
 use Rattle.std.specs.Prelude.{nat_eq}
 use Rattle.std.specs.Bool.{Decides}
 use Rattle.std.specs.Cmp.Lexicographic.{pointwise}

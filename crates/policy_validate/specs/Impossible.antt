@@ -1,5 +1,5 @@
 -- Policies that are false on every request that conforms to the schema.
-use Rattle.std.specs.Prelude.{◌&&◌, not, Bool, true, false, Option, Some, None, option_map, is_some, if◌then◌else◌}
+use Rattle.std.specs.Prelude.{◌&&◌, Bool, true, false, Option, Some, None, option_map, is_some, if◌then◌else◌}
 use Rattle.std.specs.List.{list_all}
 use Rattle.policy_names.specs.Basename.{is_action_type}
 use Rattle.policy_names.specs.declared.entity_uid.EntityUID.{EntityUID}

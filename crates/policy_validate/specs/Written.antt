@@ -1,5 +1,5 @@
 -- How it is written that a request or a store does not conform.
-use Rattle.std.specs.Prelude.{ℕ, List, [], ◌∷◌, ◌++◌, Option, Some, None, map, codes}
+use Rattle.std.specs.Prelude.{ℕ, List, [], ◌∷◌, ◌++◌, Option, Some, None, codes}
 use Rattle.policy_names.specs.declared.entity_uid.EntityUID.{EntityUID}
 use Rattle.policy_names.specs.Show.{uid_text}
 use Rattle.policy_scope.specs.Written.{help_line}

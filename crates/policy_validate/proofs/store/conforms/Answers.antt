@@ -1,4 +1,4 @@
-use Rattle.std.proofs.Common.{rules, ◌≡◌, Some, None, IsSome, refl, subst, sym, ◌∙◌}
+use Rattle.std.proofs.Common.{rules, ◌≡◌, None, IsSome, refl, subst, sym, ◌∙◌}
 use Rattle.std.specs.Option.{option_copied}
 use Rattle.policy_validate.specs.Conformance.{entity_fault, first_store_fault}
 use Rattle.policy_validate.proofs.Lacking.{walk_first, told, walk_more, some_first}

@@ -1,4 +1,4 @@
-use Rattle.std.proofs.Common.{Option, Some, None, ◌≡◌, ℕ, List, [], ◌∷◌, slice_get, ap, sym}
+use Rattle.std.proofs.Common.{Some, ◌≡◌, ℕ, List, [], ◌∷◌, slice_get, ap, sym}
 use Rattle.std.specs.Option.{option_map}
 use Rattle.policy_values.specs.Value.{Val, fields_of}
 use Rattle.policy_validate.specs.Conformance.{first_key}
