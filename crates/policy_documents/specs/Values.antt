@@ -1,17 +1,39 @@
 -- Values in JSON.
-use Rattle.std.specs.Prelude.{ℕ, List, [], ◌∷◌, if◌then◌else◌, Option, Some, None, option_map, codes}
+use Rattle.std.specs.Prelude.{ℕ, ℤ, List, [], if◌then◌else◌, Option, Some, None, option_map, codes}
 use Rattle.std.specs.Str.{bytes_eq}
-use Rattle.policy_values.specs.Value.{Val, truth, long, string, entity, set, rec, fields_of}
+use Rattle.policy_values.specs.Value.{Val, truth, long, string, entity, set, rec, decimal, ip, datetime, duration, fields_of}
 use Rattle.policy_values.specs.ValueOrder.{set_of}
+use Rattle.policy_core.specs.Calls.{decimal_in, range_in, datetime_in, duration_in}
 use Rattle.serde_json.specs.Data as json
 use Rattle.serde_json.specs.Data.{Data, null, boolean, number, array, object, Items, no_items, item, Members, no_members, member}
 use Rattle.serde_json.specs.Find.{as_i64}
 use Rattle.json_parts.specs.Lists.{with_first, with_field}
 use Rattle.json_parts.specs.Names.{uid_of}
 
--- the object with this one member: an id, or a record of these fields
+-- a text that stands for a value
+abbrev pub text_form : {X : Type 0} → (X → Val) → (List ℕ → Option X) → Data → Option Val
+text_form make read null = None
+text_form make read (json.string t) = option_map make (read t)
+text_form make read d = None
+
+-- a text that stands for a number of milliseconds, or that number
+abbrev pub time_form : (ℤ → Val) → (List ℕ → Option ℤ) → Data → Option Val
+time_form make read null = None
+time_form make read (number n) = option_map make (as_i64 n)
+time_form make read (json.string t) = option_map make (read t)
+time_form make read d = None
+
+-- the object with this one member: a value of an extension
+unfoldable pub extension_form : List ℕ → Data → Option Val
+extension_form key d =
+    if bytes_eq key (codes "decimal") then text_form decimal decimal_in d else
+    (if bytes_eq key (codes "ip") then text_form ip range_in d else
+    (if bytes_eq key (codes "datetime") then time_form datetime datetime_in d else
+    (if bytes_eq key (codes "duration") then time_form duration duration_in d else None)))
+
+-- the object with this one member: an id, a record of these fields, or a value of an extension
 abbrev pub value_form : List ℕ → Data → Option (List (List ℕ × Val)) → Option Val
-value_form key d fields = if bytes_eq key (codes "id") then option_map entity (uid_of d) else (if bytes_eq key (codes "record") then option_map (λ es. rec (fields_of es)) fields else None)
+value_form key d fields = if bytes_eq key (codes "id") then option_map entity (uid_of d) else (if bytes_eq key (codes "record") then option_map (λ es. rec (fields_of es)) fields else extension_form key d)
 
 -- The value that a JSON value says. Of a list the order does not count, nor how often an element stands there.
 abbrev mutual

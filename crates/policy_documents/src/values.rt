@@ -1,14 +1,17 @@
 //! Values in JSON.
 
 ghost use Rattle.std.specs.Prelude.{◌≡◌, IfOk, option_map};
-ghost use Rattle.policy_values.specs.Value.{entity, rec, set, fields_of};
+ghost use Rattle.policy_values.specs.Value.{entity, rec, set, decimal, ip, datetime, duration, fields_of};
 ghost use Rattle.policy_values.specs.ValueOrder.{set_of};
 ghost use Rattle.serde_json.specs.View.{view, items_view, members_view};
+ghost use Rattle.policy_core.specs.Calls.{decimal_in, range_in, datetime_in, duration_in};
 ghost use Rattle.json_parts.specs.Names.{uid_of};
-ghost use Rattle.policy_documents.specs.Values.{value_of, values_of, value_of_members, value_form, value_fields_of, value_entries_of};
+ghost use Rattle.policy_documents.specs.Values.{text_form, time_form, extension_form, value_of, values_of, value_of_members, value_form, value_fields_of, value_entries_of};
 
 use json_parts::{read_uid, with_field, with_item};
-use policy_core::{Text, Value};
+use policy_core::{
+    DateTimeValue, Duration, Text, Value, read_datetime, read_decimal, read_duration, read_ip,
+};
 use serde_json::{Map, Value as Json};
 use std::alloc::{AllocError, Global};
 use std::collections::BTreeMap;
@@ -24,7 +27,8 @@ fn read_id(alloc: Global, value: &Json) -> Result<Option<Value>, AllocError>
 
 /// The value that a JSON value says, where it says one. A boolean, a whole number of 64 bits and a text stand for
 /// themselves. A list is the set of its elements: their order does not count, nor how often one stands there. An id is
-/// `{"id":[TYPE,EID]}`, a record `{"record":{..}}`.
+/// `{"id":[TYPE,EID]}`, a record `{"record":{..}}`, a value of an extension `{"decimal":TEXT}`, `{"ip":TEXT}`,
+/// `{"datetime":TEXT}` or `{"duration":TEXT}`, where the text stands for one; the last two also take their milliseconds.
 #[cycle(value)]
 pub fn read_value(alloc: Global, value: &Json) -> Result<Option<Value>, AllocError>
     ensures { IfOk result (λ o. o ≡ value_of (view value.now)) }
@@ -89,8 +93,61 @@ fn read_form(alloc: Global, value: &Json, key: &str) -> Result<Option<Value>, Al
     match key {
         "id" => read_id(alloc, value),
         "record" => read_record(alloc, value),
-        _ => Ok(None),
+        _ => Ok(read_extension(value, key)),
     }
+}
+
+#[tactic(auto, unfolding(crate::specs::Values::extension_form))]
+fn read_extension(value: &Json, key: &str) -> Option<Value>
+    ensures { result ≡ extension_form key.now (view value.now) }
+{
+    match key {
+        "decimal" => decimal_from(value),
+        "ip" => ip_from(value),
+        "datetime" => datetime_from(value),
+        "duration" => duration_from(value),
+        _ => None,
+    }
+}
+
+fn decimal_from(value: &Json) -> Option<Value>
+    ensures { result ≡ text_form decimal decimal_in (view value.now) }
+{
+    match value {
+        Json::String(text) => read_decimal(text.as_str()).map(Value::decimal),
+        _ => None,
+    }
+}
+
+fn ip_from(value: &Json) -> Option<Value>
+    ensures { result ≡ text_form ip range_in (view value.now) }
+{
+    match value {
+        Json::String(text) => read_ip(text.as_str()).map(Value::ip),
+        _ => None,
+    }
+}
+
+fn datetime_from(value: &Json) -> Option<Value>
+    ensures { result ≡ time_form datetime datetime_in (view value.now) }
+{
+    let time = match value {
+        Json::Number(n) => n.as_i64().map(DateTimeValue::from_millis),
+        Json::String(text) => read_datetime(text.as_str()),
+        _ => None,
+    };
+    time.map(Value::datetime)
+}
+
+fn duration_from(value: &Json) -> Option<Value>
+    ensures { result ≡ time_form duration duration_in (view value.now) }
+{
+    let time = match value {
+        Json::Number(n) => n.as_i64().map(Duration::from_millis),
+        Json::String(text) => read_duration(text.as_str()),
+        _ => None,
+    };
+    time.map(Value::duration)
 }
 
 #[cycle(value)]

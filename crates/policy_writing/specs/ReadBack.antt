@@ -2,7 +2,8 @@
 use Rattle.std.specs.Prelude.{◌≡◌, ℤ, pos, negsuc, ◌<◌, ◌^◌, true, Some}
 use Rattle.json_parts.specs.Names.{is_name}
 use Rattle.policy_documents.specs.Values.{value_of}
-use Rattle.policy_values.specs.Value.{Val, truth, long, string, entity, set, rec, Vals, no_vals, val, Fields, no_fields, field}
+use Rattle.policy_ext.specs.IpAddr.{FitsWidth}
+use Rattle.policy_values.specs.Value.{Val, truth, long, string, entity, set, rec, decimal, ip, datetime, duration, Vals, no_vals, val, Fields, no_fields, field}
 use Rattle.policy_values.specs.ValueOrder.{Ascends, AscendsFields}
 use Rattle.policy_writing.specs.ValueJson.{value_data}
 
@@ -11,8 +12,8 @@ abbrev pub IsLong : ℤ → Type 0
 IsLong (pos n) = n < 2 ^ 63
 IsLong (negsuc n) = n < 2 ^ 63
 
--- what the types of the program keep of the parts of a value: longs have 64 bits, the types of ids are names, and each set
--- and each record ascends
+-- what the types of the program keep of the parts of a value: longs, decimals, datetimes and durations have 64 bits, ranges
+-- of IP addresses those of their families, the types of ids are names, and each set and each record ascends
 abbrev mutual
   pub IsProper : Val → Type 0
   IsProper (truth b) = Unit {0}
@@ -21,6 +22,10 @@ abbrev mutual
   IsProper (entity u) = is_name u.entity_type ≡ true
   IsProper (set vs) = Ascends vs × AllProper vs
   IsProper (rec fs) = AscendsFields fs × AllProperFields fs
+  IsProper (decimal n) = IsLong n
+  IsProper (ip r) = FitsWidth r.family r.bits r.prefix
+  IsProper (datetime n) = IsLong n
+  IsProper (duration n) = IsLong n
 
   pub AllProper : Vals → Type 0
   AllProper no_vals = Unit {0}
