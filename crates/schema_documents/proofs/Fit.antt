@@ -1,25 +1,22 @@
 -- What is read of types is such as a schema holds.
-use Rattle.std.proofs.Common.{◌≡◌, ◌⊎◌, inl, inr, ℕ, List, [], ◌∷◌, Bool, true, false, ◌||◌, ◌&&◌, Option, Some, None, option_map, if◌then◌else◌, cond, codes, refl, sym, subst, ap, ◌∙◌}
-use Rattle.std.specs.Prelude.{⊤, IsTrue, IfSome, IsSomeAnd, find, option_and_then, bytes_eq}
+use Rattle.std.proofs.Common.{◌≡◌, inl, inr, ℕ, List, [], ◌∷◌, Bool, true, false, ◌||◌, Option, Some, None, option_map, if◌then◌else◌, codes, refl, sym, subst, ap}
+use Rattle.std.specs.Prelude.{IfSome, IsSomeAnd, find, option_and_then, bytes_eq}
 use Rattle.std.specs.List.{AllByRecursion}
 use Rattle.std.specs.Option.{option_map_or}
-use Rattle.std.specs.Ordering.{is_eq}
 use Rattle.std.proofs.lemmas.Bool.{and_from}
 use Rattle.std.proofs.lemmas.Map.Lookups.{exact_bytes}
 use Rattle.policy_names.specs.declared.entity_uid.EntityUID.{EntityUID}
-use Rattle.policy_names.specs.Uid.{text_cmp, uid_cmp}
+use Rattle.policy_names.specs.Uid.{text_cmp}
 use Rattle.schema_types.specs.NameLaws.{equal_of}
 use Rattle.schema_types.specs.declared.ty.AttributeType.{AttributeType}
-use Rattle.schema_types.specs.declared.kinds.Primitive.{Primitive}
-use Rattle.schema_types.specs.declared.kinds.Primitive.TheVariants.{Bool as BoolType, Long, String}
-use Rattle.schema_types.specs.Ty.{Ty, primitive, set_of, entity, extension, Attrs, no_attrs}
+use Rattle.schema_types.specs.Ty.{Ty, set_of, entity, extension, Attrs}
 use Rattle.schema_types.specs.TyView.{attrs_of}
 use Rattle.hierarchy.specs.Reaches.{has}
 use Rattle.schema_core.specs.Declarations.{IsRefused, declared_outline, type_entry_at, action_entry_at}
 use Rattle.schema_core.specs.Entries.{TypeEntry, ActionEntry, Declarations}
 use Rattle.schema_core.specs.Inside.{some_inside, some_within, is_of_extension, is_known_extension, is_held, are_held, attrs_extend}
-use Rattle.schema_core.specs.Kinds.{Kind, standard, enumerated, is_enum, kind_extends, is_held_kind}
-use Rattle.schema_core.specs.Outline.{IsNamedExtension, IsListingEnum}
+use Rattle.schema_core.specs.Kinds.{standard, enumerated, is_enum, kind_extends, is_held_kind}
+use Rattle.schema_core.specs.Outline.{IsNamedExtension}
 use Rattle.schema_core.specs.declared.fault.SchemaFault.{SchemaFault}
 use Rattle.schema_core.specs.declared.fault.SchemaFault.TheVariants.{DuplicateAction, ActionTypeDeclared, EmptyEnum, NotAnAction, UndeclaredType, UndeclaredAction, ActionCycle, EnumHasAncestor, NotClosed, ActionNotClosed, BadType, BadContext, UnknownExtension, OutOfMemory}
 use Rattle.serde_json.specs.Data as json
@@ -28,7 +25,7 @@ use Rattle.serde_json.specs.Find.{get, as_array, as_object}
 use Rattle.json_parts.specs.Json.{◌>>=◌, has_only, list_of}
 use Rattle.json_parts.specs.Lists.{with_first, with_field}
 use Rattle.json_parts.specs.Names.{name_of, name_of_text, uid_of, names_of, uids_of}
-use Rattle.schema_documents.specs.Types.{Entries, type_named, type_form, attribute, optional, attribute_form, type_of, type_of_members, attributes_of, attributes_of_members, attribute_of, attribute_of_members}
+use Rattle.schema_documents.specs.Types.{Entries, type_named, type_form, attribute, optional, type_of, type_of_members, attributes_of, attributes_of_members, attribute_of, attribute_of_members}
 use Rattle.schema_documents.specs.Schema.{texts_of_items, attributes_at, tags_at, enumerated_of, standard_of, standard_names, declared_as, entity_type_of, entity_types_of_members, entity_types_of, action_names, action_in, action_of, actions_of_items, declarations_of, schema_of}
 use Rattle.schema_documents.specs.Laws.{is_never_read, NoneIsRead}
 
