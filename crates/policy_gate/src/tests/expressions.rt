@@ -9,10 +9,11 @@ use crate::{Bounded, read_expr, read_value, write_value};
 use json_parts::{parse_json, with_item};
 use policy_core::{EvalError, Expr, Outcome, Value, ValueKind, evaluate, try_clone_fields};
 use policy_names::{Eid, EntityType, EntityUID, Name, Text};
-use policy_store::{Context, Entities, Entity, Request};
+use policy_store::{Context, Entities, EntitiesError, Entity, Request};
 use serde_json::Value as Json;
 use std::alloc::{AllocError, Global};
 use std::collections::{BTreeMap, BTreeSet};
+use std::test::Fail;
 
 // The value that a text says.
 fn value(alloc: Global, text: &str) -> Result<Value, AllocError> {
@@ -193,4 +194,34 @@ fn told(alloc: Global, text: &str, context: &str) -> Result<String, AllocError> 
         }
         None => String::from_str(alloc, "json"),
     }
+}
+
+// How many entities a store has that is made of entities with their ancestors; none where an id stands twice.
+fn kept(alloc: Global, entities: Vec<Entity>) -> Result<Option<usize>, AllocError> {
+    match Entities::from_ancestors(alloc, entities) {
+        Ok(store) => {
+            let count = store.len();
+            drop(store);
+            Ok(Some(count))
+        }
+        Err(EntitiesError::Duplicate(uid)) => {
+            drop(uid);
+            Ok(None)
+        }
+        Err(error) => {
+            drop(error);
+            Err(AllocError)
+        }
+    }
+}
+
+#[test]
+fn entities_with_their_ancestors(rt: HostRuntime) -> Result<(), Fail> {
+    let alloc = rt.alloc();
+    let once = with_staff(alloc, Vec::new(alloc))?;
+    assert_eq!(rt; kept(alloc, once)?, Some(1));
+    let once = with_staff(alloc, Vec::new(alloc))?;
+    let twice = with_staff(alloc, once)?;
+    assert_eq!(rt; kept(alloc, twice)?, None);
+    Ok(())
 }
