@@ -12,7 +12,7 @@ ghost use Rattle.entity_manifest.specs.Asked as specs;
 use hierarchy::{Steps, add_step};
 use policy_core::{BinaryOp, EntityUID, Expr, ExprKind, Literal, Request, Text, UnaryOp, Var};
 use policy_typecheck::{TruthType, comparison_type};
-use schema_core::{RequestEnv, ValidatorSchema};
+use schema_core::{DeclaredEnv, ValidatorSchema};
 use std::alloc::{AllocError, Global};
 use std::collections::BTreeMap;
 
@@ -61,7 +61,7 @@ pub(crate) fn add_asked<T>(
     alloc: Global,
     asked: &mut Steps<EntityUID>,
     schema: &ValidatorSchema,
-    env: &RequestEnv,
+    env: &DeclaredEnv,
     request: &Request,
     condition: &Expr<T>,
 ) -> Result<TruthType, AllocError>
@@ -133,7 +133,7 @@ fn add_each<T>(
     alloc: Global,
     asked: &mut Steps<EntityUID>,
     schema: &ValidatorSchema,
-    env: &RequestEnv,
+    env: &DeclaredEnv,
     request: &Request,
     xs: &Vec<Expr<T>>,
 ) -> Result<(), AllocError>
@@ -152,7 +152,7 @@ fn add_named<T>(
     alloc: Global,
     asked: &mut Steps<EntityUID>,
     schema: &ValidatorSchema,
-    env: &RequestEnv,
+    env: &DeclaredEnv,
     request: &Request,
     fields: &BTreeMap<Text, Expr<T>>,
 ) -> Result<(), AllocError>

@@ -14,7 +14,7 @@ use crate::restrict::restricted_to;
 use hierarchy::Steps;
 use policy_core::{Entities, EntityUID, Request};
 use policy_set::PolicySet;
-use schema_core::{RequestEnv, ValidatorSchema};
+use schema_core::{DeclaredEnv, ValidatorSchema};
 use std::alloc::{AllocError, Global};
 use std::collections::BTreeMap;
 
@@ -76,14 +76,14 @@ fn asked_by(
 }
 
 // The environment of a request.
-fn environment<'a>(request: &'a Request) -> RequestEnv<'a>
+fn environment<'a>(request: &'a Request) -> DeclaredEnv<'a>
     requires { IsWhole request.now }
     ensures { environment_of result ≡ env_of request.now }
 {
     let principal = request.principal.as_ref().unwrap();
     let action = request.action.as_ref().unwrap();
     let resource = request.resource.as_ref().unwrap();
-    RequestEnv::DeclaredAction {
+    DeclaredEnv {
         principal: principal.entity_type(),
         action,
         resource: resource.entity_type(),

@@ -10,13 +10,13 @@ ghost use Rattle.policy_typecheck.specs.Typing as typing;
 
 use crate::TruthType;
 use policy_core::{EntityType, EntityUID, Expr, ExprKind, Literal, Var};
-use schema_core::{RequestEnv, ValidatorSchema};
+use schema_core::{DeclaredEnv, ValidatorSchema};
 use std::cmp::Ordering;
 
 // The id that an operand has on every request of the environment: a literal's, and for the variable `action` the
 // action of the environment.
 pub(crate) fn known_id<'a, T>(
-    env: &'a RequestEnv<'a>,
+    env: &'a DeclaredEnv<'a>,
     operand: &'a Expr<T>,
 ) -> Option<&'a EntityUID>
     ensures { option_copied result ≡ typing.known_id (environment_of env.now) operand.now }
@@ -30,7 +30,7 @@ pub(crate) fn known_id<'a, T>(
 
 // The type of the ids that an operand has on the requests of the environment.
 pub(crate) fn known_type<'a, T>(
-    env: &'a RequestEnv<'a>,
+    env: &'a DeclaredEnv<'a>,
     operand: &'a Expr<T>,
 ) -> Option<&'a EntityType>
     ensures { option_copied result ≡ typing.known_type (environment_of env.now) operand.now }

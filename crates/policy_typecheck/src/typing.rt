@@ -9,12 +9,12 @@ ghost use Rattle.policy_typecheck.specs.Sound.{TypingIsSound};
 use crate::TruthType;
 use crate::operand::{equal_ids, equal_types, id_in, known_id, known_type};
 use policy_core::{BinaryOp, Expr, ExprKind, Literal, UnaryOp};
-use schema_core::{RequestEnv, ValidatorSchema};
+use schema_core::{DeclaredEnv, ValidatorSchema};
 
 /// The type of a condition in an environment. The second side of `&&` and `||` is left alone where the first decides.
 pub fn condition_type<T>(
     schema: &ValidatorSchema,
-    env: &RequestEnv,
+    env: &DeclaredEnv,
     condition: &Expr<T>,
 ) -> TruthType
     ensures { result ≡ truth_type schema.now (environment_of env.now) condition.now }
@@ -44,7 +44,7 @@ pub fn condition_type<T>(
 /// The type of an operator of two operands between these.
 pub fn comparison_type<T>(
     schema: &ValidatorSchema,
-    env: &RequestEnv,
+    env: &DeclaredEnv,
     op: BinaryOp,
     x: &Expr<T>,
     y: &Expr<T>,
@@ -59,7 +59,7 @@ pub fn comparison_type<T>(
 }
 
 // The type of `==`.
-fn equal_type<T>(env: &RequestEnv, x: &Expr<T>, y: &Expr<T>) -> TruthType
+fn equal_type<T>(env: &DeclaredEnv, x: &Expr<T>, y: &Expr<T>) -> TruthType
     ensures { result ≡ typing.equal_type (environment_of env.now) x.now y.now }
 {
     let ids = equal_ids(known_id(env, x), known_id(env, y));
@@ -67,7 +67,7 @@ fn equal_type<T>(env: &RequestEnv, x: &Expr<T>, y: &Expr<T>) -> TruthType
 }
 
 // The type of `in`.
-fn within_type<T>(schema: &ValidatorSchema, env: &RequestEnv, x: &Expr<T>, y: &Expr<T>) -> TruthType
+fn within_type<T>(schema: &ValidatorSchema, env: &DeclaredEnv, x: &Expr<T>, y: &Expr<T>) -> TruthType
     ensures { result ≡ typing.within_type schema.now (environment_of env.now) x.now y.now }
 {
     match known_id(env, y) {

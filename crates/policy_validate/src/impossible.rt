@@ -9,7 +9,7 @@ ghost use Rattle.policy_validate.specs.Impossible.{checked_type, is_declared_ope
 use policy_core::{EntityType, EntityUID, Expr, ExprKind, Literal, UnaryOp};
 use policy_set::Policy;
 use policy_typecheck::{TruthType, comparison_type};
-use schema_core::{RequestEnv, ValidatorActionId, ValidatorSchema};
+use schema_core::{DeclaredEnv, ValidatorActionId, ValidatorSchema};
 
 // Whether the condition of the policy is false in every environment, or there is none.
 pub(crate) fn is_impossible(schema: &ValidatorSchema, policy: &Policy) -> bool
@@ -49,7 +49,7 @@ fn is_false_at<T>(
     ensures { result ≡ list_all (is_false_in schema.now condition.now) (environments_at action.now principal.now) }
 {
     for resource in action.applies_to_resources() {
-        let env = RequestEnv::DeclaredAction {
+        let env = DeclaredEnv {
             principal,
             action: action.name(),
             resource,
@@ -62,7 +62,7 @@ fn is_false_at<T>(
 }
 
 // Whether the condition is false in the environment.
-fn is_false_in<T>(schema: &ValidatorSchema, condition: &Expr<T>, env: &RequestEnv) -> bool
+fn is_false_in<T>(schema: &ValidatorSchema, condition: &Expr<T>, env: &DeclaredEnv) -> bool
     ensures { result ≡ is_false_in schema.now condition.now (environment_of env.now) }
 {
     match checked_type(schema, env, condition) {
@@ -74,7 +74,7 @@ fn is_false_in<T>(schema: &ValidatorSchema, condition: &Expr<T>, env: &RequestEn
 // The type of the condition; none where an id is looked at that is not declared.
 fn checked_type<T>(
     schema: &ValidatorSchema,
-    env: &RequestEnv,
+    env: &DeclaredEnv,
     condition: &Expr<T>,
 ) -> Option<TruthType>
     ensures { result ≡ checked_type schema.now (environment_of env.now) condition.now }

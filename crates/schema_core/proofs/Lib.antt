@@ -3,6 +3,7 @@ pub mod Entries
 pub mod Filled
 pub mod Firsts
 pub mod Found
+pub mod Held
 pub mod InListing
 pub mod Kept
 pub mod Lists

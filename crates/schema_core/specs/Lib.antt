@@ -1,6 +1,7 @@
 pub mod Arranged
 pub mod Declarations
 pub mod Entries
+pub mod EnvData
 pub mod Environments
 pub mod FaultText
 pub mod Faults
@@ -8,6 +9,7 @@ pub mod Inside
 pub mod KindCode
 pub mod Kinds
 pub mod KindView
+pub mod Laws
 pub mod Listing
 pub mod Lowest
 pub mod Outline

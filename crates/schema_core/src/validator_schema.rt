@@ -44,8 +44,8 @@ ghost use Rattle.schema_core.specs.Outline.{outline_of, HasSoundNames, HasSoundT
 ghost use Rattle.schema_core.specs.Faults.{IsOnce, IsSchema, IsRefusedData};
 ghost use Rattle.schema_core.specs.Declarations.{IsSchemaOf, IsRefused};
 ghost use Rattle.schema_core.specs.Listing.{listed_outline, IsListing};
-ghost use Rattle.schema_core.specs.Environments.{environments};
-ghost use Rattle.schema_core.specs.RequestEnvs.{environment_of};
+ghost use Rattle.schema_core.specs.EnvData.{unlinked_envs};
+ghost use Rattle.schema_core.specs.RequestEnvs.{env_data_of};
 
 impl ValidatorSchema {
     /// The schema with these types and actions, in any order, where they keep its rules.
@@ -232,9 +232,10 @@ impl ValidatorSchema {
         Ok(ancestors)
     }
 
-    /// Every action with each of its principal types and each of its resource types, ascending in this order.
+    /// Every action with each of its principal types and each of its resource types, ascending in this order, each with the
+    /// action's context and without slots.
     pub fn unlinked_request_envs(&self, alloc: Global) -> Result<Vec<RequestEnv<'_>>, AllocError>
-        ensures { IfOk result (λ envs. map environment_of envs.items ≡ environments self.now) }
+        ensures { IfOk result (λ envs. map env_data_of envs.items ≡ unlinked_envs self.now) }
     {
         let mut envs = Vec::new(alloc);
         for action in &self.action_ids {
