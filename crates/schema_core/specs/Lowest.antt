@@ -1,4 +1,4 @@
--- The lowest of names: of one that is there already, and of those in a type that a test does not pass.
+-- The lowest of names: of one that is there already, and of the names in a type that do not pass a test.
 use Rattle.std.specs.Prelude.{ℕ, Bool, cond, List, [], ◌∷◌, Option, Some, None}
 use Rattle.policy_names.specs.Uid.{text_cmp}
 use Rattle.hierarchy.specs.Least.{lower_of}
