@@ -67,7 +67,12 @@ fn equal_type<T>(env: &DeclaredEnv, x: &Expr<T>, y: &Expr<T>) -> TruthType
 }
 
 // The type of `in`.
-fn within_type<T>(schema: &ValidatorSchema, env: &DeclaredEnv, x: &Expr<T>, y: &Expr<T>) -> TruthType
+fn within_type<T>(
+    schema: &ValidatorSchema,
+    env: &DeclaredEnv,
+    x: &Expr<T>,
+    y: &Expr<T>,
+) -> TruthType
     ensures { result ≡ typing.within_type schema.now (environment_of env.now) x.now y.now }
 {
     match known_id(env, y) {
