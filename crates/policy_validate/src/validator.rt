@@ -31,9 +31,11 @@ pub struct Validator<'a> {
 }
 
 impl<'a> Model for Validator<'a> {
-    ghost use Rattle.schema_core.specs.Schema.{SchemaData};
+    ghost use Rattle.schema_core.specs.Schema.{SchemaData, coded_schema};
 
     ghost Value = { SchemaData };
+
+    ghost coded = { coded_schema };
 
     ghost view = { λ v. v.schema.now };
 }
