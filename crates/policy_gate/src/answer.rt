@@ -42,7 +42,11 @@ fn reply_to_value(alloc: Global, value: &Value) -> Result<Reply, AllocError>
     ensures { IfOk result (λ r. IsAnswerFor (view value.now) (reply_view r)) }
 {
     match read_document(alloc, value) {
-        Ok(document) => reply_to(alloc, &document),
+        Ok(document) => {
+            let reply = reply_to(alloc, &document);
+            drop(document);
+            reply
+        }
         Err(DocumentFault::Place(place)) => Ok(Reply {
             status: Status::Document,
             text: format!(in alloc; "{place}\n")?,
