@@ -17,8 +17,9 @@ use Rattle.std.proofs.lemmas.Map.Lookups.{CmpEqualImpliesEq}
 use Rattle.std.proofs.lemmas.Map.Made.{is_some-lookup}
 use Rattle.std.proofs.lemmas.Map.Views.{tells_apart}
 use Rattle.hierarchy.specs.Least.{IsLeast, IsLeastIfAny, lower_of}
-use Rattle.hierarchy.specs.Reaches.{at, has, Holds, IsOutside}
+use Rattle.hierarchy.specs.Reaches.{at, has, Leads, IsOutside}
 use Rattle.hierarchy.proofs.Ascending.{IsLeast-same}
+use Rattle.hierarchy.proofs.Closed.{Leads-key, Leads-at}
 
 pub IsLeastIfAny-same : {K : Type 0} (cmp : K → K → Ordering) (P Q : K → Type 0) → ((q : K) → P q ↔ Q q) → (r : Option K) → IsLeastIfAny cmp P r → IsLeastIfAny cmp Q r
 IsLeastIfAny-same cmp P Q same None none = λ q h. none q ((same q).1 h)
@@ -52,20 +53,11 @@ module _ {K : Type 0} {cmp : K → K → Ordering} (o : IsTotalOrder cmp) where
 
 -- what stands in a set of a key that is not left, and has no entry
 abbrev pub IsDoneOutside : {A K : Type 0} → (A → A → Ordering) → (K → K → Ordering) → List (K × BTreeSet K) → List (A × BTreeSet K) → List A → K → Type 0
-IsDoneOutside {A} cmp_a cmp steps sets left q = (is_some (at cmp steps q) ≡ false) × ((x : A) × Holds cmp_a sets x q × (has cmp_a left x ≡ false))
+IsDoneOutside {A} cmp_a cmp steps sets left q = (is_some (at cmp steps q) ≡ false) × ((x : A) × Leads cmp_a sets x q × (has cmp_a left x ≡ false))
 
 pub record IsLeastSoFar {A K : Type 0} (cmp_a : A → A → Ordering) (cmp : K → K → Ordering) (steps : List (K × BTreeSet K)) (sets : List (A × BTreeSet K)) (left : List A) (least : Option K) : Type 0 where
   pub ordered : IsStrictlySortedBy cmp_a left
   pub found : IsLeastIfAny cmp (IsDoneOutside cmp_a cmp steps sets left) least
-
--- a set that holds something stands at a key
-Holds-key : {A K : Type 0} (cmp_a : A → A → Ordering) (sets : List (A × BTreeSet K)) (x : A) (y : K) → Holds cmp_a sets x y → has cmp_a (keys_of sets) x ≡ true
-Holds-key cmp_a sets x y h =
-    sym (is_some-lookup (is_at (cmp_a x)) sets) ∙ (elim (at cmp_a sets x) as (λ r. IsSomeAnd r (λ set. Contains set.keys y) → is_some r ≡ true) [ None ↦ λ k. absurd k | Some set ↦ λ _. refl ] h)
-
--- at a key with this set
-Holds-at : {A K : Type 0} (cmp_a : A → A → Ordering) (sets : List (A × BTreeSet K)) (x : A) (set : BTreeSet K) → at cmp_a sets x ≡ Some set → (y : K) → Holds cmp_a sets x y ↔ Contains set.keys y
-Holds-at cmp_a sets x set e y = rw e (λ h. h, λ h. h)
 
 module _ {A K : Type 0} {cmp_a : A → A → Ordering} {cmp : K → K → Ordering} (o_a : IsTotalOrder cmp_a) (exact_a : CmpEqualImpliesEq cmp_a) (o : IsTotalOrder cmp) (steps : List (K × BTreeSet K)) (sets : List (A × BTreeSet K)) where
   absent_after : (x : A) (rest : List A) → AllByRecursion (λ y. cmp_a x y ≡ Less) rest → has cmp_a rest x ≡ false
@@ -75,7 +67,7 @@ module _ {A K : Type 0} {cmp_a : A → A → Ordering} {cmp : K → K → Orderi
   pub so_far_first : IsStrictlySortedBy cmp_a (keys_of sets) → IsLeastSoFar cmp_a cmp steps sets (keys_of sets) None
   so_far_first ordered = record {
     ordered = ordered;
-    found = λ q h. false≢true (sym h.1.2 ∙ Holds-key cmp_a sets h.1.0 q h.1.1);
+    found = λ q h. false≢true (sym h.1.2 ∙ Leads-key cmp_a sets h.1.0 q h.1.1);
   }
 
   pub so_far_more : (left rest : List A) (key : A) (set : BTreeSet K) (least found least' : Option K) → IsLeastSoFar cmp_a cmp steps sets left least
@@ -92,12 +84,12 @@ module _ {A K : Type 0} {cmp_a : A → A → Ordering} {cmp : K → K → Orderi
 
     to : (q : K) → IsDoneOutside cmp_a cmp steps sets left q ⊎ ((is_some (at cmp steps q) ≡ false) × Contains set.keys q) → IsDoneOutside cmp_a cmp steps sets rest q
     to q (inl d) = (d.0, (d.1.0, d.1.1, (or_parts (is_eq (cmp_a d.1.0 key)) (has cmp_a rest d.1.0) (rw e at d.1.2)).1))
-    to q (inr n) = (n.0, (key, (Holds-at cmp_a sets key set here q).1 n.1, absent_after key rest (sorted_head cmp_a key rest ordered)))
+    to q (inr n) = (n.0, (key, (Leads-at cmp_a sets key set here q).1 n.1, absent_after key rest (sorted_head cmp_a key rest ordered)))
 
     from : (q : K) → IsDoneOutside cmp_a cmp steps sets rest q → IsDoneOutside cmp_a cmp steps sets left q ⊎ ((is_some (at cmp steps q) ≡ false) × Contains set.keys q)
     from q d = by_test (is_eq (cmp_a d.1.0 key)) refl where
       by_test : (b : Bool) → is_eq (cmp_a d.1.0 key) ≡ b → IsDoneOutside cmp_a cmp steps sets left q ⊎ ((is_some (at cmp steps q) ≡ false) × Contains set.keys q)
-      by_test true same = inr (d.0, (Holds-at cmp_a sets key set here q).0 (rw (tells_apart exact_a d.1.0 key same) at d.1.1))
+      by_test true same = inr (d.0, (Leads-at cmp_a sets key set here q).0 (rw (tells_apart exact_a d.1.0 key same) at d.1.1))
       by_test false other = inl (d.0, (d.1.0, d.1.1, rw (e, other) d.1.2))
 
   pub so_far_all : (least : Option K) → IsLeastSoFar cmp_a cmp steps sets [] least → IsLeastIfAny cmp (IsOutside cmp_a cmp steps sets) least

@@ -1,7 +1,6 @@
 pub mod Ascending
 pub mod Back
 pub mod Closed
-pub mod Covers
 pub mod Keyed
 pub mod Known
 pub mod LeastOf

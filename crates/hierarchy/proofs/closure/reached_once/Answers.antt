@@ -1,8 +1,15 @@
-use Rattle.std.proofs.Common.{◌≡◌, Ok, Err, IfOk, sym, ap, ◌∙◌}
+use Rattle.std.proofs.Common.{◌≡◌, Ok, Err, IfOk, inl, inr, sym, ap, ◌∙◌}
 use Rattle.std.proofs.lemmas.List.Elements.{same_from_all_zip}
 use Rattle.std.proofs.lemmas.Result.{IfOk-weaker}
 use Rattle.hierarchy.proofs.Known.{known_more}
-use Rattle.hierarchy.proofs.shared.reached_once.Goals as goal
+use Rattle.hierarchy.proofs.Search.{start_empty, start_next}
+use Rattle.hierarchy.proofs.closure.reached_once.Goals as goal
+
+pub reached_from-requires : goal.reached_from-requires
+reached_from-requires g c = elim c.in_ok-start.ensures [
+  | inl none ↦ start_empty g.met.K.Ord.total g.met.K.Key.exact c.args.steps.now.entries c.args.key.now _ none
+  | inr among ↦ start_next g.met.K.Ord.total g.met.K.Key.exact c.args.steps.now.entries c.args.closed.now.entries c.args.key.now c.args.next.now _ c.requires.closed c.requires.here among
+]
 
 pub returns-in-Some-clause-reached : goal.returns-in-Some-clause-reached
 returns-in-Some-clause-reached g c =

@@ -1,12 +1,12 @@
 use Rattle.std.proofs.Common.{arith}
 use Rattle.hierarchy.specs.Reaches.{leads}
 use Rattle.hierarchy.proofs.Search.{search_first, search_more, search_end, search_bound}
-use Rattle.hierarchy.proofs.closure.reached_from.Goals as goal
+use Rattle.hierarchy.proofs.reach.reached_from.Goals as goal
 
 pub loop-key-init : goal.loop-key-init
-loop-key-init g c = search_first g.met.K.Ord.total g.met.K.Key.exact (leads g.K.Ord.cmp c.args.steps.now.entries) c.args.from.now _ _ c.in_ok-visit.ensures.ordered
-    (λ q. rw c.new-reached.ensures.empty at (c.in_ok-visit.ensures.added q))
-    (λ q. rw (c.new-waiting.ensures.items, c.new-reached.ensures.empty) at (c.in_ok-visit.ensures.waits q))
+loop-key-init g c = search_first g.met.K.Ord.total g.met.K.Key.exact c.args.steps.now.entries c.args.from.now c.args.start.keys _ _ c.requires c.in_ok-visit.ensures.ordered
+    c.in_ok-visit.ensures.added
+    (λ q. rw c.new-waiting.ensures.items at (c.in_ok-visit.ensures.waits q))
 
 pub loop-key-preserved : goal.loop-key-preserved
 loop-key-preserved g c = search_more g.met.K.Ord.total g.met.K.Key.exact (leads g.K.Ord.cmp c.args.steps.now.entries) c.args.from.now c.in-Some.key _ _ _ _ _ c.loop-key.invariant
