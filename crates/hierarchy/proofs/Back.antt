@@ -13,8 +13,7 @@ use Rattle.std.proofs.lemmas.Map.Made.{is_some-lookup}
 use Rattle.std.specs.BTreeSet.{BTreeSet}
 use Rattle.std.proofs.lemmas.Map.Lookups.{CmpEqualImpliesEq}
 use Rattle.std.proofs.lemmas.Map.Views.{tells_apart}
-use Rattle.hierarchy.proofs.Closed.{Leads-key}
-use Rattle.hierarchy.proofs.Search.{leads-Leads}
+use Rattle.hierarchy.proofs.Reaches.{Leads-key, leads-Leads}
 use Rattle.hierarchy.specs.Reaches.{at, has, leads, Leads, IsReversed}
 
 module _ {K : Type 0} {cmp : K → K → Ordering} (exact : CmpEqualImpliesEq cmp) where

@@ -1,4 +1,4 @@
--- What a map of steps lists, by its keys and at a key.
+-- A closure that is made key by key.
 use Rattle.std.proofs.Common.{◌≡◌, Bool, true, false, ◌||◌, ◌↔◌, Contains, cond, Some, None, Option, List, [], ◌∷◌, refl, sym, ◌∙◌, ap}
 use Rattle.std.specs.declared.cmp.Ordering.{Ordering}
 use Rattle.std.proofs.Math.Bool.{or-false}
@@ -16,25 +16,7 @@ use Rattle.std.specs.Ordering.{is_eq}
 use Rattle.std.proofs.lemmas.Map.Views.{tells_apart}
 use Rattle.hierarchy.specs.Reaches.{at, Reaches, last, more, has, Leads, IsClosure}
 use Rattle.hierarchy.specs.ClosureSteps.{AreWhole}
-
-module _ {K : Type 0} (cmp : K → K → Ordering) where
-  -- what leads on is a key
-  pub Leads-is_some : {A : Type 0} (sets : List (K × BTreeSet A)) (x : K) (y : A) → Leads cmp sets x y → is_some (at cmp sets x) ≡ true
-  Leads-is_some sets x y h = elim (at cmp sets x) as (λ r. IsSomeAnd r (λ set. Contains set.keys y) → is_some r ≡ true) [ None ↦ λ k. absurd k | Some set ↦ λ _. refl ] h
-
-  pub Leads-key : {A : Type 0} (sets : List (K × BTreeSet A)) (x : K) (y : A) → Leads cmp sets x y → has cmp (keys_of sets) x ≡ true
-  Leads-key sets x y h = sym (is_some-lookup (is_at (cmp x)) sets) ∙ Leads-is_some sets x y h
-
-  pub Reaches-is_some : (steps : List (K × BTreeSet K)) {x y : K} → Reaches (Leads cmp steps) x y → is_some (at cmp steps x) ≡ true
-  Reaches-is_some steps {x} (last {y = y} s) = Leads-is_some steps x y s
-  Reaches-is_some steps {x} (more {y = y} s r) = Leads-is_some steps x y s
-
-  -- at a key with these
-  pub Leads-at : {A : Type 0} (sets : List (K × BTreeSet A)) (x : K) (set : BTreeSet A) → at cmp sets x ≡ Some set → (y : A) → Leads cmp sets x y ↔ Contains set.keys y
-  Leads-at sets x set e y = rw e (λ h. h, λ h. h)
-
-  pub Leads-none : {A : Type 0} (sets : List (K × BTreeSet A)) (x : K) → at cmp sets x ≡ None → (y : A) → Leads cmp sets x y → ⊥
-  Leads-none sets x e y h = false≢true (ap is_some (sym e) ∙ Leads-is_some sets x y h)
+use Rattle.hierarchy.proofs.Reaches.{Reaches-is_some}
 
 -- each key of the steps is closed or left, and what is closed is what is reached
 pub record IsPartlyClosed {K : Type 0} (cmp : K → K → Ordering) (steps closed : List (K × BTreeSet K)) (left : List K) : Type 0 where

@@ -1,5 +1,5 @@
 // Steps the other way.
-ghost use Rattle.std.specs.Prelude.{◌≡◌, ◌||◌, ◌&&◌, is_some, IfOk, OnOk};
+ghost use Rattle.std.specs.Prelude.{◌≡◌, ◌||◌, ◌&&◌, is_some, IfOk, OnOk, OnErr};
 ghost use Rattle.std.specs.Ordering.{is_eq};
 ghost use Rattle.std.specs.BTreeMap.{get};
 ghost use Rattle.hierarchy.specs.Reaches.{leads, IsReversed, AreDescendants};
@@ -44,7 +44,7 @@ fn put<K: Key>(alloc: Global, steps: &mut Steps<K>, key: &K) -> Result<(), Alloc
     Ok(())
 }
 
-/// Adds one step. Where memory runs out, some of it may have been added.
+/// Adds one step. Where memory runs out, the steps stay.
 pub fn add_step<K: Key>(
     alloc: Global,
     steps: &mut Steps<K>,
@@ -53,6 +53,7 @@ pub fn add_step<K: Key>(
 ) -> Result<(), AllocError>
     ensures keys { OnOk result ((q : K) → is_some (get K.cmp steps.new q) ≡ (is_eq (K.cmp from.now q) || is_some (get K.cmp steps.old q))) }
     ensures leads { OnOk result ((x y : K) → leads K.cmp steps.new.entries x y ≡ (leads K.cmp steps.old.entries x y || (is_eq (K.cmp from.now x) && is_eq (K.cmp to.now y)))) }
+    ensures refused { OnErr result ((q : K) → get K.cmp steps.new q ≡ get K.cmp steps.old q) }
 {
     if let Some(next) = steps.get_mut(from) {
         next.insert(to.clone()?)?;

@@ -4,8 +4,8 @@ use Rattle.std.specs.Map.{keys_of}
 use Rattle.std.specs.Map.Iter.{deref_pair}
 use Rattle.std.proofs.lemmas.Map.Views.{All-turn}
 use Rattle.hierarchy.specs.Reaches.{IsNotClosed}
-use Rattle.hierarchy.proofs.Ascending.{least_here, rest_more, none_left}
-use Rattle.hierarchy.proofs.Closed.{Leads-key, Leads-at}
+use Rattle.hierarchy.proofs.Least.{least_here, rest_more, none_left}
+use Rattle.hierarchy.proofs.Reaches.{Leads-key, Leads-at}
 use Rattle.hierarchy.proofs.checks.first_not_closed.Goals as goal
 
 pub loop-key-init : goal.loop-key-init

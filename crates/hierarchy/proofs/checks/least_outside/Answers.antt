@@ -4,7 +4,7 @@ use Rattle.hierarchy.specs.Reaches.{at}
 use Rattle.std.specs.Map.{keys_of}
 use Rattle.std.specs.Map.Iter.{deref_pair}
 use Rattle.std.proofs.lemmas.Map.Views.{All-turn}
-use Rattle.hierarchy.proofs.LeastOf.{so_far_first, so_far_more, so_far_all}
+use Rattle.hierarchy.proofs.LeastOutside.{so_far_first, so_far_more, so_far_all}
 use Rattle.hierarchy.proofs.checks.least_outside.Goals as goal
 
 pub loop-set-init : goal.loop-set-init

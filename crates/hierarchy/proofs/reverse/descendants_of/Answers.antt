@@ -1,7 +1,7 @@
 use Rattle.std.proofs.Common.{sym, ◌∙◌}
 use Rattle.std.proofs.lemmas.Result.{IfOk-weaker}
 use Rattle.hierarchy.specs.Reaches.{IsClosure}
-use Rattle.hierarchy.proofs.Search.{Reaches-back}
+use Rattle.hierarchy.proofs.Reaches.{Reaches-back}
 use Rattle.hierarchy.proofs.reverse.descendants_of.Goals as goal
 
 pub returns : goal.returns

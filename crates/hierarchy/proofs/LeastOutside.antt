@@ -1,4 +1,4 @@
--- The least of two kinds of keys, and of those of a map's sets.
+-- The least key of a map's sets that has no entry.
 use Rattle.std.proofs.Common.{◌≡◌, Bool, true, false, ◌↔◌, ◌⊎◌, inl, inr, cond, List, [], ◌∷◌, Option, Some, None, Contains, refl, sym, ◌∙◌}
 use Rattle.std.specs.declared.cmp.Ordering.{Ordering}
 use Rattle.std.specs.declared.cmp.Ordering.TheVariants.{Less, Equal, Greater}
@@ -18,38 +18,8 @@ use Rattle.std.proofs.lemmas.Map.Made.{is_some-lookup}
 use Rattle.std.proofs.lemmas.Map.Views.{tells_apart}
 use Rattle.hierarchy.specs.Least.{IsLeast, IsLeastIfAny, lower_of}
 use Rattle.hierarchy.specs.Reaches.{at, has, Leads, IsOutside}
-use Rattle.hierarchy.proofs.Ascending.{IsLeast-same}
-use Rattle.hierarchy.proofs.Closed.{Leads-key, Leads-at}
-
-pub IsLeastIfAny-same : {K : Type 0} (cmp : K → K → Ordering) (P Q : K → Type 0) → ((q : K) → P q ↔ Q q) → (r : Option K) → IsLeastIfAny cmp P r → IsLeastIfAny cmp Q r
-IsLeastIfAny-same cmp P Q same None none = λ q h. none q ((same q).1 h)
-IsLeastIfAny-same cmp P Q same (Some k) l = IsLeast-same same l
-
-module _ {K : Type 0} {cmp : K → K → Ordering} (o : IsTotalOrder cmp) where
-  not_gt : (r : Ordering) → is_lt r ≡ true → is_gt r ≡ false
-  not_gt Less h = refl
-  not_gt Equal h = refl
-  not_gt Greater h = absurd (false≢true h)
-
-  not_gt_back : (r : Ordering) → is_lt r ≡ false → is_gt (ordering_reverse r) ≡ false
-  not_gt_back Less h = absurd (false≢true (sym h))
-  not_gt_back Equal h = refl
-  not_gt_back Greater h = refl
-
-  pub lower_least : (P Q : K → Type 0) (a b : Option K) → IsLeastIfAny cmp P a → IsLeastIfAny cmp Q b → IsLeastIfAny cmp (λ q. P q ⊎ Q q) (lower_of cmp a b)
-  lower_least P Q None None none none' = λ q h. elim h [ inl p ↦ none q p | inr p ↦ none' q p ]
-  lower_least P Q None (Some b) none l = record { holds = inr l.holds; least = λ q h. elim h [ inl p ↦ absurd (none q p) | inr p ↦ l.least q p ] }
-  lower_least P Q (Some a) None l none = record { holds = inl l.holds; least = λ q h. elim h [ inl p ↦ l.least q p | inr p ↦ absurd (none q p) ] }
-  lower_least P Q (Some a) (Some b) l l' = at_test (is_lt (cmp b a)) refl where
-    at_test : (t : Bool) → is_lt (cmp b a) ≡ t → IsLeast cmp (λ q. P q ⊎ Q q) (cond t b a)
-    at_test true is = record {
-      holds = inr l'.holds;
-      least = λ q h. elim h [ inl p ↦ upto o b a q (not_gt (cmp b a) is) (l.least q p) | inr p ↦ l'.least q p ];
-    }
-    at_test false is = record {
-      holds = inl l.holds;
-      least = λ q h. elim h [ inl p ↦ l.least q p | inr p ↦ upto o a b q (rw (o.antisymm a b) (not_gt_back (cmp b a) is)) (l'.least q p) ];
-    }
+use Rattle.hierarchy.proofs.Least.{IsLeastIfAny-same, lower_least}
+use Rattle.hierarchy.proofs.Reaches.{Leads-key, Leads-at}
 
 -- what stands in a set of a key that is not left, and has no entry
 abbrev pub IsDoneOutside : {A K : Type 0} → (A → A → Ordering) → (K → K → Ordering) → List (K × BTreeSet K) → List (A × BTreeSet K) → List A → K → Type 0
