@@ -1,9 +1,9 @@
 -- A closure that is made key by key.
-use Rattle.std.proofs.Common.{◌≡◌, Bool, true, false, ◌||◌, ◌↔◌, Contains, cond, Some, None, Option, List, [], ◌∷◌, refl, sym, ◌∙◌, ap}
+use Rattle.std.proofs.Common.{◌≡◌, Bool, true, false, ◌||◌, ◌↔◌, Contains, cond, Some, None, Option, List, [], ◌∷◌, refl, sym, ◌∙◌}
 use Rattle.std.specs.declared.cmp.Ordering.{Ordering}
 use Rattle.std.proofs.Math.Bool.{or-false}
 use Rattle.std.specs.Cmp.{IsTotalOrder}
-use Rattle.std.specs.Option.{is_some, IsSomeAnd, IfSome}
+use Rattle.std.specs.Option.{is_some, IfSome}
 use Rattle.std.specs.Map.{keys_of}
 use Rattle.std.specs.List.Sorted.{IsStrictlySortedBy}
 use Rattle.std.specs.BTreeMap.{is_at}
@@ -14,7 +14,7 @@ use Rattle.std.proofs.lemmas.Bool.{or_left, or_right, false≢true}
 use Rattle.std.proofs.lemmas.Cmp.{eq_by_cmp_equiv}
 use Rattle.std.specs.Ordering.{is_eq}
 use Rattle.std.proofs.lemmas.Map.Views.{tells_apart}
-use Rattle.hierarchy.specs.Reaches.{at, Reaches, last, more, has, Leads, IsClosure}
+use Rattle.hierarchy.specs.Reaches.{at, Reaches, has, Leads, IsClosure}
 use Rattle.hierarchy.specs.ClosureSteps.{AreWhole}
 use Rattle.hierarchy.proofs.Reaches.{Reaches-is_some}
 

@@ -1,10 +1,9 @@
 -- What is known of the keys that lead to just the keys of a set, with one set more.
-use Rattle.std.proofs.Common.{◌≡◌, Bool, true, false, ◌↔◌, Contains, cond, List, [], ◌∷◌, Some, refl, sym, ◌∙◌, ap}
+use Rattle.std.proofs.Common.{◌≡◌, Bool, true, false, ◌↔◌, Contains, cond, List, [], Some, refl, sym, ◌∙◌, ap}
 use Rattle.std.specs.declared.cmp.Ordering.{Ordering}
-use Rattle.std.specs.declared.cmp.Ordering.TheVariants.{Less, Equal, Greater}
-use Rattle.std.specs.Ordering.{is_eq, ordering_then}
+use Rattle.std.specs.Ordering.{is_eq}
 use Rattle.std.specs.FinMap.{slice_cmp-IsAntisymmetric}
-use Rattle.std.specs.Option.{IfSome, IsSomeAnd}
+use Rattle.std.specs.Option.{IfSome}
 use Rattle.std.specs.BTreeSet.{BTreeSet}
 use Rattle.std.specs.List.Sorted.{IsStrictlySortedBy}
 use Rattle.std.proofs.lemmas.Map.Lookups.{CmpEqualImpliesEq}

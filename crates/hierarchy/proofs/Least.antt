@@ -1,25 +1,20 @@
 -- The least key of which a fact holds: by a walk through keys in order, and of two kinds of keys.
 use Rattle.hierarchy.specs.Least.{IsLeast, IsLeastIfAny, lower_of}
 use Rattle.hierarchy.specs.Least.{IsLeast}
-use Rattle.hierarchy.specs.Reaches.{at, has, Leads, IsOutside}
 use Rattle.hierarchy.specs.Reaches.{has}
-use Rattle.std.proofs.Common.{◌≡◌, Bool, true, false, ◌↔◌, ◌⊎◌, inl, inr, cond, List, [], ◌∷◌, Option, Some, None, Contains, refl, sym, ◌∙◌}
-use Rattle.std.proofs.Common.{◌≡◌, ◌<◌, ◌↔◌, length, arith, Option, Some, None, IsSome, IfSome, MatchOption, true, false, List, [], ◌∷◌, ◌⊎◌, inl, inr, refl}
+use Rattle.hierarchy.specs.Reaches.{has}
+use Rattle.std.proofs.Common.{◌≡◌, Bool, true, false, ◌↔◌, ◌⊎◌, inl, inr, cond, List, [], ◌∷◌, Option, Some, None, refl, sym}
+use Rattle.std.proofs.Common.{◌≡◌, ◌↔◌, Option, Some, None, true, false, List, [], ◌∷◌, ◌⊎◌, inl, inr, refl}
 use Rattle.std.proofs.lemmas.Bool.{or_cases, false≢true}
-use Rattle.std.proofs.lemmas.Bool.{or_parts, false≢true}
+use Rattle.std.proofs.lemmas.Bool.{false≢true}
 use Rattle.std.proofs.lemmas.Cmp.{upto}
 use Rattle.std.proofs.lemmas.Map.Keys.{sorted_head, sorted_tail}
 use Rattle.std.proofs.lemmas.Map.Lookups.{CmpEqualImpliesEq}
-use Rattle.std.proofs.lemmas.Map.Made.{is_some-lookup}
 use Rattle.std.proofs.lemmas.Map.Views.{tells_apart}
-use Rattle.std.specs.BTreeMap.{is_at}
-use Rattle.std.specs.BTreeSet.{BTreeSet}
 use Rattle.std.specs.Cmp.{IsTotalOrder, tied_itself}
 use Rattle.std.specs.Cmp.{IsTotalOrder}
 use Rattle.std.specs.List.Sorted.{IsStrictlySortedBy}
 use Rattle.std.specs.List.{AllByRecursion}
-use Rattle.std.specs.Map.{keys_of}
-use Rattle.std.specs.Option.{is_some, IsSomeAnd}
 use Rattle.std.specs.Ordering.{is_eq, is_gt, is_lt, ordering_reverse}
 use Rattle.std.specs.Ordering.{is_eq, is_gt}
 use Rattle.std.specs.declared.cmp.Ordering.TheVariants.{Less, Equal, Greater}

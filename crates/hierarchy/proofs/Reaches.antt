@@ -1,31 +1,20 @@
 -- Ways of one or more steps, and what a map of sets lists at its keys.
-use Rattle.hierarchy.specs.ClosureSteps.{AreWhole}
-use Rattle.hierarchy.specs.ClosureSteps.{IsStart, AreWhole, IsAtOneOf}
-use Rattle.hierarchy.specs.Reaches.{at, Reaches, last, more, has, Leads, IsClosure}
+use Rattle.hierarchy.specs.Reaches.{at, Reaches, last, more, has, Leads}
 use Rattle.hierarchy.specs.Reaches.{at, Reaches, last, more, has, leads, Leads}
-use Rattle.std.proofs.Common.{◌≡◌, Bool, true, false, ◌||◌, ◌↔◌, Contains, cond, Some, None, Option, List, [], ◌∷◌, refl, sym, ◌∙◌, ap}
-use Rattle.std.proofs.Common.{◌≡◌, ◌≤◌, Bool, true, false, ◌||◌, ◌&&◌, not, ◌⊎◌, ◌↔◌, Contains, List, [], ◌∷◌, ◌++◌, length, cond, Some, None, refl, sym, ◌∙◌, ap, inl, inr, arith}
-use Rattle.std.proofs.Math.Bool.{or-false}
-use Rattle.std.proofs.lemmas.Bool.{or_cases, or_left, or_right, and_parts, and_from, not_from_false, false≢true}
-use Rattle.std.proofs.lemmas.Bool.{or_left, or_right, false≢true}
-use Rattle.std.proofs.lemmas.Cmp.{eq_by_cmp_equiv}
-use Rattle.std.proofs.lemmas.List.Folds.{list_any-append}
-use Rattle.std.proofs.lemmas.Map.Keys.{IsDistinct-from_sorted}
+use Rattle.std.proofs.Common.{◌≡◌, true, false, ◌↔◌, Contains, Some, None, List, refl, sym, ◌∙◌, ap}
+use Rattle.std.proofs.Common.{◌≡◌, true, false, ◌↔◌, Contains, List, Some, None, refl, sym, ◌∙◌, ap}
+use Rattle.std.proofs.lemmas.Bool.{false≢true}
+use Rattle.std.proofs.lemmas.Bool.{false≢true}
 use Rattle.std.proofs.lemmas.Map.Lookups.{CmpEqualImpliesEq}
 use Rattle.std.proofs.lemmas.Map.Made.{is_some-lookup}
-use Rattle.std.proofs.lemmas.Map.Made.{length-le_from_is_member}
-use Rattle.std.proofs.lemmas.Map.Views.{tells_apart, btree_set_contains_iff}
-use Rattle.std.proofs.lemmas.Map.Views.{tells_apart}
+use Rattle.std.proofs.lemmas.Map.Views.{btree_set_contains_iff}
 use Rattle.std.specs.BTreeMap.{is_at}
 use Rattle.std.specs.BTreeSet.{BTreeSet}
-use Rattle.std.specs.Cmp.{IsTotalOrder, tied_itself}
 use Rattle.std.specs.Cmp.{IsTotalOrder}
-use Rattle.std.specs.List.Sorted.{IsStrictlySortedBy}
+use Rattle.std.specs.Cmp.{IsTotalOrder}
 use Rattle.std.specs.Map.{keys_of}
-use Rattle.std.specs.Map.{lookup}
-use Rattle.std.specs.Option.{is_some, IsSomeAnd, IfSome}
+use Rattle.std.specs.Option.{is_some, IsSomeAnd}
 use Rattle.std.specs.Option.{option_map_or, IsSomeAnd}
-use Rattle.std.specs.Ordering.{is_eq}
 use Rattle.std.specs.declared.cmp.Ordering.{Ordering}
 
 -- one step more

@@ -1,6 +1,6 @@
 -- Two ascending lists with the same keys are one, and so are two lists that ascend by key and have the same value at each key.
 use Rattle.std.proofs.Common.{◌≡◌, Bool, true, false, ◌||◌, cond, List, [], ◌∷◌, map, Some, None, ap, sym, ◌∙◌, refl, subst}
-use Rattle.std.specs.Prelude.{T, Option, ◌&&◌}
+use Rattle.std.specs.Prelude.{T, ◌&&◌}
 use Rattle.std.specs.declared.cmp.Ordering.{Ordering}
 use Rattle.std.specs.declared.cmp.Ordering.TheVariants.{Less, Equal}
 use Rattle.std.specs.Ordering.{is_eq, is_lt}

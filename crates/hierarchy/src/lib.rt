@@ -4,10 +4,9 @@
 mod checks;
 mod closure;
 mod key;
-mod repeats;
 mod reach;
+mod repeats;
 mod reverse;
-
 mod shared_set;
 
 pub use checks::{first_not_closed, first_own, least_outside, least_unlisted, lower};
