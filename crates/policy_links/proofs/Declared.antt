@@ -21,7 +21,7 @@ use Rattle.policy_links.specs.declared.constraint.PrincipalOrResourceConstraint.
 use Rattle.policy_links.specs.declared.constraint.PrincipalOrResourceConstraint.TheVariants.{Eq, In, IsIn}
 use Rattle.policy_links.specs.Condition.{Written, linked, linked_of, asks_slot}
 use Rattle.policy_links.specs.Scope.{type_meets, action_meets, types_meet, is_applicable}
-use Rattle.policy_links.proofs.Found.{found_here}
+use Rattle.schema_core.proofs.Found.{found_here}
 use Rattle.policy_links.proofs.Parts.{same_text, IsOfEntities}
 
 pub and_both : (a b : Bool) → (a && b) ≡ true → (a ≡ true) × (b ≡ true)

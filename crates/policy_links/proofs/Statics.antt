@@ -17,7 +17,7 @@ use Rattle.schema_types.specs.NameLaws.{equal_of}
 use Rattle.schema_core.specs.EnvData.{EnvData, LinkedEnvironment, declared_action, unlinked, unlinked_of}
 use Rattle.schema_core.specs.Environments.{Environment, environment, environments_of, environments_at}
 use Rattle.schema_core.specs.Schema.{ActionData, SchemaData, is_action_named, action_at}
-use Rattle.policy_typing.specs.Conforms.{Applies, IsOf}
+use Rattle.policy_typing.specs.Conforms.{RequestConforms, Applies, IsOf}
 use Rattle.policy_typing.specs.Conditions.{IsCondition, ConditionsAreSound}
 use Rattle.policy_typing.specs.Operands.{is_boolean}
 use Rattle.policy_typing.specs.Keys.{HasKeysOnce, HaveKeysOnce}
@@ -29,7 +29,7 @@ use Rattle.policy_links.specs.declared.constraint.ActionConstraint.{ActionConstr
 use Rattle.policy_links.specs.declared.constraint.ActionConstraint.TheVariants as action
 use Rattle.policy_links.specs.Accepted.{IsTyped, IsTypedIn}
 use Rattle.capabilities.specs.Bare.{Plain}
-use Rattle.policy_links.specs.Condition.{Written, scope_part, literals, action_part, condition_of, own_condition, linked, linked_of, asks_slot}
+use Rattle.policy_links.specs.Condition.{Written, scope_part, literals, action_part, condition_of, own_condition, linked, linked_of, asks_slot, HasPlainBody}
 use Rattle.policy_links.specs.Laws.{StaticsAreUnlinked, StaticsAreTyped, StaticsAreSound, TypedEverywhere, LinksAreTyped, LinksHaveKeysOnce, LinksAreSound, TypedAreSound, LinksAreWrittenOut, same, with_id, both, left, FilledKeeps}
 use Rattle.policy_links.specs.Linked.{linked_env, slot_types, linked_envs_at, linked_envs_of}
 use Rattle.policy_links.proofs.Declared.{and_both}
@@ -70,24 +70,25 @@ all_found P f (x ∷ xs) h = by (f x) (all_found P f xs h.1)
     by true k = h.0
     by false k = k
 
+-- what holds in each environment of each action holds in that of each action with a principal type and a resource type that it applies to
+pub everywhere : (schema : SchemaData) (Q : ActionData → Environment → Type 0) → AllByRecursion (λ a. AllByRecursion (Q a) (environments_of a)) schema.action_ids → (u : EntityUID) →
+    IfSome (action_at schema u) (λ a. (p r : List ℕ) → IsTrue (has text_cmp a.principals p) → IsTrue (has text_cmp a.resources r) → Q a (environment p a.name r))
+everywhere schema Q h u = all_found At (is_action_named u) schema.action_ids (all_more (λ a. AllByRecursion (Q a) (environments_of a)) At of_action schema.action_ids h)
+  where
+    At : ActionData → Type 0
+    At a = (p r : List ℕ) → IsTrue (has text_cmp a.principals p) → IsTrue (has text_cmp a.resources r) → Q a (environment p a.name r)
+
+    of_action : (a : ActionData) → AllByRecursion (Q a) (environments_of a) → At a
+    of_action a k p r i j =
+        one_of (λ r. Q a (environment p a.name r)) r a.resources
+        (from_mapped (Q a) (environment p a.name) a.resources
+        (one_of (λ p. AllByRecursion (Q a) (environments_at a p)) p a.principals (from_each (Q a) (environments_at a) a.principals k) i)) j
+
 pub typed_at : TypedEverywhere
 typed_at schema x h u =
-    all_found Q (is_action_named u) schema.action_ids
-    (all_more (λ a. AllByRecursion P (unlinked_of a)) Q of_action schema.action_ids (from_each P unlinked_of schema.action_ids h))
-  where
-    P : EnvData → Type 0
-    P = IsTyped schema x
-
-    Q : ActionData → Type 0
-    Q a = (p r : List ℕ) → IsTrue (has text_cmp a.principals p) → IsTrue (has text_cmp a.resources r) → P (unlinked a (environment p a.name r))
-
-    of_action : (a : ActionData) → AllByRecursion P (unlinked_of a) → Q a
-    of_action a k p r i j =
-        one_of (λ r. P (unlinked a (environment p a.name r))) r a.resources
-        (from_mapped (λ e. P (unlinked a e)) (environment p a.name) a.resources
-        (one_of (λ p. AllByRecursion (λ e. P (unlinked a e)) (environments_at a p)) p a.principals
-        (from_each (λ e. P (unlinked a e)) (environments_at a) a.principals
-        (from_mapped P (unlinked a) (environments_of a) k)) i)) j
+    everywhere schema (λ a e. IsTyped schema x (unlinked a e))
+    (all_more (λ a. AllByRecursion (IsTyped schema x) (unlinked_of a)) (λ a. AllByRecursion (λ e. IsTyped schema x (unlinked a e)) (environments_of a)) (λ a k. from_mapped (IsTyped schema x) (unlinked a) (environments_of a) k) schema.action_ids
+    (from_each (IsTyped schema x) unlinked_of schema.action_ids h)) u
 
 -- no part of the scope has a record
 plain_once : (i : SlotId) (c : PrincipalOrResourceConstraint) → HasKeysOnce (scope_part i c)
@@ -109,7 +110,7 @@ action_once action.Any = tt
 action_once (action.Eq u) = (tt, tt)
 action_once (action.In us) = (tt, literals_once us.items)
 
-condition_once : (t : Written) → HasKeysOnce t.body → HasKeysOnce (condition_of t)
+pub condition_once : (t : Written) → HasKeysOnce t.body → HasKeysOnce (condition_of t)
 condition_once t body = (((plain_once Principal t.principal, action_once t.action), plain_once Resource t.resource), body)
 
 pub links_once : LinksHaveKeysOnce
@@ -170,35 +171,38 @@ named (y ∷ ys) u = by (is_action_named u y) refl (named ys u)
     by true e rest = exact_uid u y.name (equal_of (uid_cmp u y.name) e)
     by false e rest = rest
 
+-- the environment of a request, by its action
+abbrev pub env_for : ActionData → Request → LinkedEnvironment
+env_for a q = record { environment = environment (principal_of q).entity_type a.name (resource_of q).entity_type; context = a.context; principal_slot = None; resource_slot = None }
+
+-- a request that conforms has an action, which applies to it, and is of the environment
+pub for_request : {R : Type 0} (schema : SchemaData) (q : Request) → RequestConforms schema q → ((a : ActionData) → action_at schema (action_of q) ≡ Some a → Applies schema q a → IsOf schema q (env_for a q) → R) → R
+for_request {R = R} schema q conforms k = by (action_at schema (action_of q)) refl conforms.action
+  where
+    by : (o : Option ActionData) → action_at schema (action_of q) ≡ o → IsSomeAnd o (λ a. Applies schema q a) → R
+    by None e h = absurd h
+    by (Some a) e h = k a e h record {
+      principal = refl;
+      action = name;
+      resource = refl;
+      context = subst (λ u. IsSomeAnd (action_at schema u) (λ b. a.context ≡ b.context)) name (subst (λ o. IsSomeAnd o (λ b. a.context ≡ b.context)) (sym e) refl);
+    }
+      where
+        name : action_of q ≡ a.name
+        name = subst (λ o. IfSome o (λ a. action_of q ≡ a.name)) e (named schema.action_ids (action_of q))
+
 condition_for : (o : Option Typing) (x : Plain) (q : Request) (s : Store) → IsSomeAnd o (λ y. IsTrue (is_boolean y.type)) → IfSome o (λ y. IsTrue (is_boolean y.type) → IsCondition q s (eval x q s) y) → IsSomeAnd o (IsCondition q s (eval x q s))
 condition_for None x q s h k = absurd h
 condition_for (Some y) x q s h k = k h
 
 pub typed_sound : ConditionsAreSound → TypedAreSound
 typed_sound sound schema ok x plain once typed q conforms s stored =
-    of_action (action_at schema (action_of q)) refl conforms.action (typed_at schema x typed (action_of q))
-  where
-    of_action : (o : Option ActionData) → action_at schema (action_of q) ≡ o → IsSomeAnd o (λ a. Applies schema q a) →
-        IfSome o (λ a. (p r : List ℕ) → IsTrue (has text_cmp a.principals p) → IsTrue (has text_cmp a.resources r) → IsTyped schema x (unlinked a (environment p a.name r))) →
-        IsSomeAnd o (λ a. IsSomeAnd (types schema (unlinked a (environment (principal_of q).entity_type a.name (resource_of q).entity_type)) [] x) (IsCondition q s (eval x q s)))
-    of_action None e h k = absurd h
-    of_action (Some a) e h k =
-        condition_for (types schema (declared_action env) [] x) x q s (k env.environment.principal env.environment.resource h.principal h.resource)
-        (sound schema ok env q conforms of_env s stored x plain once)
-      where
-        env : LinkedEnvironment
-        env = record { environment = environment (principal_of q).entity_type a.name (resource_of q).entity_type; context = a.context; principal_slot = None; resource_slot = None }
-
-        name : action_of q ≡ a.name
-        name = subst (λ o. IfSome o (λ a. action_of q ≡ a.name)) e (named schema.action_ids (action_of q))
-
-        of_env : IsOf schema q env
-        of_env = record {
-          principal = refl;
-          action = name;
-          resource = refl;
-          context = subst (λ u. IsSomeAnd (action_at schema u) (λ b. a.context ≡ b.context)) name (subst (λ o. IsSomeAnd o (λ b. a.context ≡ b.context)) (sym e) refl);
-        }
+    for_request schema q conforms (λ a e h of.
+    subst (λ o. IsSomeAnd o (λ a. IsSomeAnd (types schema (declared_action (env_for a q)) [] x) (IsCondition q s (eval x q s)))) (sym e)
+    (condition_for (types schema (declared_action (env_for a q)) [] x) x q s
+    (subst (λ o. IfSome o (λ a. (p r : List ℕ) → IsTrue (has text_cmp a.principals p) → IsTrue (has text_cmp a.resources r) → IsTyped schema x (unlinked a (environment p a.name r)))) e (typed_at schema x typed (action_of q))
+    (principal_of q).entity_type (resource_of q).entity_type h.principal h.resource)
+    (sound schema ok (env_for a q) q conforms of s stored x plain once)))
 
 pub links_sound : LinksAreTyped → LinksAreWrittenOut → LinksHaveKeysOnce → TypedAreSound → LinksAreSound
 links_sound typed written once sound schema ok t plain body accepted w fills link q conforms s stored =
@@ -214,8 +218,11 @@ no_slots i (Eq Slot) h = cc
 no_slots i (In Slot) h = cc
 no_slots i (IsIn n Slot) h = cc
 
+pub condition_plain : (t : Written) → HasPlainBody t → asks_slot t.principal ≡ false → asks_slot t.resource ≡ false → has_slot (condition_of t) ≡ false
+condition_plain t plain no_principal no_resource = λ i. ((no_slots Principal t.principal no_principal i || action_plain t.action i) || no_slots Resource t.resource no_resource i) || plain i
+
 pub statics_sound : StaticsAreTyped → TypedAreSound → StaticsAreSound
 statics_sound typed sound schema ok t plain body no_principal no_resource accepted q conforms s stored =
     sound schema ok (condition_of t)
-    (λ i. ((no_slots Principal t.principal no_principal i || action_plain t.action i) || no_slots Resource t.resource no_resource i) || plain i)
+    (condition_plain t plain no_principal no_resource)
     (condition_once t body) (typed schema t no_principal no_resource accepted) q conforms s stored

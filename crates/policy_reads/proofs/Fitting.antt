@@ -29,7 +29,8 @@ use Rattle.schema_core.specs.Inside.{is_held, are_held}
 use Rattle.schema_core.specs.Kinds.{Kind, standard, enumerated, attributes_in, tags_in, is_held_kind}
 use Rattle.schema_core.specs.Schema.{SchemaData, TypeData, ActionData, type_at, action_at}
 use Rattle.policy_reads.specs.Paths.{Root, variable, an_id, Step, along, any_tag, Chain}
-use Rattle.policy_reads.specs.PathTypes.{attributes_at, tags_at, type_along, step_on, types_along, root_type, chains, chains_in}
+use Rattle.policy_typing.specs.Environment.{declared_attributes, declared_tags}
+use Rattle.policy_reads.specs.PathTypes.{type_along, step_on, types_along, root_type, chains, chains_in}
 use Rattle.policy_reads.specs.Restrict.{cut, cut_fields, root_value, values_in, step_in_entity, step}
 use Rattle.policy_reads.specs.Cover.{IsOf, AreOf, HasTypes, KeepsTypes}
 use Rattle.policy_reads.proofs.Lists.{same_text, IsIn, in_left, in_right, in_map}
@@ -55,7 +56,7 @@ FitAll d (Some t) (field k v fs) = Fits d (Some t) v × FitAll d (Some t) fs
 
 -- attributes and tags of a stored entity fit what the schema has for its type
 abbrev pub EntityFits : SchemaData → StoredEntity → Type 0
-EntityFits d e = FitFields d (or_none (attributes_at d e.uid.entity_type)) e.attrs × FitAll d (tags_at d e.uid.entity_type) e.tags
+EntityFits d e = FitFields d (or_none (declared_attributes d e.uid.entity_type)) e.attrs × FitAll d (declared_tags d e.uid.entity_type) e.tags
 
 listed_one : (o : Option Val) (w : Val) → IsIn w (option_to_list o) → o ≡ Some w
 listed_one None w i = absurd i
@@ -83,8 +84,8 @@ step_fits d s all o (id x) w n h i = subst (λ p. Fits d p w) (sym (h n)) (here 
   where
     here : (r : Option StoredEntity) → entity_at s x ≡ r → (n : Step) → IsIn w (step_in_entity r n) → Fits d (type_along d (entity (x.entity_type ∷ [])) n) w
     here None e n i = absurd i
-    here (Some e) f (along k) i = subst (λ y. Fits d (type_along d (entity (y.entity_type ∷ [])) (along k)) w) (uid_at s x e f) (field_fits d (or_none (attributes_at d e.uid.entity_type)) e.attrs k w (all_at (EntityFits d) s x e all f).0 (listed_one (field_at e.attrs k) w i))
-    here (Some e) f any_tag i = subst (λ y. Fits d (tags_at d y.entity_type) w) (uid_at s x e f) (one_fits d (tags_at d e.uid.entity_type) e.tags w (all_at (EntityFits d) s x e all f).1 i)
+    here (Some e) f (along k) i = subst (λ y. Fits d (type_along d (entity (y.entity_type ∷ [])) (along k)) w) (uid_at s x e f) (field_fits d (or_none (declared_attributes d e.uid.entity_type)) e.attrs k w (all_at (EntityFits d) s x e all f).0 (listed_one (field_at e.attrs k) w i))
+    here (Some e) f any_tag i = subst (λ y. Fits d (declared_tags d y.entity_type) w) (uid_at s x e f) (one_fits d (declared_tags d e.uid.entity_type) e.tags w (all_at (EntityFits d) s x e all f).1 i)
 step_fits d s all (Some (record_of xs p)) (rec fs) w (along k) h i = field_fits d xs fs k w h (listed_one (field_at fs k) w i)
 step_fits d s all o (rec fs) w any_tag h i = absurd i
 step_fits d s all o (rec fs) w (along k) h i = absurd h
@@ -110,8 +111,8 @@ step_undeclared d s all o (id x) n h k = here (entity_at s x) refl n (sym (h n) 
 
     here : (r : Option StoredEntity) → entity_at s x ≡ r → (n : Step) → type_along d (entity (x.entity_type ∷ [])) n ≡ None → step_in_entity r n ≡ []
     here None e n i = refl
-    here (Some e) f (along k) i = ap option_to_list (field_undeclared d (or_none (attributes_at d e.uid.entity_type)) e.attrs k (all_at (EntityFits d) s x e all f).0 (ap (λ y. type_along d (entity (y.entity_type ∷ [])) (along k)) (uid_at s x e f) ∙ i))
-    here (Some e) f any_tag i = no_values (tags_at d e.uid.entity_type) e.tags (all_at (EntityFits d) s x e all f).1 (ap (λ y. tags_at d y.entity_type) (uid_at s x e f) ∙ i)
+    here (Some e) f (along k) i = ap option_to_list (field_undeclared d (or_none (declared_attributes d e.uid.entity_type)) e.attrs k (all_at (EntityFits d) s x e all f).0 (ap (λ y. type_along d (entity (y.entity_type ∷ [])) (along k)) (uid_at s x e f) ∙ i))
+    here (Some e) f any_tag i = no_values (declared_tags d e.uid.entity_type) e.tags (all_at (EntityFits d) s x e all f).1 (ap (λ y. declared_tags d y.entity_type) (uid_at s x e f) ∙ i)
 step_undeclared d s all (Some (record_of xs p)) (rec fs) (along m) h k = ap option_to_list (field_undeclared d xs fs m h k)
 step_undeclared d s all o (rec fs) any_tag h k = refl
 step_undeclared d s all o (rec fs) (along m) h k = absurd h
@@ -212,7 +213,7 @@ module _ (d : SchemaData) (schema : IsSchema d) where
   kind_held : (n : List ℕ) (t : TypeData) → type_at d n ≡ Some t → IsTrue (is_held_kind t.kind)
   kind_held n t e = subst (λ o. IfSome (option_map (λ t. t.kind) o) (λ k. IsTrue (is_held_kind k))) e (schema.types.kinds n)
 
-  attributes_held : (n : List ℕ) → IsTrue (are_held (or_none (attributes_at d n)))
+  attributes_held : (n : List ℕ) → IsTrue (are_held (or_none (declared_attributes d n)))
   attributes_held n = here (type_at d n) refl
     where
       of_kind : (k : Kind) → IsTrue (is_held_kind k) → IsTrue (are_held (attributes_in k))
@@ -225,7 +226,7 @@ module _ (d : SchemaData) (schema : IsSchema d) where
       here (Some t) e = of_kind t.kind (kind_held n t e)
 
   -- a value of the type of tags
-  tag_fits : (n : List ℕ) (v : Val) → IsOf (tags_at d n) v → Fits d (tags_at d n) v
+  tag_fits : (n : List ℕ) (v : Val) → IsOf (declared_tags d n) v → Fits d (declared_tags d n) v
   tag_fits n v m = here (type_at d n) refl m
     where
       of_kind : (k : Kind) → IsTrue (is_held_kind k) → IsOf (tags_in k) v → Fits d (tags_in k) v
@@ -237,8 +238,8 @@ module _ (d : SchemaData) (schema : IsSchema d) where
       here None e m = absurd m
       here (Some t) e m = of_kind t.kind (kind_held n t e) m
 
-  tags_fit : (n : List ℕ) (fs : Fields) → AreOf (tags_at d n) fs → FitAll d (tags_at d n) fs
-  tags_fit n fs m = here (tags_at d n) (tag_fits n) fs m
+  tags_fit : (n : List ℕ) (fs : Fields) → AreOf (declared_tags d n) fs → FitAll d (declared_tags d n) fs
+  tags_fit n fs m = here (declared_tags d n) (tag_fits n) fs m
     where
       here : (o : Option Ty) → ((v : Val) → IsOf o v → Fits d o v) → (fs : Fields) → AreOf o fs → FitAll d o fs
       here o f no_fields m = tt
@@ -274,7 +275,7 @@ module _ (d : SchemaData) (schema : IsSchema d) where
 
   pub entity_fits : (e : StoredEntity) → HasTypes d e → EntityFits d e
   entity_fits e h = (
-    members_fit d ClosedAttributes (or_none (attributes_at d e.uid.entity_type)) e.attrs refl (attributes_held e.uid.entity_type) h.attributes,
+    members_fit d ClosedAttributes (or_none (declared_attributes d e.uid.entity_type)) e.attrs refl (attributes_held e.uid.entity_type) h.attributes,
     tags_fit e.uid.entity_type e.tags h.tags,
   )
 

@@ -18,7 +18,8 @@ use Rattle.schema_core.specs.Faults.{IsSchema}
 use Rattle.schema_core.specs.Inside.{is_held}
 use Rattle.schema_core.specs.Schema.{SchemaData}
 use Rattle.policy_reads.specs.Paths.{variable}
-use Rattle.policy_reads.specs.PathTypes.{attributes_at, tags_at, root_type}
+use Rattle.policy_typing.specs.Environment.{declared_attributes, declared_tags}
+use Rattle.policy_reads.specs.PathTypes.{root_type}
 use Rattle.policy_reads.specs.Reads.{declared_reads, declared_demands}
 use Rattle.policy_reads.specs.Restrict.{Keep, part, restrict}
 
@@ -35,8 +36,8 @@ AreOf o (field k v fs) = IsOf o v × AreOf o fs
 -- an entity has no attributes but those that its type declares, each of its type, and tags of the type of tags; of a type
 -- that is not declared it has neither
 pub record HasTypes (d : SchemaData) (e : StoredEntity) : Type 0 where
-  pub attributes : Typed ClosedAttributes (or_none (attributes_at d e.uid.entity_type)) e.attrs
-  pub tags : AreOf (tags_at d e.uid.entity_type) e.tags
+  pub attributes : Typed ClosedAttributes (or_none (declared_attributes d e.uid.entity_type)) e.attrs
+  pub tags : AreOf (declared_tags d e.uid.entity_type) e.tags
 
 -- what is read of a request and a store is of the types that the schema has for it in an environment; what is required plays
 -- no part

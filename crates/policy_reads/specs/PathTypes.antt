@@ -1,33 +1,18 @@
 -- The types that a schema has for what paths lead to.
 use Rattle.std.specs.Prelude.{ℕ, Bool, true, ◌&&◌, List, [], ◌∷◌, ◌++◌, map, Option, Some, None, is_some, if◌then◌else◌}
 use Rattle.std.specs.Option.{option_map, option_and_then}
-use Rattle.policy_expressions.specs.declared.kinds.Var.TheVariants.{Principal, Action, Resource, Context}
-use Rattle.policy_types.specs.Attributes.{attrs_in}
-use Rattle.schema_types.specs.Attrs.{attr_at}
-use Rattle.schema_types.specs.Names.{only_name}
-use Rattle.schema_types.specs.Ty.{Ty, record_of, entity, Attrs, no_attrs, attr}
-use Rattle.schema_core.specs.EnvData.{EnvData, principal_type_in, action_type_in, resource_type_in, context_type_in, literal_type}
-use Rattle.schema_core.specs.Kinds.{attributes_in, tags_in}
-use Rattle.schema_core.specs.Schema.{SchemaData, type_at}
+use Rattle.schema_types.specs.Ty.{Ty, record_of, Attrs, no_attrs, attr}
+use Rattle.schema_core.specs.EnvData.{EnvData, literal_type}
+use Rattle.schema_core.specs.Schema.{SchemaData}
+use Rattle.policy_typing.specs.Environment.{type_of_variable}
+use Rattle.policy_typing.specs.Rules.{tag_type, attribute_of}
 use Rattle.policy_reads.specs.Paths.{Root, variable, an_id, Step, along, any_tag, Chain, AccessPath}
 
 module _ (d : SchemaData) where
-  -- the attributes of the entities of a type, and the type of their tags
-  abbrev pub attributes_at : List ℕ → Option Attrs
-  attributes_at n = option_map (λ t. attributes_in t.kind) (type_at d n)
-
-  abbrev pub tags_at : List ℕ → Option Ty
-  tags_at n = option_and_then (λ t. tags_in t.kind) (type_at d n)
-
-  -- only entities of one type have tags of a type
-  abbrev pub tag_type : Ty → Option Ty
-  tag_type (entity ns) = option_and_then tags_at (only_name ns)
-  tag_type t = None
-
-  -- the type one step on
+  -- the type one step on: of the attribute that is declared, and of the tags
   abbrev pub type_along : Ty → Step → Option Ty
-  type_along t (along n) = option_map (λ a. a.attr_type) (attr_at (attrs_in attributes_at t) n)
-  type_along t any_tag = tag_type t
+  type_along t (along n) = option_map (λ a. a.attr_type) (attribute_of d t n)
+  type_along t any_tag = tag_type d t
 
   -- the same, where there is a type
   abbrev pub step_on : Option Ty → Step → Option Ty
@@ -49,10 +34,7 @@ module _ (d : SchemaData) where
 module _ (d : SchemaData) (g : EnvData) where
   -- the type of a root in an environment
   abbrev pub root_type : Root → Option Ty
-  root_type (variable Principal) = Some (principal_type_in g)
-  root_type (variable Action) = action_type_in d g
-  root_type (variable Resource) = Some (resource_type_in g)
-  root_type (variable Context) = Some (context_type_in g)
+  root_type (variable v) = type_of_variable d g v
   root_type (an_id u) = literal_type d u
 
   -- the type of what a path leads to
