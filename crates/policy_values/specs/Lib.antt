@@ -1,7 +1,6 @@
 pub mod Ascending
 pub mod Gv
 pub mod Maps
-pub mod Orderings
 pub mod RangeOrder
 pub mod Readings
 pub mod Sets

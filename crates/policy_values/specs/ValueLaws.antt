@@ -1,7 +1,7 @@
 -- The order of values is total, and ties are equal.
-use Rattle.std.proofs.Common.{◌≡◌, ℕ, Ordering, true, false, ap, ◌∙◌, sym, refl, ◌<◌, ◌≤◌, arith}
+use Rattle.std.proofs.Common.{◌≡◌, ℕ, true, false, ap, ◌∙◌, sym, refl, ◌<◌, ◌≤◌, arith}
 use Rattle.std.proofs.lemmas.Bool.Decides.{nat_tests}
-use Rattle.std.specs.declared.cmp.Ordering.TheVariants.{Less, Equal, Greater}
+use Rattle.std.specs.declared.cmp.Ordering.TheVariants.{Less, Equal}
 use Rattle.std.specs.Ordering.{nat_cmp, bool_cmp, ordering_then, ordering_reverse}
 use Rattle.std.specs.Cmp.{IsTotalOrder, then_flip, then_total, on_total, nat_cmp_total, bool_cmp_total, int_cmp_total}
 use Rattle.std.proofs.lemmas.Cmp.{nat_list_cmp_total}
@@ -10,7 +10,7 @@ use Rattle.policy_values.specs.Value.{Val, truth, long, string, entity, set, rec
 use Rattle.policy_names.specs.Uid.{text_cmp, uid_cmp_total, exact_uid}
 use Rattle.policy_ext.specs.declared.ip_addr.Family.{Family}
 use Rattle.policy_ext.specs.declared.ip_addr.Family.TheVariants.{V4, V6}
-use Rattle.policy_values.specs.Orderings.{then_equal, then_chain}
+use Rattle.policy_names.proofs.Ties.{then_equal, then_chain}
 use Rattle.policy_values.specs.RangeOrder.{family_rank, range_cmp}
 use Rattle.policy_values.specs.ValueOrder.{rank, val_cmp, vals_cmp, fields_cmp}
 
