@@ -1,5 +1,5 @@
 -- From the closure of the parents to a store.
-use Rattle.std.proofs.Common.{◌≡◌, true, ◌↔◌, List, [], Option, Some, None, All, Contains, refl, sym, ◌∙◌, ap}
+use Rattle.std.proofs.Common.{◌≡◌, true, ◌↔◌, List, Option, Some, None, All, Contains, refl, sym, ◌∙◌, ap}
 use Rattle.std.specs.List.Sorted.{IsStrictlySortedBy}
 use Rattle.std.specs.Option.{is_some, option_map, option_map_or, IsSomeAnd, IfSome}
 use Rattle.std.specs.BTreeSet.{BTreeSet}

@@ -1,18 +1,14 @@
 -- Entities put under their ids one after another, where no id is repeated.
-use Rattle.std.proofs.Common.{map, ◌≡◌, Bool, true, false, cond, List, [], ◌∷◌, ◌++◌, Option, Some, None, IfSome, Contains, inr, append_assoc, All, refl, sym, ◌∙◌, ap}
-use Rattle.std.specs.List.Sorted.{IsStrictlySortedBy}
-use Rattle.std.specs.Option.{is_some, option_map, option_or}
+use Rattle.std.proofs.Common.{map, ◌≡◌, Bool, true, false, cond, List, [], ◌∷◌, ◌++◌, Option, Some, None, Contains, inr, append_assoc, refl, sym, ◌∙◌, ap}
+use Rattle.std.specs.Option.{option_map, option_or}
 use Rattle.std.specs.Ordering.{is_eq}
-use Rattle.std.specs.BTreeMap.{BTreeMap, IsOrdered, get, values}
+use Rattle.std.specs.BTreeMap.{BTreeMap, get}
 use Rattle.std.specs.BTreeSet.{BTreeSet}
-use Rattle.std.specs.Cmp.{tied_itself}
 use Rattle.std.proofs.lemmas.Cmp.{eq_by_cmp_equiv}
 use Rattle.std.proofs.lemmas.List.{map-append, append-nil}
 use Rattle.std.proofs.lemmas.List.Elements.{Contains-append_left, Contains-append_right, Contains-push}
 use Rattle.std.proofs.lemmas.List.Folds.{find-append}
-use Rattle.std.proofs.lemmas.Map.Keys.{IsDistinct-from_sorted}
-use Rattle.std.proofs.lemmas.Map.Views.{tells_apart, All-values_from_lookup}
-use Rattle.std.specs.Map.{keys_of}
+use Rattle.std.proofs.lemmas.Map.Views.{tells_apart}
 use Rattle.hierarchy.specs.Reaches.{at}
 use Rattle.hierarchy.specs.Repeated.{IsRepeated}
 use Rattle.hierarchy.proofs.Repeated.{repeated_append, repeated_push}
