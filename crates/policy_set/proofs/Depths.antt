@@ -1,8 +1,8 @@
 -- A scope is four deep at most, so that the body alone decides whether a condition is too deep.
 use Rattle.std.proofs.Common.{◌<◌, ◌≤◌, ◌↔◌, arith}
-use Rattle.policy_core.specs.Tree.{depth_of}
-use Rattle.policy_core.specs.declared.kinds.Var.{Var}
-use Rattle.policy_core.specs.declared.kinds.Var.TheVariants.{Principal, Resource}
+use Rattle.policy_expressions.specs.Tree.{depth_of}
+use Rattle.policy_expressions.specs.declared.kinds.Var.{Var}
+use Rattle.policy_expressions.specs.declared.kinds.Var.TheVariants.{Principal, Resource}
 use Rattle.policy_set.specs.declared.constraint.EntityReference.TheVariants.{EUID}
 use Rattle.policy_set.specs.declared.constraint.PrincipalOrResourceConstraint.{PrincipalOrResourceConstraint}
 use Rattle.policy_set.specs.declared.constraint.PrincipalOrResourceConstraint.TheVariants.{Any, Eq, In}

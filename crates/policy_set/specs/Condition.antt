@@ -2,14 +2,14 @@
 -- is the literal true.
 use Rattle.std.specs.Prelude.{true, None, List, ℕ}
 use Rattle.policy_names.specs.declared.entity_uid.EntityUID.{EntityUID}
-use Rattle.policy_core.specs.Tree.{Tree, Mark, lit, var, conj, binary}
-use Rattle.policy_core.specs.declared.kinds.Literal.TheVariants as literal
-use Rattle.policy_core.specs.declared.kinds.Var.{Var}
-use Rattle.policy_core.specs.declared.kinds.Var.TheVariants.{Principal, Action, Resource}
-use Rattle.policy_core.specs.declared.kinds.BinaryOp.{BinaryOp}
-use Rattle.policy_core.specs.declared.kinds.BinaryOp.TheVariants.{Eq as IsEqual, In as IsIn}
-use Rattle.policy_core.specs.declared.expr.BuildError.{BuildError}
-use Rattle.policy_core.specs.declared.expr.BuildError.TheVariants as build
+use Rattle.policy_expressions.specs.Tree.{Tree, Mark, lit, var, conj, binary}
+use Rattle.policy_expressions.specs.declared.kinds.Literal.TheVariants as literal
+use Rattle.policy_expressions.specs.declared.kinds.Var.{Var}
+use Rattle.policy_expressions.specs.declared.kinds.Var.TheVariants.{Principal, Action, Resource}
+use Rattle.policy_expressions.specs.declared.kinds.BinaryOp.{BinaryOp}
+use Rattle.policy_expressions.specs.declared.kinds.BinaryOp.TheVariants.{Eq as IsEqual, In as IsIn}
+use Rattle.policy_expressions.specs.declared.expr.BuildError.{BuildError}
+use Rattle.policy_expressions.specs.declared.expr.BuildError.TheVariants as build
 use Rattle.policy_set.specs.declared.constraint.Effect.{Effect}
 use Rattle.policy_set.specs.declared.constraint.EntityReference.TheVariants.{EUID}
 use Rattle.policy_set.specs.declared.constraint.PrincipalOrResourceConstraint.{PrincipalOrResourceConstraint}

@@ -1,7 +1,7 @@
 //! Policies as they are written: a scope and a body, which make one condition.
 
 ghost use Rattle.std.specs.Prelude.{◌≡◌, ◌↔◌, ◌<◌, ◌≤◌, IfOk, Err};
-ghost use Rattle.policy_core.specs.Tree.{depth_of};
+ghost use Rattle.policy_expressions.specs.Tree.{depth_of};
 ghost use Rattle.policy_set.specs.Condition.{scope_part, action_part, condition_of, template_of};
 
 use crate::{ActionConstraint, Effect, EntityReference, PrincipalOrResourceConstraint};

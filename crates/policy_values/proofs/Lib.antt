@@ -1,5 +1,7 @@
 pub mod HashSteps
 pub mod MapSteps
-pub mod Pushed
-pub mod SetSteps
-pub mod ValueSteps
+mod Pushed
+pub mod ReadSteps
+mod SetSteps
+pub mod Sizes
+mod ValueSteps
