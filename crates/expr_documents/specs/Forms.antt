@@ -71,15 +71,15 @@ list_form_named key = or_else
 abbrev pub other_form_named : List ℕ → Option Form
 other_form_named key = or_else
     (beside (
-        (codes "id", form.Id)
-        ∷ (codes "var", form.Var)
-        ∷ (codes "get", form.Get)
-        ∷ (codes "has", form.Has)
-        ∷ (codes "like", form.Like)
-        ∷ (codes "is", form.Is)
-        ∷ (codes "record", form.Record)
-        ∷ (codes "call", form.Call)
-        ∷ []) key)
+    (codes "id", form.Id)
+    ∷ (codes "var", form.Var)
+    ∷ (codes "get", form.Get)
+    ∷ (codes "has", form.Has)
+    ∷ (codes "like", form.Like)
+    ∷ (codes "is", form.Is)
+    ∷ (codes "record", form.Record)
+    ∷ (codes "call", form.Call)
+    ∷ []) key)
     (option_map form.Unary (unary_named key))
 
 -- the form that the name of an object's one member tells
