@@ -1,7 +1,9 @@
 -- A schema as plain data: entity types and actions, each in ascending order of its names.
-use Rattle.std.specs.Prelude.{◌⊎◌, ℕ, Bool, List, Option, IsSome, IsTrue, IsSomeAnd, Contains, find, refl}
+use Rattle.std.specs.Prelude.{◌⊎◌, ℕ, Bool, false, List, Option, IsSome, IsTrue, IsSomeAnd, Contains, find, refl}
 use Rattle.std.specs.Coded.{Coded, coded×, coded_ℕ, coded_list, code_by}
 use Rattle.std.specs.Ordering.{is_eq}
+use Rattle.std.specs.Option.{option_map_or}
+use Rattle.hierarchy.specs.Reaches.{has}
 use Rattle.policy_names.specs.declared.entity_uid.EntityUID.{EntityUID}
 use Rattle.policy_names.specs.Basename.{is_action_type}
 use Rattle.policy_names.specs.Uid.{text_cmp, uid_cmp, coded_uid}
@@ -87,6 +89,13 @@ module _ (s : SchemaData) where
   -- the action `below` is in the action `uid`
   abbrev pub HasActionDescendant : EntityUID → EntityUID → Type 0
   HasActionDescendant uid below = IsSomeAnd (action_at uid) (λ a. Contains a.descendants below)
+
+  -- the same, as tests: the type, the action, is among the descendants of the other
+  abbrev pub type_below : List ℕ → List ℕ → Bool
+  type_below name above = option_map_or (λ t. has text_cmp t.descendants name) (type_at above) false
+
+  abbrev pub action_below : EntityUID → EntityUID → Bool
+  action_below uid above = option_map_or (λ a. has uid_cmp a.descendants uid) (action_at above) false
 
   -- the action applies to principals of the type, to resources of the type
   abbrev pub AppliesToPrincipal : EntityUID → List ℕ → Type 0

@@ -2,7 +2,7 @@
 
 use crate::sets::set_of;
 use policy_names::{EntityType, EntityUID};
-use schema_types::Attributes;
+use schema_types::{Attributes, OpenTag, Type};
 use std::alloc::{AllocError, Global};
 use std::collections::BTreeSet;
 use std::marker::Model;
@@ -38,6 +38,8 @@ impl ValidatorActionId {
     ghost use Rattle.std.specs.List.Sorted.{IsStrictlySortedBy};
     ghost use Rattle.policy_names.specs.declared.entity_uid.EntityUID.{EntityUID};
     ghost use Rattle.policy_names.specs.Uid.{text_cmp, uid_cmp};
+    ghost use Rattle.schema_types.specs.Ty.{record_of};
+    ghost use Rattle.schema_types.specs.declared.kinds.OpenTag.TheVariants.{ClosedAttributes};
     ghost use Rattle.schema_core.specs.Faults.{HasSets};
 
     /// The action with these types and descendants, and contexts with these attributes and no others. What is listed more
@@ -119,6 +121,14 @@ impl ValidatorActionId {
         ensures { IsTrue result ↔ Contains self.now.descendants uid.now }
     {
         self.descendants.contains(uid)
+    }
+
+    /// The type of the contexts in which the action is asked for: records with its attributes and no others.
+    pub fn context_type(&self, alloc: Global) -> Result<Type, AllocError>
+        ensures { IfOk result (λ t. t ≡ record_of self.now.context ClosedAttributes) }
+    {
+        let attrs = self.context.try_clone(alloc)?;
+        Ok(Type::record(attrs, OpenTag::ClosedAttributes))
     }
 
     /// The attributes of the contexts in which the action is asked for. They have no others.

@@ -15,8 +15,7 @@ mod listing;
 mod literal;
 mod request_env;
 mod sets;
-#[cfg(test)]
-mod tests;
+mod validation_mode;
 mod validator_schema;
 
 pub use action_id::ValidatorActionId;
@@ -27,4 +26,10 @@ pub use fault::SchemaFault;
 pub use kind::ValidatorEntityTypeKind;
 pub use literal::euid_literal;
 pub use request_env::RequestEnv;
+pub use schema_types::{
+    AttributeType, Attributes, DeclaredAttributes, EntityLUB, EntityRecordKind, LubHelp, OpenTag,
+    Primitive, SchemaAttribute, SchemaAttributes, SchemaType, SchemaTypeError, SchemaTypeKind,
+    Type, TypeKind, to_schema_type,
+};
+pub use validation_mode::ValidationMode;
 pub use validator_schema::ValidatorSchema;

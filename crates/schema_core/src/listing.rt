@@ -25,7 +25,7 @@ pub type Kinds = BTreeMap<EntityType, ValidatorEntityTypeKind>;
 pub type TypesOf = BTreeMap<EntityUID, SharedSet<EntityType>>;
 
 /// Types and actions under their names, with what is listed at each, and what each is.
-#[derive(Debug, Drop)]
+#[derive(Drop)]
 pub struct Listing {
     pub types: SharedSteps<EntityType>,
     pub kinds: Kinds,
