@@ -20,7 +20,7 @@ use Rattle.schema_declarations.specs.Schema.{TypeData, ActionData, SchemaData, t
 use Rattle.schema_declarations.specs.Outline.{outline_of, HasSoundNames, HasSoundTypes, IsClosed}
 use Rattle.schema_declarations.specs.Faults.{HasSets, IsSchema}
 use Rattle.schema_declarations.specs.Listing.{listed_outline, HasAscending, IsListing}
-use Rattle.schema_declarations.specs.Arranged.{type_of, action_of, keys_found}
+use Rattle.schema_declarations.specs.Arranged.{arranged_type, arranged_action, keys_found}
 use Rattle.schema_declarations.proofs.Actions.{same_outline}
 use Rattle.schema_declarations.proofs.Kept.{as_it_is}
 
@@ -65,16 +65,16 @@ seen make part view is (Some v) = ap Some (is v)
 -- the data of a listing
 abbrev pub data_of : Listing → SchemaData
 data_of l = record {
-  entity_types = map (type_of l.types.entries) l.kinds.entries;
-  action_ids = map (action_of l.actions.entries l.principals.entries l.resources.entries) l.contexts.entries;
+  entity_types = map (arranged_type l.types.entries) l.kinds.entries;
+  action_ids = map (arranged_action l.actions.entries l.principals.entries l.resources.entries) l.contexts.entries;
 }
 
 module _ (l : Listing) (t : IsListing l) where
-  types : (x : List ℕ) → type_at (data_of l) x ≡ option_map (λ k. type_of l.types.entries (x, k)) (at text_cmp l.kinds.entries x)
-  types x = found_made exact_bytes (type_of l.types.entries) (λ (d : TypeData). d.name) (λ e. refl) x l.kinds.entries
+  types : (x : List ℕ) → type_at (data_of l) x ≡ option_map (λ k. arranged_type l.types.entries (x, k)) (at text_cmp l.kinds.entries x)
+  types x = found_made exact_bytes (arranged_type l.types.entries) (λ (d : TypeData). d.name) (λ e. refl) x l.kinds.entries
 
-  actions : (u : EntityUID) → action_at (data_of l) u ≡ option_map (λ c. action_of l.actions.entries l.principals.entries l.resources.entries (u, c)) (at uid_cmp l.contexts.entries u)
-  actions u = found_made exact_uid (action_of l.actions.entries l.principals.entries l.resources.entries) (λ (d : ActionData). d.name) (λ e. refl) u l.contexts.entries
+  actions : (u : EntityUID) → action_at (data_of l) u ≡ option_map (λ c. arranged_action l.actions.entries l.principals.entries l.resources.entries (u, c)) (at uid_cmp l.contexts.entries u)
+  actions u = found_made exact_uid (arranged_action l.actions.entries l.principals.entries l.resources.entries) (λ (d : ActionData). d.name) (λ e. refl) u l.contexts.entries
 
   pub shown_outline : outline_of (data_of l) ≡ listed_outline l
   shown_outline =
@@ -90,10 +90,10 @@ module _ (l : Listing) (t : IsListing l) where
 
   pub shown_schema : IsStrictlySortedBy text_cmp (keys_of l.kinds.entries) → IsStrictlySortedBy uid_cmp (keys_of l.contexts.entries) → HasSoundNames (listed_outline l) → IsClosed (listed_outline l) → HasSoundTypes (listed_outline l) → IsSchema (data_of l)
   shown_schema ts us names closed inside = record {
-    types_ascend = rw (names_made exact_bytes (type_of l.types.entries) (λ (d : TypeData). d.name) (λ e. refl) l.kinds.entries) ts;
-    actions_ascend = rw (names_made exact_uid (action_of l.actions.entries l.principals.entries l.resources.entries) (λ (d : ActionData). d.name) (λ e. refl) l.contexts.entries) us;
-    type_sets = All-from_recursion (λ (a : TypeData). IsStrictlySortedBy text_cmp a.descendants) (data_of l).entity_types (all_made (type_of l.types.entries) _ (λ e. keys_ascend text_cmp text_cmp l.types.entries t.types e.0) l.kinds.entries);
-    action_sets = All-from_recursion HasSets (data_of l).action_ids (all_made (action_of l.actions.entries l.principals.entries l.resources.entries) HasSets (λ e. record {
+    types_ascend = rw (names_made exact_bytes (arranged_type l.types.entries) (λ (d : TypeData). d.name) (λ e. refl) l.kinds.entries) ts;
+    actions_ascend = rw (names_made exact_uid (arranged_action l.actions.entries l.principals.entries l.resources.entries) (λ (d : ActionData). d.name) (λ e. refl) l.contexts.entries) us;
+    type_sets = All-from_recursion (λ (a : TypeData). IsStrictlySortedBy text_cmp a.descendants) (data_of l).entity_types (all_made (arranged_type l.types.entries) _ (λ e. keys_ascend text_cmp text_cmp l.types.entries t.types e.0) l.kinds.entries);
+    action_sets = All-from_recursion HasSets (data_of l).action_ids (all_made (arranged_action l.actions.entries l.principals.entries l.resources.entries) HasSets (λ e. record {
       principals = keys_ascend uid_cmp text_cmp l.principals.entries t.principals e.0;
       resources = keys_ascend uid_cmp text_cmp l.resources.entries t.resources e.0;
       descendants = keys_ascend uid_cmp uid_cmp l.actions.entries t.actions e.0;

@@ -16,12 +16,12 @@ abbrev pub keys_found : {A K : Type 0} → (A → A → Ordering) → List (A ×
 keys_found cmp sets u = option_map_or (λ s. s.keys) (at cmp sets u) []
 
 -- a type with what it is, and its set
-abbrev pub type_of : List (List ℕ × BTreeSet (List ℕ)) → List ℕ × ValidatorEntityTypeKind → TypeData
-type_of types e = record { name = e.0; descendants = keys_found text_cmp types e.0; kind = kind_of e.1 }
+abbrev pub arranged_type : List (List ℕ × BTreeSet (List ℕ)) → List ℕ × ValidatorEntityTypeKind → TypeData
+arranged_type types e = record { name = e.0; descendants = keys_found text_cmp types e.0; kind = kind_of e.1 }
 
 -- an action with its context, and its sets
-abbrev pub action_of : List (EntityUID × BTreeSet EntityUID) → List (EntityUID × BTreeSet (List ℕ)) → List (EntityUID × BTreeSet (List ℕ)) → EntityUID × Attrs → ActionData
-action_of actions principals resources e = record {
+abbrev pub arranged_action : List (EntityUID × BTreeSet EntityUID) → List (EntityUID × BTreeSet (List ℕ)) → List (EntityUID × BTreeSet (List ℕ)) → EntityUID × Attrs → ActionData
+arranged_action actions principals resources e = record {
   name = e.0;
   principals = keys_found uid_cmp principals e.0;
   resources = keys_found uid_cmp resources e.0;

@@ -4,7 +4,7 @@ ghost use Rattle.std.specs.BTreeMap.{IsOrdered};
 ghost use Rattle.std.specs.BTreeSet.{IsOrdered as Ascends};
 ghost use Rattle.policy_names.specs.Uid.{text_cmp, uid_cmp};
 ghost use Rattle.schema_declarations.specs.Listing.{HasAscending};
-ghost use Rattle.schema_declarations.specs.Arranged.{type_of, action_of, keys_found};
+ghost use Rattle.schema_declarations.specs.Arranged.{arranged_type, arranged_action, keys_found};
 
 use crate::listing::{Kinds, TypesOf};
 use crate::{ValidatorActionId, ValidatorEntityType};
@@ -21,7 +21,7 @@ pub fn arranged_types(
     types: &SharedSteps<EntityType>,
 ) -> Result<Vec<ValidatorEntityType>, AllocError>
     requires { HasAscending text_cmp text_cmp types.now.entries }
-    ensures each { IfOk result (λ list. list.items ≡ map (type_of types.now.entries) kinds.entries) }
+    ensures each { IfOk result (λ list. list.items ≡ map (arranged_type types.now.entries) kinds.entries) }
     ensures ordered { IfOk result (λ _. IsOrdered text_cmp kinds) }
 {
     let mut list = Vec::new(alloc);
@@ -43,7 +43,7 @@ pub fn arranged_actions(
     requires actions { HasAscending uid_cmp uid_cmp actions.now.entries }
     requires principals { HasAscending uid_cmp text_cmp principals.now.entries }
     requires resources { HasAscending uid_cmp text_cmp resources.now.entries }
-    ensures each { IfOk result (λ list. list.items ≡ map (action_of actions.now.entries principals.now.entries resources.now.entries) contexts.entries) }
+    ensures each { IfOk result (λ list. list.items ≡ map (arranged_action actions.now.entries principals.now.entries resources.now.entries) contexts.entries) }
     ensures ordered { IfOk result (λ _. IsOrdered uid_cmp contexts) }
 {
     let mut list = Vec::new(alloc);
