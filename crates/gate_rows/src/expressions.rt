@@ -5,9 +5,9 @@ mod grid;
 mod rows;
 mod wide;
 
-use crate::{Bounded, read_expr, read_value, write_value};
 use json_parts::{parse_json, with_item};
 use policy_core::{EvalError, Expr, Outcome, Value, ValueKind, evaluate, try_clone_fields};
+use policy_gate::{Bounded, read_expr, read_value, write_value};
 use policy_names::{Eid, EntityType, EntityUID, Name, Text};
 use policy_store::{Context, Entities, EntitiesError, Entity, Request};
 use serde_json::Value as Json;

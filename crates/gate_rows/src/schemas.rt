@@ -1,8 +1,8 @@
 //! Which JSON values are schemas, and what is wrong with those that are not. The texts come from the rules in
 //! docs/FORMAT.md.
 
-use crate::read_schema;
-use policy_documents::{DocumentFault, Place, parse_json};
+use policy_documents::parse_json;
+use policy_gate::{DocumentFault, Place, read_schema};
 use schema_core::{SchemaFault, ValidatorSchema};
 use std::alloc::{AllocError, Global};
 use std::test::Fail;
