@@ -1,3 +1,5 @@
 pub mod Condition
+pub mod Data
+pub mod Links
 pub mod PolicySet
 pub mod Response

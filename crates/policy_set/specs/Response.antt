@@ -9,7 +9,7 @@ use Rattle.policy_core.specs.declared.outcome.Outcome.{Outcome}
 use Rattle.policy_core.specs.declared.outcome.Outcome.TheVariants.{Value, Error}
 use Rattle.policy_set.specs.declared.constraint.Effect.{Effect}
 use Rattle.policy_set.specs.declared.constraint.Effect.TheVariants.{Permit, Forbid}
-use Rattle.policy_set.specs.declared.template.TemplateBody.{TemplateBody}
+use Rattle.policy_set.specs.Data.{PolicyData}
 use Rattle.policy_set.specs.declared.response.Decision.{Decision}
 use Rattle.policy_set.specs.declared.response.Decision.TheVariants.{Allow, Deny}
 use Rattle.policy_set.specs.declared.response.PolicyFailure.{PolicyFailure}
@@ -31,11 +31,11 @@ coded_response =
     (λ _. refl)
 
 -- the outcome of a policy is that of its condition
-abbrev pub outcome : TemplateBody → Request → Store → Outcome
+abbrev pub outcome : PolicyData → Request → Store → Outcome
 outcome p q s = eval p.condition q s
 
 -- the outcomes of all policies, in their order
-abbrev pub outcomes : List TemplateBody → Request → Store → List Outcome
+abbrev pub outcomes : List PolicyData → Request → Store → List Outcome
 outcomes [] q s = []
 outcomes (p ∷ ps) q s = outcome p q s ∷ outcomes ps q s
 
@@ -55,17 +55,17 @@ if_error (Value v) id fs = fs
 
 module _ (q : Request) (s : Store) where
   -- the permits that are true
-  abbrev pub true_permits : List TemplateBody → List (List ℕ)
+  abbrev pub true_permits : List PolicyData → List (List ℕ)
   true_permits [] = []
   true_permits (p ∷ ps) = if_permit p.effect (if_true (outcome p q s) p.id (true_permits ps)) (true_permits ps)
 
   -- the forbids that are true
-  abbrev pub true_forbids : List TemplateBody → List (List ℕ)
+  abbrev pub true_forbids : List PolicyData → List (List ℕ)
   true_forbids [] = []
   true_forbids (p ∷ ps) = if_permit p.effect (true_forbids ps) (if_true (outcome p q s) p.id (true_forbids ps))
 
   -- the policies that have no value: they are skipped, and listed
-  abbrev pub failures : List TemplateBody → List PolicyFailure
+  abbrev pub failures : List PolicyData → List PolicyFailure
   failures [] = []
   failures (p ∷ ps) = if_error (outcome p q s) p.id (failures ps)
 
@@ -75,5 +75,5 @@ decided [] forbids errors = record { decision = Deny; reasons = forbids; errors 
 decided (p ∷ ps) [] errors = record { decision = Allow; reasons = p ∷ ps; errors = errors }
 decided (p ∷ ps) (f ∷ fs) errors = record { decision = Deny; reasons = f ∷ fs; errors = errors }
 
-abbrev pub response : List TemplateBody → Request → Store → ResponseData
+abbrev pub response : List PolicyData → Request → Store → ResponseData
 response ps q s = decided (true_permits q s ps) (true_forbids q s ps) (failures q s ps)

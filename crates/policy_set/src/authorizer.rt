@@ -18,7 +18,7 @@ pub fn decide(
     entities: &Entities,
 ) -> Result<Response, AllocError>
     requires { IsWhole request.now }
-    ensures { IfOk result (λ r. r ≡ response policies.now request.now entities.now) }
+    ensures { IfOk result (λ r. r ≡ response policies.now.policies request.now entities.now) }
 {
     let mut permits = Vec::new(alloc);
     let mut forbids = Vec::new(alloc);

@@ -13,4 +13,4 @@ pub use constraint::{ActionConstraint, Effect, EntityReference, PrincipalOrResou
 pub use policy::Policy;
 pub use policy_set::{PolicySet, PolicySetError};
 pub use response::{Decision, PolicyFailure, Response};
-pub use template::{Template, TemplateBody, TemplateError};
+pub use template::{Template, TemplateError};
