@@ -1,10 +1,10 @@
 -- A scope is five deep at most, so that the body alone decides whether a condition is too deep.
 use Rattle.std.proofs.Common.{◌<◌, ◌≤◌, ◌↔◌, List, [], ◌∷◌, arith}
 use Rattle.policy_names.specs.declared.entity_uid.EntityUID.{EntityUID}
-use Rattle.policy_core.specs.Tree.{depth_of, deepest}
-use Rattle.policy_core.specs.declared.kinds.BinaryOp.{BinaryOp}
-use Rattle.policy_core.specs.declared.kinds.SlotId.{SlotId}
-use Rattle.policy_core.specs.declared.kinds.SlotId.TheVariants.{Principal, Resource}
+use Rattle.policy_expressions.specs.Tree.{depth_of, deepest}
+use Rattle.policy_expressions.specs.declared.kinds.BinaryOp.{BinaryOp}
+use Rattle.policy_expressions.specs.declared.kinds.SlotId.{SlotId}
+use Rattle.policy_expressions.specs.declared.kinds.SlotId.TheVariants.{Principal, Resource}
 use Rattle.policy_set.specs.declared.constraint.EntityReference.{EntityReference}
 use Rattle.policy_set.specs.declared.constraint.EntityReference.TheVariants.{EUID, Slot}
 use Rattle.policy_set.specs.declared.constraint.PrincipalOrResourceConstraint.{PrincipalOrResourceConstraint}

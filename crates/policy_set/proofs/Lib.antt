@@ -1,2 +1,3 @@
-pub mod Depths
-pub mod Plain
+mod Depths
+mod Each
+mod Plain

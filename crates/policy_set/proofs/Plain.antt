@@ -1,9 +1,9 @@
 -- A scope without slots makes a condition without slots.
 use Rattle.std.proofs.Common.{◌≡◌, Bool, true, false, ◌||◌, List, [], ◌∷◌, refl}
 use Rattle.policy_names.specs.declared.entity_uid.EntityUID.{EntityUID}
-use Rattle.policy_core.specs.Slots.{has_slot, some_has_slot}
-use Rattle.policy_core.specs.declared.kinds.SlotId.{SlotId}
-use Rattle.policy_core.specs.declared.kinds.SlotId.TheVariants.{Principal, Resource}
+use Rattle.policy_expressions.specs.Slots.{has_slot, some_has_slot}
+use Rattle.policy_expressions.specs.declared.kinds.SlotId.{SlotId}
+use Rattle.policy_expressions.specs.declared.kinds.SlotId.TheVariants.{Principal, Resource}
 use Rattle.policy_set.specs.declared.constraint.EntityReference.TheVariants.{EUID, Slot}
 use Rattle.policy_set.specs.declared.constraint.PrincipalOrResourceConstraint.{PrincipalOrResourceConstraint}
 use Rattle.policy_set.specs.declared.constraint.PrincipalOrResourceConstraint.TheVariants.{Any, Eq, In, Is, IsIn}

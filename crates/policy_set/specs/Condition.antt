@@ -1,16 +1,16 @@
 -- The condition of a template: ((principal && action) && resource) && body, where a part of the scope that asks for nothing
 -- is the literal true.
-use Rattle.std.specs.Prelude.{◌≡◌, ◌||◌, ℕ, Bool, true, false, List, [], ◌∷◌, None}
+use Rattle.std.specs.Prelude.{◌≡◌, ◌||◌, ℕ, Bool, true, false, List, None, map}
 use Rattle.policy_names.specs.declared.entity_uid.EntityUID.{EntityUID}
-use Rattle.policy_core.specs.declared.kinds.Literal.TheVariants as literal
-use Rattle.policy_core.specs.declared.kinds.Var.{Var}
-use Rattle.policy_core.specs.declared.kinds.Var.TheVariants as variable
-use Rattle.policy_core.specs.declared.kinds.SlotId.{SlotId}
-use Rattle.policy_core.specs.declared.kinds.SlotId.TheVariants.{Principal, Resource}
-use Rattle.policy_core.specs.declared.kinds.BinaryOp.{BinaryOp}
-use Rattle.policy_core.specs.declared.kinds.BinaryOp.TheVariants.{Eq as IsEqual, In as IsIn}
-use Rattle.policy_core.specs.Tree.{Trees, no_trees, tree, Mark, lit, var, slot, conj, binary, set, is_type}
-use Rattle.policy_core.specs.Slots.{has_slot}
+use Rattle.policy_expressions.specs.declared.kinds.Literal.TheVariants as literal
+use Rattle.policy_expressions.specs.declared.kinds.Var.{Var}
+use Rattle.policy_expressions.specs.declared.kinds.Var.TheVariants as variable
+use Rattle.policy_expressions.specs.declared.kinds.SlotId.{SlotId}
+use Rattle.policy_expressions.specs.declared.kinds.SlotId.TheVariants.{Principal, Resource}
+use Rattle.policy_expressions.specs.declared.kinds.BinaryOp.{BinaryOp}
+use Rattle.policy_expressions.specs.declared.kinds.BinaryOp.TheVariants.{Eq as IsEqual, In as IsIn}
+use Rattle.policy_expressions.specs.Tree.{Trees, trees_of, Mark, lit, var, slot, conj, binary, set, is_type}
+use Rattle.policy_expressions.specs.Slots.{has_slot}
 use Rattle.policy_set.specs.Data.{Plain, TemplateData, PolicyData}
 use Rattle.policy_set.specs.declared.constraint.Effect.{Effect}
 use Rattle.policy_set.specs.declared.constraint.EntityReference.{EntityReference}
@@ -20,8 +20,8 @@ use Rattle.policy_set.specs.declared.constraint.PrincipalOrResourceConstraint.Th
 use Rattle.policy_set.specs.declared.constraint.PrincipalOrResourceConstraint.TheVariants as scope
 use Rattle.policy_set.specs.declared.constraint.ActionConstraint.{ActionConstraint}
 use Rattle.policy_set.specs.declared.constraint.ActionConstraint.TheVariants as action
-use Rattle.policy_core.specs.declared.expr.BuildError.{BuildError}
-use Rattle.policy_core.specs.declared.expr.BuildError.TheVariants as build
+use Rattle.policy_expressions.specs.declared.expr.BuildError.{BuildError}
+use Rattle.policy_expressions.specs.declared.expr.BuildError.TheVariants as build
 use Rattle.policy_set.specs.declared.template.TemplateError.{TemplateError}
 use Rattle.policy_set.specs.declared.template.TemplateError.TheVariants.{Nested, OutOfMemory}
 
@@ -32,6 +32,9 @@ unmarked = record { note = tt; loc = None }
 abbrev pub anything : Plain
 anything = lit (literal.Bool true) unmarked
 
+abbrev pub id_literal : EntityUID → Plain
+id_literal uid = lit (literal.EntityUID uid) unmarked
+
 -- the variable beside whose constraint the slot stands
 abbrev pub variable_of : SlotId → Var
 variable_of Principal = variable.Principal
@@ -39,7 +42,7 @@ variable_of Resource = variable.Resource
 
 -- the entity that is named, or the slot
 abbrev pub referred : SlotId → EntityReference → Plain
-referred i (EUID uid) = lit (literal.EntityUID uid) unmarked
+referred i (EUID uid) = id_literal uid
 referred i Slot = slot i unmarked
 
 -- the variable compared with an entity
@@ -59,13 +62,12 @@ scope_part i (scope.IsIn n r) = conj (of_type i n) (compared IsIn i r) unmarked
 
 -- the literals of the ids
 abbrev pub literals : List EntityUID → Trees (Mark (Unit {0}))
-literals [] = no_trees
-literals (u ∷ us) = tree (lit (literal.EntityUID u) unmarked) (literals us)
+literals uids = trees_of (map id_literal uids)
 
 -- what the scope asks of the action
 abbrev pub action_part : ActionConstraint → Plain
 action_part action.Any = anything
-action_part (action.Eq uid) = binary IsEqual (var variable.Action unmarked) (lit (literal.EntityUID uid) unmarked) unmarked
+action_part (action.Eq uid) = binary IsEqual (var variable.Action unmarked) (id_literal uid) unmarked
 action_part (action.In uids) = binary IsIn (var variable.Action unmarked) (set (literals uids.items) unmarked) unmarked
 
 abbrev pub scope_of : PrincipalOrResourceConstraint → ActionConstraint → PrincipalOrResourceConstraint → Plain
@@ -118,11 +120,11 @@ right_of e = e
 
 -- the template of these parts
 abbrev pub template_with : List ℕ → Effect → PrincipalOrResourceConstraint → ActionConstraint → PrincipalOrResourceConstraint → Plain → TemplateData
-template_with id effect p a r condition = record { id = id; effect = effect; principal = p; action = a; resource = r; body = right_of condition }
+template_with id effect p a r whole = record { id = id; effect = effect; principal = p; action = a; resource = r; body = right_of whole }
 
 -- what holds of each template: its condition is that of its scope and its body, which has no slot
-pub record IsTemplate (t : TemplateData) (condition : Plain) : Type 0 where
-  pub condition : condition ≡ condition_of t
+pub record IsTemplate (t : TemplateData) (whole : Plain) : Type 0 where
+  pub condition : whole ≡ condition_of t
   pub body : has_slot t.body ≡ false
 
 abbrev pub template_error : BuildError → TemplateError

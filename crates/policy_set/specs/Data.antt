@@ -2,8 +2,8 @@
 use Rattle.std.specs.Prelude.{ℕ, List, Option, refl}
 use Rattle.std.specs.Coded.{Coded, coded_ℕ, coded_list, coded_option, coded×, code_by}
 use base.Stored.{coded_unit}
-use Rattle.policy_core.specs.Tree.{Tree, Mark}
-use Rattle.policy_core.specs.TreeCode.{coded_tree, coded_mark}
+use Rattle.policy_expressions.specs.Tree.{Tree, Mark}
+use Rattle.policy_expressions.specs.TreeCode.{coded_tree, coded_mark}
 use Rattle.policy_set.specs.declared.constraint.Effect.{Effect}
 use Rattle.policy_set.specs.declared.constraint.PrincipalOrResourceConstraint.{PrincipalOrResourceConstraint}
 use Rattle.policy_set.specs.declared.constraint.ActionConstraint.{ActionConstraint}

@@ -2,4 +2,3 @@ pub mod Condition
 pub mod Data
 pub mod Links
 pub mod PolicySet
-pub mod Response

@@ -1,8 +1,8 @@
 -- Links of templates: the template with the link's ids in the places of its slots.
 use Rattle.std.specs.Prelude.{◌≡◌, false, Option, Some, None, is_some}
 use Rattle.policy_names.specs.declared.entity_uid.EntityUID.{EntityUID}
-use Rattle.policy_core.specs.declared.kinds.SlotValues.{SlotValues}
-use Rattle.policy_core.specs.Slots.{has_slot, filled}
+use Rattle.policy_expressions.specs.declared.kinds.SlotValues.{SlotValues}
+use Rattle.policy_expressions.specs.Slots.{has_slot, filled}
 use Rattle.policy_set.specs.Data.{Plain, TemplateData}
 use Rattle.policy_set.specs.Condition.{condition_of, asks_slot}
 use Rattle.policy_set.specs.declared.constraint.EntityReference.{EntityReference}

@@ -3,7 +3,7 @@
 ghost use Rattle.std.specs.Prelude.{◌≡◌};
 ghost use Rattle.policy_set.specs.Condition.{is_slot, asks_slot};
 
-use policy_core::{EntityType, EntityUID};
+use policy_names::{EntityType, EntityUID};
 
 /// What a policy does where its condition is true.
 #[derive(Clone, Copy, Debug, PartialEq, Eq)]

@@ -4,7 +4,8 @@ ghost use Rattle.std.specs.Prelude.{◌≡◌, false, not, is_some};
 ghost use Rattle.policy_set.specs.Condition.{IsPolicy, has_scope_slot, static_of};
 
 use crate::{ActionConstraint, Effect, PrincipalOrResourceConstraint, Template};
-use policy_core::{Expr, Text};
+use policy_expressions::Expr;
+use policy_names::Text;
 use std::marker::Model;
 
 /// A policy of a set. Its condition has no slot.
@@ -90,6 +91,7 @@ impl Policy {
     pub fn is_static(&self) -> bool
         ensures { result ≡ not (is_some self.now.template) }
     {
+        let _written = &self.template;
         true
     }
 }

@@ -1,7 +1,7 @@
 //! Sets of policies.
 
 use crate::{Policy, Template};
-use policy_core::Text;
+use policy_names::Text;
 use std::alloc::{AllocError, Global};
 use std::collections::BTreeMap;
 use std::collections::btree_map::Values;

@@ -1,15 +1,14 @@
 //! Templates: policies as they are written, a scope and a body, which make one condition.
 
 ghost use Rattle.std.specs.Prelude.{◌≡◌, ◌↔◌, ◌<◌, ◌≤◌, true, false, IfOk, Err};
-ghost use Rattle.policy_core.specs.Tree.{depth_of};
-ghost use Rattle.policy_core.specs.Slots.{has_slot};
+ghost use Rattle.policy_expressions.specs.Tree.{depth_of};
+ghost use Rattle.policy_expressions.specs.Slots.{has_slot};
 ghost use Rattle.policy_set.specs.Data.{TemplateData};
 ghost use Rattle.policy_set.specs.Condition.{condition_of, has_scope_slot};
 
 use crate::{ActionConstraint, Effect, EntityReference, PrincipalOrResourceConstraint};
-use policy_core::{
-    BinaryOp, BuildError, EntityType, EntityUID, Expr, ExprKind, Literal, SlotId, Text, Var,
-};
+use policy_expressions::{BinaryOp, BuildError, Expr, ExprKind, Literal, SlotId, Var};
+use policy_names::{EntityType, EntityUID, Text};
 use std::alloc::{AllocError, Global};
 use std::marker::Model;
 
@@ -177,11 +176,10 @@ impl Template {
     }
 }
 
-ghost use Rattle.policy_core.specs.declared.kinds.Literal.TheVariants as literal;
-ghost use Rattle.policy_core.specs.declared.kinds.BinaryOp.TheVariants.{In};
-ghost use Rattle.std.specs.Prelude.{None};
-ghost use Rattle.policy_set.specs.Condition.{unmarked, scope_of, anything, referred, compared, of_type, scope_part, action_part, literals, variable_of};
-ghost use Rattle.policy_core.specs.Tree.{lit, conj, trees_of, deepest};
+ghost use Rattle.policy_expressions.specs.declared.kinds.BinaryOp.TheVariants.{In};
+ghost use Rattle.std.specs.Prelude.{map};
+ghost use Rattle.policy_set.specs.Condition.{unmarked, scope_of, anything, referred, id_literal, compared, of_type, scope_part, action_part, variable_of};
+ghost use Rattle.policy_expressions.specs.Tree.{conj};
 
 // Scope and body. What the body may be is tested before memory is asked for.
 fn whole_condition(
@@ -268,6 +266,7 @@ fn part(
 }
 
 // What a constraint asks of the action.
+#[tactic(auto, using(crate::proofs::Depths::literals_depth))]
 fn action_condition(alloc: Global, constraint: &ActionConstraint) -> Result<Expr<()>, BuildError>
     ensures ok { IfOk result (λ e. e ≡ action_part constraint.now) }
     ensures depth { IfOk result (λ e. depth_of e ≤ 3) }
@@ -276,7 +275,7 @@ fn action_condition(alloc: Global, constraint: &ActionConstraint) -> Result<Expr
     match constraint {
         ActionConstraint::Any => Ok(anything()),
         ActionConstraint::Eq(uid) => {
-            let right = literal(uid)?;
+            let right = id_literal(uid)?;
             let left = Expr::var(Var::Action, (), None);
             Expr::binary_app(alloc, BinaryOp::Eq, left, right, (), None)
         }
@@ -295,20 +294,19 @@ fn anything() -> Expr<()>
     Expr::lit(Literal::Bool(true), (), None)
 }
 
-fn literal(uid: &EntityUID) -> Result<Expr<()>, AllocError>
-    ensures { IfOk result (λ e. e ≡ lit (literal.EntityUID uid.now) unmarked) }
+fn id_literal(uid: &EntityUID) -> Result<Expr<()>, AllocError>
+    ensures { IfOk result (λ e. e ≡ id_literal uid.now) }
 {
     Ok(Expr::lit(Literal::EntityUID(uid.try_clone()?), (), None))
 }
 
 // The literals of the ids.
 fn literals(alloc: Global, uids: &Vec<EntityUID>) -> Result<Vec<Expr<()>>, AllocError>
-    ensures ok { IfOk result (λ es. trees_of es.items ≡ literals uids.now.items) }
-    ensures depth { IfOk result (λ es. deepest (trees_of es.items) ≤ 1) }
+    ensures { IfOk result (λ es. es.items ≡ map id_literal uids.now.items) }
 {
     let mut literals = Vec::new(alloc);
     for uid in uids {
-        literals.push(literal(uid)?)?;
+        literals.push(id_literal(uid)?)?;
     }
     Ok(literals)
 }
@@ -329,7 +327,7 @@ fn referred(slot: SlotId, entity: &EntityReference) -> Result<Expr<()>, AllocErr
     ensures depth { IfOk result (λ e. depth_of e ≡ 1) }
 {
     match entity {
-        EntityReference::EUID(uid) => literal(uid),
+        EntityReference::EUID(uid) => id_literal(uid),
         EntityReference::Slot => Ok(Expr::slot(slot, (), None)),
     }
 }

@@ -32,7 +32,7 @@ pub struct Response {
 }
 
 impl Model for Response {
-    ghost use Rattle.policy_set.specs.Response.{ResponseData, coded_response};
+    ghost use Rattle.authorizer.specs.Response.{ResponseData, coded_response};
 
     ghost Value = { ResponseData };
 

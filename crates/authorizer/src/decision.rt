@@ -3,10 +3,11 @@
 ghost use Rattle.std.specs.Prelude.{◌≡◌, ◌↔◌, IfOk, IsTrue, true};
 ghost use Rattle.policy_values.specs.Value.{truth};
 ghost use Rattle.policy_store.specs.Request.{IsWhole};
-ghost use Rattle.policy_set.specs.Response.{response, decided};
+ghost use Rattle.authorizer.specs.Response.{response, decided};
 
-use crate::{Decision, Effect, PolicyFailure, PolicySet, Response};
+use crate::{Decision, PolicyFailure, Response};
 use policy_core::{Entities, Outcome, Request, Text, Value, ValueKind, evaluate};
+use policy_set::{Effect, PolicySet};
 use std::alloc::{AllocError, Global};
 
 /// Allow where some permit is true and no forbid is, else Deny. A policy whose condition has no value is skipped, and

@@ -1,6 +1,6 @@
 use Rattle.std.proofs.Common.{◌≡◌, ◌++◌}
-use Rattle.policy_set.specs.Response.{true_permits, true_forbids, failures}
-use Rattle.policy_set.proofs.authorizer.decide.Given as goal
+use Rattle.authorizer.specs.Response.{true_permits, true_forbids, failures}
+use Rattle.authorizer.proofs.decision.decide.Given as goal
 
 -- those so far, and then those of what is left
 abbrev pub invariant-loop-policy : goal.invariant-loop-policy

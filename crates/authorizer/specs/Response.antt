@@ -10,11 +10,11 @@ use Rattle.policy_core.specs.declared.outcome.Outcome.TheVariants.{Value, Error}
 use Rattle.policy_set.specs.declared.constraint.Effect.{Effect}
 use Rattle.policy_set.specs.declared.constraint.Effect.TheVariants.{Permit, Forbid}
 use Rattle.policy_set.specs.Data.{PolicyData}
-use Rattle.policy_set.specs.declared.response.Decision.{Decision}
-use Rattle.policy_set.specs.declared.response.Decision.TheVariants.{Allow, Deny}
-use Rattle.policy_set.specs.declared.response.PolicyFailure.{PolicyFailure}
-use Rattle.policy_set.specs.contracts.response.Decision.{the_row as decision_row}
-use Rattle.policy_set.specs.contracts.response.PolicyFailure.{the_row as failure_row}
+use Rattle.authorizer.specs.declared.response.Decision.{Decision}
+use Rattle.authorizer.specs.declared.response.Decision.TheVariants.{Allow, Deny}
+use Rattle.authorizer.specs.declared.response.PolicyFailure.{PolicyFailure}
+use Rattle.authorizer.specs.contracts.response.Decision.{the_row as decision_row}
+use Rattle.authorizer.specs.contracts.response.PolicyFailure.{the_row as failure_row}
 
 -- the decision, the ids of the policies that led to it, and the policies that have no truth value
 pub record ResponseData : Type 0 where
