@@ -2,8 +2,8 @@
 use Rattle.std.specs.Prelude.{Bool, true, false, ◌&&◌, nat_eq, None}
 use Rattle.std.specs.Coded.{Coded}
 use base.Stored.{Gv, gnil, gnum, gcons, coded_unit}
-use Rattle.policy_core.specs.Tree.{Tree, lit, var, slot, ite, conj, disj, unary, binary, attr, has, like, is_type, call, set, rec, Trees, no_trees, tree, Named, no_named, named, Mark}
-use Rattle.policy_core.specs.TreeCode.{coded_tree, coded_mark}
+use Rattle.policy_expressions.specs.Tree.{Tree, lit, var, slot, ite, conj, disj, unary, binary, attr, has, like, is_type, call, set, rec, Trees, no_trees, tree, Named, no_named, named, Mark}
+use Rattle.policy_expressions.specs.TreeCode.{coded_tree, coded_mark}
 
 -- an expression of a policy, whose notes say nothing
 abbrev pub Plain : Type 0

@@ -4,8 +4,8 @@ use Rattle.std.specs.Bool.{Decides}
 use Rattle.std.specs.Cmp.{IsEquivalence, unsigned_Decides, decided, on_equiv}
 use Rattle.std.proofs.lemmas.Bool.Decides.{Decides-and, Decides-like}
 use base.Stored.{Gv, gnil, gnum, gcons}
-use Rattle.policy_core.specs.Tree.{Tree, lit, var, slot, ite, conj, disj, unary, binary, attr, has, like, is_type, call, set, rec, Trees, no_trees, tree, Named, no_named, named, depth_of, deepest, deepest_named}
-use Rattle.policy_core.specs.Shape.{SameShape, SameShapes, SameNamed}
+use Rattle.policy_expressions.specs.Tree.{Tree, lit, var, slot, ite, conj, disj, unary, binary, attr, has, like, is_type, call, set, rec, Trees, no_trees, tree, Named, no_named, named, depth_of, deepest, deepest_named}
+use Rattle.policy_expressions.specs.Shape.{SameShape, SameShapes, SameNamed}
 use Rattle.capabilities.specs.Bare.{no_mark, bare, bare_trees, bare_named, coded_plain, same_stored, same_tree}
 
 module _ {A B : Type 0} where

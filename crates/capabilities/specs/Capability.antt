@@ -5,8 +5,8 @@ use Rattle.std.specs.List.{list_any, list_all, filter, flat_map}
 use Rattle.std.specs.Coded.{Coded, coded_ℕ, coded_list, coded×, coded⊎, code_by}
 use Rattle.std.specs.Hash as fed
 use Rattle.std.specs.Hash.{HashWrites}
-use Rattle.policy_core.specs.Tree.{depth_of}
-use Rattle.policy_core.specs.Shape.{SameShape}
+use Rattle.policy_expressions.specs.Tree.{depth_of}
+use Rattle.policy_expressions.specs.Shape.{SameShape}
 use Rattle.capabilities.specs.Bare.{Plain, coded_plain, bare, same_stored, same_tree}
 
 -- an attribute, or the tag that an expression names

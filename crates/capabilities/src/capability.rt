@@ -1,12 +1,12 @@
 //! What is known of one expression.
 
 ghost use Rattle.std.specs.Prelude.{◌≡◌, ◌↔◌, IfOk, IsTrue};
-ghost use Rattle.policy_core.specs.Shape.{SameShape};
+ghost use Rattle.policy_expressions.specs.Shape.{SameShape};
 ghost use Rattle.std.specs.Prelude.{fold, ◌++◌};
 ghost use Rattle.capabilities.specs.Capability.{Attribute, Tag, AreAlike, SameAccess, is_alike, access_fed};
 ghost use Rattle.capabilities.specs.AccessView.{access_of};
 
-use policy_core::Expr;
+use policy_expressions::Expr;
 use policy_names::Text;
 use std::alloc::{AllocError, Global};
 use std::hash::{Hash, Hasher};

@@ -6,15 +6,14 @@ use Rattle.std.proofs.lemmas.Cmp.{eq_by_cmp_equiv}
 use Rattle.std.proofs.lemmas.List.Folds.{list_any-append}
 use Rattle.hierarchy.specs.Reaches.{at, leads}
 use Rattle.policy_names.specs.declared.entity_uid.EntityUID.{EntityUID}
-use Rattle.policy_names.specs.Uid.{uid_cmp, uid_cmp_total}
+use Rattle.policy_names.specs.Uid.{uid_cmp, uid_cmp_total, uid_eq}
 use Rattle.policy_store.specs.declared.request.Request.{Request}
 use Rattle.policy_values.specs.Value.{entity}
-use Rattle.policy_core.specs.declared.kinds.BinaryOp.TheVariants.{In}
-use Rattle.policy_core.specs.declared.kinds.Literal.TheVariants as literal
-use Rattle.policy_core.specs.declared.kinds.Var.TheVariants.{Principal, Action, Resource}
-use Rattle.policy_core.specs.Operators.{uid_eq}
-use Rattle.policy_core.specs.Tree.{Tree, lit, var, depth_of, deepest, trees_of}
-use Rattle.policy_core.proofs.TreeSteps.{depth_of-get_or}
+use Rattle.policy_expressions.specs.declared.kinds.BinaryOp.TheVariants.{In}
+use Rattle.policy_expressions.specs.declared.kinds.Literal.TheVariants as literal
+use Rattle.policy_expressions.specs.declared.kinds.Var.TheVariants.{Principal, Action, Resource}
+use Rattle.policy_expressions.specs.Tree.{Tree, lit, var, depth_of, deepest, trees_of}
+use Rattle.policy_expressions.proofs.TreeSteps.{depth_of-get_or}
 use Rattle.entity_manifest.specs.Reads.{Root, variable, an_id, RootDemand, roots, own_demands}
 use Rattle.entity_manifest.specs.Restrict.{is_id, root_value}
 use Rattle.entity_manifest.specs.Asked.{operand_id, reads, asks, Asked, SameAsked}

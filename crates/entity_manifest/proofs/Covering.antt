@@ -6,7 +6,7 @@ use Rattle.std.proofs.lemmas.Bool.{and_right, or_left, or_right}
 use Rattle.std.proofs.lemmas.Cmp.{tied_itself}
 use Rattle.std.proofs.lemmas.List.Folds.{list_any-append}
 use Rattle.policy_names.specs.declared.entity_uid.EntityUID.{EntityUID}
-use Rattle.policy_names.specs.Uid.{uid_cmp_total}
+use Rattle.policy_names.specs.Uid.{uid_cmp_total, uid_eq}
 use Rattle.policy_store.specs.declared.request.Request.{Request}
 use Rattle.policy_store.specs.Request.{IsWhole, principal_of, action_of, resource_of}
 use Rattle.policy_store.specs.Store.{Store, entity_at}
@@ -15,14 +15,14 @@ use Rattle.schema_core.specs.Schema.{SchemaData}
 use Rattle.schema_core.specs.Faults.{IsSchema}
 use Rattle.policy_validate.specs.Conformance.{RequestConforms, StoreConforms}
 use Rattle.schema_core.specs.Environments.{Environment}
-use Rattle.policy_core.specs.declared.kinds.Literal.TheVariants as literal
-use Rattle.policy_core.specs.declared.kinds.Var.TheVariants.{Principal, Action, Resource}
-use Rattle.policy_core.specs.declared.kinds.UnaryOp.TheVariants.{Not}
-use Rattle.policy_core.specs.declared.kinds.BinaryOp.TheVariants.{Eq, In}
+use Rattle.policy_expressions.specs.declared.kinds.Literal.TheVariants as literal
+use Rattle.policy_expressions.specs.declared.kinds.Var.TheVariants.{Principal, Action, Resource}
+use Rattle.policy_expressions.specs.declared.kinds.UnaryOp.TheVariants.{Not}
+use Rattle.policy_expressions.specs.declared.kinds.BinaryOp.TheVariants.{Eq, In}
 use Rattle.policy_core.specs.declared.outcome.Outcome.TheVariants.{Value}
-use Rattle.policy_core.specs.Tree.{Tree, lit, var, conj, disj, unary, binary, Mark}
+use Rattle.policy_expressions.specs.Tree.{Tree, lit, var, conj, disj, unary, binary, Mark}
 use Rattle.policy_core.specs.Eval.{eval}
-use Rattle.policy_core.specs.Operators.{uid_eq, within, above}
+use Rattle.policy_core.specs.Operators.{within, above}
 use Rattle.policy_typecheck.specs.declared.truth_type.TruthType.{TruthType}
 use Rattle.policy_typecheck.specs.declared.truth_type.TruthType.TheVariants as typed
 use Rattle.policy_typecheck.specs.Typing.{truth_type}

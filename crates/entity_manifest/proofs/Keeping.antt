@@ -14,7 +14,7 @@ use Rattle.policy_values.specs.Value.{Fields, no_fields, field}
 use Rattle.policy_store.specs.declared.request.Request.{Request}
 use Rattle.policy_store.specs.Store.{StoredEntity, Store}
 use Rattle.policy_store.specs.Ascending.{IsAbove}
-use Rattle.policy_core.specs.declared.kinds.Var.TheVariants.{Principal, Action, Resource, Context}
+use Rattle.policy_expressions.specs.declared.kinds.Var.TheVariants.{Principal, Action, Resource, Context}
 use Rattle.entity_manifest.specs.Reads.{Root, variable, an_id, RootDemand, at_roots, read_paths}
 use Rattle.entity_manifest.specs.Restrict.{Chain, Keep, cut_fields, cut_entity, part, is_id, names_id, root_value, keeps, kept_chain, kept_ancestor, needed, restrict, reach, by_paths}
 use Rattle.entity_manifest.specs.Asked.{Asked, SameAsked, with_asked, kept_before, keep_asked}

@@ -9,9 +9,9 @@ use Rattle.policy_values.specs.Value.{no_fields}
 use Rattle.policy_store.specs.declared.request.Request.{Request}
 use Rattle.policy_store.specs.Request.{principal_of, action_of, resource_of}
 use Rattle.policy_store.specs.Store.{StoredEntity, Store}
-use Rattle.policy_core.specs.declared.kinds.Literal.TheVariants as literal
-use Rattle.policy_core.specs.declared.kinds.Var.TheVariants.{Principal, Action, Resource}
-use Rattle.policy_core.specs.Tree.{Tree, lit, var}
+use Rattle.policy_expressions.specs.declared.kinds.Literal.TheVariants as literal
+use Rattle.policy_expressions.specs.declared.kinds.Var.TheVariants.{Principal, Action, Resource}
+use Rattle.policy_expressions.specs.Tree.{Tree, lit, var}
 use Rattle.entity_manifest.specs.Reads.{RootDemand}
 use Rattle.entity_manifest.specs.Restrict.{is_id, root_value}
 

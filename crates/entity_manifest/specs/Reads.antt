@@ -3,12 +3,12 @@ use Rattle.std.specs.Prelude.{ℕ, List, [], ◌∷◌, ◌++◌, map}
 use Rattle.policy_names.specs.declared.entity_uid.EntityUID.{EntityUID}
 use Rattle.schema_core.specs.Schema.{SchemaData}
 use Rattle.schema_core.specs.Environments.{Environment}
-use Rattle.policy_core.specs.declared.kinds.Literal.TheVariants as literal
-use Rattle.policy_core.specs.declared.kinds.Var.{Var}
-use Rattle.policy_core.specs.declared.kinds.Var.TheVariants.{Context}
-use Rattle.policy_core.specs.declared.kinds.BinaryOp.{BinaryOp}
-use Rattle.policy_core.specs.declared.kinds.BinaryOp.TheVariants.{In}
-use Rattle.policy_core.specs.Tree.{Tree, lit, var, slot, ite, conj, disj, unary, binary, attr, has, like, is_type, call, set, rec, Trees, no_trees, tree, Named, no_named, named}
+use Rattle.policy_expressions.specs.declared.kinds.Literal.TheVariants as literal
+use Rattle.policy_expressions.specs.declared.kinds.Var.{Var}
+use Rattle.policy_expressions.specs.declared.kinds.Var.TheVariants.{Context}
+use Rattle.policy_expressions.specs.declared.kinds.BinaryOp.{BinaryOp}
+use Rattle.policy_expressions.specs.declared.kinds.BinaryOp.TheVariants.{In}
+use Rattle.policy_expressions.specs.Tree.{Tree, lit, var, slot, ite, conj, disj, unary, binary, attr, has, like, is_type, call, set, rec, Trees, no_trees, tree, Named, no_named, named}
 use Rattle.policy_set.specs.declared.template.TemplateBody.{TemplateBody}
 use Rattle.policy_typecheck.specs.declared.truth_type.TruthType.{TruthType}
 use Rattle.policy_typecheck.specs.declared.truth_type.TruthType.TheVariants as typed

@@ -4,12 +4,11 @@ use Rattle.std.specs.List.{list_any, flat_map}
 use Rattle.std.specs.Option.{option_and_then, option_to_list}
 use Rattle.std.specs.Ordering.{is_eq}
 use Rattle.policy_names.specs.declared.entity_uid.EntityUID.{EntityUID}
-use Rattle.policy_names.specs.Uid.{text_cmp}
+use Rattle.policy_names.specs.Uid.{text_cmp, uid_eq}
 use Rattle.policy_values.specs.Value.{Val, entity, set, rec, Vals, no_vals, val, Fields, no_fields, field, field_at}
 use Rattle.policy_store.specs.declared.request.Request.{Request}
 use Rattle.policy_store.specs.Store.{StoredEntity, Store, entity_at}
 use Rattle.policy_core.specs.Eval.{variable_value}
-use Rattle.policy_core.specs.Operators.{uid_eq}
 use Rattle.entity_manifest.specs.Reads.{Root, variable, an_id, AccessPath, Demand}
 
 -- a chain of names: the empty chain is the entity itself, a longer one an attribute and fields below it

@@ -4,7 +4,7 @@ ghost use Rattle.std.specs.Prelude.{◌≡◌, [], IfOk, OnOk};
 ghost use Rattle.std.specs.Option.{option_copied};
 ghost use Rattle.policy_store.specs.Request.{IsWhole};
 ghost use Rattle.schema_core.specs.RequestEnvs.{environment_of};
-ghost use Rattle.policy_core.specs.Tree.{trees_of, named_of};
+ghost use Rattle.policy_expressions.specs.Tree.{trees_of, named_of};
 ghost use Rattle.policy_typecheck.specs.Typing.{truth_type};
 ghost use Rattle.entity_manifest.specs.Reads.{own_demands, root_demands, demands_each, demands_named};
 ghost use Rattle.entity_manifest.specs.Asked as specs;

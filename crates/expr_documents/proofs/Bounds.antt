@@ -2,12 +2,12 @@
 use Rattle.std.proofs.Common.{◌≡◌, ℕ, ◌<◌, ◌↔◌, List, [], ◌∷◌, fold, max, map, Bool, true, false, Option, Some, None, option_map, Result, Ok, Err, IfOk, arith, refl, sym, ap, ◌∙◌}
 use Rattle.std.specs.Prelude.{nat_lt, option_and_then, if◌then◌else◌}
 use Rattle.std.proofs.lemmas.Bool.Decides.{nat_tests}
-use Rattle.policy_core.specs.Tree.{Mark, lit, var, slot, ite, conj, disj, unary, binary, attr, has, like, is_type, call, set, rec, depth_of, deepest, deepest_named, trees_of, named_of, with_mark}
-use Rattle.policy_core.specs.declared.expr.BuildError.{BuildError}
-use Rattle.policy_core.specs.declared.expr.BuildError.TheVariants as build
-use Rattle.policy_core.specs.declared.kinds.Loc.{Loc}
-use Rattle.policy_core.specs.declared.kinds.PatternElem.{PatternElem}
-use Rattle.policy_core.specs.declared.kinds.UnaryOp.{UnaryOp}
+use Rattle.policy_expressions.specs.Tree.{Mark, lit, var, slot, ite, conj, disj, unary, binary, attr, has, like, is_type, call, set, rec, depth_of, deepest, deepest_named, trees_of, named_of, with_mark}
+use Rattle.policy_expressions.specs.declared.expr.BuildError.{BuildError}
+use Rattle.policy_expressions.specs.declared.expr.BuildError.TheVariants as build
+use Rattle.policy_expressions.specs.declared.kinds.Loc.{Loc}
+use Rattle.policy_expressions.specs.declared.kinds.PatternElem.{PatternElem}
+use Rattle.policy_expressions.specs.declared.kinds.UnaryOp.{UnaryOp}
 use Rattle.expr_documents.specs.Nesting.{within, all_within, fields_within}
 use Rattle.expr_documents.specs.Forms.{Plain, binary_tree, call_tree, chained, else_of, folded, get_tree, has_tree, if_tree, in_turn, join_tree, like_tree, listed_tree, of_one, paired, placed, record_tree, set_tree, type_test_tree, unary_tree}
 use Rattle.expr_documents.specs.Reads.{Read, bounded, bounded_field, build_of, listed_read, on_all, on_name, on_one, on_three, on_two, placed_read}

@@ -1,8 +1,8 @@
 -- Expressions in JSON.
 use Rattle.std.specs.Prelude.{ℕ, List, [], Bool, ◌&&◌, if◌then◌else◌, Option, Some, None, option_map, option_and_then, codes}
 use Rattle.std.specs.Str.{bytes_eq}
-use Rattle.policy_core.specs.Tree.{lit}
-use Rattle.policy_core.specs.declared.kinds.Literal.TheVariants as literal
+use Rattle.policy_expressions.specs.Tree.{lit}
+use Rattle.policy_expressions.specs.declared.kinds.Literal.TheVariants as literal
 use Rattle.serde_json.specs.Data as json
 use Rattle.serde_json.specs.Data.{Data, null, boolean, number, array, object, Items, no_items, item, Members, no_members, member}
 use Rattle.expr_documents.specs.Forms.{Plain, unmarked, form_named, listed_tree, unary_tree, get_tree, has_tree, like_tree, type_test_tree, call_tree, set_tree, record_tree, placed, in_turn, of_one, id_tree, long_tree, var_tree}

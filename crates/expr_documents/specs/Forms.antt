@@ -1,16 +1,16 @@
 -- What the objects say that stand for expressions, once their parts are read.
 use Rattle.std.specs.Prelude.{ℕ, List, [], ◌∷◌, fold, if◌then◌else◌, Option, Some, None, option_map, option_and_then, codes}
 use Rattle.std.specs.Str.{bytes_eq}
-use Rattle.policy_core.specs.Tree.{Tree, Mark, lit, var, ite, conj, disj, unary, binary, attr, has, like, is_type, call, set, rec, with_mark, trees_of, named_of}
-use Rattle.policy_core.specs.declared.kinds.BinaryOp.{BinaryOp}
-use Rattle.policy_core.specs.declared.kinds.BinaryOp.TheVariants as operator
-use Rattle.policy_core.specs.declared.kinds.Literal.TheVariants as literal
-use Rattle.policy_core.specs.declared.kinds.Loc.{Loc}
-use Rattle.policy_core.specs.declared.kinds.PatternElem.{PatternElem}
-use Rattle.policy_core.specs.declared.kinds.UnaryOp.{UnaryOp}
-use Rattle.policy_core.specs.declared.kinds.UnaryOp.TheVariants.{Not, Neg, IsEmpty}
-use Rattle.policy_core.specs.declared.kinds.Var.{Var}
-use Rattle.policy_core.specs.declared.kinds.Var.TheVariants as variable
+use Rattle.policy_expressions.specs.Tree.{Tree, Mark, lit, var, ite, conj, disj, unary, binary, attr, has, like, is_type, call, set, rec, with_mark, trees_of, named_of}
+use Rattle.policy_expressions.specs.declared.kinds.BinaryOp.{BinaryOp}
+use Rattle.policy_expressions.specs.declared.kinds.BinaryOp.TheVariants as operator
+use Rattle.policy_expressions.specs.declared.kinds.Literal.TheVariants as literal
+use Rattle.policy_expressions.specs.declared.kinds.Loc.{Loc}
+use Rattle.policy_expressions.specs.declared.kinds.PatternElem.{PatternElem}
+use Rattle.policy_expressions.specs.declared.kinds.UnaryOp.{UnaryOp}
+use Rattle.policy_expressions.specs.declared.kinds.UnaryOp.TheVariants.{Not, Neg, IsEmpty}
+use Rattle.policy_expressions.specs.declared.kinds.Var.{Var}
+use Rattle.policy_expressions.specs.declared.kinds.Var.TheVariants as variable
 use Rattle.serde_json.specs.Data.{Num, Data}
 use Rattle.serde_json.specs.Find.{as_i64, as_str}
 use Rattle.json_parts.specs.Names.{uid_of}

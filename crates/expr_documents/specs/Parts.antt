@@ -1,9 +1,9 @@
 -- The parts of expressions in JSON that are no expressions.
 use Rattle.std.specs.Prelude.{ℕ, ℤ, pos, negsuc, List, [], ◌∷◌, ◌++◌, map, nat_le, if◌then◌else◌, Option, Some, None, option_map, option_and_then}
 use Rattle.std.specs.Str.{chars}
-use Rattle.policy_core.specs.declared.kinds.Loc.{Loc}
-use Rattle.policy_core.specs.declared.kinds.PatternElem.{PatternElem}
-use Rattle.policy_core.specs.declared.kinds.PatternElem.TheVariants.{Char, Wildcard}
+use Rattle.policy_expressions.specs.declared.kinds.Loc.{Loc}
+use Rattle.policy_expressions.specs.declared.kinds.PatternElem.{PatternElem}
+use Rattle.policy_expressions.specs.declared.kinds.PatternElem.TheVariants.{Char, Wildcard}
 use Rattle.serde_json.specs.Data.{Data, null, boolean, number, string, array, object, Items, no_items, item}
 use Rattle.serde_json.specs.Find.{as_i64, as_number, as_str, as_array}
 use Rattle.json_parts.specs.Json.{◌>>=◌, pair_of}

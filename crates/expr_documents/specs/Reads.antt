@@ -1,9 +1,9 @@
 -- Expressions that are nested no deeper than 400.
 use Rattle.std.specs.Prelude.{ℕ, nat_lt, if◌then◌else◌, List, Option, Some, None, Result, Ok, Err}
-use Rattle.policy_core.specs.Tree.{depth_of}
-use Rattle.policy_core.specs.declared.expr.BuildError.{BuildError}
-use Rattle.policy_core.specs.declared.expr.BuildError.TheVariants as build
-use Rattle.policy_core.specs.declared.kinds.Loc.{Loc}
+use Rattle.policy_expressions.specs.Tree.{depth_of}
+use Rattle.policy_expressions.specs.declared.expr.BuildError.{BuildError}
+use Rattle.policy_expressions.specs.declared.expr.BuildError.TheVariants as build
+use Rattle.policy_expressions.specs.declared.kinds.Loc.{Loc}
 use Rattle.expr_documents.specs.Forms.{Plain, placed, folded, chained, paired, if_tree, join_tree, binary_tree}
 use Rattle.expr_documents.specs.declared.forms.ListForm.{ListForm}
 use Rattle.expr_documents.specs.declared.forms.ListForm.TheVariants as listed

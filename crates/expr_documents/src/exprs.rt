@@ -2,7 +2,7 @@
 
 ghost use Rattle.std.specs.Prelude.{◌≡◌, IfOk, map, option_map, option_and_then};
 ghost use Rattle.serde_json.specs.View.{view, items_view, members_view, number_view};
-ghost use Rattle.policy_core.specs.Tree.{lit};
+ghost use Rattle.policy_expressions.specs.Tree.{lit};
 ghost use Rattle.expr_documents.specs.Forms.{call_tree, get_tree, has_tree, id_tree, in_turn, like_tree, listed_tree, long_tree, of_one, placed, record_tree, set_tree, type_test_tree, unary_tree, unmarked, var_tree};
 ghost use Rattle.expr_documents.specs.Parts.{function_of, names_of, pattern_of, type_of};
 ghost use Rattle.expr_documents.specs.Reads.{bounded, bounded_field};
@@ -15,7 +15,8 @@ use crate::reads::{
     call, get_all, has_one, is_of_type, like, list_form, place, record, set, unary,
 };
 use json_parts::{read_uid, with_field, with_item};
-use policy_core::{EntityType, Expr, Literal, Loc, Name, Pattern, Text, UnaryOp};
+use policy_expressions::{Expr, Literal, Loc, Pattern, UnaryOp};
+use policy_names::{EntityType, Name, Text};
 use serde_json::{Map, Number, Value};
 use std::alloc::{AllocError, Global};
 use std::collections::BTreeMap;

@@ -3,7 +3,7 @@
 ghost use Rattle.std.specs.Prelude.{◌≡◌};
 ghost use Rattle.expr_documents.specs.Forms.{binary_named, call_named, form_named, list_form_named, other_form_named, sign_named, unary_named, var_named};
 
-use policy_core::{BinaryOp, UnaryOp, Var};
+use policy_expressions::{BinaryOp, UnaryOp, Var};
 
 /// What an object with one member says.
 #[derive(Clone, Copy)]

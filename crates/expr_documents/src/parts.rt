@@ -2,13 +2,14 @@
 
 ghost use Rattle.std.specs.Prelude.{◌≡◌, ◌++◌, IfOk, map, option_map};
 ghost use Rattle.std.specs.Str.{chars};
-ghost use Rattle.policy_core.specs.declared.kinds.PatternElem.TheVariants.{Char};
+ghost use Rattle.policy_expressions.specs.declared.kinds.PatternElem.TheVariants.{Char};
 ghost use Rattle.serde_json.specs.View.{view, items_view};
 ghost use Rattle.json_parts.specs.Names.{name_of, name_of_text};
 ghost use Rattle.expr_documents.specs.Parts.{elements_of, function_of, loc_of, loc_of_ends, loc_of_items, names_of, offset_of, pattern_of, pattern_of_items, second_of, texts_of, type_of};
 
 use json_parts::{pair, read_name, with_item};
-use policy_core::{EntityType, Loc, Name, Pattern, PatternElem, Text};
+use policy_expressions::{Loc, Pattern, PatternElem};
+use policy_names::{EntityType, Name, Text};
 use serde_json::Value;
 use std::alloc::{AllocError, Global};
 

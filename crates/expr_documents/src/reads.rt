@@ -1,7 +1,7 @@
 //! Expressions that may be nested too deep.
 
 ghost use Rattle.std.specs.Prelude.{◌≡◌, IfOk, option_map, option_and_then};
-ghost use Rattle.policy_core.specs.Tree.{conj, disj};
+ghost use Rattle.policy_expressions.specs.Tree.{conj, disj};
 ghost use Rattle.expr_documents.specs.Forms.{binary_tree, call_tree, chained, folded, get_tree, has_tree, if_tree, in_turn, join_tree, like_tree, of_one, paired, record_tree, set_tree, type_test_tree, unary_tree, unmarked};
 ghost use Rattle.expr_documents.specs.Nesting.{all_within, fields_within};
 ghost use Rattle.expr_documents.specs.Reads.{both, bounded, build_of, listed_read, on_all, on_name, on_one, on_three, on_two, placed_read};
@@ -9,7 +9,8 @@ ghost use Rattle.expr_documents.specs.Reads.{both, bounded, build_of, listed_rea
 use crate::forms::{Junction, ListForm};
 use crate::lists::{only, two};
 use crate::nesting::{Bounded, take_all, take_fields};
-use policy_core::{BinaryOp, BuildError, EntityType, Expr, Loc, Name, Pattern, Text, UnaryOp};
+use policy_expressions::{BinaryOp, BuildError, Expr, Loc, Pattern, UnaryOp};
+use policy_names::{EntityType, Name, Text};
 use std::alloc::{AllocError, Global};
 use std::collections::BTreeMap;
 

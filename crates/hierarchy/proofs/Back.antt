@@ -1,6 +1,7 @@
 -- Steps that are added one by one.
-use Rattle.std.proofs.Common.{◌≡◌, Bool, true, false, ◌||◌, ◌&&◌, ◌↔◌, ◌⊎◌, inl, inr, cond, List, [], ◌∷◌, Some, None, refl, sym, ◌∙◌, ap, arith}
+use Rattle.std.proofs.Common.{◌≡◌, Bool, true, false, ◌||◌, ◌&&◌, ◌⊎◌, inl, inr, cond, List, [], ◌∷◌, Some, None, refl, sym, ◌∙◌, ap, arith}
 use Rattle.std.specs.declared.cmp.Ordering.{Ordering}
+use Rattle.std.proofs.Math.Bool.{or-false}
 use Rattle.std.specs.Cmp.{IsTotalOrder, tied_itself}
 use Rattle.std.specs.Ordering.{is_eq}
 use Rattle.std.specs.Option.{is_some}
@@ -12,9 +13,8 @@ use Rattle.std.proofs.lemmas.Map.Made.{is_some-lookup}
 use Rattle.std.specs.BTreeSet.{BTreeSet}
 use Rattle.std.proofs.lemmas.Map.Lookups.{CmpEqualImpliesEq}
 use Rattle.std.proofs.lemmas.Map.Views.{tells_apart}
-use Rattle.hierarchy.proofs.Closed.{Leads-key}
-use Rattle.hierarchy.proofs.Search.{leads-Leads}
-use Rattle.hierarchy.specs.Reaches.{at, has, leads, Leads}
+use Rattle.hierarchy.proofs.Reaches.{Leads-key, leads-Leads}
+use Rattle.hierarchy.specs.Reaches.{at, has, leads, Leads, IsReversed}
 
 module _ {K : Type 0} {cmp : K → K → Ordering} (exact : CmpEqualImpliesEq cmp) where
   -- one step more, from a key and to one
@@ -110,8 +110,11 @@ module _ {K : Type 0} {cmp : K → K → Ordering} (o : IsTotalOrder cmp) (exact
     key_of : (y x : K) → leads cmp steps y x ≡ true → has cmp (keys_of steps) y ≡ true
     key_of y x h = Leads-key cmp steps y x ((leads-Leads o exact steps y x).0 h)
 
-  pub turned_all : (back : List (K × BTreeSet K)) → IsTurnedBut cmp steps back [] → (x y : K) → Leads cmp back x y ↔ Leads cmp steps y x
-  turned_all back t x y =
-      let a : leads cmp back x y ≡ leads cmp steps y x = (let b = t.turned x y in grind arith) in
-      let l = leads-Leads o exact back x y in let r = leads-Leads o exact steps y x in
-      (λ h. r.0 (sym a ∙ l.1 h), λ h. l.0 (a ∙ r.1 h))
+  pub turned_all : (back : List (K × BTreeSet K)) → IsTurnedBut cmp steps back [] → IsReversed cmp steps back
+  turned_all back t = record {
+    keys = record { each = λ q h. sym (or-false (is_some (at cmp back q))) ∙ t.keys q h; only = t.only };
+    turned = λ x y.
+        let a : leads cmp back x y ≡ leads cmp steps y x = (let b = t.turned x y in grind arith) in
+        let l = leads-Leads o exact back x y in let r = leads-Leads o exact steps y x in
+        (λ h. r.0 (sym a ∙ l.1 h), λ h. l.0 (a ∙ r.1 h));
+  }

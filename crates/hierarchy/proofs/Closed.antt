@@ -1,8 +1,9 @@
--- What a map of steps lists, by its keys and at a key.
-use Rattle.std.proofs.Common.{◌≡◌, Bool, true, false, ◌||◌, ◌↔◌, Contains, cond, Some, None, Option, List, [], ◌∷◌, refl, sym, ◌∙◌, ap}
+-- A closure that is made key by key.
+use Rattle.std.proofs.Common.{◌≡◌, Bool, true, false, ◌||◌, ◌↔◌, Contains, cond, Some, None, Option, List, [], ◌∷◌, refl, sym, ◌∙◌}
 use Rattle.std.specs.declared.cmp.Ordering.{Ordering}
+use Rattle.std.proofs.Math.Bool.{or-false}
 use Rattle.std.specs.Cmp.{IsTotalOrder}
-use Rattle.std.specs.Option.{is_some, IsSomeAnd, IfSome}
+use Rattle.std.specs.Option.{is_some, IfSome}
 use Rattle.std.specs.Map.{keys_of}
 use Rattle.std.specs.List.Sorted.{IsStrictlySortedBy}
 use Rattle.std.specs.BTreeMap.{is_at}
@@ -13,36 +14,18 @@ use Rattle.std.proofs.lemmas.Bool.{or_left, or_right, false≢true}
 use Rattle.std.proofs.lemmas.Cmp.{eq_by_cmp_equiv}
 use Rattle.std.specs.Ordering.{is_eq}
 use Rattle.std.proofs.lemmas.Map.Views.{tells_apart}
-use Rattle.hierarchy.specs.Reaches.{at, Reaches, last, more, has, Leads}
-
-module _ {K : Type 0} (cmp : K → K → Ordering) where
-  -- what leads on is a key
-  pub Leads-is_some : (steps : List (K × BTreeSet K)) (x y : K) → Leads cmp steps x y → is_some (at cmp steps x) ≡ true
-  Leads-is_some steps x y h = elim (at cmp steps x) as (λ r. IsSomeAnd r (λ next. Contains next.keys y) → is_some r ≡ true) [ None ↦ λ k. absurd k | Some next ↦ λ _. refl ] h
-
-  pub Leads-key : (steps : List (K × BTreeSet K)) (x y : K) → Leads cmp steps x y → has cmp (keys_of steps) x ≡ true
-  Leads-key steps x y h = sym (is_some-lookup (is_at (cmp x)) steps) ∙ Leads-is_some steps x y h
-
-  pub Reaches-is_some : (steps : List (K × BTreeSet K)) {x y : K} → Reaches (Leads cmp steps) x y → is_some (at cmp steps x) ≡ true
-  Reaches-is_some steps {x} (last {y = y} s) = Leads-is_some steps x y s
-  Reaches-is_some steps {x} (more {y = y} s r) = Leads-is_some steps x y s
-
-  -- at a key with these
-  pub Leads-at : (steps : List (K × BTreeSet K)) (x : K) (next : BTreeSet K) → at cmp steps x ≡ Some next → (y : K) → Leads cmp steps x y ↔ Contains next.keys y
-  Leads-at steps x next e y = rw e (λ h. h, λ h. h)
-
-  pub Leads-none : (steps : List (K × BTreeSet K)) (x : K) → at cmp steps x ≡ None → (y : K) → Leads cmp steps x y → ⊥
-  Leads-none steps x e y h = false≢true (ap is_some (sym e) ∙ Leads-is_some steps x y h)
+use Rattle.hierarchy.specs.Reaches.{at, Reaches, has, Leads, IsClosure}
+use Rattle.hierarchy.specs.ClosureSteps.{AreWhole}
+use Rattle.hierarchy.proofs.Reaches.{Reaches-is_some}
 
 -- each key of the steps is closed or left, and what is closed is what is reached
 pub record IsPartlyClosed {K : Type 0} (cmp : K → K → Ordering) (steps closed : List (K × BTreeSet K)) (left : List K) : Type 0 where
   pub keys : (q : K) → (is_some (at cmp closed q) || has cmp left q) ≡ is_some (at cmp steps q)
-  pub reached : (x : K) → IfSome (at cmp closed x) (λ next. (y : K) → Contains next.keys y ↔ Reaches (Leads cmp steps) x y)
-  pub ordered : (x : K) → IfSome (at cmp closed x) (λ next. IsStrictlySortedBy cmp next.keys)
+  pub whole : AreWhole cmp steps closed
 
 -- no key was closed yet
 pub closed_none : {K : Type 0} (cmp : K → K → Ordering) (steps : List (K × BTreeSet K)) → IsPartlyClosed cmp steps [] (keys_of steps)
-closed_none cmp steps = record { keys = λ q. sym (is_some-lookup (is_at (cmp q)) steps); reached = λ q. tt; ordered = λ q. tt }
+closed_none cmp steps = record { keys = λ q. sym (is_some-lookup (is_at (cmp q)) steps); whole = record { reached = λ q. tt; ordered = λ q. tt } }
 
 module _ {K : Type 0} {cmp : K → K → Ordering} (o : IsTotalOrder cmp) (exact : CmpEqualImpliesEq cmp) where
   -- the next key was closed
@@ -54,8 +37,7 @@ module _ {K : Type 0} {cmp : K → K → Ordering} (o : IsTotalOrder cmp) (exact
       → IsPartlyClosed cmp steps closed' rest
   closed_more steps closed closed' left rest x next p e u here s = record {
     keys = λ q. keys_at q (is_eq (cmp x q)) refl;
-    reached = λ q. reached_at q (is_eq (cmp x q)) refl;
-    ordered = λ q. ordered_at q (is_eq (cmp x q)) refl;
+    whole = record { reached = λ q. reached_at q (is_eq (cmp x q)) refl; ordered = λ q. ordered_at q (is_eq (cmp x q)) refl };
   } where
     turned : (q : K) → is_eq (cmp q x) ≡ is_eq (cmp x q)
     turned q = (eq_by_cmp_equiv o).symm q x
@@ -66,15 +48,19 @@ module _ {K : Type 0} {cmp : K → K → Ordering} (o : IsTotalOrder cmp) (exact
 
     reached_at : (q : K) (b : Bool) → is_eq (cmp x q) ≡ b → IfSome (at cmp closed' q) (λ n. (y : K) → Contains n.keys y ↔ Reaches (Leads cmp steps) q y)
     reached_at q true is = rw (u q, is) (rw (← (tells_apart exact x q is)) here)
-    reached_at q false is = rw (u q, is) (p.reached q)
+    reached_at q false is = rw (u q, is) (p.whole.reached q)
 
     ordered_at : (q : K) (b : Bool) → is_eq (cmp x q) ≡ b → IfSome (at cmp closed' q) (λ n. IsStrictlySortedBy cmp n.keys)
     ordered_at q true is = rw (u q, is) s
-    ordered_at q false is = rw (u q, is) (p.ordered q)
+    ordered_at q false is = rw (u q, is) (p.whole.ordered q)
 
   -- all keys were closed
-  pub closed_all : (steps closed : List (K × BTreeSet K)) → IsPartlyClosed cmp steps closed [] → (x y : K) → Leads cmp closed x y ↔ Reaches (Leads cmp steps) x y
-  closed_all steps closed p x y = at_key (at cmp closed x) refl (p.reached x) (p.keys x) where
-    at_key : (r : Option (BTreeSet K)) → at cmp closed x ≡ r → IfSome r (λ n. (z : K) → Contains n.keys z ↔ Reaches (Leads cmp steps) x z) → (is_some r || false) ≡ is_some (at cmp steps x) → Leads cmp closed x y ↔ Reaches (Leads cmp steps) x y
-    at_key None is reached keys = rw is (λ h. absurd h, λ way. absurd (false≢true (keys ∙ Reaches-is_some cmp steps way)))
-    at_key (Some n) is reached keys = rw is (reached y)
+  pub closed_all : (steps closed : List (K × BTreeSet K)) → IsPartlyClosed cmp steps closed [] → IsClosure cmp steps closed
+  closed_all steps closed p = record {
+    keys = λ x. sym (or-false (is_some (at cmp closed x))) ∙ p.keys x;
+    reached = λ x y. at_key x y (at cmp closed x) refl (p.whole.reached x) (p.keys x);
+    ordered = p.whole.ordered;
+  } where
+    at_key : (x y : K) (r : Option (BTreeSet K)) → at cmp closed x ≡ r → IfSome r (λ n. (z : K) → Contains n.keys z ↔ Reaches (Leads cmp steps) x z) → (is_some r || false) ≡ is_some (at cmp steps x) → Leads cmp closed x y ↔ Reaches (Leads cmp steps) x y
+    at_key x y None is reached keys = rw is (λ h. absurd h, λ way. absurd (false≢true (keys ∙ Reaches-is_some cmp steps way)))
+    at_key x y (Some n) is reached keys = rw is (reached y)

@@ -1,5 +1,5 @@
 -- Maps that hold each value under its own key: what a look-up finds, and what an insertion makes.
-use Rattle.std.proofs.Common.{◌≡◌, cond, List, [], ◌∷◌, Some, map, refl, sym, ◌∙◌}
+use Rattle.std.proofs.Common.{◌≡◌, Bool, true, false, IfSome, cond, List, [], ◌∷◌, Some, map, refl, sym, ◌∙◌}
 use Rattle.std.specs.declared.cmp.Ordering.{Ordering}
 use Rattle.std.specs.declared.cmp.Ordering.TheVariants.{Less, Equal, Greater}
 use Rattle.std.specs.Ordering.{is_eq, match_ordering}
@@ -7,9 +7,7 @@ use Rattle.std.specs.List.{find, AllByRecursion}
 use Rattle.std.specs.List.Sorted.{IsStrictlySortedBy}
 use Rattle.std.specs.Map.{keys_of, values_of, lookup}
 use Rattle.std.specs.BTreeMap.{BTreeMap, is_at, get, values, insert_entry}
-use Rattle.std.proofs.lemmas.List.Elements.{recursion_from_All, Contains-get_or}
-use Rattle.std.proofs.lemmas.Map.Keys.{IsDistinct-from_sorted}
-use Rattle.std.proofs.lemmas.Map.Views.{lookup-from_Contains}
+use Rattle.std.proofs.lemmas.Map.Views.{tells_apart}
 use Rattle.hierarchy.specs.Keyed.{AreAtTheirKeys, has_key, value_at, with_value}
 
 module _ {K V : Type 0} (cmp : K → K → Ordering) (key : V → K) where
@@ -58,3 +56,11 @@ module _ {K V : Type 0} (cmp : K → K → Ordering) (key : V → K) where
   pub own_put : (exact : (x y : K) → cmp x y ≡ Equal → x ≡ y) (v : V) (ps : List (K × V)) → AllByRecursion (λ p. key p.1 ≡ p.0) ps → AllByRecursion (λ p. key p.1 ≡ p.0) (insert_entry cmp ps (key v) v)
   own_put exact v [] all = (refl, tt)
   own_put exact v (p ∷ ps) all = own_at exact v p ps (cmp (key v) p.0) refl all (own_put exact v ps all.1)
+
+  -- what is found under a key has the key
+  pub value_named : (exact : (x y : K) → cmp x y ≡ Equal → x ≡ y) (vs : List V) (q : K) → IfSome (value_at cmp key vs q) (λ v. key v ≡ q)
+  value_named exact [] q = tt
+  value_named exact (v ∷ vs) q = by_test (has_key cmp key q v) refl (value_named exact vs q) where
+    by_test : (b : Bool) → has_key cmp key q v ≡ b → IfSome (value_at cmp key vs q) (λ w. key w ≡ q) → IfSome (cond b (Some v) (value_at cmp key vs q)) (λ w. key w ≡ q)
+    by_test true same later = sym (tells_apart exact q (key v) same)
+    by_test false other later = later

@@ -1,16 +1,15 @@
 -- What is known of the keys that lead to just the keys of a set, with one set more.
-use Rattle.std.proofs.Common.{◌≡◌, Bool, true, false, ◌↔◌, Contains, cond, List, [], ◌∷◌, Some, refl, sym, ◌∙◌, ap}
+use Rattle.std.proofs.Common.{◌≡◌, Bool, true, false, ◌↔◌, Contains, cond, List, [], Some, refl, sym, ◌∙◌, ap}
 use Rattle.std.specs.declared.cmp.Ordering.{Ordering}
-use Rattle.std.specs.declared.cmp.Ordering.TheVariants.{Less, Equal, Greater}
-use Rattle.std.specs.Ordering.{is_eq, ordering_then}
-use Rattle.std.specs.Cmp.Lexicographic.{slice_cmp}
-use Rattle.std.specs.Option.{IfSome, IsSomeAnd}
+use Rattle.std.specs.Ordering.{is_eq}
+use Rattle.std.specs.FinMap.{slice_cmp-IsAntisymmetric}
+use Rattle.std.specs.Option.{IfSome}
 use Rattle.std.specs.BTreeSet.{BTreeSet}
 use Rattle.std.specs.List.Sorted.{IsStrictlySortedBy}
 use Rattle.std.proofs.lemmas.Map.Lookups.{CmpEqualImpliesEq}
 use Rattle.std.proofs.lemmas.Map.Views.{tells_apart}
 use Rattle.hierarchy.specs.Reaches.{at, Reaches, last, more, Leads}
-use Rattle.hierarchy.specs.Known.{set_cmp, AreReached}
+use Rattle.hierarchy.specs.ClosureSteps.{set_cmp, AreReached}
 
 -- nothing is known yet
 pub known_none : {K : Type 0} (cmp : K → K → Ordering) (steps : List (K × BTreeSet K)) → AreReached cmp steps []
@@ -22,19 +21,8 @@ same_reach cmp steps x z y same (last s) = last (rw same at s)
 same_reach cmp steps x z y same (more s r) = more (rw same at s) r
 
 module _ {K : Type 0} {cmp : K → K → Ordering} (exact : CmpEqualImpliesEq cmp) where
-  exact_then : (x y : K) (xs ys : List K) (o : Ordering) → cmp x y ≡ o → ordering_then o (slice_cmp cmp xs ys) ≡ Equal → (slice_cmp cmp xs ys ≡ Equal → xs ≡ ys) → x ∷ xs ≡ y ∷ ys
-  exact_then x y xs ys Less is e later = absurd (cc)
-  exact_then x y xs ys Equal is e later = λ i. exact x y is i ∷ later e i
-  exact_then x y xs ys Greater is e later = absurd (cc)
-
-  exact_lists : (xs ys : List K) → slice_cmp cmp xs ys ≡ Equal → xs ≡ ys
-  exact_lists [] [] e = refl
-  exact_lists [] (y ∷ ys) e = absurd (cc)
-  exact_lists (x ∷ xs) [] e = absurd (cc)
-  exact_lists (x ∷ xs) (y ∷ ys) e = exact_then x y xs ys (cmp x y) refl e (exact_lists xs ys)
-
   pub exact_sets : CmpEqualImpliesEq (set_cmp cmp)
-  exact_sets s t e = let same = exact_lists s.keys t.keys e in λ i. record { keys = same i }
+  exact_sets s t e = let same = slice_cmp-IsAntisymmetric exact s.keys t.keys e in λ i. record { keys = same i }
 
   -- one set more is known
   pub known_more : (steps : List (K × BTreeSet K)) (known known' : List (BTreeSet K × BTreeSet K)) (key : K) (next set : BTreeSet K) → AreReached cmp steps known

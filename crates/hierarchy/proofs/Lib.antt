@@ -1,13 +1,13 @@
-pub mod Ascending
-pub mod Back
-pub mod Closed
-pub mod Covers
+mod Back
+mod Closed
 pub mod Keyed
-pub mod Known
-pub mod LeastOf
+mod Known
+pub mod Least
+mod LeastOutside
+pub mod Reaches
+pub mod Repeated
 pub mod SameSorted
-pub mod SameValues
-pub mod Search
-pub mod Seen
-pub mod Subset
-pub mod Turns
+mod Search
+mod Seen
+mod Subset
+mod Turns

@@ -1,64 +1,67 @@
--- Two ascending lists with the same keys are one.
-use Rattle.std.proofs.Common.{◌≡◌, Bool, true, false, ◌||◌, List, [], ◌∷◌, ap, sym, ◌∙◌, refl, subst}
+-- Two ascending lists with the same keys are one, and so are two lists that ascend by key and have the same value at each key.
+use Rattle.std.proofs.Common.{◌≡◌, Bool, true, false, ◌||◌, cond, List, [], ◌∷◌, map, Some, None, ap, sym, ◌∙◌, refl, subst}
+use Rattle.std.specs.Prelude.{T, ◌&&◌}
 use Rattle.std.specs.declared.cmp.Ordering.{Ordering}
-use Rattle.std.specs.declared.cmp.Ordering.TheVariants.{Less, Equal, Greater}
-use Rattle.std.specs.Ordering.{is_eq, ordering_reverse}
+use Rattle.std.specs.declared.cmp.Ordering.TheVariants.{Less, Equal}
+use Rattle.std.specs.Ordering.{is_eq, is_lt}
 use Rattle.std.specs.Cmp.{IsTotalOrder}
+use Rattle.std.specs.FinMap.Entries.{is_sorted, below_all, same_entries, find as found_in}
 use Rattle.std.specs.List.{AllByRecursion}
 use Rattle.std.specs.List.Sorted.{IsStrictlySortedBy}
+use Rattle.std.proofs.lemmas.Map.Views.{tells_apart}
 use Rattle.hierarchy.specs.Reaches.{has}
+use Rattle.hierarchy.specs.Keyed.{value_at}
+
+both : (a b : Bool) → T a → T b → T (a && b)
+both true b p q = q
+both false b p q = absurd p
+
+module _ {K V : Type 0} (cmp : K → K → Ordering) (total : IsTotalOrder cmp) (exact : (x y : K) → cmp x y ≡ Equal → x ≡ y) (key : V → K) where
+  -- the values under their keys
+  under : List V → List (K × V)
+  under [] = []
+  under (v ∷ vs) = (key v, v) ∷ under vs
+
+  values_under : (vs : List V) → map (λ e. e.1) (under vs) ≡ vs
+  unfolding under
+  values_under [] = refl
+  values_under (v ∷ vs) = let later : map (λ e. e.1) (under vs) ≡ vs = values_under vs in λ i. v ∷ later i
+
+  found_under : (vs : List V) (q : K) → found_in cmp q (under vs) ≡ value_at cmp key vs q
+  unfolding under
+  found_under [] q = refl
+  found_under (v ∷ vs) q = ap (λ r. cond (is_eq (cmp q (key v))) (Some v) r) (found_under vs q)
+
+  below_under : (k : K) (vs : List V) → AllByRecursion (λ y. cmp k y ≡ Less) (map key vs) → T (below_all cmp k (under vs))
+  unfolding under
+  below_under k [] all = tt
+  below_under k (v ∷ vs) all = both _ _ (subst (λ o. T (is_lt o)) (sym all.0) tt) (below_under k vs all.1)
+
+  sorted_under : (vs : List V) → IsStrictlySortedBy cmp (map key vs) → T (is_sorted cmp (under vs))
+  unfolding under IsStrictlySortedBy
+  sorted_under [] h = tt
+  sorted_under (v ∷ vs) h = both _ _ (below_under (key v) vs h.0) (sorted_under vs h.1)
+
+  pub same_values : (xs ys : List V) → IsStrictlySortedBy cmp (map key xs) → IsStrictlySortedBy cmp (map key ys) → ((q : K) → value_at cmp key xs q ≡ value_at cmp key ys q) → xs ≡ ys
+  same_values xs ys h k same =
+      sym (values_under xs)
+      ∙ ap (map (λ e. e.1)) (same_entries cmp total exact (under xs) (under ys) (sorted_under xs h) (sorted_under ys k) (λ q. found_under xs q ∙ same q ∙ sym (found_under ys q)))
+      ∙ values_under ys
 
 module _ {K : Type 0} (cmp : K → K → Ordering) (total : IsTotalOrder cmp) (exact : (x y : K) → cmp x y ≡ Equal → x ≡ y) where
-  abbrev pub Above : K → List K → Type 0
-  Above x ys = AllByRecursion (λ y. cmp x y ≡ Less) ys
+  itself : (xs : List K) → map (λ x. x) xs ≡ xs
+  itself [] = refl
+  itself (x ∷ xs) = let later : map (λ y. y) xs ≡ xs = itself xs in λ i. x ∷ later i
 
-  -- a key that is below all of a list is not in it
-  pub not_in : (x : K) (ys : List K) → Above x ys → has cmp ys x ≡ false
-  not_in x [] h = refl
-  not_in x (y ∷ ys) h = λ i. is_eq (h.0 i) || not_in x ys h.1 i
-
-  above_more : (x y : K) (ys : List K) → cmp x y ≡ Less → Above y ys → Above x ys
-  above_more x y [] h k = tt
-  above_more x y (z ∷ zs) h k = (total.trans x y z h k.0, above_more x y zs h k.1)
-
-  pub itself : (x : K) → cmp x x ≡ Equal
-  itself x = at (cmp x x) refl
+  -- the key that is found is the one that was looked for
+  found_itself : (xs : List K) (q : K) → value_at cmp (λ x. x) xs q ≡ cond (has cmp xs q) (Some q) None
+  found_itself [] q = refl
+  found_itself (x ∷ xs) q = at_test (is_eq (cmp q x)) refl (found_itself xs q)
     where
-      at : (o : Ordering) → cmp x x ≡ o → cmp x x ≡ Equal
-      at Less e = absurd (cc (e, total.antisymm x x, ap ordering_reverse e))
-      at Equal e = e
-      at Greater e = absurd (cc (e, total.antisymm x x, ap ordering_reverse e))
-
-  heads : (x y : K) (xs ys : List K) → Above x xs → Above y ys → ((q : K) → has cmp (x ∷ xs) q ≡ has cmp (y ∷ ys) q) → (o : Ordering) → cmp x y ≡ o → o ≡ Equal
-  heads x y xs ys a b same Less e =
-      let here : has cmp (x ∷ xs) x ≡ true = ap (λ o. is_eq o || has cmp xs x) (itself x) in
-      let gone : has cmp (y ∷ ys) x ≡ false = not_in x (y ∷ ys) (e, above_more x y ys e b) in
-      absurd (cc (here, same x, gone))
-  heads x y xs ys a b same Equal e = refl
-  heads x y xs ys a b same Greater e =
-      let under : cmp y x ≡ Less = total.antisymm y x ∙ ap ordering_reverse e in
-      let here : has cmp (y ∷ ys) y ≡ true = ap (λ o. is_eq o || has cmp ys y) (itself y) in
-      let gone : has cmp (x ∷ xs) y ≡ false = not_in y (x ∷ xs) (under, above_more y x xs under a) in
-      absurd (cc (here, same y, gone))
-
-  -- what is left of both has the same keys
-  tails : (x : K) (xs ys : List K) → Above x xs → Above x ys → ((q : K) → has cmp (x ∷ xs) q ≡ has cmp (x ∷ ys) q) → (q : K) → has cmp xs q ≡ has cmp ys q
-  tails x xs ys a b same q = at (cmp q x) refl
-    where
-      at : (o : Ordering) → cmp q x ≡ o → has cmp xs q ≡ has cmp ys q
-      at Equal e =
-          let is : x ≡ q = sym (exact q x e) in
-          subst (λ k. has cmp xs k ≡ has cmp ys k) is (not_in x xs a ∙ sym (not_in x ys b))
-      at Less e = ap (λ o. is_eq o || has cmp xs q) (sym e) ∙ same q ∙ ap (λ o. is_eq o || has cmp ys q) e
-      at Greater e = ap (λ o. is_eq o || has cmp xs q) (sym e) ∙ same q ∙ ap (λ o. is_eq o || has cmp ys q) e
+      at_test : (b : Bool) → is_eq (cmp q x) ≡ b → value_at cmp (λ y. y) xs q ≡ cond (has cmp xs q) (Some q) None → cond b (Some x) (value_at cmp (λ y. y) xs q) ≡ cond (b || has cmp xs q) (Some q) None
+      at_test true is later = ap Some (sym (tells_apart exact q x is))
+      at_test false is later = later
 
   pub same_sorted : (xs ys : List K) → IsStrictlySortedBy cmp xs → IsStrictlySortedBy cmp ys → ((q : K) → has cmp xs q ≡ has cmp ys q) → xs ≡ ys
-  unfolding IsStrictlySortedBy
-  same_sorted [] [] h k same = refl
-  same_sorted [] (y ∷ ys) h k same = absurd (cc (same y, ap (λ o. is_eq o || has cmp ys y) (itself y)))
-  same_sorted (x ∷ xs) [] h k same = absurd (cc (same x, ap (λ o. is_eq o || has cmp xs x) (itself x)))
-  same_sorted (x ∷ xs) (y ∷ ys) h k same =
-      let is : x ≡ y = exact x y (heads x y xs ys h.0 k.0 same (cmp x y) refl) in
-      let rest = tails x xs ys h.0 (subst (λ z. Above z ys) (sym is) k.0) (λ q. same q ∙ ap (λ z. has cmp (z ∷ ys) q) (sym is)) in
-      let later : xs ≡ ys = same_sorted xs ys h.1 k.1 rest in
-      λ i. is i ∷ later i
+  same_sorted xs ys h k same =
+      same_values cmp total exact (λ x. x) xs ys (rw (itself xs) h) (rw (itself ys) k) (λ q. found_itself xs q ∙ ap (λ b. cond b (Some q) None) (same q) ∙ sym (found_itself ys q))

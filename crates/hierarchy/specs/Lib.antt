@@ -1,6 +1,5 @@
-pub mod Covered
+pub mod ClosureSteps
 pub mod Keyed
-pub mod Known
 pub mod Least
 pub mod Reaches
 pub mod Repeated

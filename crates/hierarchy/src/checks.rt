@@ -1,16 +1,15 @@
 // What a hierarchy has to keep: the least key that breaks it, in the order of the keys.
-ghost use Rattle.std.specs.Prelude.{◌≡◌, false, Contains, MatchBool, IsTrue, ◌↔◌, is_some};
+ghost use Rattle.std.specs.Prelude.{◌≡◌, false, Contains, MatchBool, is_some};
 ghost use Rattle.std.specs.Option.{option_copied};
 ghost use Rattle.std.specs.BTreeMap.{get};
 ghost use Rattle.hierarchy.specs.Reaches.{Leads, IsUnlisted, IsOutside, IsNotClosed};
 ghost use Rattle.hierarchy.specs.Least.{IsLeastIfAny, lower_of};
 
-use crate::cover::is_seen_closed;
-use crate::{Key, Steps};
+use crate::{Key, SharedSet, SharedSteps};
 use std::collections::{BTreeMap, BTreeSet};
 
 /// The least key that is led to and has no entry.
-pub fn least_unlisted<K: Key>(steps: &Steps<K>) -> Option<&K>
+pub fn least_unlisted<K: Key>(steps: &SharedSteps<K>) -> Option<&K>
     ensures { IsLeastIfAny K.cmp (IsUnlisted K.cmp steps.now.entries) (option_copied result) }
 {
     least_outside(steps, steps)
@@ -18,20 +17,20 @@ pub fn least_unlisted<K: Key>(steps: &Steps<K>) -> Option<&K>
 
 /// The least key that stands in a set of the map and has no entry in the steps.
 pub fn least_outside<'a, A: Key, K: Key>(
-    steps: &Steps<K>,
-    sets: &'a BTreeMap<A, BTreeSet<K>>,
+    steps: &SharedSteps<K>,
+    sets: &'a BTreeMap<A, SharedSet<K>>,
 ) -> Option<&'a K>
     ensures { IsLeastIfAny K.cmp (IsOutside A.cmp K.cmp steps.now.entries sets.now.entries) (option_copied result) }
 {
     let mut least = None;
     for (_, set) in sets {
-        least = lower(least, first_unlisted(steps, set));
+        least = lower(least, first_unlisted(steps, set.as_set()));
     }
     least
 }
 
 // The least key of the set that has no entry.
-fn first_unlisted<'a, K: Key>(steps: &Steps<K>, next: &'a BTreeSet<K>) -> Option<&'a K>
+fn first_unlisted<'a, K: Key>(steps: &SharedSteps<K>, next: &'a BTreeSet<K>) -> Option<&'a K>
     ensures { IsLeastIfAny K.cmp (λ q. (is_some (get K.cmp steps.now q) ≡ false) × Contains next.now.keys q) (option_copied result) }
 {
     for key in next {
@@ -53,22 +52,24 @@ pub fn lower<'a, K: Key>(a: Option<&'a K>, b: Option<&'a K>) -> Option<&'a K>
     }
 }
 
-/// The least key from which two steps lead where no step does.
-pub fn first_not_closed<K: Key>(steps: &Steps<K>) -> Option<&K>
-    ensures { IsLeastIfAny K.cmp (IsNotClosed K.cmp steps.now.entries) (option_copied result) }
+/// The least key that leads to itself.
+pub fn first_own<K: Key>(steps: &SharedSteps<K>) -> Option<&K>
+    ensures { IsLeastIfAny K.cmp (λ q. Leads K.cmp steps.now.entries q q) (option_copied result) }
 {
-    if is_seen_closed(steps) {
-        return None;
+    for (key, next) in steps {
+        if next.as_set().contains(key) {
+            return Some(key);
+        }
     }
-    least_not_closed(steps)
+    None
 }
 
-// The same, by a look at all that stand in two sets that follow one another.
-fn least_not_closed<K: Key>(steps: &Steps<K>) -> Option<&K>
+/// The least key from which two steps lead where no step does.
+pub fn first_not_closed<K: Key>(steps: &SharedSteps<K>) -> Option<&K>
     ensures { IsLeastIfAny K.cmp (IsNotClosed K.cmp steps.now.entries) (option_copied result) }
 {
     for (key, next) in steps {
-        if !is_closed(steps, next) {
+        if !is_closed(steps, next.as_set()) {
             return Some(key);
         }
     }
@@ -76,13 +77,13 @@ fn least_not_closed<K: Key>(steps: &Steps<K>) -> Option<&K>
 }
 
 // Whether the steps from keys of the set lead into it.
-pub(crate) fn is_closed<K: Key>(steps: &Steps<K>, next: &BTreeSet<K>) -> bool
+fn is_closed<K: Key>(steps: &SharedSteps<K>, next: &BTreeSet<K>) -> bool
     ensures { MatchBool result ((y z : K) → Contains next.now.keys y → Leads K.cmp steps.now.entries y z → Contains next.now.keys z)
         ((y : K) × (z : K) × Contains next.now.keys y × Leads K.cmp steps.now.entries y z × (¬ Contains next.now.keys z)) }
 {
     for key in next {
         if let Some(far) = steps.get(key) {
-            if !far.is_subset(next) {
+            if !far.as_set().is_subset(next) {
                 return false;
             }
         }

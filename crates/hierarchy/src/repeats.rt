@@ -1,5 +1,5 @@
 // Keys that stand twice in a list.
-ghost use Rattle.std.specs.Prelude.{◌≡◌, ◌↔◌, IfOk, IsSome, slice_get};
+ghost use Rattle.std.specs.Prelude.{◌↔◌, IfOk, IsSome};
 ghost use Rattle.std.specs.Ordering.{nat_cmp};
 ghost use Rattle.hierarchy.specs.Least.{IsLeastIfAny};
 ghost use Rattle.hierarchy.specs.Repeated.{IsRepeated, StandsEarlier};
@@ -38,16 +38,4 @@ pub fn first_repeated<K: Key>(alloc: Global, keys: &[K]) -> Result<Option<usize>
         }
     }
     Ok(None)
-}
-
-/// The first place of the list that has the key; none exactly where no place has it.
-pub fn position_of<K: Key>(keys: &[K], key: &K) -> Option<usize>
-    ensures { IsLeastIfAny nat_cmp (λ i. slice_get keys.now i ≡ Some key.now) result }
-{
-    for (i, other) in keys.iter().enumerate() {
-        if other == key {
-            return Some(i);
-        }
-    }
-    None
 }

@@ -1,24 +1,21 @@
 // Steps the other way.
-ghost use Rattle.std.specs.Prelude.{◌≡◌, ◌↔◌, ◌⊎◌, ◌||◌, ◌&&◌, true, is_some, IfOk, IfSome, OnOk};
+ghost use Rattle.std.specs.Prelude.{◌≡◌, ◌||◌, ◌&&◌, is_some, IfOk, OnOk, OnErr};
 ghost use Rattle.std.specs.Ordering.{is_eq};
 ghost use Rattle.std.specs.BTreeMap.{get};
-ghost use Rattle.std.specs.BTreeSet.{IsOrdered};
-ghost use Rattle.hierarchy.specs.Reaches.{Reaches, Leads, has, leads};
+ghost use Rattle.hierarchy.specs.Reaches.{leads, IsReversed, AreDescendants};
 
-use crate::{Key, Steps, closure_of};
+use crate::{Key, SharedSteps, Steps, closure_of};
 use std::alloc::{AllocError, Global};
 use std::collections::{BTreeMap, BTreeSet};
 
-/// The steps the other way, with each key that the steps have.
-pub fn reversed<K: Key>(alloc: Global, steps: &Steps<K>) -> Result<Steps<K>, AllocError>
-    ensures keys { IfOk result (λ back. (q : K) → is_some (get K.cmp steps.now q) ≡ true → is_some (get K.cmp back q) ≡ true) }
-    ensures only { IfOk result (λ back. (q : K) → is_some (get K.cmp back q) ≡ true → (is_some (get K.cmp steps.now q) ≡ true) ⊎ ((x : K) × Leads K.cmp steps.now.entries x q)) }
-    ensures reversed { IfOk result (λ back. (x y : K) → Leads K.cmp back.entries x y ↔ Leads K.cmp steps.now.entries y x) }
+// The steps the other way, with each key that the steps have.
+fn reversed<K: Key>(alloc: Global, steps: &SharedSteps<K>) -> Result<Steps<K>, AllocError>
+    ensures { IfOk result (λ back. IsReversed K.cmp steps.now.entries back.entries) }
 {
     let mut back = BTreeMap::new(alloc);
     for (key, next) in steps {
         put(alloc, &mut back, key)?;
-        for other in next {
+        for other in next.as_set() {
             add_step(alloc, &mut back, other, key)?;
         }
     }
@@ -26,11 +23,11 @@ pub fn reversed<K: Key>(alloc: Global, steps: &Steps<K>) -> Result<Steps<K>, All
 }
 
 /// With each key that the steps have, the keys from which it is reached.
-pub fn descendants_of<K: Key>(alloc: Global, steps: &Steps<K>) -> Result<Steps<K>, AllocError>
-    ensures keys { IfOk result (λ below. (q : K) → is_some (get K.cmp steps.now q) ≡ true → is_some (get K.cmp below q) ≡ true) }
-    ensures only { IfOk result (λ below. (q : K) → is_some (get K.cmp below q) ≡ true → (is_some (get K.cmp steps.now q) ≡ true) ⊎ ((x : K) × Leads K.cmp steps.now.entries x q)) }
-    ensures below { IfOk result (λ below. (x y : K) → Leads K.cmp below.entries x y ↔ Reaches (Leads K.cmp steps.now.entries) y x) }
-    ensures ordered { IfOk result (λ below. (x : K) → IfSome (get K.cmp below x) (IsOrdered K.cmp)) }
+pub fn descendants_of<K: Key>(
+    alloc: Global,
+    steps: &SharedSteps<K>,
+) -> Result<SharedSteps<K>, AllocError>
+    ensures { IfOk result (λ below. AreDescendants K.cmp steps.now.entries below.entries) }
 {
     let back = reversed(alloc, steps)?;
     closure_of(alloc, &back)
@@ -47,7 +44,7 @@ fn put<K: Key>(alloc: Global, steps: &mut Steps<K>, key: &K) -> Result<(), Alloc
     Ok(())
 }
 
-/// Adds one step. Where memory runs out, some of it may have been added.
+/// Adds one step. Where memory runs out, the steps stay.
 pub fn add_step<K: Key>(
     alloc: Global,
     steps: &mut Steps<K>,
@@ -56,6 +53,7 @@ pub fn add_step<K: Key>(
 ) -> Result<(), AllocError>
     ensures keys { OnOk result ((q : K) → is_some (get K.cmp steps.new q) ≡ (is_eq (K.cmp from.now q) || is_some (get K.cmp steps.old q))) }
     ensures leads { OnOk result ((x y : K) → leads K.cmp steps.new.entries x y ≡ (leads K.cmp steps.old.entries x y || (is_eq (K.cmp from.now x) && is_eq (K.cmp to.now y)))) }
+    ensures refused { OnErr result ((q : K) → get K.cmp steps.new q ≡ get K.cmp steps.old q) }
 {
     if let Some(next) = steps.get_mut(from) {
         next.insert(to.clone()?)?;

@@ -4,8 +4,8 @@ use Rattle.policy_store.specs.declared.request.Request.{Request}
 use Rattle.policy_store.specs.Store.{Store}
 use Rattle.policy_values.specs.Value.{truth}
 use Rattle.policy_core.specs.declared.outcome.Outcome.TheVariants.{Value}
-use Rattle.policy_core.specs.Tree.{Tree, lit, var, slot, ite, conj, disj, unary, binary, attr, has, like, is_type, call, set, rec, Trees, no_trees, tree, Named, no_named, named}
-use Rattle.policy_core.specs.Shape.{SameShape, SameShapes, SameNamed}
+use Rattle.policy_expressions.specs.Tree.{Tree, lit, var, slot, ite, conj, disj, unary, binary, attr, has, like, is_type, call, set, rec, Trees, no_trees, tree, Named, no_named, named}
+use Rattle.policy_expressions.specs.Shape.{SameShape, SameShapes, SameNamed}
 use Rattle.policy_core.specs.Operators.{unary_value, binary_value, attr_value, has_value, like_value, is_value}
 use Rattle.policy_core.specs.Calls.{call_outcome}
 use Rattle.policy_core.specs.Eval.{eval, eval_all, eval_named, literal_value, variable_value, truth_of, truth_outcome, choose, with_value, in_front, set_outcome, record_outcome}

@@ -2,8 +2,8 @@
 use Rattle.std.proofs.Common.{◌≡◌, ℕ, ◌+◌, ◌<◌, ◌≤◌, Bool, true, false, ◌&&◌, ◌||◌, ◌==◌, if◌then◌else◌, List, [], ◌∷◌, length, take, drop, ◌-◌, refl, ap, ◌∙◌, sym, subst, ◌⊎◌, inl, inr, arith}
 use Rattle.std.proofs.lemmas.Bool.{or_cases, or_right, or_left, and_parts}
 use Rattle.std.proofs.lemmas.List.{take_all}
-use Rattle.policy_core.specs.declared.kinds.PatternElem.{PatternElem}
-use Rattle.policy_core.specs.declared.kinds.PatternElem.TheVariants.{Char, Wildcard}
+use Rattle.policy_expressions.specs.declared.kinds.PatternElem.{PatternElem}
+use Rattle.policy_expressions.specs.declared.kinds.PatternElem.TheVariants.{Char, Wildcard}
 use Rattle.policy_core.specs.Like.{some_tail, matches, Behind, wildcard, whole, nothing, behind_chars}
 
 first_tail : (f : List ℕ → Bool) (cs : List ℕ) → f cs ≡ true → some_tail f cs ≡ true

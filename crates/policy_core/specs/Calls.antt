@@ -3,37 +3,21 @@ use Rattle.std.specs.Prelude.{ℕ, Bool, ℤ, pos, ◌+ℤ◌, ◌-ℤ◌, ◌*�
 use Rattle.policy_ext.specs.declared.ip_addr.Family.TheVariants.{V4, V6}
 use Rattle.policy_ext.specs.IpAddr.{Range}
 use Rattle.policy_ext.specs.IpTests.{same_family, in_range, loopback, multicast}
-use Rattle.policy_ext.specs.IpReading.{range_of}
-use Rattle.policy_ext.specs.DecimalReading.{decimal_of}
 use Rattle.policy_ext.specs.DateTime.{day_of, time_of}
-use Rattle.policy_ext.specs.DateTimeValue.{datetime_of}
-use Rattle.policy_ext.specs.DurationReading.{duration_of}
 use Rattle.policy_values.specs.Value.{Val, truth, long, string, decimal, ip, datetime, duration}
-use Rattle.policy_core.specs.declared.functions.UnaryFunction.{UnaryFunction}
-use Rattle.policy_core.specs.declared.functions.UnaryFunction.TheVariants as unary
-use Rattle.policy_core.specs.declared.functions.BinaryFunction.{BinaryFunction}
-use Rattle.policy_core.specs.declared.functions.BinaryFunction.TheVariants as binary
-use Rattle.policy_core.specs.declared.functions.ExtensionFunction.{ExtensionFunction}
-use Rattle.policy_core.specs.declared.functions.ExtensionFunction.TheVariants.{Unary, Binary}
+use Rattle.policy_values.specs.Readings.{decimal_in, range_in, datetime_in, duration_in}
+use Rattle.policy_expressions.specs.declared.functions.UnaryFunction.{UnaryFunction}
+use Rattle.policy_expressions.specs.declared.functions.UnaryFunction.TheVariants as unary
+use Rattle.policy_expressions.specs.declared.functions.BinaryFunction.{BinaryFunction}
+use Rattle.policy_expressions.specs.declared.functions.BinaryFunction.TheVariants as binary
+use Rattle.policy_expressions.specs.declared.functions.ExtensionFunction.{ExtensionFunction}
+use Rattle.policy_expressions.specs.declared.functions.ExtensionFunction.TheVariants.{Unary, Binary}
 use Rattle.policy_core.specs.declared.outcome.EvalError.{EvalError}
 use Rattle.policy_core.specs.declared.outcome.EvalError.TheVariants.{TypeFault, UnknownFunction, Arity, ExtensionText, ExtensionOverflow}
 use Rattle.policy_core.specs.declared.outcome.Outcome.{Outcome}
 use Rattle.policy_core.specs.declared.outcome.Outcome.TheVariants.{Value, Error}
 use Rattle.policy_core.specs.Operators.{fit}
-use Rattle.policy_core.specs.Functions.{function_of}
-
--- what a text stands for, as the grammar of each has it
-unfoldable pub decimal_in : List ℕ → Option ℤ
-decimal_in text = decimal_of text
-
-unfoldable pub range_in : List ℕ → Option Range
-range_in text = range_of text
-
-unfoldable pub datetime_in : List ℕ → Option ℤ
-datetime_in text = datetime_of text
-
-unfoldable pub duration_in : List ℕ → Option ℤ
-duration_in text = duration_of text
+use Rattle.policy_expressions.specs.Functions.{function_of}
 
 -- a value that was read; a text that stands for none is an error
 abbrev pub read_as : {X : Type 0} → (X → Val) → Option X → Outcome

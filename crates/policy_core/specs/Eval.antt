@@ -6,17 +6,17 @@ use Rattle.policy_values.specs.ValueOrder.{set_of}
 use Rattle.policy_store.specs.Store.{Store}
 use Rattle.policy_store.specs.Request.{principal_of, action_of, resource_of}
 use Rattle.policy_store.specs.declared.request.Request.{Request}
-use Rattle.policy_core.specs.declared.kinds.Literal.{Literal}
-use Rattle.policy_core.specs.declared.kinds.Literal.TheVariants as literal
-use Rattle.policy_core.specs.declared.kinds.Var.{Var}
-use Rattle.policy_core.specs.declared.kinds.Var.TheVariants.{Principal, Action, Resource, Context}
+use Rattle.policy_expressions.specs.declared.kinds.Literal.{Literal}
+use Rattle.policy_expressions.specs.declared.kinds.Literal.TheVariants as literal
+use Rattle.policy_expressions.specs.declared.kinds.Var.{Var}
+use Rattle.policy_expressions.specs.declared.kinds.Var.TheVariants.{Principal, Action, Resource, Context}
 use Rattle.policy_core.specs.declared.outcome.EvalError.{EvalError}
 use Rattle.policy_core.specs.declared.outcome.EvalError.TheVariants.{TypeFault}
 use Rattle.policy_core.specs.declared.outcome.Outcome.{Outcome}
 use Rattle.policy_core.specs.declared.outcome.Outcome.TheVariants.{Value, Error}
 use Rattle.policy_core.specs.Calls.{call_outcome}
 use Rattle.policy_core.specs.Operators.{unary_value, binary_value, attr_value, has_value, like_value, is_value}
-use Rattle.policy_core.specs.Tree.{Tree, lit, var, slot, ite, conj, disj, unary, binary, attr, has, like, is_type, call, set, rec, Trees, no_trees, tree, Named, no_named, named}
+use Rattle.policy_expressions.specs.Tree.{Tree, lit, var, slot, ite, conj, disj, unary, binary, attr, has, like, is_type, call, set, rec, Trees, no_trees, tree, Named, no_named, named}
 
 abbrev pub result_map : {X Y E : Type 0} → (X → Y) → Result X E → Result Y E
 result_map f (Ok x) = Ok (f x)

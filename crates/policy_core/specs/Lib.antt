@@ -1,13 +1,6 @@
 pub mod Calls
 pub mod Eval
-pub mod Functions
 pub mod Laws
 pub mod Like
 pub mod Operators
-pub mod Shape
 pub mod Show
-pub mod Slots
-pub mod Tree
-pub mod TreeCode
-pub mod TreeFalls
-pub mod TreeView

@@ -1,7 +1,7 @@
 -- Whether a text matches a pattern.
 use Rattle.std.specs.Prelude.{ℕ, Bool, true, false, ◌&&◌, ◌||◌, ◌==◌, List, [], ◌∷◌, if◌then◌else◌}
-use Rattle.policy_core.specs.declared.kinds.PatternElem.{PatternElem}
-use Rattle.policy_core.specs.declared.kinds.PatternElem.TheVariants.{Char, Wildcard}
+use Rattle.policy_expressions.specs.declared.kinds.PatternElem.{PatternElem}
+use Rattle.policy_expressions.specs.declared.kinds.PatternElem.TheVariants.{Char, Wildcard}
 use Rattle.policy_core.specs.declared.like.Left.{Left}
 use Rattle.policy_core.specs.declared.like.Left.TheVariants as left
 

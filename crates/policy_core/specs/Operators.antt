@@ -4,17 +4,17 @@ use Rattle.std.specs.List.{list_any}
 use Rattle.std.specs.Ordering.{is_eq}
 use Rattle.std.specs.Str.{chars}
 use Rattle.policy_names.specs.declared.entity_uid.EntityUID.{EntityUID}
-use Rattle.policy_names.specs.Uid.{text_cmp, uid_cmp}
+use Rattle.policy_names.specs.Uid.{text_cmp, uid_eq}
 use Rattle.policy_values.specs.Value.{Val, truth, long, string, entity, set, rec, datetime, duration, Vals, no_vals, val, field_at}
 use Rattle.policy_values.specs.ValueOrder.{val_cmp}
 use Rattle.policy_values.specs.Sets.{is_empty, is_element, has_all, has_some}
 use Rattle.policy_store.specs.Store.{StoredEntity, Store, entity_at}
-use Rattle.policy_core.specs.declared.kinds.PatternElem.{PatternElem}
+use Rattle.policy_expressions.specs.declared.kinds.PatternElem.{PatternElem}
 use Rattle.policy_core.specs.Like.{matches}
-use Rattle.policy_core.specs.declared.kinds.UnaryOp.{UnaryOp}
-use Rattle.policy_core.specs.declared.kinds.UnaryOp.TheVariants.{Not, Neg, IsEmpty}
-use Rattle.policy_core.specs.declared.kinds.BinaryOp.{BinaryOp}
-use Rattle.policy_core.specs.declared.kinds.BinaryOp.TheVariants.{Eq, Less, LessEq, Add, Sub, Mul, In, Contains, ContainsAll, ContainsAny, GetTag, HasTag}
+use Rattle.policy_expressions.specs.declared.kinds.UnaryOp.{UnaryOp}
+use Rattle.policy_expressions.specs.declared.kinds.UnaryOp.TheVariants.{Not, Neg, IsEmpty}
+use Rattle.policy_expressions.specs.declared.kinds.BinaryOp.{BinaryOp}
+use Rattle.policy_expressions.specs.declared.kinds.BinaryOp.TheVariants.{Eq, Less, LessEq, Add, Sub, Mul, In, Contains, ContainsAll, ContainsAny, GetTag, HasTag}
 use Rattle.policy_core.specs.declared.outcome.EvalError.{EvalError}
 use Rattle.policy_core.specs.declared.outcome.EvalError.TheVariants.{MissingEntity, MissingAttribute, MissingTag, TypeFault, IntegerOverflow}
 use Rattle.policy_core.specs.declared.outcome.Outcome.{Outcome}
@@ -42,10 +42,6 @@ unary_value Neg (long n) = long_of (fit (neg_ℤ n))
 unary_value Neg v = Error TypeFault
 unary_value IsEmpty (set vs) = Value (truth (is_empty vs))
 unary_value IsEmpty v = Error TypeFault
-
--- the two ids are one
-abbrev pub uid_eq : EntityUID → EntityUID → Bool
-uid_eq x y = is_eq (uid_cmp x y)
 
 -- the id is an ancestor of the entity; an absent entity has none
 abbrev pub above : Option StoredEntity → EntityUID → Bool

@@ -1,8 +1,6 @@
 -- How errors print.
 use Rattle.std.specs.Prelude.{ℕ, List, ◌++◌, codes}
 use Rattle.policy_names.specs.Show.{uid_text}
-use Rattle.policy_core.specs.declared.expr.BuildError.{BuildError}
-use Rattle.policy_core.specs.declared.expr.BuildError.TheVariants.{Nested, OutOfMemory}
 use Rattle.policy_core.specs.declared.outcome.EvalError.{EvalError}
 use Rattle.policy_core.specs.declared.outcome.EvalError.TheVariants.{MissingEntity, MissingAttribute, MissingTag, TypeFault, IntegerOverflow, ExtensionOverflow, ExtensionText, UnknownFunction, Arity}
 
@@ -17,8 +15,3 @@ error_text ExtensionOverflow = codes "datetime or duration overflow"
 error_text ExtensionText = codes "text of no extension value"
 error_text UnknownFunction = codes "unknown extension function"
 error_text Arity = codes "wrong number of arguments"
-
--- why an expression was not built
-abbrev pub build_error_text : BuildError → List ℕ
-build_error_text Nested = codes "nested deeper than 400"
-build_error_text OutOfMemory = codes "out of memory"

@@ -6,12 +6,15 @@ ghost use Rattle.policy_ext.specs.IpTests.{same_family, in_range, loopback, mult
 ghost use Rattle.policy_ext.specs.DateTime.{day_of};
 ghost use Rattle.policy_values.specs.Value.{decimal, ip, datetime, duration};
 ghost use Rattle.policy_core.specs.Operators.{fit};
-ghost use Rattle.policy_core.specs.Functions.{function_of};
-ghost use Rattle.policy_core.specs.Calls.{decimal_in, range_in, datetime_in, duration_in, read_as, fitting, constructed, of_range, of_ranges, of_decimals, of_datetime, of_duration, offset_value, since_value, start_of_day, since_start, unary_call, binary_call, called};
+ghost use Rattle.policy_expressions.specs.Functions.{function_of};
+ghost use Rattle.policy_values.specs.Readings.{decimal_in, range_in, datetime_in, duration_in};
+ghost use Rattle.policy_core.specs.Calls.{read_as, fitting, constructed, of_range, of_ranges, of_decimals, of_datetime, of_duration, offset_value, since_value, start_of_day, since_start, unary_call, binary_call, called};
 
-use crate::functions::{BinaryFunction, ExtensionFunction, UnaryFunction, extension_function};
-use crate::{EvalError, Name, Outcome, Value, ValueKind};
-use policy_ext::{DateTimeValue, Decimal, Duration, IpAddr};
+use crate::{
+    BinaryFunction, DateTimeValue, Duration, EvalError, ExtensionFunction, Name, Outcome,
+    UnaryFunction, Value, ValueKind, extension_function, read_datetime, read_decimal,
+    read_duration, read_ip,
+};
 
 /// What the extension function of a name makes of the values of its arguments.
 pub fn call(name: &Name, values: &Vec<Value>) -> Outcome
@@ -78,13 +81,6 @@ fn decimal(x: &Value) -> Outcome
     }
 }
 
-/// The decimal that a text stands for, where it stands for one.
-pub fn read_decimal(text: &str) -> Option<Decimal>
-    ensures { result ≡ decimal_in text.now }
-{
-    Decimal::read(text)
-}
-
 fn ip(x: &Value) -> Outcome
     ensures { result ≡ constructed ip range_in x.now }
 {
@@ -95,13 +91,6 @@ fn ip(x: &Value) -> Outcome
         },
         _ => Outcome::Error(EvalError::TypeFault),
     }
-}
-
-/// The range of IP addresses that a text stands for, where it stands for one.
-pub fn read_ip(text: &str) -> Option<IpAddr>
-    ensures { result ≡ range_in text.now }
-{
-    IpAddr::read(text)
 }
 
 fn datetime(x: &Value) -> Outcome
@@ -116,13 +105,6 @@ fn datetime(x: &Value) -> Outcome
     }
 }
 
-/// The point in time that a text stands for, where it stands for one.
-pub fn read_datetime(text: &str) -> Option<DateTimeValue>
-    ensures { result ≡ datetime_in text.now }
-{
-    DateTimeValue::read(text)
-}
-
 fn duration(x: &Value) -> Outcome
     ensures { result ≡ constructed duration duration_in x.now }
 {
@@ -133,13 +115,6 @@ fn duration(x: &Value) -> Outcome
         },
         _ => Outcome::Error(EvalError::TypeFault),
     }
-}
-
-/// The duration that a text stands for, where it stands for one.
-pub fn read_duration(text: &str) -> Option<Duration>
-    ensures { result ≡ duration_in text.now }
-{
-    Duration::read(text)
 }
 
 fn is_ipv4(x: &Value) -> Outcome

@@ -3,7 +3,7 @@
 ghost use Rattle.std.specs.Prelude.{◌≡◌, IfOk, IsSome};
 ghost use Rattle.policy_values.specs.Value.{entity, rec};
 ghost use Rattle.policy_store.specs.Request.{IsWhole, known};
-ghost use Rattle.policy_core.specs.Tree.{trees_of, named_of};
+ghost use Rattle.policy_expressions.specs.Tree.{trees_of, named_of};
 ghost use Rattle.policy_core.specs.Eval.{eval, eval_all, eval_named, result_map, known_fields, literal_value, variable_value, truth_of, truth_outcome, with_value};
 ghost use Rattle.policy_core.specs.Calls.{call_outcome};
 ghost use Rattle.policy_core.specs.Operators.{unary_value, binary_value, attr_value, has_value, like_value, is_value};
@@ -94,7 +94,7 @@ pub fn evaluate<T>(
 }
 
 #[cycle(evaluate)]
-#[tactic(auto, using(crate::proofs::TreeSteps::depth_in))]
+#[tactic(auto, using(policy_expressions::proofs::TreeSteps::depth_in))]
 fn evaluate_all<T>(
     alloc: Global,
     items: &Vec<Expr<T>>,

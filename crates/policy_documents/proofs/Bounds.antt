@@ -2,9 +2,9 @@
 use Rattle.std.proofs.Common.{◌≡◌, ◌<◌, ◌↔◌, List, [], ◌∷◌, length, map, Bool, true, false, Option, Some, None, option_map, Result, Ok, Err, IfOk, arith, refl, ap, ◌∙◌}
 use Rattle.std.specs.Prelude.{nat_lt, option_and_then, if◌then◌else◌}
 use Rattle.std.proofs.lemmas.Bool.Decides.{nat_tests}
-use Rattle.policy_core.specs.Tree.{depth_of}
-use Rattle.policy_core.specs.declared.expr.BuildError.{BuildError}
-use Rattle.policy_core.specs.declared.expr.BuildError.TheVariants as build
+use Rattle.policy_expressions.specs.Tree.{depth_of}
+use Rattle.policy_expressions.specs.declared.expr.BuildError.{BuildError}
+use Rattle.policy_expressions.specs.declared.expr.BuildError.TheVariants as build
 use Rattle.policy_set.specs.Condition.{Plain}
 use Rattle.expr_documents.specs.Forms.{join_tree}
 use Rattle.expr_documents.specs.Reads.{bounded, on_two}

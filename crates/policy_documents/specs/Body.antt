@@ -4,13 +4,13 @@ use Rattle.std.specs.Str.{bytes_eq}
 use Rattle.serde_json.specs.Data.{Data, null, boolean, number, string, array, object, Items, no_items, item, Members, no_members, member}
 use Rattle.serde_json.specs.Find.{as_str, as_array, as_object}
 use Rattle.policy_names.specs.declared.entity_uid.EntityUID.{EntityUID}
-use Rattle.policy_core.specs.Tree.{lit, var, conj, disj, unary, binary}
-use Rattle.policy_core.specs.declared.kinds.BinaryOp.{BinaryOp}
-use Rattle.policy_core.specs.declared.kinds.BinaryOp.TheVariants.{Eq, In}
-use Rattle.policy_core.specs.declared.kinds.Literal.TheVariants as literal
-use Rattle.policy_core.specs.declared.kinds.UnaryOp.TheVariants.{Not}
-use Rattle.policy_core.specs.declared.kinds.Var.{Var}
-use Rattle.policy_core.specs.declared.kinds.Var.TheVariants as variable
+use Rattle.policy_expressions.specs.Tree.{lit, var, conj, disj, unary, binary}
+use Rattle.policy_expressions.specs.declared.kinds.BinaryOp.{BinaryOp}
+use Rattle.policy_expressions.specs.declared.kinds.BinaryOp.TheVariants.{Eq, In}
+use Rattle.policy_expressions.specs.declared.kinds.Literal.TheVariants as literal
+use Rattle.policy_expressions.specs.declared.kinds.UnaryOp.TheVariants.{Not}
+use Rattle.policy_expressions.specs.declared.kinds.Var.{Var}
+use Rattle.policy_expressions.specs.declared.kinds.Var.TheVariants as variable
 use Rattle.policy_set.specs.Condition.{Plain, anything, unmarked}
 use Rattle.expr_documents.specs.declared.nesting.Bounded.{Bounded}
 use Rattle.expr_documents.specs.declared.nesting.Bounded.TheVariants.{Within}

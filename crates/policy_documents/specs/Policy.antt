@@ -16,7 +16,7 @@ use Rattle.policy_set.specs.declared.constraint.PrincipalOrResourceConstraint.Th
 use Rattle.policy_set.specs.declared.constraint.ActionConstraint.{ActionConstraint}
 use Rattle.policy_set.specs.declared.constraint.ActionConstraint.TheVariants as action
 use Rattle.policy_set.specs.declared.template.TemplateBody.{TemplateBody}
-use Rattle.policy_core.specs.Tree.{depth_of}
+use Rattle.policy_expressions.specs.Tree.{depth_of}
 use Rattle.policy_set.specs.Condition.{Plain, template_of}
 use Rattle.policy_documents.specs.Body.{body_of}
 use Rattle.policy_documents.specs.declared.policy.PolicyParts.{PolicyParts}

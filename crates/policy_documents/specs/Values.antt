@@ -3,7 +3,7 @@ use Rattle.std.specs.Prelude.{ℕ, ℤ, List, [], if◌then◌else◌, Option, S
 use Rattle.std.specs.Str.{bytes_eq}
 use Rattle.policy_values.specs.Value.{Val, truth, long, string, entity, set, rec, decimal, ip, datetime, duration, fields_of}
 use Rattle.policy_values.specs.ValueOrder.{set_of}
-use Rattle.policy_core.specs.Calls.{decimal_in, range_in, datetime_in, duration_in}
+use Rattle.policy_values.specs.Readings.{decimal_in, range_in, datetime_in, duration_in}
 use Rattle.serde_json.specs.Data as json
 use Rattle.serde_json.specs.Data.{Data, null, boolean, number, array, object, Items, no_items, item, Members, no_members, member}
 use Rattle.serde_json.specs.Find.{as_i64}

@@ -4,7 +4,7 @@ ghost use Rattle.std.specs.Prelude.{◌≡◌, IfOk, option_map};
 ghost use Rattle.policy_values.specs.Value.{entity, rec, set, decimal, ip, datetime, duration, fields_of};
 ghost use Rattle.policy_values.specs.ValueOrder.{set_of};
 ghost use Rattle.serde_json.specs.View.{view, items_view, members_view};
-ghost use Rattle.policy_core.specs.Calls.{decimal_in, range_in, datetime_in, duration_in};
+ghost use Rattle.policy_values.specs.Readings.{decimal_in, range_in, datetime_in, duration_in};
 ghost use Rattle.json_parts.specs.Names.{uid_of};
 ghost use Rattle.policy_documents.specs.Values.{text_form, time_form, extension_form, value_of, values_of, value_of_members, value_form, value_fields_of, value_entries_of};
 

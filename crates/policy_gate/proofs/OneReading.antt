@@ -4,7 +4,7 @@ use Rattle.std.specs.Prelude.{IfSome, IsSomeAnd}
 use Rattle.serde_json.specs.Data.{Data, Items}
 use Rattle.hierarchy.specs.Least.{IsLeast}
 use Rattle.hierarchy.specs.Repeated.{IsRepeated, StandsEarlier}
-use Rattle.hierarchy.proofs.Seen.{earlier_at}
+use Rattle.hierarchy.proofs.Repeated.{earlier_at}
 use Rattle.policy_names.specs.declared.entity_uid.EntityUID.{EntityUID}
 use Rattle.policy_store.specs.Store.{StoredEntity, Store}
 use Rattle.policy_store.specs.FromParents.{IsFromParents, ids_of}

@@ -1,8 +1,8 @@
 -- The order of ids: by type, and then by eid, each in the order of its bytes.
-use Rattle.std.specs.Prelude.{◌≡◌, ℕ, List}
+use Rattle.std.specs.Prelude.{◌≡◌, ℕ, Bool, List}
 use Rattle.std.specs.declared.cmp.Ordering.{Ordering}
 use Rattle.std.specs.declared.cmp.Ordering.TheVariants.{Equal}
-use Rattle.std.specs.Ordering.{nat_cmp, ordering_then}
+use Rattle.std.specs.Ordering.{nat_cmp, ordering_then, is_eq}
 use Rattle.std.specs.Cmp.Lexicographic.{slice_cmp, nat_list_cmp_total}
 use Rattle.std.proofs.lemmas.Map.Lookups.{exact_bytes, exact_pairs}
 use Rattle.std.proofs.Common.{ap}
@@ -21,6 +21,10 @@ uid_cmp a b = ordering_then (text_cmp a.entity_type b.entity_type) (text_cmp a.e
 
 pub uid_cmp_total : IsTotalOrder uid_cmp
 uid_cmp_total = then_total (on_total (λ u. u.entity_type) nat_list_cmp_total) (on_total (λ u. u.eid) nat_list_cmp_total)
+
+-- the two ids are one
+abbrev pub uid_eq : EntityUID → EntityUID → Bool
+uid_eq a b = is_eq (uid_cmp a b)
 
 -- ids that compare equal are equal
 pub exact_uid : (x y : EntityUID) → uid_cmp x y ≡ Equal → x ≡ y

@@ -43,7 +43,7 @@ impl fmt::Display for Escaped {
 }
 
 /// A text as it stands between quotes.
-#[derive(Clone, Copy)]
+#[derive(Clone, Copy, Debug)]
 pub struct Quoted<'a>(pub &'a Text);
 
 impl fmt::Display for Quoted<'_> {

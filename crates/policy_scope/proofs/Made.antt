@@ -1,7 +1,7 @@
 -- What findings on names are made of: the name and its place.
 use Rattle.std.proofs.Common.{ℕ, List, Option}
 use Rattle.std.specs.Borrow.{Bor}
-use Rattle.policy_core.specs.declared.kinds.Loc.{Loc}
+use Rattle.policy_expressions.specs.declared.kinds.Loc.{Loc}
 use Rattle.policy_names.specs.declared.entity_uid.EntityUID.{EntityUID}
 use Rattle.schema_core.specs.Schema.{SchemaData}
 use Rattle.policy_scope.specs.declared.finding.UnrecognizedEntityType.{UnrecognizedEntityType}

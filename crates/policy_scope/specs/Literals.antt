@@ -1,6 +1,6 @@
 -- Names as code refers to them.
 use Rattle.std.specs.Prelude.{Option}
-use Rattle.policy_core.specs.declared.kinds.Loc.{Loc}
+use Rattle.policy_expressions.specs.declared.kinds.Loc.{Loc}
 use Rattle.policy_scope.specs.declared.names.Mention.{Mention}
 use Rattle.policy_scope.specs.declared.names.Mention.TheVariants.{Id, EntityType}
 use Rattle.policy_scope.specs.Names.{Mentioned, an_id, a_type}

@@ -1,7 +1,7 @@
 -- How findings read.
 use Rattle.std.specs.Prelude.{ℕ, Bool, true, false, List, ◌++◌, Option, Some, None, option_map, codes}
 use Rattle.policy_names.specs.Show.{uid_text}
-use Rattle.policy_core.specs.declared.kinds.Loc.{Loc}
+use Rattle.policy_expressions.specs.declared.kinds.Loc.{Loc}
 use Rattle.policy_scope.specs.declared.finding.UnrecognizedEntityType.{UnrecognizedEntityType}
 use Rattle.policy_scope.specs.declared.finding.UnrecognizedActionId.{UnrecognizedActionId}
 use Rattle.policy_scope.specs.declared.finding.UnrecognizedActionIdHelp.{UnrecognizedActionIdHelp}

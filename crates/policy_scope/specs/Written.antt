@@ -1,7 +1,7 @@
 -- Findings as they are written, line by line.
 use Rattle.std.specs.Prelude.{ℕ, List, [], ◌++◌, Option, Some, None, length, flat_map, codes}
 use Rattle.std.specs.Fmt.{decimal}
-use Rattle.policy_core.specs.declared.kinds.Loc.{Loc}
+use Rattle.policy_expressions.specs.declared.kinds.Loc.{Loc}
 use Rattle.policy_scope.specs.declared.finding.ValidationError.{ValidationError}
 use Rattle.policy_scope.specs.declared.finding.ValidationWarning.{ValidationWarning}
 use Rattle.policy_scope.specs.Findings.{Findings}

@@ -1,9 +1,10 @@
 //! What a finding says.
 
 ghost use Rattle.std.specs.Prelude.{◌≡◌, ℕ, List, Option, IfOk};
-ghost use Rattle.policy_core.specs.declared.kinds.Loc.{Loc as Place};
+ghost use Rattle.policy_expressions.specs.declared.kinds.Loc.{Loc as Place};
 
-use policy_core::{Loc, Text};
+use policy_expressions::Loc;
+use policy_names::Text;
 use std::alloc::{AllocError, Global};
 
 /// What a finding says, what may help, and where it was found.

@@ -1,6 +1,7 @@
 //! Findings: what is wrong with a policy.
 
-use policy_core::{EntityType, EntityUID, Loc, Text};
+use policy_expressions::Loc;
+use policy_names::{EntityType, EntityUID, Text};
 
 /// A type of a literal is neither declared nor a type of actions.
 #[derive(Debug, Drop, PartialEq, Eq, Hash)]

@@ -1,12 +1,13 @@
 //! The names in a policy: the types that it names and the actions of its literals have to be declared.
 
 ghost use Rattle.std.specs.Prelude.{◌≡◌, ◌++◌, IfOk, OnOk, map};
-ghost use Rattle.policy_core.specs.Tree.{trees_of, named_of};
+ghost use Rattle.policy_expressions.specs.Tree.{trees_of, named_of};
 ghost use Rattle.policy_scope.specs.Names.{type_of, names_in, names_in_all, names_in_named, is_known_type, is_known_action, entity_type_findings, action_id_findings, action_id_hint, occurs_in};
 ghost use Rattle.policy_scope.specs.Literals.{mentioned, pair_of};
 
 use crate::{UnrecognizedActionId, UnrecognizedActionIdHelp, UnrecognizedEntityType};
-use policy_core::{EntityType, EntityUID, Expr, ExprKind, Literal, Loc, Text};
+use policy_expressions::{Expr, ExprKind, Literal, Loc};
+use policy_names::{EntityType, EntityUID, Text};
 use policy_set::Policy;
 use schema_core::ValidatorSchema;
 use std::alloc::{AllocError, Global};
@@ -175,7 +176,7 @@ fn add_names<'a, T>(
 }
 
 #[cycle(names)]
-#[tactic(auto, using(policy_core::proofs::TreeSteps::depth_in))]
+#[tactic(auto, using(policy_expressions::proofs::TreeSteps::depth_in))]
 fn add_names_of_all<'a, T>(
     items: &'a Vec<Expr<T>>,
     names: &mut Vec<(Mention<'a>, Option<Loc>)>,

@@ -7,7 +7,7 @@ ghost use Rattle.policy_names.specs.Uid.{text_cmp};
 ghost use Rattle.policy_scope.specs.Scope.{action_meets, uid_of, type_below, type_meets, types_meet, is_applicable, types_for, some_type, only_descendants, in_would_fix, application_findings};
 
 use crate::InvalidActionApplication;
-use policy_core::{EntityType, EntityUID};
+use policy_names::{EntityType, EntityUID};
 use policy_set::{ActionConstraint, EntityReference, Policy, PrincipalOrResourceConstraint};
 use schema_core::{ValidatorActionId, ValidatorSchema};
 use std::alloc::{AllocError, Global};

@@ -7,7 +7,8 @@ use crate::{
     Diagnostic, ImpossiblePolicy, InvalidActionApplication, TooDeep, UnrecognizedActionId,
     UnrecognizedActionIdHelp, UnrecognizedEntityType, ValidationError, ValidationWarning,
 };
-use policy_core::{Loc, Text};
+use policy_expressions::Loc;
+use policy_names::Text;
 use std::alloc::{AllocError, Global};
 use std::fmt;
 

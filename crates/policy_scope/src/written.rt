@@ -4,7 +4,8 @@ ghost use Rattle.std.specs.Prelude.{◌≡◌, ◌++◌, IfOk, OnOk, string_byte
 ghost use Rattle.policy_scope.specs.Written.{place_text, help_line, finding_text, count_line, findings_text};
 
 use crate::{Diagnostic, ValidationResult};
-use policy_core::{Loc, Text};
+use policy_expressions::Loc;
+use policy_names::Text;
 use std::alloc::{AllocError, Global};
 use std::fmt::Write;
 

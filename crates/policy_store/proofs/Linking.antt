@@ -7,9 +7,8 @@ use Rattle.std.proofs.lemmas.Bool.{false≢true}
 use Rattle.hierarchy.specs.Reaches.{Reaches, at, Leads}
 use Rattle.hierarchy.specs.Least.{IsLeast}
 use Rattle.hierarchy.specs.Repeated.{IsRepeated}
-use Rattle.hierarchy.proofs.Ascending.{IsLeast-same}
-use Rattle.hierarchy.proofs.Closed.{Leads-is_some}
-use Rattle.hierarchy.proofs.Search.{Reaches-map}
+use Rattle.hierarchy.proofs.Least.{IsLeast-same}
+use Rattle.hierarchy.proofs.Reaches.{Leads-is_some, Reaches-map}
 use Rattle.policy_names.specs.declared.entity_uid.EntityUID.{EntityUID}
 use Rattle.policy_names.specs.Uid.{uid_cmp}
 use Rattle.policy_store.specs.Store.{StoredEntity, entity_at}

@@ -15,7 +15,7 @@ use Rattle.std.proofs.lemmas.Map.Views.{tells_apart, All-values_from_lookup}
 use Rattle.std.specs.Map.{keys_of}
 use Rattle.hierarchy.specs.Reaches.{at}
 use Rattle.hierarchy.specs.Repeated.{IsRepeated}
-use Rattle.hierarchy.proofs.Seen.{repeated_append, repeated_push}
+use Rattle.hierarchy.proofs.Repeated.{repeated_append, repeated_push}
 use Rattle.policy_names.specs.declared.entity_uid.EntityUID.{EntityUID}
 use Rattle.policy_names.specs.Uid.{uid_cmp, uid_cmp_total, exact_uid}
 use Rattle.policy_store.specs.Store.{StoredEntity, is_named, entity_at}

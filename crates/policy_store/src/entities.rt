@@ -13,7 +13,7 @@ ghost use Rattle.policy_store.specs.Linked.{links_of, linked};
 ghost use Rattle.policy_store.specs.FromParents.{ids_of};
 
 use crate::Entity;
-use hierarchy::{SharedSteps, Steps, first_own_shared, least_repeated, shared_closure_of};
+use hierarchy::{SharedSteps, Steps, closure_of, first_own, least_repeated};
 use policy_names::EntityUID;
 use std::alloc::{AllocError, Global};
 use std::collections::BTreeMap;
@@ -61,9 +61,9 @@ impl Entities {
             return Err(EntitiesError::Duplicate(uid));
         }
         let parents = parents_of(alloc, &entities)?;
-        let ancestors = shared_closure_of(alloc, &parents)?;
+        let ancestors = closure_of(alloc, &parents)?;
         drop(parents);
-        if let Some(uid) = first_own_shared(&ancestors) {
+        if let Some(uid) = first_own(&ancestors) {
             return Err(EntitiesError::Cycle(uid.try_clone()?));
         }
         Ok(with_ancestors(alloc, entities, ancestors)?)

@@ -9,21 +9,21 @@ use Rattle.std.proofs.lemmas.Cmp.{tied_itself, nat_list_cmp_total}
 use Rattle.std.proofs.lemmas.Map.Views.{tells_apart}
 use Rattle.policy_names.specs.declared.entity_uid.EntityUID.{EntityUID}
 use Rattle.policy_names.specs.Basename.{is_action_type}
-use Rattle.policy_names.specs.Uid.{text_cmp, uid_cmp_total, exact_uid}
+use Rattle.policy_names.specs.Uid.{text_cmp, uid_cmp_total, exact_uid, uid_eq}
 use Rattle.policy_store.specs.declared.request.Request.{Request}
 use Rattle.policy_store.specs.Request.{principal_of, action_of, resource_of}
 use Rattle.policy_store.specs.Store.{Store, entity_at}
 use Rattle.policy_values.specs.Value.{truth, entity}
 use Rattle.schema_core.specs.Schema.{SchemaData}
 use Rattle.schema_core.specs.Environments.{Environment}
-use Rattle.policy_core.specs.declared.kinds.Literal.TheVariants as literal
-use Rattle.policy_core.specs.declared.kinds.Var.TheVariants.{Principal, Action, Resource}
-use Rattle.policy_core.specs.declared.kinds.UnaryOp.TheVariants.{Not}
-use Rattle.policy_core.specs.declared.kinds.BinaryOp.TheVariants.{Eq, In}
+use Rattle.policy_expressions.specs.declared.kinds.Literal.TheVariants as literal
+use Rattle.policy_expressions.specs.declared.kinds.Var.TheVariants.{Principal, Action, Resource}
+use Rattle.policy_expressions.specs.declared.kinds.UnaryOp.TheVariants.{Not}
+use Rattle.policy_expressions.specs.declared.kinds.BinaryOp.TheVariants.{Eq, In}
 use Rattle.policy_core.specs.declared.outcome.Outcome.TheVariants.{Value}
-use Rattle.policy_core.specs.Tree.{Tree, lit, var, conj, disj, unary, binary}
+use Rattle.policy_expressions.specs.Tree.{Tree, lit, var, conj, disj, unary, binary}
 use Rattle.policy_core.specs.Eval.{eval, choose}
-use Rattle.policy_core.specs.Operators.{uid_eq, within, above}
+use Rattle.policy_core.specs.Operators.{within, above}
 use Rattle.policy_typecheck.specs.declared.truth_type.TruthType.{TruthType}
 use Rattle.policy_typecheck.specs.declared.truth_type.TruthType.TheVariants as typed
 use Rattle.policy_typecheck.specs.Typing.{not_type, and_type, or_type, known, type_below, action_below, known_id, known_type, equal_ids, equal_types, id_in, in_id, truth_type}

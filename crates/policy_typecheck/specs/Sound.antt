@@ -9,12 +9,12 @@ use Rattle.policy_store.specs.Store.{Store}
 use Rattle.policy_values.specs.Value.{truth}
 use Rattle.schema_core.specs.Schema.{SchemaData}
 use Rattle.schema_core.specs.Environments.{Environment}
-use Rattle.policy_core.specs.declared.kinds.Literal.TheVariants as literal
-use Rattle.policy_core.specs.declared.kinds.Var.TheVariants.{Context}
-use Rattle.policy_core.specs.declared.kinds.UnaryOp.TheVariants.{Not}
-use Rattle.policy_core.specs.declared.kinds.BinaryOp.TheVariants.{Eq, In}
+use Rattle.policy_expressions.specs.declared.kinds.Literal.TheVariants as literal
+use Rattle.policy_expressions.specs.declared.kinds.Var.TheVariants.{Context}
+use Rattle.policy_expressions.specs.declared.kinds.UnaryOp.TheVariants.{Not}
+use Rattle.policy_expressions.specs.declared.kinds.BinaryOp.TheVariants.{Eq, In}
 use Rattle.policy_core.specs.declared.outcome.Outcome.TheVariants.{Value}
-use Rattle.policy_core.specs.Tree.{Tree, lit, var, conj, disj, unary, binary, Mark}
+use Rattle.policy_expressions.specs.Tree.{Tree, lit, var, conj, disj, unary, binary, Mark}
 use Rattle.policy_core.specs.Eval.{eval}
 use Rattle.policy_typecheck.specs.declared.truth_type.TruthType.TheVariants as typed
 use Rattle.policy_typecheck.specs.Typing.{type_below, action_below, truth_type}

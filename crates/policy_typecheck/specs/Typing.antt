@@ -5,16 +5,15 @@ use Rattle.std.specs.Ordering.{is_eq}
 use Rattle.hierarchy.specs.Reaches.{has}
 use Rattle.policy_names.specs.declared.entity_uid.EntityUID.{EntityUID}
 use Rattle.policy_names.specs.Basename.{is_action_type}
-use Rattle.policy_names.specs.Uid.{text_cmp, uid_cmp}
+use Rattle.policy_names.specs.Uid.{text_cmp, uid_cmp, uid_eq}
 use Rattle.schema_core.specs.Schema.{SchemaData, type_at, action_at}
 use Rattle.schema_core.specs.Environments.{Environment}
-use Rattle.policy_core.specs.declared.kinds.Literal.TheVariants as literal
-use Rattle.policy_core.specs.declared.kinds.Var.TheVariants.{Principal, Action, Resource}
-use Rattle.policy_core.specs.declared.kinds.UnaryOp.TheVariants.{Not}
-use Rattle.policy_core.specs.declared.kinds.BinaryOp.{BinaryOp}
-use Rattle.policy_core.specs.declared.kinds.BinaryOp.TheVariants.{Eq, In}
-use Rattle.policy_core.specs.Operators.{uid_eq}
-use Rattle.policy_core.specs.Tree.{Tree, lit, var, conj, disj, unary, binary}
+use Rattle.policy_expressions.specs.declared.kinds.Literal.TheVariants as literal
+use Rattle.policy_expressions.specs.declared.kinds.Var.TheVariants.{Principal, Action, Resource}
+use Rattle.policy_expressions.specs.declared.kinds.UnaryOp.TheVariants.{Not}
+use Rattle.policy_expressions.specs.declared.kinds.BinaryOp.{BinaryOp}
+use Rattle.policy_expressions.specs.declared.kinds.BinaryOp.TheVariants.{Eq, In}
+use Rattle.policy_expressions.specs.Tree.{Tree, lit, var, conj, disj, unary, binary}
 use Rattle.policy_typecheck.specs.declared.truth_type.TruthType.{TruthType}
 use Rattle.policy_typecheck.specs.declared.truth_type.TruthType.TheVariants as typed
 

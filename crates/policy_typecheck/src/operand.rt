@@ -4,12 +4,12 @@ ghost use Rattle.std.specs.Prelude.{◌≡◌};
 ghost use Rattle.std.specs.Option.{option_copied};
 ghost use Rattle.schema_core.specs.RequestEnvs.{environment_of};
 ghost use Rattle.std.specs.Ordering.{is_eq};
-ghost use Rattle.policy_names.specs.Uid.{text_cmp};
-ghost use Rattle.policy_core.specs.Operators.{uid_eq};
+ghost use Rattle.policy_names.specs.Uid.{text_cmp, uid_eq};
 ghost use Rattle.policy_typecheck.specs.Typing as typing;
 
 use crate::TruthType;
-use policy_core::{EntityType, EntityUID, Expr, ExprKind, Literal, Var};
+use policy_expressions::{Expr, ExprKind, Literal, Var};
+use policy_names::{EntityType, EntityUID};
 use schema_core::{DeclaredEnv, ValidatorSchema};
 use std::cmp::Ordering;
 

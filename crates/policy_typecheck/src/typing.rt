@@ -8,7 +8,7 @@ ghost use Rattle.policy_typecheck.specs.Sound.{TypingIsSound};
 
 use crate::TruthType;
 use crate::operand::{equal_ids, equal_types, id_in, known_id, known_type};
-use policy_core::{BinaryOp, Expr, ExprKind, Literal, UnaryOp};
+use policy_expressions::{BinaryOp, Expr, ExprKind, Literal, UnaryOp};
 use schema_core::{DeclaredEnv, ValidatorSchema};
 
 /// The type of a condition in an environment. The second side of `&&` and `||` is left alone where the first decides.

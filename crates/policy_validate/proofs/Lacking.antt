@@ -19,8 +19,7 @@ use Rattle.std.proofs.lemmas.Map.Lookups.{CmpEqualImpliesEq}
 use Rattle.std.proofs.lemmas.Map.Views.{tells_apart}
 use Rattle.hierarchy.specs.Reaches.{has}
 use Rattle.hierarchy.specs.Least.{IsLeastIfAny, lower_of}
-use Rattle.hierarchy.proofs.Ascending.{IsRest, least_here, rest_more, none_left}
-use Rattle.hierarchy.proofs.LeastOf.{IsLeastIfAny-same, lower_least}
+use Rattle.hierarchy.proofs.Least.{IsRest, least_here, rest_more, none_left, IsLeastIfAny-same, lower_least}
 use Rattle.policy_names.specs.declared.entity_uid.EntityUID.{EntityUID}
 use Rattle.policy_names.specs.Uid.{uid_cmp, uid_cmp_total, exact_uid}
 use Rattle.policy_names.specs.Basename.{is_action_type}

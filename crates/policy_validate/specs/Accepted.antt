@@ -1,6 +1,6 @@
 -- The findings on a set of policies, and the sets that are accepted.
 use Rattle.std.specs.Prelude.{◌≡◌, ◌&&◌, not, nat_lt, Bool, List, [], ◌∷◌, ◌++◌, None, map, flat_map, if◌then◌else◌}
-use Rattle.policy_core.specs.Tree.{depth_of}
+use Rattle.policy_expressions.specs.Tree.{depth_of}
 use Rattle.policy_set.specs.declared.template.TemplateBody.{TemplateBody}
 use Rattle.schema_core.specs.Schema.{SchemaData}
 use Rattle.policy_scope.specs.declared.finding.ValidationError.{ValidationError}

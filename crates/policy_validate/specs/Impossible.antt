@@ -3,9 +3,9 @@ use Rattle.std.specs.Prelude.{◌&&◌, Bool, true, false, Option, Some, None, o
 use Rattle.std.specs.List.{list_all}
 use Rattle.policy_names.specs.Basename.{is_action_type}
 use Rattle.policy_names.specs.declared.entity_uid.EntityUID.{EntityUID}
-use Rattle.policy_core.specs.declared.kinds.Literal.TheVariants as literal
-use Rattle.policy_core.specs.declared.kinds.UnaryOp.TheVariants.{Not}
-use Rattle.policy_core.specs.Tree.{Tree, lit, conj, disj, unary, binary}
+use Rattle.policy_expressions.specs.declared.kinds.Literal.TheVariants as literal
+use Rattle.policy_expressions.specs.declared.kinds.UnaryOp.TheVariants.{Not}
+use Rattle.policy_expressions.specs.Tree.{Tree, lit, conj, disj, unary, binary}
 use Rattle.policy_set.specs.declared.template.TemplateBody.{TemplateBody}
 use Rattle.schema_core.specs.Schema.{SchemaData, type_at, action_at}
 use Rattle.schema_core.specs.Environments.{Environment, environments}

@@ -2,6 +2,7 @@ pub mod Ascending
 pub mod Gv
 pub mod Maps
 pub mod RangeOrder
+pub mod Readings
 pub mod Sets
 pub mod Value
 pub mod ValueCode

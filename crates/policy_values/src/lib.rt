@@ -3,11 +3,14 @@
 
 mod ascending;
 mod hash;
+pub mod laws;
 mod map;
+mod readings;
 mod sets;
 #[cfg(test)]
 mod tests;
 mod value;
 
 pub use map::push_entry;
+pub use readings::{read_datetime, read_decimal, read_duration, read_ip};
 pub use value::{Value, ValueKind, try_clone_fields};

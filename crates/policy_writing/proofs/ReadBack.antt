@@ -12,8 +12,8 @@ use Rattle.policy_ext.proofs.RangeText.{range_written}
 use Rattle.policy_values.specs.Value.{Val, truth, long, string, entity, set, rec, decimal, ip, datetime, duration, Vals, no_vals, val, Fields, no_fields, field, fields_of}
 use Rattle.policy_values.specs.ValueOrder.{Ascends, IsBelow, insert_val, set_of}
 use Rattle.serde_json.specs.Find.{as_i64, of_integer}
-use Rattle.policy_core.specs.Calls.{decimal_in, range_in}
-use Rattle.policy_core.proofs.ReadSteps.{reads_grammars}
+use Rattle.policy_values.specs.Readings.{decimal_in, range_in}
+use Rattle.policy_values.proofs.ReadSteps.{reads_grammars}
 use Rattle.json_parts.specs.Lists.{with_first, with_field}
 use Rattle.json_parts.specs.Names.{is_name, uid_of}
 use Rattle.policy_documents.specs.Values.{extension_form, value_of, values_of, value_entries_of}

@@ -15,7 +15,7 @@ use Rattle.std.proofs.lemmas.Map.Lookups.{CmpEqualImpliesEq}
 use Rattle.std.proofs.lemmas.Map.Views.{tells_apart}
 use Rattle.hierarchy.specs.Least.{IsLeastIfAny}
 use Rattle.hierarchy.specs.Reaches.{at, has}
-use Rattle.hierarchy.proofs.Ascending.{least_here}
+use Rattle.hierarchy.proofs.Least.{least_here}
 use Rattle.schema_core.proofs.Lowest.{Low, With, with_both, low_same, low_none}
 
 -- the first key whose value passes

@@ -9,7 +9,7 @@ use Rattle.std.proofs.lemmas.Bool.{false≢true}
 use Rattle.std.proofs.lemmas.Map.Lookups.{exact_bytes}
 use Rattle.hierarchy.specs.Least.{IsLeastIfAny}
 use Rattle.hierarchy.specs.Reaches.{at, has, leads}
-use Rattle.hierarchy.proofs.LeastOf.{IsLeastIfAny-same}
+use Rattle.hierarchy.proofs.Least.{IsLeastIfAny-same}
 use Rattle.policy_names.specs.declared.entity_uid.EntityUID.{EntityUID}
 use Rattle.policy_names.specs.Uid.{text_cmp, uid_cmp, uid_cmp_total, exact_uid}
 use Rattle.schema_types.specs.Ty.{Attrs}

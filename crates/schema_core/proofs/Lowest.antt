@@ -8,7 +8,7 @@ use Rattle.std.proofs.lemmas.Bool.{or_cases, or_left, or_right, false≢true}
 use Rattle.std.proofs.lemmas.Map.Lookups.{exact_bytes}
 use Rattle.std.proofs.lemmas.Map.Views.{tells_apart}
 use Rattle.hierarchy.specs.Least.{IsLeastIfAny, lower_of}
-use Rattle.hierarchy.proofs.LeastOf.{IsLeastIfAny-same, lower_least}
+use Rattle.hierarchy.proofs.Least.{IsLeastIfAny-same, lower_least}
 use Rattle.policy_names.specs.Uid.{text_cmp}
 use Rattle.schema_types.specs.Names.{has_name}
 use Rattle.schema_types.specs.Ty.{Ty, set_of, record_of, entity, action, extension, Attrs, no_attrs, attr}

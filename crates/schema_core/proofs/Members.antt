@@ -8,9 +8,8 @@ use Rattle.std.specs.Cmp.Lexicographic.{nat_list_cmp_total}
 use Rattle.std.proofs.lemmas.Map.Lookups.{CmpEqualImpliesEq, exact_bytes}
 use Rattle.hierarchy.specs.Reaches.{at, leads, Leads, Reaches, last, more}
 use Rattle.hierarchy.specs.Least.{IsLeast}
-use Rattle.hierarchy.proofs.Ascending.{IsLeast-same}
-use Rattle.hierarchy.proofs.Search.{leads-Leads, Reaches-join, Reaches-map}
-use Rattle.hierarchy.proofs.Closed.{Leads-is_some}
+use Rattle.hierarchy.proofs.Least.{IsLeast-same}
+use Rattle.hierarchy.proofs.Reaches.{leads-Leads, Reaches-join, Reaches-map, Leads-is_some}
 use Rattle.policy_names.specs.declared.entity_uid.EntityUID.{EntityUID}
 use Rattle.policy_names.specs.Uid.{uid_cmp, uid_cmp_total, exact_uid}
 use Rattle.schema_core.specs.declared.listing.Listing.{Listing}

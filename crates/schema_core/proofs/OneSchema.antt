@@ -12,8 +12,7 @@ use Rattle.std.proofs.lemmas.List.Elements.{recursion_from_All}
 use Rattle.std.proofs.lemmas.Map.Lookups.{exact_bytes}
 use Rattle.hierarchy.specs.Keyed.{has_key, value_at}
 use Rattle.hierarchy.specs.Reaches.{has}
-use Rattle.hierarchy.proofs.SameSorted.{same_sorted}
-use Rattle.hierarchy.proofs.SameValues.{same_values}
+use Rattle.hierarchy.proofs.SameSorted.{same_sorted, same_values}
 use Rattle.policy_names.specs.declared.entity_uid.EntityUID.{EntityUID}
 use Rattle.policy_names.specs.Uid.{text_cmp, uid_cmp, uid_cmp_total, exact_uid}
 use Rattle.schema_core.specs.Schema.{TypeData, ActionData, SchemaData, type_at, action_at}

@@ -8,10 +8,9 @@ use Rattle.std.proofs.lemmas.Bool.{false≢true}
 use Rattle.std.proofs.lemmas.Map.Lookups.{exact_bytes}
 use Rattle.std.proofs.lemmas.Map.Views.{btree_set_contains_iff}
 use Rattle.hierarchy.specs.Least.{IsLeast, IsLeastIfAny, lower_of}
-use Rattle.hierarchy.specs.Reaches.{at, has, leads, Leads, Holds, IsUnlisted, IsOutside, IsNotClosed}
-use Rattle.hierarchy.proofs.Ascending.{IsLeast-same}
-use Rattle.hierarchy.proofs.LeastOf.{IsLeastIfAny-same, lower_least}
-use Rattle.hierarchy.proofs.Search.{leads-Leads}
+use Rattle.hierarchy.specs.Reaches.{at, has, leads, Leads, IsUnlisted, IsOutside, IsNotClosed}
+use Rattle.hierarchy.proofs.Least.{IsLeast-same, IsLeastIfAny-same, lower_least}
+use Rattle.hierarchy.proofs.Reaches.{leads-Leads}
 use Rattle.policy_names.specs.declared.entity_uid.EntityUID.{EntityUID}
 use Rattle.policy_names.specs.Basename.{is_action_type}
 use Rattle.policy_names.specs.Uid.{text_cmp, uid_cmp, uid_cmp_total, exact_uid}
@@ -28,8 +27,8 @@ use Rattle.schema_core.specs.Kinds.{is_enum, is_empty_enum, is_held_kind}
 use Rattle.schema_core.specs.Listing.{listed_outline, types_lead}
 
 -- the test says what the map holds
-types_lead-Holds : (sets : List (EntityUID × BTreeSet (List ℕ))) (u : EntityUID) (y : List ℕ) → (types_lead sets u y ≡ true) ↔ Holds uid_cmp sets u y
-types_lead-Holds sets u y = elim (at uid_cmp sets u) as (λ r. (option_map_or (λ s. has text_cmp s.keys y) r false ≡ true) ↔ IsSomeAnd r (λ s. Contains s.keys y)) [
+types_lead-Leads : (sets : List (EntityUID × BTreeSet (List ℕ))) (u : EntityUID) (y : List ℕ) → (types_lead sets u y ≡ true) ↔ Leads uid_cmp sets u y
+types_lead-Leads sets u y = elim (at uid_cmp sets u) as (λ r. (option_map_or (λ s. has text_cmp s.keys y) r false ≡ true) ↔ IsSomeAnd r (λ s. Contains s.keys y)) [
   | None ↦ (λ h. absurd (false≢true h), λ h. absurd h)
   | Some s ↦ btree_set_contains_iff nat_list_cmp_total exact_bytes s y
 ]
@@ -46,13 +45,13 @@ module _ (l : Listing) where
   undeclared_type q = (to, from) where
     to : IsUnlisted text_cmp l.types.entries q ⊎ (IsOutside uid_cmp text_cmp l.types.entries l.principals.entries q ⊎ IsOutside uid_cmp text_cmp l.types.entries l.resources.entries q) → ((listed_outline l).has_type q ≡ false) × IsListedType (listed_outline l) q
     to (inl h) = (h.0, inl (h.1.0, (leads_type h.1.0 q).1 h.1.1))
-    to (inr (inl h)) = (h.0, inr (inl (h.1.0, (types_lead-Holds l.principals.entries h.1.0 q).1 h.1.1)))
-    to (inr (inr h)) = (h.0, inr (inr (h.1.0, (types_lead-Holds l.resources.entries h.1.0 q).1 h.1.1)))
+    to (inr (inl h)) = (h.0, inr (inl (h.1.0, (types_lead-Leads l.principals.entries h.1.0 q).1 h.1.1)))
+    to (inr (inr h)) = (h.0, inr (inr (h.1.0, (types_lead-Leads l.resources.entries h.1.0 q).1 h.1.1)))
 
     from : ((listed_outline l).has_type q ≡ false) × IsListedType (listed_outline l) q → IsUnlisted text_cmp l.types.entries q ⊎ (IsOutside uid_cmp text_cmp l.types.entries l.principals.entries q ⊎ IsOutside uid_cmp text_cmp l.types.entries l.resources.entries q)
     from (absent, inl (x, h)) = inl (absent, (x, (leads_type x q).0 h))
-    from (absent, inr (inl (u, h))) = inr (inl (absent, (u, (types_lead-Holds l.principals.entries u q).0 h)))
-    from (absent, inr (inr (u, h))) = inr (inr (absent, (u, (types_lead-Holds l.resources.entries u q).0 h)))
+    from (absent, inr (inl (u, h))) = inr (inl (absent, (u, (types_lead-Leads l.principals.entries u q).0 h)))
+    from (absent, inr (inr (u, h))) = inr (inr (absent, (u, (types_lead-Leads l.resources.entries u q).0 h)))
 
   -- or named inside a type
   undeclared_any : (q : List ℕ) → ((((listed_outline l).has_type q ≡ false) × IsListedType (listed_outline l) q) ⊎ (((listed_outline l).has_type q ≡ false) × IsTypeInside (listed_outline l) q)) ↔ IsUndeclaredType (listed_outline l) q

@@ -8,7 +8,7 @@ ghost use Rattle.schema_core.specs.Arranged.{type_of, action_of, keys_found};
 
 use crate::listing::{Kinds, TypesOf};
 use crate::{ValidatorActionId, ValidatorEntityType};
-use hierarchy::{Key, Steps};
+use hierarchy::{Key, SharedSet, SharedSteps};
 use policy_names::{EntityType, EntityUID};
 use schema_types::Attributes;
 use std::alloc::{AllocError, Global};
@@ -18,7 +18,7 @@ use std::collections::{BTreeMap, BTreeSet};
 pub fn arranged_types(
     alloc: Global,
     kinds: Kinds,
-    types: &Steps<EntityType>,
+    types: &SharedSteps<EntityType>,
 ) -> Result<Vec<ValidatorEntityType>, AllocError>
     requires { HasAscending text_cmp text_cmp types.now.entries }
     ensures each { IfOk result (λ list. list.items ≡ map (type_of types.now.entries) kinds.entries) }
@@ -36,7 +36,7 @@ pub fn arranged_types(
 pub fn arranged_actions(
     alloc: Global,
     contexts: BTreeMap<EntityUID, Attributes>,
-    actions: &Steps<EntityUID>,
+    actions: &SharedSteps<EntityUID>,
     principals: &TypesOf,
     resources: &TypesOf,
 ) -> Result<Vec<ValidatorActionId>, AllocError>
@@ -65,7 +65,7 @@ pub fn arranged_actions(
 // The set at a name.
 fn copied_set<A: Key, K: Key>(
     alloc: Global,
-    sets: &BTreeMap<A, BTreeSet<K>>,
+    sets: &BTreeMap<A, SharedSet<K>>,
     name: &A,
 ) -> Result<BTreeSet<K>, AllocError>
     requires { HasAscending A.cmp K.cmp sets.now.entries }
@@ -73,7 +73,7 @@ fn copied_set<A: Key, K: Key>(
     ensures ordered { IfOk result (Ascends K.cmp) }
 {
     match sets.get(name) {
-        Some(set) => set.clone(),
+        Some(set) => set.as_set().clone(),
         None => Ok(BTreeSet::new(alloc)),
     }
 }

@@ -121,7 +121,7 @@ pub fn least_listed_enum(listing: &Listing) -> Option<&EntityType>
 {
     let mut low = None;
     for (_, set) in &listing.types {
-        for name in set {
+        for name in set.as_set() {
             if is_enum_at(&listing.kinds, name) {
                 low = lower(low, Some(name));
             }

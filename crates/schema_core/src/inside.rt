@@ -11,14 +11,14 @@ ghost use Rattle.schema_core.specs.KindView.{kind_of};
 ghost use Rattle.schema_core.specs.Lowest.{lowest_name, lowest_names, lowest_inside, lowest_within, lowest_of, undeclared_next, unknown_next};
 
 use crate::ValidatorEntityTypeKind;
-use hierarchy::{Steps, lower};
+use hierarchy::{SharedSteps, lower};
 use policy_names::{EntityType, Name};
 use schema_types::{Attributes, EntityLUB, EntityRecordKind, Type, TypeKind};
 
 /// The lowest of `low` and the entity types that the kind names and that have no entry.
 pub fn undeclared_in_kind<'a>(
     low: Option<&'a EntityType>,
-    types: &Steps<EntityType>,
+    types: &SharedSteps<EntityType>,
     kind: &'a ValidatorEntityTypeKind,
 ) -> Option<&'a EntityType>
     ensures { option_copied result ≡ lowest_of (undeclared_next (λ n. is_some (at text_cmp types.now.entries n))) (option_copied low.entry) (kind_of kind.now) }
@@ -40,7 +40,7 @@ pub fn undeclared_in_kind<'a>(
 #[cycle(undeclared)]
 pub fn undeclared_in<'a>(
     low: Option<&'a EntityType>,
-    types: &Steps<EntityType>,
+    types: &SharedSteps<EntityType>,
     a: &'a Attributes,
 ) -> Option<&'a EntityType>
     ensures { option_copied result ≡ lowest_within (undeclared_next (λ n. is_some (at text_cmp types.now.entries n))) (option_copied low.entry) a.now }
@@ -56,7 +56,7 @@ pub fn undeclared_in<'a>(
 #[cycle(undeclared)]
 fn undeclared_in_type<'a>(
     low: Option<&'a EntityType>,
-    types: &Steps<EntityType>,
+    types: &SharedSteps<EntityType>,
     t: &'a Type,
 ) -> Option<&'a EntityType>
     ensures { option_copied result ≡ lowest_inside (undeclared_next (λ n. is_some (at text_cmp types.now.entries n))) (option_copied low.entry) t.now }
@@ -73,7 +73,7 @@ fn undeclared_in_type<'a>(
 #[cycle(undeclared)]
 fn undeclared_in_part<'a>(
     low: Option<&'a EntityType>,
-    types: &Steps<EntityType>,
+    types: &SharedSteps<EntityType>,
     k: &'a EntityRecordKind,
 ) -> Option<&'a EntityType>
     ensures { option_copied result ≡ lowest_inside (undeclared_next (λ n. is_some (at text_cmp types.now.entries n))) (option_copied low.entry) (part_of k.now) }
@@ -88,7 +88,7 @@ fn undeclared_in_part<'a>(
 
 fn undeclared_among<'a>(
     low: Option<&'a EntityType>,
-    types: &Steps<EntityType>,
+    types: &SharedSteps<EntityType>,
     lub: &'a EntityLUB,
 ) -> Option<&'a EntityType>
     ensures { option_copied result ≡ lowest_names (λ n. is_some (at text_cmp types.now.entries n)) (option_copied low.entry) lub.now }

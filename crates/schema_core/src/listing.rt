@@ -12,7 +12,7 @@ use crate::{
     ActionDeclaration, SchemaDeclarations, TypeDeclaration, ValidatorActionId, ValidatorEntityType,
     ValidatorEntityTypeKind,
 };
-use hierarchy::Steps;
+use hierarchy::{SharedSet, SharedSteps};
 use policy_names::{EntityType, EntityUID};
 use schema_types::Attributes;
 use std::alloc::{AllocError, Global};
@@ -22,14 +22,14 @@ use std::collections::{BTreeMap, BTreeSet};
 pub type Kinds = BTreeMap<EntityType, ValidatorEntityTypeKind>;
 
 /// Types that are listed at actions.
-pub type TypesOf = BTreeMap<EntityUID, BTreeSet<EntityType>>;
+pub type TypesOf = BTreeMap<EntityUID, SharedSet<EntityType>>;
 
 /// Types and actions under their names, with what is listed at each, and what each is.
 #[derive(Debug, Drop)]
 pub struct Listing {
-    pub types: Steps<EntityType>,
+    pub types: SharedSteps<EntityType>,
     pub kinds: Kinds,
-    pub actions: Steps<EntityUID>,
+    pub actions: SharedSteps<EntityUID>,
     pub principals: TypesOf,
     pub resources: TypesOf,
     pub contexts: BTreeMap<EntityUID, Attributes>,
@@ -56,6 +56,7 @@ pub fn listed(
             context,
         } = action;
         add_action(
+            alloc,
             &mut listing,
             name,
             principals,
@@ -90,7 +91,15 @@ pub fn declared(alloc: Global, declarations: SchemaDeclarations) -> Result<Listi
         let principals = set_of(alloc, principals)?;
         let resources = set_of(alloc, resources)?;
         let member_of = set_of(alloc, member_of)?;
-        add_action(&mut listing, id, principals, resources, member_of, context)?;
+        add_action(
+            alloc,
+            &mut listing,
+            id,
+            principals,
+            resources,
+            member_of,
+            context,
+        )?;
     }
     Ok(listing)
 }
@@ -111,7 +120,7 @@ fn listed_types(
             kind,
             ..
         } = entity_type;
-        add_type(&mut listing, name, kind, descendants)?;
+        add_type(alloc, &mut listing, name, kind, descendants)?;
     }
     Ok(listing)
 }
@@ -129,7 +138,7 @@ fn declared_types(alloc: Global, entity_types: Vec<TypeDeclaration>) -> Result<L
             kind,
         } = entity_type;
         let member_of = set_of(alloc, member_of)?;
-        add_type(&mut listing, name, kind, member_of)?;
+        add_type(alloc, &mut listing, name, kind, member_of)?;
     }
     Ok(listing)
 }
@@ -155,6 +164,7 @@ fn empty(alloc: Global) -> Listing
 
 // Declares one type more.
 fn add_type(
+    alloc: Global,
     listing: &mut Listing,
     name: EntityType,
     kind: ValidatorEntityTypeKind,
@@ -162,6 +172,7 @@ fn add_type(
 ) -> Result<(), AllocError>
     ensures { OnOk result (AddsType listing.old listing.new name kind listed) }
 {
+    let listed = SharedSet::new(alloc, listed)?;
     listing.types.insert(name.clone()?, listed)?;
     listing.kinds.insert(name, kind)?;
     Ok(())
@@ -169,6 +180,7 @@ fn add_type(
 
 // Declares one action more.
 fn add_action(
+    alloc: Global,
     listing: &mut Listing,
     id: EntityUID,
     principals: BTreeSet<EntityType>,
@@ -178,6 +190,9 @@ fn add_action(
 ) -> Result<(), AllocError>
     ensures { OnOk result (AddsAction listing.old listing.new id principals resources listed context) }
 {
+    let principals = SharedSet::new(alloc, principals)?;
+    let resources = SharedSet::new(alloc, resources)?;
+    let listed = SharedSet::new(alloc, listed)?;
     listing.principals.insert(id.clone()?, principals)?;
     listing.resources.insert(id.clone()?, resources)?;
     listing.actions.insert(id.clone()?, listed)?;

@@ -1,5 +1,5 @@
 use Rattle.std.proofs.Common.{◌≤◌, ◌+◌, ◌*◌, drop}
-use Rattle.policy_core.specs.Tree.{depth_of, deepest, deepest_named, trees_of, named_of}
+use Rattle.policy_expressions.specs.Tree.{depth_of, deepest, deepest_named, trees_of, named_of}
 use Rattle.schema_core.specs.RequestEnvs.{environment_of}
 use Rattle.entity_manifest.specs.Reads.{demands_each, demands_named}
 use Rattle.entity_manifest.specs.Asked.{SameAsked}

@@ -1,7 +1,7 @@
 use Rattle.std.proofs.Common.{◌≡◌, ◌∷◌, ◌++◌, List, [], map, ℕ, ap, sym, ◌∙◌, refl}
 use Rattle.std.proofs.lemmas.Iterator.{YieldsList-from_chars}
 use Rattle.std.proofs.lemmas.Iterator.Consumers.{YieldsList-end}
-use Rattle.policy_core.specs.declared.kinds.PatternElem.TheVariants.{Char}
+use Rattle.policy_expressions.specs.declared.kinds.PatternElem.TheVariants.{Char}
 use Rattle.expr_documents.proofs.parts.push_chars.Goals as goal
 
 map_same : (xs : List ℕ) → map (λ c. c) xs ≡ xs

@@ -1,5 +1,5 @@
 use Rattle.std.proofs.Common.{◌≡◌, ◌++◌, map}
-use Rattle.policy_core.specs.declared.kinds.PatternElem.TheVariants.{Char}
+use Rattle.policy_expressions.specs.declared.kinds.PatternElem.TheVariants.{Char}
 use Rattle.expr_documents.proofs.parts.push_chars.Given as goal
 
 -- behind the elements stand the characters so far

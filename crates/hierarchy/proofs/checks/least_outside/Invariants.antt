@@ -1,6 +1,6 @@
 use Rattle.std.specs.Option.{option_copied}
 use Rattle.std.specs.Map.{keys_of}
-use Rattle.hierarchy.proofs.LeastOf.{IsLeastSoFar}
+use Rattle.hierarchy.proofs.LeastOutside.{IsLeastSoFar}
 use Rattle.hierarchy.proofs.checks.least_outside.Given as goal
 
 abbrev pub invariant-loop-set : goal.invariant-loop-set

@@ -7,7 +7,8 @@ use Rattle.std.proofs.lemmas.Option.{slice_get_read}
 use Rattle.std.specs.Ordering.{nat_cmp}
 use Rattle.hierarchy.specs.Least.{IsLeastIfAny}
 use Rattle.hierarchy.specs.Repeated.{StandsEarlier}
-use Rattle.hierarchy.proofs.Seen.{seen_more, found, fresh, not_after, earlier_within, some_repeated}
+use Rattle.hierarchy.proofs.Seen.{seen_more, found, fresh, not_after, some_repeated}
+use Rattle.hierarchy.proofs.Repeated.{earlier_within}
 use Rattle.hierarchy.proofs.repeats.first_repeated.Goals as goal
 
 pub returns-then-not-branch : goal.returns-then-not-branch

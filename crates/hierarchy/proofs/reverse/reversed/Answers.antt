@@ -13,7 +13,7 @@ pub loop-other-init : goal.loop-other-init
 loop-other-init g c =
     let gives = c.into_iter-key-iterator.ensures.into_iter_gives in
     let here = All-turn deref_pair (λ e. at g.K.Ord.cmp c.args.steps.now.entries e.0 ≡ Some e.1) _ _ _ _ _ _ _ gives.6 gives.0 c.loop-key.yielded_by c.in-Some.is c.next.ensures.steps in
-    rw c.into_iter-other-iterator.ensures.into_iter_gives.0
+    rw (c.into_iter-other-iterator.ensures.into_iter_gives.0, c.as_set-other-items.ensures)
     (turned_key g.met.K.Ord.total g.met.K.Key.exact c.args.steps.now.entries c.loop-key.back.entries c.put.new.steps.entries _ _ c.in-Some.key.now c.in-Some.next.now c.loop-key.invariant (ap keys_of c.in-Some.ensures.steps) here c.in_ok-put.ensures.keys c.in_ok-put.ensures.leads)
 
 pub loop-other-preserved : goal.loop-other-preserved
@@ -21,8 +21,5 @@ loop-other-preserved g c =
     turned_step g.met.K.Ord.total g.met.K.Key.exact c.args.steps.now.entries c.loop-other.back.entries c.add_step.new.steps.entries _ _ _ c.in-Some.key.now c.in-Some-other.other.now c.loop-other.invariant
     c.in-Some-other.ensures.steps c.in_ok-add_step.ensures.keys c.in_ok-add_step.ensures.leads
 
-pub returns-clause-reversed : goal.returns-clause-reversed
-returns-clause-reversed g c = turned_all g.met.K.Ord.total g.met.K.Key.exact c.args.steps.now.entries c.loop-key.back.entries (rw c.in-None.ensures.steps.0 at c.loop-key.invariant)
-
-pub returns-clause-only : goal.returns-clause-only
-returns-clause-only g c = c.loop-key.invariant.only
+pub returns : goal.returns
+returns g c = turned_all g.met.K.Ord.total g.met.K.Key.exact c.args.steps.now.entries c.loop-key.back.entries (rw c.in-None.ensures.steps.0 at c.loop-key.invariant)

@@ -1,6 +1,6 @@
 use Rattle.std.proofs.Common.{◌≡◌, ◌≤◌, ◌+◌, ◌*◌, ◌++◌, drop}
 use Rattle.std.specs.Map.{keys_of}
-use Rattle.policy_core.specs.Tree.{depth_of, deepest, deepest_named, trees_of, named_of}
+use Rattle.policy_expressions.specs.Tree.{depth_of, deepest, deepest_named, trees_of, named_of}
 use Rattle.policy_core.specs.Eval.{result_map, eval_all, eval_named}
 use Rattle.policy_core.proofs.eval.+evaluate.Given as goal
 

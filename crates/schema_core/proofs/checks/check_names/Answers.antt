@@ -1,4 +1,4 @@
-use Rattle.hierarchy.proofs.Ascending.{IsLeast-same}
+use Rattle.hierarchy.proofs.Least.{IsLeast-same}
 use Rattle.policy_names.specs.Uid.{copied_uid}
 use Rattle.schema_core.specs.Listing.{listed_outline}
 use Rattle.schema_core.proofs.Rules.{undeclared_action, sound_names}

@@ -6,7 +6,7 @@ use Rattle.std.proofs.lemmas.Map.Views.{All-turn}
 use Rattle.std.specs.Cmp.Lexicographic.{nat_list_cmp_total}
 use Rattle.std.proofs.lemmas.Map.Lookups.{exact_bytes}
 use Rattle.policy_names.specs.Uid.{text_cmp}
-use Rattle.hierarchy.proofs.Ascending.{least_here, rest_more, none_left}
+use Rattle.hierarchy.proofs.Least.{least_here, rest_more, none_left}
 use Rattle.schema_core.specs.Outline.{IsDeclaredActionType}
 use Rattle.schema_core.specs.Listing.{listed_outline}
 use Rattle.schema_core.proofs.checks.first_action_type.Goals as goal

@@ -1,4 +1,4 @@
-use Rattle.hierarchy.proofs.Ascending.{IsRest}
+use Rattle.hierarchy.proofs.Least.{IsRest}
 use Rattle.policy_names.specs.Uid.{text_cmp}
 use Rattle.schema_core.specs.Outline.{IsDeclaredActionType}
 use Rattle.schema_core.specs.Listing.{listed_outline}

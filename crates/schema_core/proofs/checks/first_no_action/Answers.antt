@@ -4,7 +4,7 @@ use Rattle.std.specs.Map.Iter.{deref}
 use Rattle.std.proofs.lemmas.Bool.{false≢true}
 use Rattle.std.proofs.lemmas.Map.Views.{All-turn}
 use Rattle.policy_names.specs.Uid.{uid_cmp, uid_cmp_total, exact_uid}
-use Rattle.hierarchy.proofs.Ascending.{least_here, rest_more, none_left}
+use Rattle.hierarchy.proofs.Least.{least_here, rest_more, none_left}
 use Rattle.schema_core.specs.Outline.{IsNoAction}
 use Rattle.schema_core.specs.Listing.{listed_outline}
 use Rattle.schema_core.proofs.checks.first_no_action.Goals as goal

@@ -7,8 +7,8 @@ use Rattle.schema_core.proofs.validator_schema.with_descendants.Goals as goal
 
 pub returns-clause-descendants : goal.returns-clause-descendants
 returns-clause-descendants c = record {
-  has_type = same_keys nat_list_cmp_total exact_bytes c.args.listing.types.entries c.in_ok-types.types.entries (λ y h. c.requires.names.named_types y (inl (inl h))) c.in_ok-types.ensures.keys c.in_ok-types.ensures.only;
-  has_action = same_keys uid_cmp_total exact_uid c.args.listing.actions.entries c.in_ok-actions.actions.entries c.requires.names.named_actions c.in_ok-actions.ensures.keys c.in_ok-actions.ensures.only;
+  has_type = same_keys nat_list_cmp_total exact_bytes c.args.listing.types.entries c.in_ok-types.types.entries (λ y h. c.requires.names.named_types y (inl (inl h))) c.in_ok-types.ensures.keys.each c.in_ok-types.ensures.keys.only;
+  has_action = same_keys uid_cmp_total exact_uid c.args.listing.actions.entries c.in_ok-actions.actions.entries c.requires.names.named_actions c.in_ok-actions.ensures.keys.each c.in_ok-actions.ensures.keys.only;
   types = same_reach nat_list_cmp_total exact_bytes c.args.listing.types.entries c.in_ok-types.types.entries c.in_ok-types.ensures.below;
   actions = same_reach uid_cmp_total exact_uid c.args.listing.actions.entries c.in_ok-actions.actions.entries c.in_ok-actions.ensures.below;
   principals = λ u y. refl;
@@ -19,8 +19,8 @@ returns-clause-descendants c = record {
 
 pub returns-clause-listing : goal.returns-clause-listing
 returns-clause-listing c =
-    let types = same_keys nat_list_cmp_total exact_bytes c.args.listing.types.entries c.in_ok-types.types.entries (λ y h. c.requires.names.named_types y (inl (inl h))) c.in_ok-types.ensures.keys c.in_ok-types.ensures.only in
-    let actions = same_keys uid_cmp_total exact_uid c.args.listing.actions.entries c.in_ok-actions.actions.entries c.requires.names.named_actions c.in_ok-actions.ensures.keys c.in_ok-actions.ensures.only in
+    let types = same_keys nat_list_cmp_total exact_bytes c.args.listing.types.entries c.in_ok-types.types.entries (λ y h. c.requires.names.named_types y (inl (inl h))) c.in_ok-types.ensures.keys.each c.in_ok-types.ensures.keys.only in
+    let actions = same_keys uid_cmp_total exact_uid c.args.listing.actions.entries c.in_ok-actions.actions.entries c.requires.names.named_actions c.in_ok-actions.ensures.keys.each c.in_ok-actions.ensures.keys.only in
     record {
       types = c.in_ok-types.ensures.ordered;
       actions = c.in_ok-actions.ensures.ordered;

@@ -7,11 +7,11 @@ returns-in-Some c = rw (c.in-Some.is, c.deref.ensures.value) at c.in_ok-uid.ensu
 pub parents_of-requires : goal.parents_of-requires
 parents_of-requires c = rw c.deref-2.ensures.value (rw (c.in_default.is, c.deref.ensures.value) at c.in_ok-uid.ensures)
 
-pub returns-in-Some-first_own_shared : goal.returns-in-Some-first_own_shared
-returns-in-Some-first_own_shared c =
+pub returns-in-Some-first_own : goal.returns-in-Some-first_own
+returns-in-Some-first_own c =
     let once = rw (c.in_default.is, c.deref.ensures.value) at c.in_ok-uid.ensures in
     let placed = rw c.deref-2.ensures.value at c.in_ok-parents.ensures in
-    (once, rw c.in_ok-try_clone.ensures (least_own c.args.entities.items c.in_ok-parents.parents.entries c.in_ok-ancestors.ancestors.entries placed c.in_ok-ancestors.ensures.keys c.in_ok-ancestors.ensures.reached c.in-Some-first_own_shared.uid.now c.in-Some-first_own_shared.ensures))
+    (once, rw c.in_ok-try_clone.ensures (least_own c.args.entities.items c.in_ok-parents.parents.entries c.in_ok-ancestors.ancestors.entries placed c.in_ok-ancestors.ensures.keys c.in_ok-ancestors.ensures.reached c.in-Some-first_own.uid.now c.in-Some-first_own.ensures))
 
 pub with_ancestors-requires-clause-once : goal.with_ancestors-requires-clause-once
 with_ancestors-requires-clause-once c = rw (c.in_default.is, c.deref.ensures.value) at c.in_ok-uid.ensures
@@ -25,5 +25,5 @@ pub returns : goal.returns
 returns c =
     let once = rw (c.in_default.is, c.deref.ensures.value) at c.in_ok-uid.ensures in
     let placed = rw c.deref-2.ensures.value at c.in_ok-parents.ensures in
-    store_made c.args.entities.items c.in_ok-parents.parents.entries c.in_ok-ancestors.ancestors.entries placed c.in_ok-ancestors.ensures.keys c.in_ok-ancestors.ensures.reached c.in_ok-with_ancestors.field-0 once c.in_default-first_own_shared.ensures
+    store_made c.args.entities.items c.in_ok-parents.parents.entries c.in_ok-ancestors.ancestors.entries placed c.in_ok-ancestors.ensures.keys c.in_ok-ancestors.ensures.reached c.in_ok-with_ancestors.field-0 once c.in_default-first_own.ensures
     c.in_ok-with_ancestors.ensures.ordered c.in_ok-with_ancestors.ensures.linked c.in_ok-with_ancestors.ensures.ascending

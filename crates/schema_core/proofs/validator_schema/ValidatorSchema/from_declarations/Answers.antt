@@ -1,7 +1,7 @@
 use Rattle.std.proofs.Common.{IsTrue, subst, refl, sym}
 use Rattle.hierarchy.specs.Reaches.{Reaches}
 use Rattle.hierarchy.specs.Least.{IsLeast}
-use Rattle.hierarchy.proofs.Ascending.{IsLeast-same}
+use Rattle.hierarchy.proofs.Least.{IsLeast-same}
 use Rattle.policy_names.specs.Uid.{text_cmp, uid_cmp, copied_uid}
 use Rattle.schema_core.specs.Outline.{Outline, outline_of, HasSoundNames, HasSoundTypes, HasDescendants, IsListingEnum}
 use Rattle.schema_core.specs.Faults.{Nowhere, IsTypeFault}

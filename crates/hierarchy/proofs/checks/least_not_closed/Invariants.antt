@@ -1,7 +1,0 @@
-use Rattle.std.specs.Map.{keys_of}
-use Rattle.hierarchy.specs.Reaches.{IsNotClosed}
-use Rattle.hierarchy.proofs.Ascending.{IsRest}
-use Rattle.hierarchy.proofs.checks.least_not_closed.Given as goal
-
-abbrev pub invariant-loop-key : goal.invariant-loop-key
-invariant-loop-key g l = IsRest g.K.Ord.cmp (IsNotClosed g.K.Ord.cmp l.steps.entries) (keys_of l.key-iterator)

@@ -1,5 +1,0 @@
-use Rattle.policy_core.proofs.ReadSteps.{datetime_read}
-use Rattle.policy_core.proofs.calls.read_datetime.Goals as goal
-
-pub returns : goal.returns
-returns c = datetime_read c.args.text.now c.read.result c.read.ensures

@@ -1,5 +1,0 @@
-use Rattle.policy_core.proofs.ReadSteps.{decimal_read}
-use Rattle.policy_core.proofs.calls.read_decimal.Goals as goal
-
-pub returns : goal.returns
-returns c = decimal_read c.args.text.now c.read.result c.read.ensures

@@ -1,7 +1,0 @@
-use Rattle.std.proofs.Common.{◌≡◌, ◌≤◌, drop, max}
-use Rattle.policy_core.specs.Tree.{deepest, trees_of}
-use Rattle.policy_core.proofs.expr.deepest_of.Given as goal
-
-abbrev pub invariant-loop-item : goal.invariant-loop-item
-invariant-loop-item g l =
-    (max l.depth (deepest (trees_of (drop l.item-index l.items.items))) ≡ deepest (trees_of l.items.items)) × (l.depth ≤ 400)

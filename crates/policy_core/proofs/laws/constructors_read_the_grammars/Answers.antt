@@ -1,5 +1,0 @@
-use Rattle.policy_core.proofs.ReadSteps.{reads_grammars}
-use Rattle.policy_core.proofs.laws.constructors_read_the_grammars.Goals as goal
-
-pub returns : goal.returns
-returns c = reads_grammars

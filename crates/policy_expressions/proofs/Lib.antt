@@ -1,0 +1,3 @@
+pub mod FillSteps
+pub mod ShapeSteps
+pub mod TreeSteps

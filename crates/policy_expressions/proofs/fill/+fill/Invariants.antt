@@ -1,0 +1,27 @@
+use Rattle.std.proofs.Common.{◌≡◌, ◌≤◌, ◌+◌, ◌*◌, ◌++◌, take, map}
+use Rattle.std.specs.Map.{keys_of}
+use Rattle.policy_expressions.specs.Tree.{depth_of, deepest, deepest_named, trees_of, named_of}
+use Rattle.policy_expressions.specs.Slots.{filled, filled_entry}
+use Rattle.policy_expressions.proofs.fill.+fill.Given as goal
+
+abbrev pub decreases-fill : goal.decreases-fill
+decreases-fill g l = 3 * depth_of l.e.now
+
+abbrev pub decreases-fill_box : goal.decreases-fill_box
+decreases-fill_box g l = 3 * depth_of l.e.now.value + 1
+
+abbrev pub decreases-fill_all : goal.decreases-fill_all
+decreases-fill_all g l = 3 * deepest (trees_of l.items.now.items) + 1
+
+abbrev pub decreases-fill_named : goal.decreases-fill_named
+decreases-fill_named g l = 3 * deepest_named (named_of l.fields.now.entries) + 1
+
+abbrev pub invariant-fill_all-loop-item : goal.invariant-fill_all-loop-item
+invariant-fill_all-loop-item g l = l.copies.items ≡ map (filled l.values) (take l.item-index l.items.items)
+
+abbrev pub invariant-fill_named-loop-name : goal.invariant-fill_named-loop-name
+invariant-fill_named-loop-name g l = record {
+  so_far : l.copies.entries ++ map (filled_entry l.values) l.name-iterator ≡ map (filled_entry l.values) l.fields.entries;
+  keys : keys_of l.fields.entries ≡ keys_of l.copies.entries ++ keys_of l.name-iterator;
+  depth : deepest_named (named_of l.name-iterator) ≤ deepest_named (named_of l.fields.entries);
+}

@@ -1,0 +1,556 @@
+//! Expressions.
+
+ghost use Rattle.std.specs.Prelude.{◌≡◌, ◌≢◌, ◌≤◌, IfOk, max, ◌↔◌};
+ghost use Rattle.policy_expressions.specs.Tree.{Tree, lit, var, slot, ite, conj, disj, unary, binary, attr, has, like, is_type, call, set, rec, Mark, mark_of, with_mark, depth_of, deepest, trees_of, deepest_named, named_of};
+ghost use Rattle.policy_expressions.specs.TreeView.{tree_of};
+
+use crate::{BinaryOp, Literal, Loc, Note, Pattern, SlotId, UnaryOp, Var};
+use policy_names::{EntityType, Name, Text};
+use std::alloc::{AllocError, Global};
+use std::collections::BTreeMap;
+use std::fmt;
+use std::marker::Model;
+
+/// An expression, with a note of type T at each node and the place where it stands in its source. It is at most 400
+/// deep: a literal, a variable or a slot has depth 1, any other expression one more than its deepest operand.
+#[derive(Debug, Drop)]
+#[cycle(expr)]
+pub struct Expr<T> {
+    kind: ExprKind<T>,
+    depth: u32,
+    note: T,
+    loc: Option<Loc>,
+}
+
+/// The kind of an expression, with its operands.
+#[derive(Debug, Drop)]
+#[cycle(expr)]
+pub enum ExprKind<T> {
+    /// A literal.
+    Lit(Literal),
+    /// A variable.
+    Var(Var),
+    /// A slot.
+    Slot(SlotId),
+    /// `if` the first `then` the second `else` the third.
+    If(Box<Expr<T>>, Box<Expr<T>>, Box<Expr<T>>),
+    /// `&&`.
+    And(Box<Expr<T>>, Box<Expr<T>>),
+    /// `||`.
+    Or(Box<Expr<T>>, Box<Expr<T>>),
+    /// An operator of one operand.
+    UnaryApp(UnaryOp, Box<Expr<T>>),
+    /// An operator of two operands.
+    BinaryApp(BinaryOp, Box<Expr<T>>, Box<Expr<T>>),
+    /// `.`: an attribute of an entity, or a field of a record.
+    GetAttr(Box<Expr<T>>, Text),
+    /// `has`: whether there is that attribute or field.
+    HasAttr(Box<Expr<T>>, Text),
+    /// `like`: whether a string matches the pattern.
+    Like(Box<Expr<T>>, Pattern),
+    /// `is`: whether an id is of the type.
+    Is(Box<Expr<T>>, EntityType),
+    /// A call of the extension function of a name.
+    ExtensionFunctionApp(Name, Vec<Expr<T>>),
+    /// A set of elements.
+    Set(Vec<Expr<T>>),
+    /// A record of fields under their keys.
+    Record(BTreeMap<Text, Expr<T>>),
+}
+
+impl<T> Model for Expr<T> {
+    ghost use Rattle.std.specs.Prelude.{◌≡◌, ◌≤◌};
+    ghost use Rattle.policy_expressions.specs.Tree.{Tree, Mark, depth_of};
+    ghost use Rattle.policy_expressions.specs.TreeCode.{coded_tree, coded_mark};
+
+    ghost Value = { Tree (Mark T) };
+
+    ghost coded = { coded_tree (coded_mark T.code) };
+
+    ghost use Rattle.policy_expressions.specs.TreeView.{tree_of};
+
+    ghost view = { λ a. tree_of a.kind (record { note = a.note; loc = a.loc }) };
+
+    ghost invariant = { λ a. (a.depth ≡ depth_of (tree_of a.kind (record { note = a.note; loc = a.loc }))) × (a.depth ≤ 400) };
+
+    ghost size = { depth_of };
+
+    ghost use Rattle.policy_expressions.specs.TreeFalls.{falls};
+
+    ghost size_decreases = { λ a h. falls a };
+}
+
+/// Why an expression was not built.
+#[derive(Debug, Drop)]
+pub enum BuildError {
+    /// The expression would be more than 400 deep.
+    Nested,
+    /// There was no memory for it.
+    OutOfMemory,
+}
+
+impl fmt::Display for BuildError {
+    ghost use Rattle.std.specs.Prelude.{Some};
+    ghost use Rattle.policy_expressions.specs.Show.{build_error_text};
+
+    ghost output = { λ e. Some (build_error_text e) };
+
+    fn fmt<W: fmt::Write>(&self, f: &mut fmt::Formatter<W>) -> fmt::Result {
+        match self {
+            BuildError::Nested => f.write_str("nested deeper than 400"),
+            BuildError::OutOfMemory => f.write_str("out of memory"),
+        }
+    }
+}
+
+impl From<AllocError> for BuildError {
+    ghost use Rattle.policy_expressions.specs.declared.expr.BuildError.{BuildError};
+
+    ghost from_gives = { λ _ e. e ≡ BuildError.OutOfMemory };
+
+    fn from(_: AllocError) -> BuildError {
+        BuildError::OutOfMemory
+    }
+}
+
+impl<T> Expr<T> {
+    /// The kind, with the operands.
+    pub fn kind(&self) -> &ExprKind<T>
+        ensures { tree_of result.now (mark_of self.now) ≡ self.now }
+    {
+        &self.kind
+    }
+
+    /// The depth: 1 for a literal, a variable or a slot, else one more than the deepest operand.
+    pub fn depth(&self) -> u32
+        ensures value { result ≡ depth_of self.now }
+        ensures bound { result ≤ 400 }
+    {
+        self.depth
+    }
+
+    /// The note.
+    pub fn data(&self) -> &T
+        ensures { result.now ≡ (mark_of self.now).note }
+    {
+        &self.note
+    }
+
+    /// The place in the source, where it is known.
+    pub fn source_loc(&self) -> Option<Loc>
+        ensures { result ≡ (mark_of self.now).loc }
+    {
+        self.loc
+    }
+
+    /// A literal.
+    pub fn lit(value: Literal, note: T, loc: Option<Loc>) -> Expr<T>
+        ensures { result ≡ lit value (record { note = note; loc = loc }) }
+    {
+        Expr {
+            kind: ExprKind::Lit(value),
+            depth: 1,
+            note,
+            loc,
+        }
+    }
+
+    /// A variable.
+    pub fn var(value: Var, note: T, loc: Option<Loc>) -> Expr<T>
+        ensures { result ≡ var value (record { note = note; loc = loc }) }
+    {
+        Expr {
+            kind: ExprKind::Var(value),
+            depth: 1,
+            note,
+            loc,
+        }
+    }
+
+    /// A slot.
+    pub fn slot(id: SlotId, note: T, loc: Option<Loc>) -> Expr<T>
+        ensures { result ≡ slot id (record { note = note; loc = loc }) }
+    {
+        Expr {
+            kind: ExprKind::Slot(id),
+            depth: 1,
+            note,
+            loc,
+        }
+    }
+}
+
+impl<T: Drop> Expr<T> {
+    /// The conditional of a test and two branches. Errs with `Nested` exactly where it would be more than 400 deep.
+    pub fn ite(
+        alloc: Global,
+        x: Expr<T>,
+        y: Expr<T>,
+        z: Expr<T>,
+        note: T,
+        loc: Option<Loc>,
+    ) -> Result<Expr<T>, BuildError>
+        ensures ok { IfOk result (λ e. e ≡ ite x y z (record { note = note; loc = loc })) }
+        ensures nested { (result ≡ Err BuildError.Nested) ↔ (400 ≤ max (depth_of x) (max (depth_of y) (depth_of z))) }
+    {
+        let depth = x.depth().max(y.depth().max(z.depth()));
+        if depth >= MAX_DEPTH {
+            drop(x);
+            drop(y);
+            drop(z);
+            return Err(BuildError::Nested);
+        }
+        let (x, y, z) = three_boxes(alloc, x, y, z)?;
+        Ok(Expr {
+            kind: ExprKind::If(x, y, z),
+            depth: depth + 1,
+            note,
+            loc,
+        })
+    }
+
+    /// The conjunction of two operands. Errs with `Nested` exactly where it would be more than 400 deep.
+    pub fn and(
+        alloc: Global,
+        x: Expr<T>,
+        y: Expr<T>,
+        note: T,
+        loc: Option<Loc>,
+    ) -> Result<Expr<T>, BuildError>
+        ensures ok { IfOk result (λ e. e ≡ conj x y (record { note = note; loc = loc })) }
+        ensures nested { (result ≡ Err BuildError.Nested) ↔ (400 ≤ max (depth_of x) (depth_of y)) }
+    {
+        let depth = x.depth().max(y.depth());
+        if depth >= MAX_DEPTH {
+            drop(x);
+            drop(y);
+            return Err(BuildError::Nested);
+        }
+        let (x, y) = two_boxes(alloc, x, y)?;
+        Ok(Expr {
+            kind: ExprKind::And(x, y),
+            depth: depth + 1,
+            note,
+            loc,
+        })
+    }
+
+    /// The disjunction of two operands. Errs with `Nested` exactly where it would be more than 400 deep.
+    pub fn or(
+        alloc: Global,
+        x: Expr<T>,
+        y: Expr<T>,
+        note: T,
+        loc: Option<Loc>,
+    ) -> Result<Expr<T>, BuildError>
+        ensures ok { IfOk result (λ e. e ≡ disj x y (record { note = note; loc = loc })) }
+        ensures nested { (result ≡ Err BuildError.Nested) ↔ (400 ≤ max (depth_of x) (depth_of y)) }
+    {
+        let depth = x.depth().max(y.depth());
+        if depth >= MAX_DEPTH {
+            drop(x);
+            drop(y);
+            return Err(BuildError::Nested);
+        }
+        let (x, y) = two_boxes(alloc, x, y)?;
+        Ok(Expr {
+            kind: ExprKind::Or(x, y),
+            depth: depth + 1,
+            note,
+            loc,
+        })
+    }
+
+    /// An operator applied to its operand. Errs with `Nested` exactly where it would be more than 400 deep.
+    pub fn unary_app(
+        alloc: Global,
+        op: UnaryOp,
+        x: Expr<T>,
+        note: T,
+        loc: Option<Loc>,
+    ) -> Result<Expr<T>, BuildError>
+        ensures ok { IfOk result (λ e. e ≡ unary op x (record { note = note; loc = loc })) }
+        ensures nested { (result ≡ Err BuildError.Nested) ↔ (400 ≤ depth_of x) }
+    {
+        let depth = x.depth();
+        if depth >= MAX_DEPTH {
+            drop(x);
+            return Err(BuildError::Nested);
+        }
+        let x = Box::new(alloc, x).map_err(AllocError::from)?;
+        Ok(Expr {
+            kind: ExprKind::UnaryApp(op, x),
+            depth: depth + 1,
+            note,
+            loc,
+        })
+    }
+
+    /// An operator applied to its two operands, the left one first. Errs with `Nested` exactly where it would be more than 400 deep.
+    pub fn binary_app(
+        alloc: Global,
+        op: BinaryOp,
+        x: Expr<T>,
+        y: Expr<T>,
+        note: T,
+        loc: Option<Loc>,
+    ) -> Result<Expr<T>, BuildError>
+        ensures ok { IfOk result (λ e. e ≡ binary op x y (record { note = note; loc = loc })) }
+        ensures nested { (result ≡ Err BuildError.Nested) ↔ (400 ≤ max (depth_of x) (depth_of y)) }
+    {
+        let depth = x.depth().max(y.depth());
+        if depth >= MAX_DEPTH {
+            drop(x);
+            drop(y);
+            return Err(BuildError::Nested);
+        }
+        let (x, y) = two_boxes(alloc, x, y)?;
+        Ok(Expr {
+            kind: ExprKind::BinaryApp(op, x, y),
+            depth: depth + 1,
+            note,
+            loc,
+        })
+    }
+
+    /// The attribute or field of a name. Errs with `Nested` exactly where it would be more than 400 deep.
+    pub fn get_attr(
+        alloc: Global,
+        x: Expr<T>,
+        name: Text,
+        note: T,
+        loc: Option<Loc>,
+    ) -> Result<Expr<T>, BuildError>
+        ensures ok { IfOk result (λ e. e ≡ attr x name (record { note = note; loc = loc })) }
+        ensures nested { (result ≡ Err BuildError.Nested) ↔ (400 ≤ depth_of x) }
+    {
+        let depth = x.depth();
+        if depth >= MAX_DEPTH {
+            drop(x);
+            return Err(BuildError::Nested);
+        }
+        let x = Box::new(alloc, x).map_err(AllocError::from)?;
+        Ok(Expr {
+            kind: ExprKind::GetAttr(x, name),
+            depth: depth + 1,
+            note,
+            loc,
+        })
+    }
+
+    /// The test for an attribute or field of a name. Errs with `Nested` exactly where it would be more than 400 deep.
+    pub fn has_attr(
+        alloc: Global,
+        x: Expr<T>,
+        name: Text,
+        note: T,
+        loc: Option<Loc>,
+    ) -> Result<Expr<T>, BuildError>
+        ensures ok { IfOk result (λ e. e ≡ has x name (record { note = note; loc = loc })) }
+        ensures nested { (result ≡ Err BuildError.Nested) ↔ (400 ≤ depth_of x) }
+    {
+        let depth = x.depth();
+        if depth >= MAX_DEPTH {
+            drop(x);
+            return Err(BuildError::Nested);
+        }
+        let x = Box::new(alloc, x).map_err(AllocError::from)?;
+        Ok(Expr {
+            kind: ExprKind::HasAttr(x, name),
+            depth: depth + 1,
+            note,
+            loc,
+        })
+    }
+
+    /// The test of a string against a pattern. Errs with `Nested` exactly where it would be more than 400 deep.
+    pub fn like(
+        alloc: Global,
+        x: Expr<T>,
+        pattern: Pattern,
+        note: T,
+        loc: Option<Loc>,
+    ) -> Result<Expr<T>, BuildError>
+        ensures ok { IfOk result (λ e. e ≡ like x pattern (record { note = note; loc = loc })) }
+        ensures nested { (result ≡ Err BuildError.Nested) ↔ (400 ≤ depth_of x) }
+    {
+        let depth = x.depth();
+        if depth >= MAX_DEPTH {
+            drop(x);
+            return Err(BuildError::Nested);
+        }
+        let x = Box::new(alloc, x).map_err(AllocError::from)?;
+        Ok(Expr {
+            kind: ExprKind::Like(x, pattern),
+            depth: depth + 1,
+            note,
+            loc,
+        })
+    }
+
+    /// The test for the type of an id. Errs with `Nested` exactly where it would be more than 400 deep.
+    pub fn is(
+        alloc: Global,
+        x: Expr<T>,
+        entity_type: EntityType,
+        note: T,
+        loc: Option<Loc>,
+    ) -> Result<Expr<T>, BuildError>
+        ensures ok { IfOk result (λ e. e ≡ is_type x entity_type (record { note = note; loc = loc })) }
+        ensures nested { (result ≡ Err BuildError.Nested) ↔ (400 ≤ depth_of x) }
+    {
+        let depth = x.depth();
+        if depth >= MAX_DEPTH {
+            drop(x);
+            return Err(BuildError::Nested);
+        }
+        let x = Box::new(alloc, x).map_err(AllocError::from)?;
+        Ok(Expr {
+            kind: ExprKind::Is(x, entity_type),
+            depth: depth + 1,
+            note,
+            loc,
+        })
+    }
+
+    /// The call of an extension function. Errs with `Nested` exactly where it would be more than 400 deep.
+    pub fn extension_function_app(
+        name: Name,
+        args: Vec<Expr<T>>,
+        note: T,
+        loc: Option<Loc>,
+    ) -> Result<Expr<T>, BuildError>
+        ensures ok { IfOk result (λ e. e ≡ call name (trees_of args.items) (record { note = note; loc = loc })) }
+        ensures nested { (result ≡ Err BuildError.Nested) ↔ (400 ≤ deepest (trees_of args.items)) }
+    {
+        let depth = deepest_of(&args);
+        if depth >= MAX_DEPTH {
+            drop(args);
+            return Err(BuildError::Nested);
+        }
+        Ok(Expr {
+            kind: ExprKind::ExtensionFunctionApp(name, args),
+            depth: depth + 1,
+            note,
+            loc,
+        })
+    }
+
+    /// The set of elements. Errs with `Nested` exactly where it would be more than 400 deep.
+    pub fn set(items: Vec<Expr<T>>, note: T, loc: Option<Loc>) -> Result<Expr<T>, BuildError>
+        ensures ok { IfOk result (λ e. e ≡ set (trees_of items.items) (record { note = note; loc = loc })) }
+        ensures nested { (result ≡ Err BuildError.Nested) ↔ (400 ≤ deepest (trees_of items.items)) }
+    {
+        let depth = deepest_of(&items);
+        if depth >= MAX_DEPTH {
+            return Err(BuildError::Nested);
+        }
+        Ok(Expr {
+            kind: ExprKind::Set(items),
+            depth: depth + 1,
+            note,
+            loc,
+        })
+    }
+
+    /// The record of fields. Errs with `Nested` exactly where it would be more than 400 deep.
+    pub fn record(
+        fields: BTreeMap<Text, Expr<T>>,
+        note: T,
+        loc: Option<Loc>,
+    ) -> Result<Expr<T>, BuildError>
+        ensures ok { IfOk result (λ e. e ≡ rec (named_of fields.entries) (record { note = note; loc = loc })) }
+        ensures nested { (result ≡ Err BuildError.Nested) ↔ (400 ≤ deepest_named (named_of fields.entries)) }
+    {
+        let depth = deepest_of_named(&fields);
+        if depth >= MAX_DEPTH {
+            return Err(BuildError::Nested);
+        }
+        Ok(Expr {
+            kind: ExprKind::Record(fields),
+            depth: depth + 1,
+            note,
+            loc,
+        })
+    }
+
+    /// Puts another note in the place of the note.
+    pub fn set_data(&mut self, note: T)
+        ensures { self.new ≡ with_mark self.old (record { note = note; loc = (mark_of self.old).loc }) }
+    {
+        self.note = note;
+    }
+
+    /// Puts another place in the source in the place of its own.
+    pub fn set_source_loc(&mut self, loc: Option<Loc>)
+        ensures { self.new ≡ with_mark self.old (record { note = (mark_of self.old).note; loc = loc }) }
+    {
+        self.loc = loc;
+    }
+}
+
+// The deepest that an expression can be.
+const MAX_DEPTH: u32 = 400;
+
+fn two_boxes<X: Drop>(alloc: Global, x: X, y: X) -> Result<(Box<X>, Box<X>), AllocError>
+    ensures { IfOk result (λ r. (r.0.value ≡ x) × (r.1.value ≡ y)) }
+{
+    let x = Box::new(alloc, x)?;
+    Ok((x, Box::new(alloc, y)?))
+}
+
+fn three_boxes<X: Drop>(
+    alloc: Global,
+    x: X,
+    y: X,
+    z: X,
+) -> Result<(Box<X>, Box<X>, Box<X>), AllocError>
+    ensures { IfOk result (λ r. (r.0.value ≡ x) × (r.1.value ≡ y) × (r.2.value ≡ z)) }
+{
+    let x = Box::new(alloc, x)?;
+    let y = Box::new(alloc, y)?;
+    Ok((x, y, Box::new(alloc, z)?))
+}
+
+// The greatest depth among expressions, 0 where there is none.
+#[tactic(auto, using(crate::proofs::TreeSteps::deepest_more, crate::proofs::TreeSteps::deepest_all))]
+fn deepest_of<T>(items: &Vec<Expr<T>>) -> u32
+    ensures value { result ≡ deepest (trees_of items.now.items) }
+    ensures bound { result ≤ 400 }
+{
+    let mut depth = 0;
+    for item in items {
+        depth = item.depth().max(depth);
+    }
+    depth
+}
+
+// The same of the expressions in a map.
+fn deepest_of_named<T>(fields: &BTreeMap<Text, Expr<T>>) -> u32
+    ensures value { result ≡ deepest_named (named_of fields.now.entries) }
+    ensures bound { result ≤ 400 }
+{
+    let mut depth = 0;
+    for (_, item) in fields.iter() {
+        depth = item.depth().max(depth);
+    }
+    depth
+}
+
+// The expression around other operands that are as deep, with a copy of its note.
+pub(crate) fn with_kind<T: Note>(
+    alloc: Global,
+    e: &Expr<T>,
+    kind: ExprKind<T>,
+) -> Result<Expr<T>, AllocError>
+    requires { depth_of (tree_of kind (mark_of e.now)) ≡ depth_of e.now }
+    ensures { IfOk result (λ r. r ≡ tree_of kind (mark_of e.now)) }
+{
+    let note = e.note.try_copy(alloc)?;
+    Ok(Expr {
+        kind,
+        depth: e.depth,
+        note,
+        loc: e.loc,
+    })
+}
