@@ -1,2 +1,5 @@
-pub mod SameId
-pub mod Bounds
+mod Bounds
+pub mod KeptLimits
+mod Limited
+pub mod OneReading
+mod SameId

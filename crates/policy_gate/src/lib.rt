@@ -10,7 +10,8 @@ mod status;
 pub use command::{Command, command_of};
 pub use expr_documents::{Bounded, read_expr};
 pub use outside::{
-    MemorySink, MemorySource, NoSink, ReadAnswer, Sink, SliceSource, Source, StdSink, StdSource, WriteAnswer,
+    MemorySink, MemorySource, NoSink, ReadAnswer, Sink, SliceSource, Source, StdSink, StdSource,
+    WriteAnswer,
 };
 pub use policy_documents::{DocumentFault, Place, read_schema, read_value};
 pub use policy_writing::write_value;

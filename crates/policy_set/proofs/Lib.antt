@@ -1,3 +1,3 @@
-mod Depths
+pub mod Depths
 mod Each
 mod Plain

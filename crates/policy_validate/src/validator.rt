@@ -2,6 +2,7 @@
 
 ghost use Rattle.std.specs.Prelude.{◌≡◌, ◌++◌, map, IfOk, OnOk};
 ghost use Rattle.policy_scope.specs.declared.finding.ValidationError.TheVariants as error;
+ghost use Rattle.policy_set.specs.Condition.{written_of};
 ghost use Rattle.policy_scope.specs.Names.{entity_type_findings, action_id_findings};
 ghost use Rattle.policy_scope.specs.Scope.{application_findings};
 ghost use Rattle.policy_validate.specs.Accepted.{errors_of, warnings_of, is_too_deep, findings_of};
@@ -143,7 +144,7 @@ fn add_applications(
     policy: &Policy,
     errors: &mut Vec<ValidationError>,
 ) -> Result<(), AllocError>
-    ensures { OnOk result (errors.new.items ≡ errors.old.items ++ map error.InvalidActionApplication (application_findings schema.now policy.now)) }
+    ensures { OnOk result (errors.new.items ≡ errors.old.items ++ map error.InvalidActionApplication (application_findings schema.now (written_of policy.now))) }
 {
     for finding in validate_template_action_application(alloc, schema, policy)? {
         errors.push(ValidationError::InvalidActionApplication(finding))?;

@@ -2,9 +2,9 @@
 
 ghost use Rattle.std.specs.Prelude.{◌≡◌};
 ghost use Rattle.schema_core.specs.RequestEnvs.{environment_of};
-ghost use Rattle.policy_typecheck.specs.Typing.{truth_type};
-ghost use Rattle.policy_typecheck.specs.Typing as typing;
-ghost use Rattle.policy_typecheck.specs.Sound.{TypingIsSound};
+ghost use Rattle.truth_types.specs.Typing.{truth_type};
+ghost use Rattle.truth_types.specs.Typing as typing;
+ghost use Rattle.truth_types.specs.Sound.{TypingIsSound};
 
 use crate::TruthType;
 use crate::operand::{equal_ids, equal_types, id_in, known_id, known_type};
@@ -82,7 +82,7 @@ fn within_type<T>(
 }
 
 /// Typing is sound: where a store keeps to the schema's hierarchy and a request is of an environment, a condition over
-/// ids that is typed True there evaluates to true, and one that is typed False to false.
+/// ids evaluates to a truth value, to true where it is typed True there, and to false where it is typed False.
 pub fn typing_is_sound<T>()
     ensures { TypingIsSound T }
 {}

@@ -9,7 +9,7 @@ use Rattle.policy_names.specs.declared.entity_uid.EntityUID.{EntityUID}
 use Rattle.policy_store.specs.Store.{StoredEntity, Store}
 use Rattle.policy_store.specs.FromParents.{IsFromParents, ids_of}
 use Rattle.policy_store.proofs.OneStore.{one_store}
-use Rattle.policy_set.specs.declared.template.TemplateBody.{TemplateBody}
+use Rattle.policy_set.specs.PolicySet.{PolicySetData}
 use Rattle.policy_store.specs.declared.request.Request.{Request}
 use Rattle.schema_core.specs.Schema.{SchemaData}
 use Rattle.schema_core.specs.Entries.{Declarations}
@@ -19,7 +19,7 @@ use Rattle.schema_core.specs.declared.fault.SchemaFault.{SchemaFault}
 use Rattle.schema_core.specs.declared.fault.SchemaFault.TheVariants as refused
 use Rattle.policy_documents.specs.Faults.{Then}
 use Rattle.policy_documents.specs.Parts.{DocumentParts, parts_of}
-use Rattle.policy_documents.specs.Policies.{policies_of}
+use Rattle.policy_documents.specs.Policies.{no_policies, policies_of}
 use Rattle.policy_documents.specs.Request.{request_of}
 use Rattle.policy_documents.specs.Limits.{limited_schema_of}
 use Rattle.policy_documents.specs.Entities.{entities_of}
@@ -102,14 +102,14 @@ store_from (Err p) x r f g = absurd (cc (f))
 store_from (Ok es) x (Ok s) f g = ap Ok (one_store es s x g f)
 store_from (Ok es) x (Err p) f g = absurd (no_store_place es x p f g)
 
-behind_store : (parts : DocumentParts) (schema : SchemaData) (policies : List TemplateBody) (entities : Store) → IsOne (IsReadBehindStore parts schema policies entities)
+behind_store : (parts : DocumentParts) (schema : SchemaData) (policies : PolicySetData) (entities : Store) → IsOne (IsReadBehindStore parts schema policies entities)
 behind_store parts schema policies entities = one_then _ _ (one_value (or_place place.Request (request_of parts.request))) (λ request. one_value (Ok (document schema policies entities request)))
 
-behind_policies : (parts : DocumentParts) (schema : SchemaData) (policies : List TemplateBody) → IsOne (IsReadBehindPolicies parts schema policies)
+behind_policies : (parts : DocumentParts) (schema : SchemaData) (policies : PolicySetData) → IsOne (IsReadBehindPolicies parts schema policies)
 behind_policies parts schema policies = one_then _ _ (store_from (entities_of [] parts.entities)) (behind_store parts schema policies)
 
 behind_schema : (parts : DocumentParts) (schema : SchemaData) → IsOne (IsReadBehindSchema parts schema)
-behind_schema parts schema = one_then _ _ (one_value (policies_of [] parts.policies)) (behind_policies parts schema)
+behind_schema parts schema = one_then _ _ (one_value (policies_of no_policies parts.policies)) (behind_policies parts schema)
 
 read_from : (parts : DocumentParts) → IsOne (IsReadFrom parts)
 read_from parts = one_then _ _ (schema_once (limited_schema_of parts.schema)) (behind_schema parts)

@@ -5,7 +5,7 @@ ghost use Rattle.std.specs.Option.{option_copied};
 ghost use Rattle.schema_core.specs.RequestEnvs.{environment_of};
 ghost use Rattle.std.specs.Ordering.{is_eq};
 ghost use Rattle.policy_names.specs.Uid.{text_cmp, uid_eq};
-ghost use Rattle.policy_typecheck.specs.Typing as typing;
+ghost use Rattle.truth_types.specs.Typing as typing;
 
 use crate::TruthType;
 use policy_expressions::{Expr, ExprKind, Literal, Var};

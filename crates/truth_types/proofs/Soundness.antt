@@ -24,10 +24,10 @@ use Rattle.policy_core.specs.declared.outcome.Outcome.TheVariants.{Value}
 use Rattle.policy_expressions.specs.Tree.{Tree, lit, var, conj, disj, unary, binary}
 use Rattle.policy_core.specs.Eval.{eval, choose}
 use Rattle.policy_core.specs.Operators.{within, above}
-use Rattle.policy_typecheck.specs.declared.truth_type.TruthType.{TruthType}
-use Rattle.policy_typecheck.specs.declared.truth_type.TruthType.TheVariants as typed
-use Rattle.policy_typecheck.specs.Typing.{not_type, and_type, or_type, known, type_below, action_below, known_id, known_type, equal_ids, equal_types, id_in, in_id, truth_type}
-use Rattle.policy_typecheck.specs.Sound.{IsTerm, IsIdentity, IsOf, allows, KeepsHierarchy, TypingIsSound}
+use Rattle.truth_types.specs.declared.truth_type.TruthType.{TruthType}
+use Rattle.truth_types.specs.declared.truth_type.TruthType.TheVariants as typed
+use Rattle.truth_types.specs.Typing.{not_type, and_type, or_type, known, type_below, action_below, known_id, known_type, equal_ids, equal_types, id_in, in_id, truth_type}
+use Rattle.truth_types.specs.Sound.{IsTerm, IsIdentity, IsOf, allows, KeepsHierarchy, TypingIsSound}
 
 -- what a type says of the value
 abbrev pub Says : TruthType → Bool → Type 0
@@ -195,4 +195,4 @@ module _ {A : Type 0} (d : SchemaData) (g : Environment) (q : Request) (s : Stor
 pub typing_sound : {T : Type 0} → TypingIsSound T
 typing_sound d g q s is keeps e i =
     let r = sound d g q s is keeps e i in
-    (λ t. r.1 ∙ ap (λ b. Value (truth b)) (subst (λ u. Says u r.0) t r.2), λ t. r.1 ∙ ap (λ b. Value (truth b)) (subst (λ u. Says u r.0) t r.2))
+    ((r.0, r.1), λ t. r.1 ∙ ap (λ b. Value (truth b)) (subst (λ u. Says u r.0) t r.2), λ t. r.1 ∙ ap (λ b. Value (truth b)) (subst (λ u. Says u r.0) t r.2))

@@ -14,8 +14,8 @@ use Rattle.policy_expressions.specs.declared.kinds.UnaryOp.TheVariants.{Not}
 use Rattle.policy_expressions.specs.declared.kinds.BinaryOp.{BinaryOp}
 use Rattle.policy_expressions.specs.declared.kinds.BinaryOp.TheVariants.{Eq, In}
 use Rattle.policy_expressions.specs.Tree.{Tree, lit, var, conj, disj, unary, binary}
-use Rattle.policy_typecheck.specs.declared.truth_type.TruthType.{TruthType}
-use Rattle.policy_typecheck.specs.declared.truth_type.TruthType.TheVariants as typed
+use Rattle.truth_types.specs.declared.truth_type.TruthType.{TruthType}
+use Rattle.truth_types.specs.declared.truth_type.TruthType.TheVariants as typed
 
 abbrev pub not_type : TruthType → TruthType
 not_type typed.True = typed.False

@@ -1,7 +1,7 @@
 //! What is known of a condition before any request.
 
 ghost use Rattle.std.specs.Prelude.{◌≡◌};
-ghost use Rattle.policy_typecheck.specs.Typing as typing;
+ghost use Rattle.truth_types.specs.Typing as typing;
 
 /// The type of a condition in an environment: what it evaluates to on every request of the environment.
 #[derive(Clone, Copy, Debug, PartialEq, Eq)]

@@ -16,8 +16,8 @@ use Rattle.policy_expressions.specs.declared.kinds.BinaryOp.TheVariants.{Eq, In}
 use Rattle.policy_core.specs.declared.outcome.Outcome.TheVariants.{Value}
 use Rattle.policy_expressions.specs.Tree.{Tree, lit, var, conj, disj, unary, binary, Mark}
 use Rattle.policy_core.specs.Eval.{eval}
-use Rattle.policy_typecheck.specs.declared.truth_type.TruthType.TheVariants as typed
-use Rattle.policy_typecheck.specs.Typing.{type_below, action_below, truth_type}
+use Rattle.truth_types.specs.declared.truth_type.TruthType.TheVariants as typed
+use Rattle.truth_types.specs.Typing.{type_below, action_below, truth_type}
 
 module _ {A : Type 0} where
   -- an operand that is an id: a literal, or the variable principal, action or resource
@@ -54,10 +54,12 @@ abbrev pub KeepsHierarchy : SchemaData → Store → Type 0
 KeepsHierarchy d [] = Unit {0}
 KeepsHierarchy d (e ∷ es) = (list_all (allows d e.uid) e.ancestors ≡ true) × KeepsHierarchy d es
 
--- where the store keeps to the schema's hierarchy and the request is of the environment, a condition over ids that is typed True evaluates to true, and one that is typed False to false
+-- where the store keeps to the schema's hierarchy and the request is of the environment, a condition over ids evaluates to a truth
+-- value: to true where it is typed True, and to false where it is typed False
 abbrev pub TypingIsSound : Type 0 → Type 0
 TypingIsSound T =
     (d : SchemaData) (g : Environment) (q : Request) (s : Store) → IsOf g q → KeepsHierarchy d s →
     (e : Tree (Mark T)) → IsIdentity e →
-    (truth_type d g e ≡ typed.True → eval e q s ≡ Value (truth true))
+    ((b : Bool) × (eval e q s ≡ Value (truth b)))
+    × (truth_type d g e ≡ typed.True → eval e q s ≡ Value (truth true))
     × (truth_type d g e ≡ typed.False → eval e q s ≡ Value (truth false))
