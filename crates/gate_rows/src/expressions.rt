@@ -3,6 +3,7 @@
 
 mod grid;
 mod rows;
+mod texts;
 mod wide;
 
 use json_parts::{parse_json, with_item};

@@ -2,4 +2,3 @@ mod Bounds
 pub mod KeptLimits
 mod Limited
 pub mod OneReading
-mod SameId

@@ -1,9 +1,10 @@
 //! The scope of a policy: some declared action has to meet it.
 
-ghost use Rattle.std.specs.Prelude.{◌≡◌, IfOk};
-ghost use Rattle.std.specs.List.{list_any};
+ghost use Rattle.std.specs.Prelude.{◌≡◌, IfOk, is_some};
+ghost use Rattle.std.specs.List.{list_all, list_any};
+ghost use Rattle.schema_core.specs.Schema.{action_at};
 ghost use Rattle.std.specs.Ordering.{is_eq};
-ghost use Rattle.policy_names.specs.Uid.{text_cmp};
+ghost use Rattle.policy_names.specs.Uid.{text_cmp, uid_eq};
 ghost use Rattle.policy_set.specs.Condition.{written_of};
 ghost use Rattle.policy_scope.specs.Scope.{action_meets, type_below, is_action_within, equal_meets, in_meets, type_meets, types_meet, is_applicable, types_for, some_type, only_descendants, in_would_fix, application_findings};
 
@@ -65,21 +66,39 @@ fn action_meets(
 {
     match constraint {
         ActionConstraint::Any => true,
-        ActionConstraint::Eq(uid) => uid == action.name(),
+        ActionConstraint::Eq(uid) => same_id(uid, action.name()),
         ActionConstraint::In(uids) => {
-            uids.iter().all(|uid| schema.get_action_id(uid).is_some())
-                && uids
-                    .iter()
-                    .any(|uid| is_action_within(schema, action.name(), uid))
+            are_declared(schema, uids) && is_within_some(schema, action.name(), uids)
         }
     }
+}
+
+// Whether each of these actions is declared.
+fn are_declared(schema: &ValidatorSchema, uids: &Vec<EntityUID>) -> bool
+    ensures { result ≡ list_all (λ u. is_some (action_at schema.now u)) uids.now.items }
+{
+    uids.iter().all(|uid| schema.get_action_id(uid).is_some())
+}
+
+// Whether the action is one of these, or among the descendants of one.
+fn is_within_some(schema: &ValidatorSchema, uid: &EntityUID, uids: &Vec<EntityUID>) -> bool
+    ensures { result ≡ list_any (is_action_within schema.now uid.now) uids.now.items }
+{
+    uids.iter()
+        .any(|above| is_action_within(schema, uid, above))
+}
+
+fn same_id(one: &EntityUID, other: &EntityUID) -> bool
+    ensures { result ≡ uid_eq one.now other.now }
+{
+    one.cmp(other) == Ordering::Equal
 }
 
 // Whether the action is the other, or among its descendants.
 fn is_action_within(schema: &ValidatorSchema, uid: &EntityUID, above: &EntityUID) -> bool
     ensures { result ≡ is_action_within schema.now uid.now above.now }
 {
-    if uid == above {
+    if same_id(uid, above) {
         return true;
     }
     match schema.get_action_id(above) {

@@ -17,14 +17,18 @@ use policy_store::{Entities, Entity};
 use policy_values::Value;
 use schema_core::{ValidatorActionId, ValidatorSchema};
 use std::alloc::AllocError;
+use std::cmp::Ordering;
 use std::collections::BTreeMap;
 
 /// Whether the store conforms to the schema. The entity of an action has to be declared as an action, without
 /// attributes and tags, and with exactly the ancestors that the schema gives the action. Any other entity has to be
-/// of a declared type, with the attributes and tags that the type has, and with ancestors of the types that it may
+/// of a declared type, without attributes and tags, and with ancestors of the types that it may
 /// be in.
 ///
 /// Errs with the first entity that breaks a rule, in the order of the ids, and the first rule that it breaks.
+///
+/// So far it is right over schemas whose types have no attributes, no tags and no listed ids: it does not look at what
+/// a type declares of these, and refuses each attribute and each tag.
 pub fn conforms(schema: &ValidatorSchema, entities: &Entities) -> Result<(), ConformanceError>
     ensures { MatchResult result (λ _. StoreConforms schema.now entities.now) (IsStoreFault (first_store_fault schema.now entities.now)) }
 {
@@ -44,7 +48,7 @@ fn is_id(known: Option<&EntityUID>, uid: &EntityUID) -> bool
     ensures { IsTrue result ↔ (option_copied known.entry ≡ Some uid.now) }
 {
     match known {
-        Some(known) => known == uid,
+        Some(known) => known.cmp(uid) == Ordering::Equal,
         None => false,
     }
 }

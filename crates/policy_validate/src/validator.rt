@@ -60,6 +60,9 @@ impl<'a> Validator<'a> {
     /// that are not declared, actions of literals that are not declared, a scope that no declared action meets, a
     /// condition deeper than 200. A policy that is not too deep is warned of where its condition is false in every
     /// environment of the schema.
+    ///
+    /// So far it is right over policies whose conditions are over ids alone: it does not type other expressions, and so
+    /// lets `1 < "a"` pass.
     pub fn validate(
         &self,
         alloc: Global,

@@ -40,7 +40,14 @@ const ROWS: &str = r#"{"all":[ 399 true, true]} => true
 {"containsAny":[[1],[ 100000 2, 1]]} => true
 {"like":[" 5000 a b",[null,"a",null,"a",null,"a",null,"a",null,"c"]]} => false
 {"like":[" 5000 a b",[null,"aab",null,"b"]]} => false
-{"like":[" 5000 a b",[null,"aa",null,"aa",null,"b"]]} => true"#;
+{"like":[" 5000 a b",[null,"aa",null,"aa",null,"b"]]} => true
+{"call":["decimal"," 1048576 0 1.5"]} => {"decimal":"1.5000"}
+{"call":["duration"," 1048576 0 1d2h"]} => {"duration":93600000}
+{"call":["decimal"," 1048576 9 .5"]} => ExtensionText
+{"call":["duration"," 1048576 9 ms"]} => ExtensionText
+{"call":["ip"," 1048576 : 1"]} => ExtensionText
+{"call":["ip"," 1048576 1 "]} => ExtensionText
+{"call":["datetime"," 1048576 2 "]} => ExtensionText"#;
 
 // A line's text.
 fn text_of(alloc: Global, line: &str) -> Result<Option<String>, Fail> {
