@@ -6,7 +6,7 @@ ghost use Rattle.std.specs.List.Sorted.{IsStrictlySortedBy};
 ghost use Rattle.std.specs.Option.{option_copied};
 ghost use Rattle.hierarchy.specs.Least.{IsLeastIfAny};
 ghost use Rattle.policy_names.specs.Basename.{is_action_type};
-ghost use Rattle.policy_names.specs.Uid.{uid_cmp};
+ghost use Rattle.policy_names.specs.Uid.{uid_cmp, uid_eq};
 ghost use Rattle.policy_values.specs.Value.{fields_of};
 ghost use Rattle.policy_validate.specs.Conformance.{StoreConforms, IsStoreFault, first_store_fault, entity_fault, action_entity_fault, typed_entity_fault, first_key, may_be_in, is_not_allowed, is_action_in, has_all_ancestors, lacks, lacks_it};
 
@@ -48,9 +48,15 @@ fn is_id(known: Option<&EntityUID>, uid: &EntityUID) -> bool
     ensures { IsTrue result ↔ (option_copied known.entry ≡ Some uid.now) }
 {
     match known {
-        Some(known) => known.cmp(uid) == Ordering::Equal,
+        Some(known) => same_id(known, uid),
         None => false,
     }
+}
+
+fn same_id(one: &EntityUID, other: &EntityUID) -> bool
+    ensures { result ≡ uid_eq one.now other.now }
+{
+    one.cmp(other) == Ordering::Equal
 }
 
 // The first rule that the entity breaks, where it is known whether an ancestor of its action is missing in it.
