@@ -1,28 +1,11 @@
--- The outcomes that a policy which is accepted may have.
-use Rattle.std.specs.Prelude.{⊤, List}
+-- Policies whose outcomes are allowed.
+use Rattle.std.specs.Prelude.{List}
 use Rattle.std.specs.List.{AllByRecursion}
-use Rattle.policy_values.specs.Value.{truth}
 use Rattle.policy_store.specs.Store.{Store}
 use Rattle.policy_store.specs.declared.request.Request.{Request}
-use Rattle.policy_core.specs.declared.outcome.Outcome.{Outcome}
-use Rattle.policy_core.specs.declared.outcome.Outcome.TheVariants.{Value, Error}
-use Rattle.policy_core.specs.declared.outcome.EvalError.{EvalError}
-use Rattle.policy_core.specs.declared.outcome.EvalError.TheVariants.{MissingEntity, IntegerOverflow, ExtensionOverflow}
+use Rattle.policy_core.specs.Allowed.{IsAllowedOutcome}
 use Rattle.policy_set.specs.Data.{PolicyData}
 use Rattle.authorizer.specs.Response.{outcomes}
-
--- an entity that is not in the store, or a number that does not fit: of an integer, or of a datetime or duration
-abbrev pub IsAllowedError : EvalError → Type 0
-IsAllowedError (MissingEntity u) = ⊤
-IsAllowedError IntegerOverflow = ⊤
-IsAllowedError ExtensionOverflow = ⊤
-IsAllowedError e = ⊥
-
--- a truth value, or an error that is allowed
-abbrev pub IsAllowedOutcome : Outcome → Type 0
-IsAllowedOutcome (Value (truth b)) = ⊤
-IsAllowedOutcome (Value v) = ⊥
-IsAllowedOutcome (Error e) = IsAllowedError e
 
 -- each policy has an outcome that is allowed
 abbrev pub AreAllowed : List PolicyData → Request → Store → Type 0

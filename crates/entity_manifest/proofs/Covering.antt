@@ -33,7 +33,8 @@ use Rattle.authorizer.specs.Response.{outcome, outcomes, true_permits, true_forb
 use Rattle.entity_manifest.specs.Reads.{Root, variable, an_id, AccessPath, Demand, at_root, RootDemand, at_roots, roots, root_demands, demands_of, read_paths, reached_by_and, reached_by_or}
 use Rattle.entity_manifest.specs.Restrict.{Keep, cut, cut_fields, cut_entity, part, is_id, names_id, root_value, reach, keeps, kept_chain, kept_ancestor, by_paths, needed, restrict}
 use Rattle.entity_manifest.proofs.Conforming.{request_of_env, store_keeps}
-use Rattle.authorizer.specs.Allowed.{IsAllowedOutcome, AreAllowed}
+use Rattle.policy_core.specs.Allowed.{IsAllowedOutcome}
+use Rattle.authorizer.specs.Allowed.{AreAllowed}
 use Rattle.entity_manifest.specs.Cover.{env_of, restricted, IsPartOf, AreOverIds, RestrictedCovers, RestrictedAllows}
 use Rattle.std.specs.List.{AllByRecursion}
 

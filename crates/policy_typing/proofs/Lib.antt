@@ -1,0 +1,20 @@
+mod Basics
+mod Booleans
+mod Fields
+mod Kept
+mod Operators
+mod Ids
+mod Stored
+mod Access
+mod KeptTypes
+mod Lists
+mod Calls
+mod Within
+mod Decides
+pub mod Notes
+mod SameKnown
+mod Complete
+mod Tests
+pub mod Soundness
+mod Condition
+mod Examples

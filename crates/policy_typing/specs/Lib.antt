@@ -1,0 +1,10 @@
+pub mod Conditions
+pub mod Conforms
+pub mod Environment
+pub mod Keys
+pub mod Known
+pub mod Operands
+pub mod Rules
+pub mod Signatures
+pub mod Sound
+pub mod Typing

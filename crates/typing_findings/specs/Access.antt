@@ -1,0 +1,40 @@
+-- How an attribute is reached: what is met first going left through accesses.
+use Rattle.std.specs.Prelude.{ℕ, List, [], ◌∷◌, Option, Some, None}
+use Rattle.std.specs.Option.{option_and_then, option_map_or}
+use Rattle.policy_names.specs.declared.entity_uid.EntityUID.{EntityUID}
+use Rattle.policy_expressions.specs.declared.kinds.Var.{Var}
+use Rattle.policy_expressions.specs.declared.kinds.Var.TheVariants.{Context}
+use Rattle.policy_expressions.specs.Tree.{var, attr, mark_of}
+use Rattle.policy_typing.specs.Typing.{Typed}
+use Rattle.schema_types.specs.Ty.{Ty, entity}
+use Rattle.schema_core.specs.EnvData.{EnvData, action_in}
+use Rattle.typing_findings.specs.Finding.{AttributeAccess, of_entity, of_context, of_other}
+
+-- the types of an entity that is no action, where they are known
+abbrev pub union_in : Ty → Option (List (List ℕ))
+union_in (entity types) = Some types
+union_in t = None
+
+-- attributes of an entity of these types, unless its type is another: then what is said
+abbrev pub entity_or : Option Ty → List (List ℕ) → AttributeAccess → AttributeAccess
+entity_or t names other = option_map_or (λ types. of_entity types names) (option_and_then union_in t) other
+
+-- attributes of the context, where its action is declared
+abbrev pub context_access : Option EntityUID → List (List ℕ) → AttributeAccess
+context_access (Some action) names = of_context action names
+context_access None names = of_other names
+
+-- attributes of a variable that is no entity of a known type
+abbrev pub variable_access : EnvData → Var → List (List ℕ) → AttributeAccess
+variable_access env Context names = context_access (action_in env) names
+variable_access env v names = of_other names
+
+-- the attributes of the target
+abbrev pub access_of : EnvData → Typed → List (List ℕ) → AttributeAccess
+access_of env (attr x n m) names = entity_or m.note names (access_of env x (n ∷ names))
+access_of env (var v m) names = entity_or m.note names (variable_access env v names)
+access_of env e names = entity_or (mark_of e).note names (of_other names)
+
+-- one attribute of the target
+abbrev pub attribute_access : EnvData → Typed → List ℕ → AttributeAccess
+attribute_access env target name = access_of env target (name ∷ [])
