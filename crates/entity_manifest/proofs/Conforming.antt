@@ -13,8 +13,8 @@ use Rattle.schema_core.specs.Faults.{IsSchema}
 use Rattle.policy_validate.specs.declared.request_error.RequestValidationError.{RequestValidationError}
 use Rattle.policy_validate.specs.declared.store_rule.StoreRule.TheVariants.{TypeNotDeclared, AttributeNotDeclared, TagsNotAllowed, AncestorNotAllowed, ActionNotDeclared, ActionHasAttributes, ActionHasTags, ActionAncestorsDiffer}
 use Rattle.policy_validate.specs.Conformance.{unless, principal_fault, resource_fault, RequestConforms, first_key, may_be_in, is_not_allowed, is_action_in, has_all_ancestors, has_its_ancestors, action_entity_fault, typed_entity_fault, entity_fault, StoreConforms}
-use Rattle.policy_typecheck.specs.Typing.{type_below, action_below}
-use Rattle.policy_typecheck.specs.Sound.{IsOf, allows, KeepsHierarchy}
+use Rattle.truth_types.specs.Typing.{type_below, action_below}
+use Rattle.truth_types.specs.Sound.{IsOf, allows, KeepsHierarchy}
 use Rattle.entity_manifest.specs.Cover.{env_of}
 
 none_first : {X : Type 0} (a b : Option X) → option_or a b ≡ None → a ≡ None

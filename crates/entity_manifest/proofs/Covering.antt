@@ -23,17 +23,20 @@ use Rattle.policy_core.specs.declared.outcome.Outcome.TheVariants.{Value}
 use Rattle.policy_expressions.specs.Tree.{Tree, lit, var, conj, disj, unary, binary, Mark}
 use Rattle.policy_core.specs.Eval.{eval}
 use Rattle.policy_core.specs.Operators.{within, above}
-use Rattle.policy_typecheck.specs.declared.truth_type.TruthType.{TruthType}
-use Rattle.policy_typecheck.specs.declared.truth_type.TruthType.TheVariants as typed
-use Rattle.policy_typecheck.specs.Typing.{truth_type}
-use Rattle.policy_typecheck.specs.Sound.{IsTerm, IsIdentity, IsOf, KeepsHierarchy}
-use Rattle.policy_typecheck.proofs.Soundness.{same_uid, typing_sound}
-use Rattle.policy_set.specs.declared.template.TemplateBody.{TemplateBody}
-use Rattle.policy_set.specs.Response.{outcome, outcomes, true_permits, true_forbids, failures, decided, response}
+use Rattle.truth_types.specs.declared.truth_type.TruthType.{TruthType}
+use Rattle.truth_types.specs.declared.truth_type.TruthType.TheVariants as typed
+use Rattle.truth_types.specs.Typing.{truth_type}
+use Rattle.truth_types.specs.Sound.{IsTerm, IsIdentity, IsOf, KeepsHierarchy}
+use Rattle.truth_types.proofs.Soundness.{same_uid, typing_sound}
+use Rattle.policy_set.specs.Data.{PolicyData}
+use Rattle.authorizer.specs.Response.{outcome, outcomes, true_permits, true_forbids, failures, decided, response}
 use Rattle.entity_manifest.specs.Reads.{Root, variable, an_id, AccessPath, Demand, at_root, RootDemand, at_roots, roots, root_demands, demands_of, read_paths, reached_by_and, reached_by_or}
 use Rattle.entity_manifest.specs.Restrict.{Keep, cut, cut_fields, cut_entity, part, is_id, names_id, root_value, reach, keeps, kept_chain, kept_ancestor, by_paths, needed, restrict}
 use Rattle.entity_manifest.proofs.Conforming.{request_of_env, store_keeps}
-use Rattle.entity_manifest.specs.Cover.{env_of, restricted, IsPartOf, AreOverIds, RestrictedCovers}
+use Rattle.policy_core.specs.Allowed.{IsAllowedOutcome}
+use Rattle.authorizer.specs.Allowed.{AreAllowed}
+use Rattle.entity_manifest.specs.Cover.{env_of, restricted, IsPartOf, AreOverIds, RestrictedCovers, RestrictedAllows}
+use Rattle.std.specs.List.{AllByRecursion}
 
 self_id : (x : EntityUID) → uid_eq x x ≡ true
 self_id x = ap is_eq (tied_itself uid_cmp_total x)
@@ -115,13 +118,13 @@ module _ (d : SchemaData) (g : Environment) (q : Request) (whole s : Store) (is 
   eval_same (conj x y a) i m = here (truth_type d g x) refl (right_among ds (root_demands d g x) (reached_by_and (truth_type d g x) (root_demands d g y)) m) (eval_same x i.0 (left_among ds (root_demands d g x) (reached_by_and (truth_type d g x) (root_demands d g y)) m)) (eval_same y i.1)
     where
       here : (t : TruthType) → truth_type d g x ≡ t → Among (reached_by_and t (root_demands d g y)) ds → eval x q s ≡ eval x q whole → (Among (root_demands d g y) ds → eval y q s ≡ eval y q whole) → eval (conj x y a) q s ≡ eval (conj x y a) q whole
-      here typed.False e n l r = let f = (typing_sound d g q whole is keeps_to x i.0).1 e in rw (l, f) refl
+      here typed.False e n l r = let f = (typing_sound d g q whole is keeps_to x i.0).2 e in rw (l, f) refl
       here typed.True e n l r = rw (l, r n) refl
       here typed.Bool e n l r = rw (l, r n) refl
   eval_same (disj x y a) i m = here (truth_type d g x) refl (right_among ds (root_demands d g x) (reached_by_or (truth_type d g x) (root_demands d g y)) m) (eval_same x i.0 (left_among ds (root_demands d g x) (reached_by_or (truth_type d g x) (root_demands d g y)) m)) (eval_same y i.1)
     where
       here : (t : TruthType) → truth_type d g x ≡ t → Among (reached_by_or t (root_demands d g y)) ds → eval x q s ≡ eval x q whole → (Among (root_demands d g y) ds → eval y q s ≡ eval y q whole) → eval (disj x y a) q s ≡ eval (disj x y a) q whole
-      here typed.True e n l r = let f = (typing_sound d g q whole is keeps_to x i.0).0 e in rw (l, f) refl
+      here typed.True e n l r = let f = (typing_sound d g q whole is keeps_to x i.0).1 e in rw (l, f) refl
       here typed.False e n l r = rw (l, r n) refl
       here typed.Bool e n l r = rw (l, r n) refl
   eval_same (unary Not x a) i m = rw (eval_same x i m) refl
@@ -137,39 +140,52 @@ module _ (d : SchemaData) (g : Environment) (q : Request) (whole s : Store) (is 
       rw (u.4 s, v.4 s, u.4 whole, v.4 whole) (ap (λ b. Value (truth b)) (demanded_same q whole s ds low high u.0 v.0 u.1 v.1 u.3 v.3 n))
   eval_same e i m = absurd i
 
-  outcomes_same : (ps : List TemplateBody) → AreOverIds ps → Among (demands_of d g ps) ds → outcomes ps q s ≡ outcomes ps q whole
+  outcomes_same : (ps : List PolicyData) → AreOverIds ps → Among (demands_of d g ps) ds → outcomes ps q s ≡ outcomes ps q whole
   outcomes_same [] i m = refl
   outcomes_same (p ∷ ps) i m =
       let l = eval_same p.condition i.0 (left_among ds (root_demands d g p.condition) (demands_of d g ps) m) in
       let r = outcomes_same ps i.1 (right_among ds (root_demands d g p.condition) (demands_of d g ps) m) in cc
 
+  outcomes_allowed : (ps : List PolicyData) → AreOverIds ps → AreAllowed ps q whole
+  outcomes_allowed [] i = tt
+  outcomes_allowed (p ∷ ps) i =
+      let r = (typing_sound d g q whole is keeps_to p.condition i.0).0 in
+      (subst IsAllowedOutcome (sym r.1) tt, outcomes_allowed ps i.1)
+
 pub covers : RestrictedCovers
 covers d q whole schema is_whole conforms stored ps i s low high =
     outcomes_same d (env_of q) q whole s (request_of_env d q schema is_whole conforms) (store_keeps d whole stored) (demands_of d (env_of q) ps) low high ps i (λ f h. h)
 
+pub allows : RestrictedAllows
+allows d q whole schema is_whole conforms stored ps i s low high =
+    let ds = demands_of d (env_of q) ps in
+    let of_env = request_of_env d q schema is_whole conforms in
+    let kept = store_keeps d whole stored in
+    subst (AllByRecursion IsAllowedOutcome) (sym (covers d q whole schema is_whole conforms stored ps i s low high)) (outcomes_allowed d (env_of q) q whole s of_env kept ds low high ps i)
+
 -- the response is made of the outcomes
-permits_same : (q : Request) (s w : Store) (ps : List TemplateBody) → outcomes ps q s ≡ outcomes ps q w → true_permits q s ps ≡ true_permits q w ps
+permits_same : (q : Request) (s w : Store) (ps : List PolicyData) → outcomes ps q s ≡ outcomes ps q w → true_permits q s ps ≡ true_permits q w ps
 permits_same q s w [] h = refl
 permits_same q s w (p ∷ ps) h =
     let head : outcome p q s ≡ outcome p q w = cc in
     let rest : outcomes ps q s ≡ outcomes ps q w = cc in
     rw (head, permits_same q s w ps rest) refl
 
-forbids_same : (q : Request) (s w : Store) (ps : List TemplateBody) → outcomes ps q s ≡ outcomes ps q w → true_forbids q s ps ≡ true_forbids q w ps
+forbids_same : (q : Request) (s w : Store) (ps : List PolicyData) → outcomes ps q s ≡ outcomes ps q w → true_forbids q s ps ≡ true_forbids q w ps
 forbids_same q s w [] h = refl
 forbids_same q s w (p ∷ ps) h =
     let head : outcome p q s ≡ outcome p q w = cc in
     let rest : outcomes ps q s ≡ outcomes ps q w = cc in
     rw (head, forbids_same q s w ps rest) refl
 
-failures_same : (q : Request) (s w : Store) (ps : List TemplateBody) → outcomes ps q s ≡ outcomes ps q w → failures q s ps ≡ failures q w ps
+failures_same : (q : Request) (s w : Store) (ps : List PolicyData) → outcomes ps q s ≡ outcomes ps q w → failures q s ps ≡ failures q w ps
 failures_same q s w [] h = refl
 failures_same q s w (p ∷ ps) h =
     let head : outcome p q s ≡ outcome p q w = cc in
     let rest : outcomes ps q s ≡ outcomes ps q w = cc in
     rw (head, failures_same q s w ps rest) refl
 
-pub response_same : (ps : List TemplateBody) (q : Request) (s w : Store) → outcomes ps q s ≡ outcomes ps q w → response ps q s ≡ response ps q w
+pub response_same : (ps : List PolicyData) (q : Request) (s w : Store) → outcomes ps q s ≡ outcomes ps q w → response ps q s ≡ response ps q w
 response_same ps q s w h = λ i. decided (permits_same q s w ps h i) (forbids_same q s w ps h i) (failures_same q s w ps h i)
 
 -- a store is a part of itself
@@ -197,7 +213,7 @@ part_all (e ∷ es) = λ i. record { uid = e.uid; attrs = sym (cut_fields_all e.
 pub part_of_itself : (s : Store) → IsPartOf s s
 part_of_itself s = (all_kept, part_all s)
 
-pub decision_same : (d : SchemaData) (q : Request) (whole : Store) → IsSchema d → IsWhole q → RequestConforms d q → StoreConforms d whole → (ps : List TemplateBody) → AreOverIds ps → response ps q (restricted d ps q whole) ≡ response ps q whole
+pub decision_same : (d : SchemaData) (q : Request) (whole : Store) → IsSchema d → IsWhole q → RequestConforms d q → StoreConforms d whole → (ps : List PolicyData) → AreOverIds ps → response ps q (restricted d ps q whole) ≡ response ps q whole
 decision_same d q whole schema is_whole conforms stored ps i =
     let slice = restricted d ps q whole in
     let ds = at_roots (demands_of d (env_of q) ps) in

@@ -9,10 +9,10 @@ use Rattle.policy_expressions.specs.declared.kinds.Var.TheVariants.{Context}
 use Rattle.policy_expressions.specs.declared.kinds.BinaryOp.{BinaryOp}
 use Rattle.policy_expressions.specs.declared.kinds.BinaryOp.TheVariants.{In}
 use Rattle.policy_expressions.specs.Tree.{Tree, lit, var, slot, ite, conj, disj, unary, binary, attr, has, like, is_type, call, set, rec, Trees, no_trees, tree, Named, no_named, named}
-use Rattle.policy_set.specs.declared.template.TemplateBody.{TemplateBody}
-use Rattle.policy_typecheck.specs.declared.truth_type.TruthType.{TruthType}
-use Rattle.policy_typecheck.specs.declared.truth_type.TruthType.TheVariants as typed
-use Rattle.policy_typecheck.specs.Typing.{truth_type}
+use Rattle.policy_set.specs.Data.{PolicyData}
+use Rattle.truth_types.specs.declared.truth_type.TruthType.{TruthType}
+use Rattle.truth_types.specs.declared.truth_type.TruthType.TheVariants as typed
+use Rattle.truth_types.specs.Typing.{truth_type}
 
 -- where a path begins: at an entry of the request, or at an id
 pub data Root : Type 0 where
@@ -95,7 +95,7 @@ module _ (d : SchemaData) (g : Environment) where
     demands_named (named k x xs) = root_demands x ++ demands_named xs
 
   -- what the conditions of policies demand
-  abbrev pub demands_of : List TemplateBody → List RootDemand
+  abbrev pub demands_of : List PolicyData → List RootDemand
   demands_of [] = []
   demands_of (p ∷ ps) = root_demands p.condition ++ demands_of ps
 

@@ -1,20 +1,20 @@
 //! What conditions ask of the entities of a store, by their ids.
 
-ghost use Rattle.std.specs.Prelude.{◌≡◌, [], IfOk, OnOk};
+ghost use Rattle.std.specs.Prelude.{◌≡◌, ◌++◌, [], IfOk, OnOk};
 ghost use Rattle.std.specs.Option.{option_copied};
 ghost use Rattle.policy_store.specs.Request.{IsWhole};
 ghost use Rattle.schema_core.specs.RequestEnvs.{environment_of};
 ghost use Rattle.policy_expressions.specs.Tree.{trees_of, named_of};
-ghost use Rattle.policy_typecheck.specs.Typing.{truth_type};
-ghost use Rattle.entity_manifest.specs.Reads.{own_demands, root_demands, demands_each, demands_named};
+ghost use Rattle.truth_types.specs.Typing.{truth_type, and_type, or_type};
+ghost use Rattle.entity_manifest.specs.Reads.{own_demands, reached_by_and, reached_by_or, root_demands, demands_each, demands_named};
 ghost use Rattle.entity_manifest.specs.Asked as specs;
 
 use hierarchy::{Steps, add_step};
 use policy_core::{BinaryOp, EntityUID, Expr, ExprKind, Literal, Request, Text, UnaryOp, Var};
-use policy_typecheck::{TruthType, comparison_type};
 use schema_core::{DeclaredEnv, ValidatorSchema};
 use std::alloc::{AllocError, Global};
 use std::collections::BTreeMap;
+use truth_types::{TruthType, comparison_type};
 
 // The id that an operand is on the request.
 fn operand_id<'a, T>(request: &'a Request, operand: &'a Expr<T>) -> Option<&'a EntityUID>
@@ -71,30 +71,15 @@ pub(crate) fn add_asked<T>(
 {
     match condition.kind() {
         ExprKind::Lit(Literal::Bool(value)) => Ok(TruthType::known(*value)),
-        ExprKind::Lit(_) => Ok(TruthType::Bool),
-        ExprKind::Var(_) | ExprKind::Slot(_) => Ok(TruthType::Bool),
+        ExprKind::Lit(_) | ExprKind::Var(_) | ExprKind::Slot(_) => Ok(TruthType::Bool),
         ExprKind::If(x, y, z) => {
             add_asked(alloc, asked, schema, env, request, x)?;
             add_asked(alloc, asked, schema, env, request, y)?;
             add_asked(alloc, asked, schema, env, request, z)?;
             Ok(TruthType::Bool)
         }
-        ExprKind::And(x, y) => match add_asked(alloc, asked, schema, env, request, x)? {
-            TruthType::False => Ok(TruthType::False),
-            TruthType::True => add_asked(alloc, asked, schema, env, request, y),
-            TruthType::Bool => {
-                let second = add_asked(alloc, asked, schema, env, request, y)?;
-                Ok(TruthType::Bool.and(second))
-            }
-        },
-        ExprKind::Or(x, y) => match add_asked(alloc, asked, schema, env, request, x)? {
-            TruthType::True => Ok(TruthType::True),
-            TruthType::False => add_asked(alloc, asked, schema, env, request, y),
-            TruthType::Bool => {
-                let second = add_asked(alloc, asked, schema, env, request, y)?;
-                Ok(TruthType::Bool.or(second))
-            }
-        },
+        ExprKind::And(x, y) => add_of_and(alloc, asked, schema, env, request, x, y),
+        ExprKind::Or(x, y) => add_of_or(alloc, asked, schema, env, request, x, y),
         ExprKind::UnaryApp(UnaryOp::Not, x) => {
             let operand = add_asked(alloc, asked, schema, env, request, x)?;
             Ok(operand.not())
@@ -123,6 +108,58 @@ pub(crate) fn add_asked<T>(
         ExprKind::Record(fields) => {
             add_named(alloc, asked, schema, env, request, fields)?;
             Ok(TruthType::Bool)
+        }
+    }
+}
+
+// Of `&&`: the right side is not reached where the left is False.
+#[cycle(asked)]
+#[tactic(auto, using(crate::proofs::Asking::same_none, crate::proofs::Asking::same_then))]
+fn add_of_and<T>(
+    alloc: Global,
+    asked: &mut Steps<EntityUID>,
+    schema: &ValidatorSchema,
+    env: &DeclaredEnv,
+    request: &Request,
+    x: &Expr<T>,
+    y: &Expr<T>,
+) -> Result<TruthType, AllocError>
+    requires { IsWhole request.now }
+    ensures typed { IfOk result (λ t. t ≡ and_type (truth_type schema.now (environment_of env.now) x.now) (truth_type schema.now (environment_of env.now) y.now)) }
+    ensures asked { OnOk result (specs.SameAsked request.now asked.new.entries [] asked.old.entries (root_demands schema.now (environment_of env.now) x.now ++ reached_by_and (truth_type schema.now (environment_of env.now) x.now) (root_demands schema.now (environment_of env.now) y.now))) }
+{
+    match add_asked(alloc, asked, schema, env, request, x)? {
+        TruthType::False => Ok(TruthType::False),
+        TruthType::True => add_asked(alloc, asked, schema, env, request, y),
+        TruthType::Bool => {
+            let second = add_asked(alloc, asked, schema, env, request, y)?;
+            Ok(TruthType::Bool.and(second))
+        }
+    }
+}
+
+// Of `||`: the right side is not reached where the left is True.
+#[cycle(asked)]
+#[tactic(auto, using(crate::proofs::Asking::same_none, crate::proofs::Asking::same_then))]
+fn add_of_or<T>(
+    alloc: Global,
+    asked: &mut Steps<EntityUID>,
+    schema: &ValidatorSchema,
+    env: &DeclaredEnv,
+    request: &Request,
+    x: &Expr<T>,
+    y: &Expr<T>,
+) -> Result<TruthType, AllocError>
+    requires { IsWhole request.now }
+    ensures typed { IfOk result (λ t. t ≡ or_type (truth_type schema.now (environment_of env.now) x.now) (truth_type schema.now (environment_of env.now) y.now)) }
+    ensures asked { OnOk result (specs.SameAsked request.now asked.new.entries [] asked.old.entries (root_demands schema.now (environment_of env.now) x.now ++ reached_by_or (truth_type schema.now (environment_of env.now) x.now) (root_demands schema.now (environment_of env.now) y.now))) }
+{
+    match add_asked(alloc, asked, schema, env, request, x)? {
+        TruthType::True => Ok(TruthType::True),
+        TruthType::False => add_asked(alloc, asked, schema, env, request, y),
+        TruthType::Bool => {
+            let second = add_asked(alloc, asked, schema, env, request, y)?;
+            Ok(TruthType::Bool.or(second))
         }
     }
 }

@@ -6,5 +6,5 @@ mod coverage;
 mod restrict;
 mod slice;
 
-pub use coverage::restricted_covers;
-pub use slice::{restricted_store, slice_for_request};
+pub use coverage::{restricted_allows, restricted_covers};
+pub use slice::restricted_store;

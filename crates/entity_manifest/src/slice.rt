@@ -3,11 +3,9 @@
 ghost use Rattle.std.specs.Prelude.{◌≡◌, [], IfOk};
 ghost use Rattle.schema_core.specs.RequestEnvs.{environment_of};
 ghost use Rattle.policy_store.specs.Request.{IsWhole};
-ghost use Rattle.policy_set.specs.Response.{response};
-ghost use Rattle.policy_validate.specs.Conformance.{RequestConforms, StoreConforms};
 ghost use Rattle.entity_manifest.specs.Reads.{demands_of};
 ghost use Rattle.entity_manifest.specs.Asked.{SameAsked};
-ghost use Rattle.entity_manifest.specs.Cover.{env_of, restricted, Covers, AreOverIds};
+ghost use Rattle.entity_manifest.specs.Cover.{env_of, restricted};
 
 use crate::asked::add_asked;
 use crate::restrict::restricted_to;
@@ -18,30 +16,6 @@ use schema_core::{DeclaredEnv, ValidatorSchema};
 use std::alloc::{AllocError, Global};
 use std::collections::BTreeMap;
 
-/// What the policies may read of the store on this request: the entities whose ancestors they ask for, each with the
-/// ancestors that they ask for, and nothing else. On it, and on each store between it and the whole one, every policy has
-/// the outcome that it has on the whole store, so the response is the same. Errs where memory runs out.
-///
-/// The request and the store are to conform to the schema, and the policies to be conditions over ids.
-pub fn slice_for_request(
-    alloc: Global,
-    schema: &ValidatorSchema,
-    policies: &PolicySet,
-    request: &Request,
-    entities: &Entities,
-) -> Result<Entities, AllocError>
-    requires whole { IsWhole request.now }
-    requires request { RequestConforms schema.now request.now }
-    requires store { StoreConforms schema.now entities.now }
-    requires policies { AreOverIds policies.now }
-    ensures slice { IfOk result (λ s. s ≡ restricted schema.now policies.now request.now entities.now) }
-    ensures covers { IfOk result (λ s. Covers policies.now request.now s entities.now) }
-    ensures decision { IfOk result (λ s. response policies.now request.now s ≡ response policies.now request.now entities.now) }
-{
-    let _types = schema.entity_types();
-    restricted_store(alloc, schema, policies, request, entities)
-}
-
 /// The store restricted to what the policies read on the request.
 pub fn restricted_store(
     alloc: Global,
@@ -51,7 +25,7 @@ pub fn restricted_store(
     entities: &Entities,
 ) -> Result<Entities, AllocError>
     requires { IsWhole request.now }
-    ensures { IfOk result (λ s. s ≡ restricted schema.now policies.now request.now entities.now) }
+    ensures { IfOk result (λ s. s ≡ restricted schema.now policies.now.policies request.now entities.now) }
 {
     let asked = asked_by(alloc, schema, policies, request)?;
     restricted_to(alloc, &asked, entities)
@@ -65,7 +39,7 @@ fn asked_by(
     request: &Request,
 ) -> Result<Steps<EntityUID>, AllocError>
     requires { IsWhole request.now }
-    ensures { IfOk result (λ m. SameAsked request.now m.entries [] [] (demands_of schema.now (env_of request.now) policies.now)) }
+    ensures { IfOk result (λ m. SameAsked request.now m.entries [] [] (demands_of schema.now (env_of request.now) policies.now.policies)) }
 {
     let env = environment(request);
     let mut asked = BTreeMap::new(alloc);

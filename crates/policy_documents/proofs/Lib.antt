@@ -1,2 +1,4 @@
-pub mod SameId
-pub mod Bounds
+mod Bounds
+pub mod KeptLimits
+mod Limited
+pub mod OneReading

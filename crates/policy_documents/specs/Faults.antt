@@ -10,15 +10,15 @@ Fails fault.OutOfMemory read = ⊤
 Fails (fault.Place p) read = read ≡ Err p
 
 -- what a function gives, as `view` sees it, is what reading comes to
-abbrev pub Gives : {X Y : Type 0} → (X → Y) → Result X DocumentFault → Result Y Place → Type 0
-Gives view (Ok x) read = read ≡ Ok (view x)
-Gives view (Err e) read = Fails e read
+abbrev pub ComesTo : {X Y : Type 0} → (X → Y) → Result X DocumentFault → Result Y Place → Type 0
+ComesTo view (Ok x) read = read ≡ Ok (view x)
+ComesTo view (Err e) read = Fails e read
 
 -- what a function gives is what reading may come to
-abbrev pub Reads : {X : Type 0} → Result X DocumentFault → (Result X Place → Type 0) → Type 0
-Reads (Ok x) P = P (Ok x)
-Reads (Err fault.OutOfMemory) P = ⊤
-Reads (Err (fault.Place p)) P = P (Err p)
+abbrev pub MayComeTo : {X : Type 0} → Result X DocumentFault → (Result X Place → Type 0) → Type 0
+MayComeTo (Ok x) P = P (Ok x)
+MayComeTo (Err fault.OutOfMemory) P = ⊤
+MayComeTo (Err (fault.Place p)) P = P (Err p)
 
 -- the first and then, where it is read, the next; the first fault is that of the whole
 abbrev pub Then : {A B : Type 0} → (Result A Place → Type 0) → (A → Result B Place → Type 0) → Result B Place → Type 0

@@ -15,10 +15,11 @@ use Rattle.policy_set.specs.declared.constraint.PrincipalOrResourceConstraint.{P
 use Rattle.policy_set.specs.declared.constraint.PrincipalOrResourceConstraint.TheVariants.{Any, Eq, In}
 use Rattle.policy_set.specs.declared.constraint.ActionConstraint.{ActionConstraint}
 use Rattle.policy_set.specs.declared.constraint.ActionConstraint.TheVariants as action
-use Rattle.policy_set.specs.declared.template.TemplateBody.{TemplateBody}
 use Rattle.policy_expressions.specs.Tree.{depth_of}
-use Rattle.policy_set.specs.Condition.{Plain, template_of}
+use Rattle.policy_set.specs.Data.{Plain, TemplateData}
+use Rattle.policy_set.specs.Condition.{condition_of}
 use Rattle.policy_documents.specs.Body.{body_of}
+use Rattle.policy_documents.specs.Limits.{is_over_ids}
 use Rattle.policy_documents.specs.declared.policy.PolicyParts.{PolicyParts}
 use Rattle.policy_documents.specs.declared.policy.PolicyRead.{PolicyRead}
 use Rattle.policy_documents.specs.declared.policy.PolicyRead.TheVariants.{Policy, Nested}
@@ -66,30 +67,34 @@ policy_parts_of d = do
   Some (record { id = id; effect = effect; principal = principal; action = action; resource = resource })
 
 -- the policy of the parts, with this body
-abbrev pub policy_of_parts : PolicyParts → Plain → TemplateBody
-policy_of_parts p body = template_of p.id p.effect p.principal p.action p.resource body
+abbrev pub policy_of_parts : PolicyParts → Plain → TemplateData
+policy_of_parts p body = record { id = p.id; effect = p.effect; principal = p.principal; action = p.action; resource = p.resource; body = body }
 
-abbrev pub policy_with_body : Option PolicyParts → Option Plain → Option TemplateBody
+abbrev pub policy_with_body : Option PolicyParts → Option Plain → Option TemplateData
 policy_with_body parts body = do
   parts ← parts
   body ← body
   Some (policy_of_parts parts body)
 
--- the policy that the value is, of any depth: an object with no other members
-unfoldable pub policy_of : Data → Option TemplateBody
+-- the policy that the value is, of any depth and with any expressions: an object with no other members
+unfoldable pub policy_of : Data → Option TemplateData
 policy_of d = do
   members ← as_object d
   if has_only policy_names members then policy_with_body (policy_parts_of d) (body_of (get (codes "body") d)) else None
 
 -- the condition is nested deeper than 400
-abbrev pub is_too_deep : TemplateBody → Bool
-is_too_deep t = nat_lt 400 (depth_of t.condition)
+abbrev pub is_too_deep : TemplateData → Bool
+is_too_deep t = nat_lt 400 (depth_of (condition_of t))
 
--- the policy, unless its condition is nested deeper than 400
-abbrev pub bounded_policy : TemplateBody → PolicyRead
-bounded_policy t = if is_too_deep t then Nested else Policy t
+-- the condition is over ids, so that no slot stands in it
+abbrev pub policy_keeps_limits : TemplateData → Bool
+policy_keeps_limits t = is_over_ids (condition_of t)
+
+-- the policy, unless its condition is nested deeper than 400; none, where it goes past the limits
+abbrev pub read_of : TemplateData → Option PolicyRead
+read_of t = if is_too_deep t then Some Nested else (if policy_keeps_limits t then Some (Policy t) else None)
 
 -- what is read of the parts and the body
-abbrev pub read_with : PolicyParts → Bounded Plain → PolicyRead
-read_with p (read.Within x) = bounded_policy (policy_of_parts p x)
-read_with p read.Nested = Nested
+abbrev pub read_with : PolicyParts → Bounded Plain → Option PolicyRead
+read_with p (read.Within x) = read_of (policy_of_parts p x)
+read_with p read.Nested = Some Nested

@@ -1,6 +1,6 @@
 -- What a JSON value says as a document, or where its first fault is.
-use Rattle.std.specs.Prelude.{◌≡◌, List, [], Option, Some, None, Result, Ok, Err}
-use Rattle.policy_set.specs.declared.template.TemplateBody.{TemplateBody}
+use Rattle.std.specs.Prelude.{◌≡◌, Option, Some, None, Result, Ok, Err}
+use Rattle.policy_set.specs.PolicySet.{PolicySetData}
 use Rattle.policy_store.specs.Store.{Store}
 use Rattle.policy_store.specs.declared.request.Request.{Request}
 use Rattle.schema_core.specs.Declarations.{IsSchemaOf, IsRefused}
@@ -10,7 +10,7 @@ use Rattle.schema_declarations.specs.declared.fault.SchemaFault.TheVariants as r
 use Rattle.serde_json.specs.Data.{Data}
 use Rattle.policy_documents.specs.Faults.{Then}
 use Rattle.policy_documents.specs.Parts.{DocumentParts, parts_of}
-use Rattle.policy_documents.specs.Policies.{policies_of}
+use Rattle.policy_documents.specs.Policies.{no_policies, policies_of}
 use Rattle.policy_documents.specs.Request.{request_of}
 use Rattle.policy_documents.specs.Limits.{limited_schema_of}
 use Rattle.policy_documents.specs.Store.{IsStoreOf}
@@ -34,19 +34,19 @@ abbrev pub or_place : {A : Type 0} → Place → Option A → Result A Place
 or_place p None = Err p
 or_place p (Some x) = Ok x
 
-abbrev pub document : SchemaData → List TemplateBody → Store → Request → Document
+abbrev pub document : SchemaData → PolicySetData → Store → Request → Document
 document schema policies entities request = record { schema = schema; policies = policies; entities = entities; request = request }
 
 -- Reading goes on behind the schema, the policies and the entities: each part in turn, up to the first fault.
-abbrev pub IsReadBehindStore : DocumentParts → SchemaData → List TemplateBody → Store → Result Document Place → Type 0
+abbrev pub IsReadBehindStore : DocumentParts → SchemaData → PolicySetData → Store → Result Document Place → Type 0
 IsReadBehindStore parts schema policies entities =
     Then (λ r. r ≡ or_place place.Request (request_of parts.request)) (λ request r. r ≡ Ok (document schema policies entities request))
 
-abbrev pub IsReadBehindPolicies : DocumentParts → SchemaData → List TemplateBody → Result Document Place → Type 0
+abbrev pub IsReadBehindPolicies : DocumentParts → SchemaData → PolicySetData → Result Document Place → Type 0
 IsReadBehindPolicies parts schema policies = Then (IsStoreOf parts.entities) (IsReadBehindStore parts schema policies)
 
 abbrev pub IsReadBehindSchema : DocumentParts → SchemaData → Result Document Place → Type 0
-IsReadBehindSchema parts schema = Then (λ r. r ≡ policies_of [] parts.policies) (IsReadBehindPolicies parts schema)
+IsReadBehindSchema parts schema = Then (λ r. r ≡ policies_of no_policies parts.policies) (IsReadBehindPolicies parts schema)
 
 -- the document that the parts make, or the place of the first fault
 abbrev pub IsReadFrom : DocumentParts → Result Document Place → Type 0

@@ -1,7 +1,7 @@
 //! Documents.
 
 ghost use Rattle.serde_json.specs.View.{view};
-ghost use Rattle.policy_documents.specs.Faults.{Reads};
+ghost use Rattle.policy_documents.specs.Faults.{MayComeTo};
 ghost use Rattle.policy_documents.specs.Parts.{parts_view};
 ghost use Rattle.policy_documents.specs.Reading.{IsRead, IsReadBehindPolicies, IsReadBehindSchema, IsReadBehindStore, IsReadFrom};
 
@@ -37,7 +37,7 @@ fn with_request(
     policies: PolicySet,
     entities: Entities,
 ) -> Result<Document, DocumentFault>
-    ensures { Reads result (IsReadBehindStore (parts_view parts.now) schema policies entities) }
+    ensures { MayComeTo result (IsReadBehindStore (parts_view parts.now) schema policies entities) }
 {
     let Some(request) = read_request(alloc, parts.request)? else {
         return Err(DocumentFault::Place(Place::Request));
@@ -56,7 +56,7 @@ fn with_entities(
     schema: ValidatorSchema,
     policies: PolicySet,
 ) -> Result<Document, DocumentFault>
-    ensures { Reads result (IsReadBehindPolicies (parts_view parts.now) schema policies) }
+    ensures { MayComeTo result (IsReadBehindPolicies (parts_view parts.now) schema policies) }
 {
     let entities = read_store(alloc, parts.entities)?;
     with_request(alloc, parts, schema, policies, entities)
@@ -67,14 +67,14 @@ fn with_policies(
     parts: &Parts<'_>,
     schema: ValidatorSchema,
 ) -> Result<Document, DocumentFault>
-    ensures { Reads result (IsReadBehindSchema (parts_view parts.now) schema) }
+    ensures { MayComeTo result (IsReadBehindSchema (parts_view parts.now) schema) }
 {
     let policies = read_policies(alloc, parts.policies)?;
     with_entities(alloc, parts, schema, policies)
 }
 
 fn read_parts(alloc: Global, parts: &Parts<'_>) -> Result<Document, DocumentFault>
-    ensures { Reads result (IsReadFrom (parts_view parts.now)) }
+    ensures { MayComeTo result (IsReadFrom (parts_view parts.now)) }
 {
     let schema = read_limited_schema(alloc, parts.schema)?;
     with_policies(alloc, parts, schema)
@@ -83,7 +83,7 @@ fn read_parts(alloc: Global, parts: &Parts<'_>) -> Result<Document, DocumentFaul
 /// The document that the value is; else the place of its first fault.
 #[tactic(auto, unfolding(crate::specs::Reading::IsRead))]
 pub fn read_document(alloc: Global, value: &Value) -> Result<Document, DocumentFault>
-    ensures { Reads result (IsRead (view value.now)) }
+    ensures { MayComeTo result (IsRead (view value.now)) }
 {
     match parts_of(value) {
         Some(parts) => read_parts(alloc, &parts),

@@ -3,8 +3,9 @@
 ghost use Rattle.std.specs.Prelude.{◌≡◌, [], IfOk, option_map};
 ghost use Rattle.serde_json.specs.View.{view, items_view};
 ghost use Rattle.policy_documents.specs.Entities.{entities_of, entity_of, index_from, with_uids};
+ghost use Rattle.policy_names.specs.Uid.{uid_eq};
 ghost use Rattle.policy_store.specs.FromParents.{ids_of};
-ghost use Rattle.policy_documents.specs.Faults.{Gives};
+ghost use Rattle.policy_documents.specs.Faults.{ComesTo};
 
 use crate::place::{DocumentFault, Place};
 use json_parts::{has_only, list_items, read_uid_like};
@@ -12,6 +13,7 @@ use policy_names::EntityUID;
 use policy_store::Entity;
 use serde_json::Value;
 use std::alloc::{AllocError, Global};
+use std::cmp::Ordering;
 use std::collections::{BTreeMap, BTreeSet};
 
 fn read_uid_set(
@@ -80,7 +82,7 @@ fn read_entity(
 
 /// The entities of the items; else the place of the first item that is none.
 pub fn read_entities(alloc: Global, items: &[Value]) -> Result<Vec<Entity>, DocumentFault>
-    ensures { Gives (λ v. v.items) result (entities_of [] (items_view items.now)) }
+    ensures { ComesTo (λ v. v.items) result (entities_of [] (items_view items.now)) }
 {
     let mut entities = Vec::new(alloc);
     for item in items {
@@ -109,10 +111,16 @@ pub(crate) fn index_of(uid: &EntityUID, ids: &Vec<EntityUID>) -> usize
 {
     let mut index = 0;
     for id in ids {
-        if uid == id {
+        if is_same(uid, id) {
             return index;
         }
         index += 1;
     }
     index
+}
+
+fn is_same(one: &EntityUID, other: &EntityUID) -> bool
+    ensures { result ≡ uid_eq one.now other.now }
+{
+    one.cmp(other) == Ordering::Equal
 }

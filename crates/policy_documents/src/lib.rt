@@ -4,6 +4,8 @@
 mod body;
 mod document;
 mod entities;
+pub mod laws;
+mod limits;
 mod parts;
 mod place;
 mod policies;

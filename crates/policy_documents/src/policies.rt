@@ -1,10 +1,10 @@
 //! The set of policies of a document.
 
-ghost use Rattle.std.specs.Prelude.{◌≡◌, [], length};
+ghost use Rattle.std.specs.Prelude.{◌≡◌, false};
 ghost use Rattle.serde_json.specs.View.{view, items_view};
-ghost use Rattle.policy_set.specs.declared.template.TemplateBody.{TemplateBody};
-ghost use Rattle.policy_documents.specs.Faults.{Gives};
-ghost use Rattle.policy_documents.specs.Policies.{added_policy, added_template, policies_of, template_read};
+ghost use Rattle.policy_set.specs.Condition.{has_scope_slot};
+ghost use Rattle.policy_documents.specs.Faults.{ComesTo};
+ghost use Rattle.policy_documents.specs.Policies.{added_policy, added_template, no_policies, policies_of, template_read};
 
 use crate::place::{DocumentFault, Place};
 use crate::policy::{PolicyRead, read_policy};
@@ -14,7 +14,7 @@ use std::alloc::Global;
 
 // The policy that was read at the index, or its fault.
 fn template_at(index: usize, read: Option<PolicyRead>) -> Result<Template, DocumentFault>
-    ensures { Gives (λ t. t) result (template_read index read) }
+    ensures { ComesTo (λ t. t) result (template_read index read) }
 {
     match read {
         Some(PolicyRead::Policy(template)) => Ok(template),
@@ -24,7 +24,8 @@ fn template_at(index: usize, read: Option<PolicyRead>) -> Result<Template, Docum
 }
 
 fn add_template(policies: &mut PolicySet, template: Template) -> Result<(), DocumentFault>
-    ensures { Gives (λ _. policies.new) result (added_template policies.old template) }
+    requires { has_scope_slot template ≡ false }
+    ensures { ComesTo (λ _. policies.new) result (added_template policies.old template) }
 {
     let index = policies.len();
     match policies.add_static(template) {
@@ -37,9 +38,9 @@ fn add_template(policies: &mut PolicySet, template: Template) -> Result<(), Docu
 }
 
 /// Adds the policy that the value is.
-#[tactic(auto, unfolding(crate::specs::Policies::added_policy), using(crate::proofs::Bounds::added_read))]
+#[tactic(auto, unfolding(crate::specs::Policies::added_policy), using(crate::proofs::Limited::added_read))]
 fn add_policy(alloc: Global, policies: &mut PolicySet, value: &Value) -> Result<(), DocumentFault>
-    ensures { Gives (λ _. policies.new) result (added_policy policies.old (view value.now)) }
+    ensures { ComesTo (λ _. policies.new) result (added_policy policies.old (view value.now)) }
 {
     let index = policies.len();
     let read = read_policy(alloc, value)?;
@@ -49,7 +50,7 @@ fn add_policy(alloc: Global, policies: &mut PolicySet, value: &Value) -> Result<
 
 /// The policies of the items; else the place of the first fault.
 pub fn read_policies(alloc: Global, items: &[Value]) -> Result<PolicySet, DocumentFault>
-    ensures { Gives (λ s. s) result (policies_of [] (items_view items.now)) }
+    ensures { ComesTo (λ s. s) result (policies_of no_policies (items_view items.now)) }
 {
     let mut policies = PolicySet::new(alloc);
     for item in items {

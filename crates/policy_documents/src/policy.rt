@@ -1,16 +1,17 @@
 //! A policy in JSON.
 
-ghost use Rattle.std.specs.Prelude.{◌≡◌, IfOk, codes, option_map};
+ghost use Rattle.std.specs.Prelude.{◌≡◌, IfOk, codes, option_and_then, option_map, if◌then◌else◌};
 ghost use Rattle.serde_json.specs.View.{view, members_view};
 ghost use Rattle.policy_documents.specs.Body.{body_of};
-ghost use Rattle.policy_documents.specs.Policy.{action_constraint_of, action_form, action_form_of, bounded_policy, constraint_form, constraint_form_of, constraint_of, effect_of, effect_of_text, policy_of, policy_of_parts, policy_parts_of, policy_with_body, read_with};
+ghost use Rattle.policy_documents.specs.Policy.{action_constraint_of, action_form, action_form_of, constraint_form, constraint_form_of, constraint_of, effect_of, effect_of_text, policy_of, policy_of_parts, policy_keeps_limits, policy_parts_of, policy_with_body, read_of, read_with};
 ghost use Rattle.serde_json.specs.Find.{get};
 ghost use Rattle.json_parts.specs.Names.{uid_of};
 
 use crate::body::read_body;
+use crate::limits::is_over_ids;
 use expr_documents::Bounded;
 use json_parts::{has_only, only_member, read_uid};
-use policy_core::Expr;
+use policy_expressions::Expr;
 use policy_names::Text;
 use policy_set::{
     ActionConstraint, Effect, EntityReference, PrincipalOrResourceConstraint, Template,
@@ -180,12 +181,13 @@ fn read_policy_parts(alloc: Global, value: &Value) -> Result<Option<PolicyParts>
 }
 
 // The policy of these parts and this body.
+#[tactic(auto, using(crate::proofs::Limited::is_deep, crate::proofs::Limited::is_built, crate::proofs::Limited::has_slot_past))]
 fn with_expression(
     alloc: Global,
     parts: PolicyParts,
     body: Expr<()>,
-) -> Result<PolicyRead, AllocError>
-    ensures { IfOk result (λ r. r ≡ bounded_policy (policy_of_parts parts body)) }
+) -> Result<Option<PolicyRead>, AllocError>
+    ensures { IfOk result (λ o. o ≡ read_of (policy_of_parts parts body)) }
 {
     let PolicyParts {
         id,
@@ -194,10 +196,37 @@ fn with_expression(
         action,
         resource,
     } = parts;
+    let is_deep = body.depth() >= MOST_BODY_DEPTH;
     match Template::new(alloc, id, effect, principal, action, resource, body) {
-        Ok(template) => Ok(PolicyRead::Policy(template)),
-        Err(TemplateError::Nested) => Ok(PolicyRead::Nested),
+        Ok(template) => Ok(within_limits(template)),
+        Err(TemplateError::Nested) => Ok(Some(PolicyRead::Nested)),
+        Err(TemplateError::SlotInCondition) => Ok(nested_if(is_deep)),
         Err(TemplateError::OutOfMemory) => Err(AllocError),
+    }
+}
+
+// A condition is one deeper than its body, and may be 400 deep.
+const MOST_BODY_DEPTH: u32 = 400;
+
+fn nested_if(is_deep: bool) -> Option<PolicyRead>
+    ensures { result ≡ (if is_deep then Some PolicyRead.Nested else None) }
+{
+    if is_deep {
+        Some(PolicyRead::Nested)
+    } else {
+        None
+    }
+}
+
+// The policy, where it keeps the limits.
+fn within_limits(template: Template) -> Option<PolicyRead>
+    ensures { result ≡ (if policy_keeps_limits template then Some (PolicyRead.Policy template) else None) }
+{
+    if is_over_ids(template.condition()) {
+        Some(PolicyRead::Policy(template))
+    } else {
+        drop(template);
+        None
     }
 }
 
@@ -205,19 +234,19 @@ fn with_body(
     alloc: Global,
     parts: PolicyParts,
     body: Bounded<Expr<()>>,
-) -> Result<PolicyRead, AllocError>
-    ensures { IfOk result (λ r. r ≡ read_with parts body) }
+) -> Result<Option<PolicyRead>, AllocError>
+    ensures { IfOk result (λ o. o ≡ read_with parts body) }
 {
     match body {
         Bounded::Within(body) => with_expression(alloc, parts, body),
-        Bounded::Nested => Ok(PolicyRead::Nested),
+        Bounded::Nested => Ok(Some(PolicyRead::Nested)),
     }
 }
 
 // The body is read last, so that nothing of it has to be let go at a fault in another part.
-#[tactic(auto, using(crate::proofs::Bounds::whole_read))]
+#[tactic(auto, using(crate::proofs::Limited::whole_read))]
 fn read_whole(alloc: Global, value: &Value) -> Result<Option<PolicyRead>, AllocError>
-    ensures { IfOk result (λ o. o ≡ option_map bounded_policy (policy_with_body (policy_parts_of (view value.now)) (body_of (get (codes "body") (view value.now))))) }
+    ensures { IfOk result (λ o. o ≡ option_and_then read_of (policy_with_body (policy_parts_of (view value.now)) (body_of (get (codes "body") (view value.now))))) }
 {
     let Some(parts) = read_policy_parts(alloc, value)? else {
         return Ok(None);
@@ -225,13 +254,13 @@ fn read_whole(alloc: Global, value: &Value) -> Result<Option<PolicyRead>, AllocE
     let Some(body) = read_body(alloc, value.get("body"))? else {
         return Ok(None);
     };
-    Ok(Some(with_body(alloc, parts, body)?))
+    with_body(alloc, parts, body)
 }
 
-/// The policy that the value is, if it is one.
+/// The policy that the value is, if it is one that keeps the limits.
 #[tactic(auto, unfolding(crate::specs::Policy::policy_of))]
 pub fn read_policy(alloc: Global, value: &Value) -> Result<Option<PolicyRead>, AllocError>
-    ensures { IfOk result (λ o. o ≡ option_map bounded_policy (policy_of (view value.now))) }
+    ensures { IfOk result (λ o. o ≡ option_and_then read_of (policy_of (view value.now))) }
 {
     let Some(members) = value.as_object() else {
         return Ok(None);

@@ -6,7 +6,7 @@ ghost use Rattle.std.specs.Prelude.{option_and_then, true};
 ghost use Rattle.serde_json.specs.Find.{as_array, as_object};
 ghost use Rattle.serde_json.specs.View.{view, items_view, members_view};
 ghost use Rattle.schema_documents.specs.Schema.{schema_of};
-ghost use Rattle.policy_documents.specs.Faults.{Reads};
+ghost use Rattle.policy_documents.specs.Faults.{MayComeTo};
 ghost use Rattle.policy_documents.specs.Limits.{is_limited_to, types_keep_limits, actions_keep_limits, keeps_limits, limited_schema_of};
 ghost use Rattle.policy_documents.specs.Reading.{IsSchemaFrom};
 
@@ -76,7 +76,7 @@ pub fn keeps_limits(value: &Value) -> bool
 
 /// The schema that the value declares; else the place of its first fault.
 pub fn read_schema(alloc: Global, value: &Value) -> Result<ValidatorSchema, DocumentFault>
-    ensures { Reads result (IsSchemaFrom (schema_of (view value.now))) }
+    ensures { MayComeTo result (IsSchemaFrom (schema_of (view value.now))) }
 {
     let Some(declarations) = read_declarations(alloc, value)? else {
         return Err(DocumentFault::Place(Place::Schema));
@@ -90,7 +90,7 @@ pub fn read_schema(alloc: Global, value: &Value) -> Result<ValidatorSchema, Docu
 
 /// The schema that the value declares, where it keeps the limits of documents; what goes past them is a fault of form.
 pub fn read_limited_schema(alloc: Global, value: &Value) -> Result<ValidatorSchema, DocumentFault>
-    ensures { Reads result (IsSchemaFrom (limited_schema_of (view value.now))) }
+    ensures { MayComeTo result (IsSchemaFrom (limited_schema_of (view value.now))) }
 {
     if !keeps_limits(value) {
         return Err(DocumentFault::Place(Place::Schema));

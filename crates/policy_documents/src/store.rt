@@ -7,7 +7,7 @@ ghost use Rattle.hierarchy.specs.Repeated.{IsRepeated, StandsEarlier};
 ghost use Rattle.policy_names.specs.declared.entity_uid.EntityUID.{EntityUID};
 ghost use Rattle.serde_json.specs.View.{items_view};
 ghost use Rattle.policy_documents.specs.Entities.{entities_of};
-ghost use Rattle.policy_documents.specs.Faults.{Reads};
+ghost use Rattle.policy_documents.specs.Faults.{MayComeTo};
 ghost use Rattle.policy_documents.specs.Store.{IsStoreOf, IsRepeatedIfDuplicate, IsPlaceOf};
 
 use crate::entities::{ids_of, index_of, read_entities};
@@ -47,7 +47,7 @@ fn refusal(alloc: Global, ids: &Vec<EntityUID>, error: EntitiesError) -> Documen
 /// The store that the entities of the items make with their parents; else the place of the first fault: the first item
 /// that is no entity, the first id that stands earlier, or the least id that is its own ancestor.
 pub fn read_store(alloc: Global, items: &[Value]) -> Result<Entities, DocumentFault>
-    ensures { Reads result (IsStoreOf (items_view items.now)) }
+    ensures { MayComeTo result (IsStoreOf (items_view items.now)) }
 {
     let entities = read_entities(alloc, items)?;
     let ids = ids_of(alloc, &entities)?;

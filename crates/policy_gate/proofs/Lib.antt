@@ -1,6 +1,4 @@
-pub mod Answers
-pub mod OneReading
-pub mod BodyOverIds
-pub mod OverIds
-pub mod Runs
-pub mod Sliced
+mod Answers
+mod Identities
+mod Runs
+mod Sliced

@@ -11,15 +11,16 @@ use Rattle.policy_validate.specs.Accepted.{findings_of, IsAccepted}
 use Rattle.policy_validate.specs.Conformance.{first_request_fault, first_store_fault, RequestConforms, StoreConforms}
 use Rattle.policy_validate.specs.declared.request_error.RequestValidationError.{RequestValidationError}
 use Rattle.policy_validate.specs.declared.store_rule.StoreRule.{StoreRule}
-use Rattle.entity_manifest.proofs.Covering.{covers, decision_same}
+use Rattle.entity_manifest.proofs.Covering.{covers, allows, decision_same}
 use Rattle.policy_gate.specs.Answer.{IsAnswer, IsAnswerIf, IsAnswerFor, IsAnswerTo, behind_errors, behind_store, behind_request, slice_answer, checked_answer}
 use Rattle.policy_gate.specs.Headline.{IsDocumentOf, KeepsRules, IsSliced}
 use Rattle.json_parts.specs.Json.{json_of}
 use Rattle.policy_gate.specs.Reply.{Answer, answer}
 use Rattle.policy_gate.specs.declared.status.Status.{Status}
 use Rattle.policy_gate.specs.declared.status.Status.TheVariants.{Done}
-use Rattle.policy_gate.proofs.OneReading.{one_reading}
-use Rattle.policy_gate.proofs.OverIds.{read_good}
+use Rattle.policy_documents.proofs.OneReading.{one_reading}
+use Rattle.policy_documents.proofs.KeptLimits.{kept}
+use Rattle.policy_gate.proofs.Identities.{over_ids}
 
 abbrev IsDone : Answer → Type 0
 IsDone a = a.status ≡ Done
@@ -47,11 +48,13 @@ past_all d whole h =
 
 sliced : (v : Data) (d : Document) (text : List ℕ) → IsRead v (Ok d) → KeepsRules d → answer Done text ≡ slice_answer d → IsSliced d text
 sliced v d text reads keeps is =
-    let good = read_good v d reads in
+    let good = kept v d reads in
+    let over = over_ids d.policies.policies good.1 in
     record {
       written = ap (λ b. b.text) is;
-      covers = covers d.schema d.request d.entities good.0 keeps.whole keeps.request keeps.store d.policies good.1;
-      decision = decision_same d.schema d.request d.entities good.0 keeps.whole keeps.request keeps.store d.policies good.1;
+      covers = covers d.schema d.request d.entities good.0 keeps.whole keeps.request keeps.store d.policies.policies over;
+      allowed = allows d.schema d.request d.entities good.0 keeps.whole keeps.request keeps.store d.policies.policies over;
+      decision = decision_same d.schema d.request d.entities good.0 keeps.whole keeps.request keeps.store d.policies.policies over;
     }
 
 abbrev Says : List ℕ → List ℕ → Type 0

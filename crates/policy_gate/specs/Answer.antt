@@ -4,7 +4,7 @@ use Rattle.serde_json.specs.Data.{Data}
 use Rattle.json_parts.specs.Json.{json_of}
 use Rattle.policy_names.specs.declared.entity_uid.EntityUID.{EntityUID}
 use Rattle.policy_store.specs.Request.{IsWhole}
-use Rattle.policy_set.specs.Response.{response}
+use Rattle.authorizer.specs.Response.{response}
 use Rattle.policy_documents.specs.PlaceText.{place_text}
 use Rattle.policy_documents.specs.Reading.{IsRead}
 use Rattle.policy_documents.specs.declared.document.Document.{Document}
@@ -25,8 +25,8 @@ use Rattle.policy_gate.specs.declared.status.Status.TheVariants as status
 -- the store restricted to what the document's policies read on its request, with the response on it
 abbrev pub slice_answer : Document → Answer
 slice_answer d =
-    let slice = restricted d.schema d.policies d.request d.entities in
-    answer status.Done (slice_text (response d.policies d.request slice) slice)
+    let slice = restricted d.schema d.policies.policies d.request d.entities in
+    answer status.Done (slice_text (response d.policies.policies d.request slice) slice)
 
 -- errors in the policies come first; a warning alone does not matter
 abbrev pub behind_errors : List ValidationError → Findings → Answer → Answer

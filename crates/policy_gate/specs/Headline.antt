@@ -2,13 +2,13 @@
 use Rattle.std.specs.Prelude.{◌≡◌, ℕ, List, [], Some, None, Ok}
 use Rattle.policy_store.specs.Request.{IsWhole}
 use Rattle.policy_store.specs.Store.{Store}
-use Rattle.policy_set.specs.Response.{response}
+use Rattle.authorizer.specs.Response.{response}
 use Rattle.policy_documents.specs.Reading.{IsRead}
 use Rattle.policy_documents.specs.declared.document.Document.{Document}
 use Rattle.serde_json.specs.Data.{Data}
 use Rattle.policy_validate.specs.Accepted.{IsAccepted}
 use Rattle.policy_validate.specs.Conformance.{RequestConforms, StoreConforms}
-use Rattle.entity_manifest.specs.Cover.{restricted, Covers}
+use Rattle.entity_manifest.specs.Cover.{restricted, Covers, AreAllowedBetween}
 use Rattle.policy_writing.specs.SliceJson.{slice_text}
 use Rattle.json_parts.specs.Json.{json_of}
 
@@ -28,10 +28,13 @@ pub record KeepsRules (d : Document) : Type 0 where
 
 -- the document's store restricted to what its policies read on its request
 abbrev pub slice_of : Document → Store
-slice_of d = restricted d.schema d.policies d.request d.entities
+slice_of d = restricted d.schema d.policies.policies d.request d.entities
 
--- the text is the slice with the decision; the slice covers the policies, and the response on it is that on the whole store
+-- the text is the slice with the decision. The slice covers the policies: on it, and on every store between it and the whole one,
+-- each policy has the outcome that it has on the whole store, which is a truth value, a missing entity or an overflow; so the response
+-- on it is that on the whole store
 pub record IsSliced (d : Document) (text : List ℕ) : Type 0 where
-  pub written : text ≡ slice_text (response d.policies d.request (slice_of d)) (slice_of d)
-  pub covers : Covers d.policies d.request (slice_of d) d.entities
-  pub decision : response d.policies d.request (slice_of d) ≡ response d.policies d.request d.entities
+  pub written : text ≡ slice_text (response d.policies.policies d.request (slice_of d)) (slice_of d)
+  pub covers : Covers d.policies.policies d.request (slice_of d) d.entities
+  pub allowed : AreAllowedBetween d.policies.policies d.request (slice_of d) d.entities
+  pub decision : response d.policies.policies d.request (slice_of d) ≡ response d.policies.policies d.request d.entities

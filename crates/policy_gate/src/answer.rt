@@ -9,10 +9,10 @@ ghost use Rattle.policy_gate.specs.Reply.{reply_view};
 
 use crate::reply::{Reply, reply_with};
 use crate::status::Status;
+use authorizer::decide;
 use entity_manifest::restricted_store;
 use policy_documents::{Document, DocumentFault, parse_json, read_document};
 use policy_scope::findings_text;
-use policy_set::decide;
 use policy_validate::{
     ConformanceError, RequestValidationError, ValidationMode, Validator, conforms, entity_text,
     request_text, validate_request,

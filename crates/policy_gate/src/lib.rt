@@ -6,13 +6,13 @@ mod command;
 mod reply;
 mod runner;
 mod status;
-#[cfg(test)]
-mod tests;
-#[cfg(test)]
-mod tests_bodies;
 
 pub use command::{Command, command_of};
 pub use expr_documents::{Bounded, read_expr};
+pub use outside::{
+    MemorySink, MemorySource, NoSink, ReadAnswer, Sink, SliceSource, Source, StdSink, StdSource,
+    WriteAnswer,
+};
 pub use policy_documents::{DocumentFault, Place, read_schema, read_value};
 pub use policy_writing::write_value;
 pub use reply::Reply;

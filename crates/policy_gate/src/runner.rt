@@ -128,7 +128,8 @@ pub fn run<S: Source, K: Sink>(
 
     // The headline: with 0 all bytes were read and are a document that keeps every rule, and the text that is written is
     // its store restricted to what its policies read, with the response; on that slice, and on every store between it and
-    // the whole one, every policy has the outcome that it has on the whole store.
+    // the whole one, every policy has the outcome that it has on the whole store: a truth value, a missing entity or an
+    // overflow.
     ensures headline { result ≡ Status.Done
         → (bytes : List ℕ) × (text : List ℕ) × WasRead (S.state source.old) (S.state source.new) bytes
         × ((document : Document) × IsDocumentOf bytes document × KeepsRules document × IsSliced document text)

@@ -12,7 +12,7 @@ use Rattle.policy_expressions.specs.declared.kinds.Loc.{Loc}
 use Rattle.policy_expressions.specs.declared.kinds.Literal.TheVariants as literal
 use Rattle.policy_expressions.specs.Tree.{Tree, lit, var, slot, ite, conj, disj, unary, binary, attr, like, is_type, call, set, rec, Trees, no_trees, tree, Named, no_named, named, Mark}
 use Rattle.policy_expressions.specs.Tree as core
-use Rattle.policy_set.specs.declared.template.TemplateBody.{TemplateBody}
+use Rattle.policy_set.specs.Data.{PolicyData}
 use Rattle.schema_core.specs.Schema.{SchemaData, ActionData, type_at, action_at}
 use Rattle.policy_scope.specs.declared.finding.UnrecognizedEntityType.{UnrecognizedEntityType}
 use Rattle.policy_scope.specs.declared.finding.UnrecognizedActionId.{UnrecognizedActionId}
@@ -87,7 +87,7 @@ abbrev pub entity_type_finding : SchemaData → List ℕ → Mentioned × Option
 entity_type_finding schema policy m = if is_known_type schema (type_of m.0) then None else Some (record { source_loc = m.1; policy_id = policy; actual_entity_type = type_of m.0 })
 
 -- all types that are not known
-abbrev pub entity_type_findings : SchemaData → TemplateBody → List UnrecognizedEntityType
+abbrev pub entity_type_findings : SchemaData → PolicyData → List UnrecognizedEntityType
 entity_type_findings schema p = distinct entity_type_cmp (filter_map (entity_type_finding schema p.id) (names_in p.condition))
 
 -- the text stands somewhere in the other
@@ -119,5 +119,5 @@ action_id_finding schema policy m = of_name m.0 where
   of_name (a_type ty) = None
 
 -- all actions that are not declared
-abbrev pub action_id_findings : SchemaData → TemplateBody → List UnrecognizedActionId
+abbrev pub action_id_findings : SchemaData → PolicyData → List UnrecognizedActionId
 action_id_findings schema p = distinct action_id_cmp (filter_map (action_id_finding schema p.id) (names_in p.condition))

@@ -1,10 +1,12 @@
 //! The scope of a policy: some declared action has to meet it.
 
-ghost use Rattle.std.specs.Prelude.{◌≡◌, IfOk};
-ghost use Rattle.std.specs.List.{list_any};
+ghost use Rattle.std.specs.Prelude.{◌≡◌, IfOk, is_some};
+ghost use Rattle.std.specs.List.{list_all, list_any};
+ghost use Rattle.schema_core.specs.Schema.{action_at};
 ghost use Rattle.std.specs.Ordering.{is_eq};
-ghost use Rattle.policy_names.specs.Uid.{text_cmp};
-ghost use Rattle.policy_scope.specs.Scope.{action_meets, uid_of, type_below, type_meets, types_meet, is_applicable, types_for, some_type, only_descendants, in_would_fix, application_findings};
+ghost use Rattle.policy_names.specs.Uid.{text_cmp, uid_eq};
+ghost use Rattle.policy_set.specs.Condition.{written_of};
+ghost use Rattle.policy_scope.specs.Scope.{action_meets, type_below, is_action_within, equal_meets, in_meets, type_meets, types_meet, is_applicable, types_for, some_type, only_descendants, in_would_fix, application_findings};
 
 use crate::InvalidActionApplication;
 use policy_names::{EntityType, EntityUID};
@@ -16,13 +18,14 @@ use std::collections::BTreeSet;
 
 /// What is found of the policy's scope where no declared action meets it. An action meets a scope where it meets the
 /// part for the action and has a principal type and a resource type that meet the other two parts: each meets a part
-/// that asks for nothing, the named entity's own type `==`, and that type and its descendants `in`.
+/// that asks for nothing and a slot, the named entity's own type `==`, that type and its descendants `in`, and the named
+/// type `is`. A list of actions is met by these and their descendants, where each is declared.
 pub fn validate_template_action_application(
     alloc: Global,
     schema: &ValidatorSchema,
     policy: &Policy,
 ) -> Result<Vec<InvalidActionApplication>, AllocError>
-    ensures { IfOk result (λ found. found.items ≡ application_findings schema.now policy.now) }
+    ensures { IfOk result (λ found. found.items ≡ application_findings schema.now (written_of policy.now)) }
 {
     let mut found = Vec::new(alloc);
     if !is_applicable(schema, policy) {
@@ -41,10 +44,12 @@ pub fn validate_template_action_application(
 
 // Whether some declared action meets the scope.
 fn is_applicable(schema: &ValidatorSchema, policy: &Policy) -> bool
-    ensures { result ≡ is_applicable schema.now policy.now }
+    ensures { result ≡ is_applicable schema.now (written_of policy.now) }
 {
     for action in schema.action_ids() {
-        if action_meets(policy.action_constraint(), action) && types_meet(schema, policy, action) {
+        if action_meets(schema, policy.action_constraint(), action)
+            && types_meet(schema, policy, action)
+        {
             return true;
         }
     }
@@ -52,18 +57,59 @@ fn is_applicable(schema: &ValidatorSchema, policy: &Policy) -> bool
 }
 
 // Whether the action meets the part for the action.
-fn action_meets(constraint: &ActionConstraint, action: &ValidatorActionId) -> bool
-    ensures { result ≡ action_meets constraint.now action.now }
+fn action_meets(
+    schema: &ValidatorSchema,
+    constraint: &ActionConstraint,
+    action: &ValidatorActionId,
+) -> bool
+    ensures { result ≡ action_meets schema.now constraint.now action.now }
 {
     match constraint {
         ActionConstraint::Any => true,
-        ActionConstraint::Eq(uid) => uid.cmp(action.name()) == Ordering::Equal,
+        ActionConstraint::Eq(uid) => same_id(uid, action.name()),
+        ActionConstraint::In(uids) => {
+            are_declared(schema, uids) && is_within_some(schema, action.name(), uids)
+        }
+    }
+}
+
+// Whether each of these actions is declared.
+fn are_declared(schema: &ValidatorSchema, uids: &Vec<EntityUID>) -> bool
+    ensures { result ≡ list_all (λ u. is_some (action_at schema.now u)) uids.now.items }
+{
+    uids.iter().all(|uid| schema.get_action_id(uid).is_some())
+}
+
+// Whether the action is one of these, or among the descendants of one.
+fn is_within_some(schema: &ValidatorSchema, uid: &EntityUID, uids: &Vec<EntityUID>) -> bool
+    ensures { result ≡ list_any (is_action_within schema.now uid.now) uids.now.items }
+{
+    uids.iter()
+        .any(|above| is_action_within(schema, uid, above))
+}
+
+fn same_id(one: &EntityUID, other: &EntityUID) -> bool
+    ensures { result ≡ uid_eq one.now other.now }
+{
+    one.cmp(other) == Ordering::Equal
+}
+
+// Whether the action is the other, or among its descendants.
+fn is_action_within(schema: &ValidatorSchema, uid: &EntityUID, above: &EntityUID) -> bool
+    ensures { result ≡ is_action_within schema.now uid.now above.now }
+{
+    if same_id(uid, above) {
+        return true;
+    }
+    match schema.get_action_id(above) {
+        Some(declared) => declared.descendants().contains(uid),
+        None => false,
     }
 }
 
 // Whether the action has a principal type and a resource type that meet the other parts.
 fn types_meet(schema: &ValidatorSchema, policy: &Policy, action: &ValidatorActionId) -> bool
-    ensures { result ≡ types_meet schema.now policy.now action.now }
+    ensures { result ≡ types_meet schema.now (written_of policy.now) action.now }
 {
     some_meets(
         schema,
@@ -102,22 +148,36 @@ fn type_meets(
 {
     match constraint {
         PrincipalOrResourceConstraint::Any => true,
-        PrincipalOrResourceConstraint::Eq(reference) => {
-            same_type(uid_of(reference).entity_type(), ty)
-        }
-        PrincipalOrResourceConstraint::In(reference) => {
-            let own = uid_of(reference).entity_type();
-            same_type(own, ty) || type_below(schema, own, ty)
+        PrincipalOrResourceConstraint::Eq(entity) => equal_meets(entity, ty),
+        PrincipalOrResourceConstraint::In(entity) => in_meets(schema, entity, ty),
+        PrincipalOrResourceConstraint::Is(own) => same_type(own, ty),
+        PrincipalOrResourceConstraint::IsIn(own, entity) => {
+            same_type(own, ty) && in_meets(schema, entity, ty)
         }
     }
 }
 
-// The entity that a constraint names.
-fn uid_of(reference: &EntityReference) -> &EntityUID
-    ensures { result.now ≡ uid_of reference.now }
+// Whether an entity of the type may be this one.
+fn equal_meets(entity: &EntityReference, ty: &EntityType) -> bool
+    ensures { result ≡ equal_meets entity.now ty.now }
 {
-    let EntityReference::EUID(uid) = reference;
-    uid
+    match entity {
+        EntityReference::EUID(uid) => same_type(uid.entity_type(), ty),
+        EntityReference::Slot => true,
+    }
+}
+
+// Whether an entity of the type may be this one, or have it as an ancestor.
+fn in_meets(schema: &ValidatorSchema, entity: &EntityReference, ty: &EntityType) -> bool
+    ensures { result ≡ in_meets schema.now entity.now ty.now }
+{
+    match entity {
+        EntityReference::EUID(uid) => {
+            let own = uid.entity_type();
+            same_type(own, ty) || type_below(schema, ty, own)
+        }
+        EntityReference::Slot => true,
+    }
 }
 
 fn same_type(one: &EntityType, other: &EntityType) -> bool
@@ -127,8 +187,8 @@ fn same_type(one: &EntityType, other: &EntityType) -> bool
 }
 
 // Whether the type is among the descendants of the other.
-fn type_below(schema: &ValidatorSchema, above: &EntityType, ty: &EntityType) -> bool
-    ensures { result ≡ type_below schema.now above.now ty.now }
+fn type_below(schema: &ValidatorSchema, ty: &EntityType, above: &EntityType) -> bool
+    ensures { result ≡ type_below schema.now ty.now above.now }
 {
     match schema.get_entity_type(above) {
         Some(declared) => declared.descendants().contains(ty),
@@ -164,8 +224,8 @@ fn in_would_fix(
     ensures { result ≡ in_would_fix schema.now side action.now constraint.now }
 {
     match constraint {
-        PrincipalOrResourceConstraint::Eq(reference) => {
-            only_descendants(schema, side, action, uid_of(reference).entity_type())
+        PrincipalOrResourceConstraint::Eq(EntityReference::EUID(uid)) => {
+            only_descendants(schema, side, action, uid.entity_type())
         }
         _ => false,
     }
@@ -193,7 +253,7 @@ fn some_type_is(
     ensures { result ≡ some_type schema.now side constraint.now (λ other. is_eq (text_cmp ty.now other)) }
 {
     for action in schema.action_ids() {
-        if action_meets(constraint, action) && types_for(side, action).contains(ty) {
+        if action_meets(schema, constraint, action) && types_for(side, action).contains(ty) {
             return true;
         }
     }
@@ -207,10 +267,12 @@ fn some_type_below(
     constraint: &ActionConstraint,
     above: &EntityType,
 ) -> bool
-    ensures { result ≡ some_type schema.now side constraint.now (type_below schema.now above.now) }
+    ensures { result ≡ some_type schema.now side constraint.now (λ ty. type_below schema.now ty above.now) }
 {
     for action in schema.action_ids() {
-        if action_meets(constraint, action) && some_below(schema, above, types_for(side, action)) {
+        if action_meets(schema, constraint, action)
+            && some_below(schema, above, types_for(side, action))
+        {
             return true;
         }
     }
@@ -219,10 +281,10 @@ fn some_type_below(
 
 // Whether some type of the set is among the descendants of this one.
 fn some_below(schema: &ValidatorSchema, above: &EntityType, types: &BTreeSet<EntityType>) -> bool
-    ensures { result ≡ list_any (type_below schema.now above.now) types.now.keys }
+    ensures { result ≡ list_any (λ ty. type_below schema.now ty above.now) types.now.keys }
 {
     for ty in types {
-        if type_below(schema, above, ty) {
+        if type_below(schema, ty, above) {
             return true;
         }
     }

@@ -1,1 +1,3 @@
 pub mod Depths
+mod Each
+mod Plain

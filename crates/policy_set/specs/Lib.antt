@@ -1,3 +1,4 @@
 pub mod Condition
+pub mod Data
+pub mod Links
 pub mod PolicySet
-pub mod Response

@@ -1,7 +1,7 @@
 //! Sets of policies.
 
 use crate::{Policy, Template};
-use policy_core::Text;
+use policy_names::Text;
 use std::alloc::{AllocError, Global};
 use std::collections::BTreeMap;
 use std::collections::btree_map::Values;
@@ -14,20 +14,17 @@ pub struct PolicySet {
 }
 
 impl Model for PolicySet {
-    ghost use Rattle.std.specs.Prelude.{List};
-    ghost use Rattle.policy_set.specs.declared.template.TemplateBody.{TemplateBody};
+    ghost use Rattle.std.specs.Prelude.{[]};
     ghost use Rattle.std.specs.BTreeMap.{values};
-    ghost use Rattle.policy_set.specs.PolicySet.{AreAtTheirIds};
-    ghost use Rattle.policy_set.specs.contracts.template.TemplateBody as row;
-    ghost use Rattle.std.specs.Coded.{coded_list};
+    ghost use Rattle.policy_set.specs.PolicySet.{PolicySetData, coded_set, HoldsPolicies};
 
-    ghost Value = { List TemplateBody };
+    ghost Value = { PolicySetData };
 
-    ghost coded = { coded_list row.the_row.coded };
+    ghost coded = { coded_set };
 
-    ghost view = { λ s. values s.policies };
+    ghost view = { λ s. record { templates = []; policies = values s.policies } };
 
-    ghost invariant = { λ s. AreAtTheirIds s.policies };
+    ghost invariant = { λ s. HoldsPolicies s.policies };
 }
 
 /// Why a policy is not added to a set.
@@ -53,30 +50,34 @@ impl From<AllocError> for PolicySetError {
 }
 
 impl PolicySet {
-    ghost use Rattle.std.specs.Prelude.{◌≡◌, [], length, map, OnErr, MatchResult, None};
+    ghost use Rattle.std.specs.Prelude.{◌≡◌, false, [], length, map, OnErr, MatchResult, None};
     ghost use Rattle.std.specs.Option.{option_copied};
+    ghost use Rattle.std.specs.List.{AllByRecursion};
     ghost use Rattle.std.specs.List.Sorted.{IsStrictlySortedBy};
     ghost use Rattle.std.specs.Map.Iter.{ShowsInOrder, deref};
     ghost use Rattle.policy_names.specs.Uid.{text_cmp};
-    ghost use Rattle.policy_set.specs.declared.template.TemplateBody.{TemplateBody};
+    ghost use Rattle.policy_set.specs.Data.{PolicyData};
+    ghost use Rattle.policy_set.specs.Condition.{IsPolicy, has_scope_slot, static_of};
     ghost use Rattle.policy_set.specs.PolicySet.{policy_at, with_policy, IsNotAdded};
 
-    /// A set without policies.
+    /// A set without templates and policies.
     pub fn new(alloc: Global) -> PolicySet
-        ensures { result ≡ [] }
+        ensures { result ≡ record { templates = []; policies = [] } }
     {
         PolicySet {
             policies: BTreeMap::new(alloc),
         }
     }
 
-    /// Adds a static policy, unless the set has one with its id: then, and where there is no memory, the set is
-    /// unchanged and the policy is dropped.
+    /// Adds a static policy, a template whose scope has no slot, unless the set has a policy with its id: then, and where
+    /// there is no memory, the set is unchanged and the policy is dropped.
     pub fn add_static(&mut self, template: Template) -> Result<(), PolicySetError>
-        ensures answer { MatchResult result (λ _. (policy_at self.old template.id ≡ None) × (self.new ≡ with_policy template self.old)) (IsNotAdded self.old template) }
+        requires { has_scope_slot template ≡ false }
+        ensures answer { MatchResult result (λ _. (policy_at self.old template.id ≡ None) × (self.new ≡ with_policy (static_of template) self.old)) (IsNotAdded self.old template.id) }
         ensures unchanged { OnErr result (self.new ≡ self.old) }
     {
         let policy = Policy::from_template(template);
+        let _condition = policy.condition();
         let id = match policy.id().try_clone() {
             Ok(id) => id,
             Err(e) => {
@@ -94,7 +95,7 @@ impl PolicySet {
 
     /// How many policies there are.
     pub fn len(&self) -> usize
-        ensures { result ≡ length self.now }
+        ensures { result ≡ length self.now.policies }
     {
         self.policies.len()
     }
@@ -106,11 +107,12 @@ impl PolicySet {
         self.policies.get(id)
     }
 
-    /// All policies, in the order of their ids.
+    /// All policies, in the order of their ids; none has a slot.
     pub fn policies(&self) -> Values<'_, Text, Policy>
-        ensures rest { result ≡ self.now }
-        ensures runs { ShowsInOrder (deref {X = TemplateBody}) }
-        ensures ascending { IsStrictlySortedBy text_cmp (map (λ p. p.id) self.now) }
+        ensures rest { result ≡ self.now.policies }
+        ensures runs { ShowsInOrder (deref {X = PolicyData}) }
+        ensures ascending { IsStrictlySortedBy text_cmp (map (λ p. p.id) self.now.policies) }
+        ensures policies { AllByRecursion IsPolicy self.now.policies }
     {
         self.policies.values()
     }

@@ -1,54 +1,51 @@
-//! Policies as they are written: a scope and a body, which make one condition.
+//! Templates: policies as they are written, a scope and a body, which make one condition.
 
-ghost use Rattle.std.specs.Prelude.{◌≡◌, ◌↔◌, ◌<◌, ◌≤◌, IfOk, Err};
+ghost use Rattle.std.specs.Prelude.{◌≡◌, ◌↔◌, ◌<◌, ◌≤◌, true, false, IfOk, Err};
 ghost use Rattle.policy_expressions.specs.Tree.{depth_of};
-ghost use Rattle.policy_set.specs.Condition.{scope_part, action_part, condition_of, template_of};
+ghost use Rattle.policy_expressions.specs.Slots.{has_slot};
+ghost use Rattle.policy_set.specs.Data.{TemplateData};
+ghost use Rattle.policy_set.specs.Condition.{condition_of, has_scope_slot};
 
 use crate::{ActionConstraint, Effect, EntityReference, PrincipalOrResourceConstraint};
-use policy_core::{BinaryOp, BuildError, EntityUID, Expr, Literal, Text, Var};
+use policy_expressions::{BinaryOp, BuildError, Expr, ExprKind, Literal, SlotId, Var};
+use policy_names::{EntityType, EntityUID, Text};
 use std::alloc::{AllocError, Global};
 use std::marker::Model;
 
 // A condition is one deeper than its body, and may be 400 deep.
 const MOST_BODY_DEPTH: u32 = 400;
 
-/// The parts of a policy.
-#[derive(Drop)]
-pub struct TemplateBody {
-    /// Its id, by which answers name it.
-    pub id: Text,
-    /// What it does where its condition is true.
-    pub effect: Effect,
-    /// What its scope asks of the principal.
-    pub principal_constraint: PrincipalOrResourceConstraint,
-    /// What its scope asks of the action.
-    pub action_constraint: ActionConstraint,
-    /// What its scope asks of the resource.
-    pub resource_constraint: PrincipalOrResourceConstraint,
-    /// Its whole condition, scope and body.
-    pub condition: Expr<()>,
-}
-
-/// A policy as it is written.
+/// A policy as it is written. Where slots stand in its scope, it is to be linked.
 #[derive(Drop)]
 pub struct Template {
-    body: TemplateBody,
+    id: Text,
+    effect: Effect,
+    principal_constraint: PrincipalOrResourceConstraint,
+    action_constraint: ActionConstraint,
+    resource_constraint: PrincipalOrResourceConstraint,
+    // Scope and body: the body is its right side.
+    condition: Expr<()>,
 }
 
 impl Model for Template {
-    ghost use Rattle.policy_set.specs.declared.template.TemplateBody.{TemplateBody};
-    ghost use Rattle.policy_set.specs.contracts.template.TemplateBody as row;
+    ghost use Rattle.policy_set.specs.Data.{TemplateData, coded_template};
+    ghost use Rattle.policy_set.specs.Condition.{IsTemplate, template_with};
 
-    ghost Value = { TemplateBody };
+    ghost Value = { TemplateData };
 
-    ghost coded = { row.the_row.coded };
+    ghost coded = { coded_template };
 
-    ghost view = { λ t. t.body };
+    ghost view = { λ t. template_with t.id t.effect t.principal_constraint t.action_constraint t.resource_constraint t.condition };
+
+    ghost invariant = { λ t. IsTemplate (template_with t.id t.effect t.principal_constraint t.action_constraint t.resource_constraint t.condition) t.condition };
 }
 
 /// Why there is no template.
 #[derive(Clone, Copy, Debug, PartialEq, Eq, thiserror::Error)]
 pub enum TemplateError {
+    /// A slot stands in its body.
+    #[error("slot in a condition")]
+    SlotInCondition,
     /// Its condition would be nested deeper than 400.
     #[error("nested deeper than 400")]
     Nested,
@@ -83,8 +80,9 @@ impl From<BuildError> for TemplateError {
 }
 
 impl Template {
-    /// The policy with this id, effect, scope and body. Its condition is `((principal && action) && resource) && body`,
-    /// where an unconstrained part is the literal true; it may not be nested deeper than 400.
+    /// The template with this id, effect, scope and body. Its condition is `((principal && action) && resource) && body`,
+    /// where an unconstrained part is the literal true. Errs with `SlotInCondition` where the body has a slot, else with
+    /// `Nested` where the condition would be nested deeper than 400.
     pub fn new(
         alloc: Global,
         id: Text,
@@ -94,19 +92,18 @@ impl Template {
         resource: PrincipalOrResourceConstraint,
         body: Expr<()>,
     ) -> Result<Template, TemplateError>
-        ensures ok { IfOk result (λ t. t ≡ template_of id effect principal action resource body) }
-        ensures nested { (result ≡ Err TemplateError.Nested) ↔ (400 < depth_of (condition_of principal action resource body)) }
+        ensures ok { IfOk result (λ t. t ≡ record { id = id; effect = effect; principal = principal; action = action; resource = resource; body = body }) }
+        ensures slot { (result ≡ Err TemplateError.SlotInCondition) ↔ (has_slot body ≡ true) }
+        ensures nested { (result ≡ Err TemplateError.Nested) ↔ ((has_slot body ≡ false) × (400 < depth_of (condition_of record { id = id; effect = effect; principal = principal; action = action; resource = resource; body = body }))) }
     {
         match whole_condition(alloc, &principal, &action, &resource, body) {
             Ok(condition) => Ok(Template {
-                body: TemplateBody {
-                    id,
-                    effect,
-                    principal_constraint: principal,
-                    action_constraint: action,
-                    resource_constraint: resource,
-                    condition,
-                },
+                id,
+                effect,
+                principal_constraint: principal,
+                action_constraint: action,
+                resource_constraint: resource,
+                condition,
             }),
             Err(e) => {
                 drop(id);
@@ -118,25 +115,73 @@ impl Template {
         }
     }
 
-    /// Its parts.
-    pub fn body(&self) -> &TemplateBody
-        ensures { result.now ≡ self.now }
+    /// Its id, by which answers name it.
+    pub fn id(&self) -> &Text
+        ensures { result.now ≡ self.now.id }
     {
-        &self.body
+        &self.id
     }
 
-    /// Its parts, moved out.
-    pub fn into_body(self) -> TemplateBody
-        ensures { result ≡ self }
+    /// What it does where its condition is true.
+    pub fn effect(&self) -> Effect
+        ensures { result ≡ self.now.effect }
     {
-        let Template { body } = self;
-        body
+        self.effect
+    }
+
+    /// What its scope asks of the principal.
+    pub fn principal_constraint(&self) -> &PrincipalOrResourceConstraint
+        ensures { result.now ≡ self.now.principal }
+    {
+        &self.principal_constraint
+    }
+
+    /// What its scope asks of the action.
+    pub fn action_constraint(&self) -> &ActionConstraint
+        ensures { result.now ≡ self.now.action }
+    {
+        &self.action_constraint
+    }
+
+    /// What its scope asks of the resource.
+    pub fn resource_constraint(&self) -> &PrincipalOrResourceConstraint
+        ensures { result.now ≡ self.now.resource }
+    {
+        &self.resource_constraint
+    }
+
+    /// Its body, which has no slot.
+    pub fn non_scope_constraints(&self) -> &Expr<()>
+        ensures { result.now ≡ self.now.body }
+    {
+        match self.condition.kind() {
+            ExprKind::And(_, body) => body,
+            _ => &self.condition,
+        }
+    }
+
+    /// Its whole condition, scope and body. Slots stand in its scope alone.
+    pub fn condition(&self) -> &Expr<()>
+        ensures value { result.now ≡ condition_of self.now }
+        ensures body { has_slot self.now.body ≡ false }
+    {
+        &self.condition
+    }
+
+    /// Whether its scope has a slot, so that it is to be linked.
+    pub fn has_slot(&self) -> bool
+        ensures { result ≡ has_scope_slot self.now }
+    {
+        self.principal_constraint.has_slot() || self.resource_constraint.has_slot()
     }
 }
 
-ghost use Rattle.policy_set.specs.Condition.{scope_of};
+ghost use Rattle.policy_expressions.specs.declared.kinds.BinaryOp.TheVariants.{In};
+ghost use Rattle.std.specs.Prelude.{map};
+ghost use Rattle.policy_set.specs.Condition.{unmarked, scope_of, anything, referred, id_literal, compared, of_type, scope_part, action_part, variable_of};
+ghost use Rattle.policy_expressions.specs.Tree.{conj};
 
-// Scope and body. The depth is tested before memory is asked for.
+// Scope and body. What the body may be is tested before memory is asked for.
 fn whole_condition(
     alloc: Global,
     principal: &PrincipalOrResourceConstraint,
@@ -144,9 +189,14 @@ fn whole_condition(
     resource: &PrincipalOrResourceConstraint,
     body: Expr<()>,
 ) -> Result<Expr<()>, TemplateError>
-    ensures ok { IfOk result (λ e. e ≡ condition_of principal.now action.now resource.now body) }
-    ensures nested { (result ≡ Err TemplateError.Nested) ↔ (400 ≤ depth_of body) }
+    ensures ok { IfOk result (λ e. (e ≡ conj (scope_of principal.now action.now resource.now) body unmarked) × (has_slot body ≡ false)) }
+    ensures slot { (result ≡ Err TemplateError.SlotInCondition) ↔ (has_slot body ≡ true) }
+    ensures nested { (result ≡ Err TemplateError.Nested) ↔ ((has_slot body ≡ false) × (400 ≤ depth_of body)) }
 {
+    if body.has_slot() {
+        drop(body);
+        return Err(TemplateError::SlotInCondition);
+    }
     if body.depth() >= MOST_BODY_DEPTH {
         drop(body);
         return Err(TemplateError::Nested);
@@ -172,10 +222,10 @@ fn scope_condition(
     resource: &PrincipalOrResourceConstraint,
 ) -> Result<Expr<()>, BuildError>
     ensures ok { IfOk result (λ e. e ≡ scope_of principal.now action.now resource.now) }
-    ensures depth { IfOk result (λ e. depth_of e ≤ 4) }
+    ensures depth { IfOk result (λ e. depth_of e ≤ 5) }
     ensures shallow { result ≡ Err BuildError.Nested → ⊥ }
 {
-    let principal = part(alloc, Var::Principal, principal)?;
+    let principal = part(alloc, SlotId::Principal, principal)?;
     let action = match action_condition(alloc, action) {
         Ok(action) => action,
         Err(e) => {
@@ -184,7 +234,7 @@ fn scope_condition(
         }
     };
     let who_and_what = Expr::and(alloc, principal, action, (), None)?;
-    let resource = match part(alloc, Var::Resource, resource) {
+    let resource = match part(alloc, SlotId::Resource, resource) {
         Ok(resource) => resource,
         Err(e) => {
             drop(who_and_what);
@@ -194,40 +244,49 @@ fn scope_condition(
     Expr::and(alloc, who_and_what, resource, (), None)
 }
 
-// What a constraint asks of the variable.
+// What a constraint asks of the variable beside which the slot stands.
 fn part(
     alloc: Global,
-    var: Var,
+    slot: SlotId,
     constraint: &PrincipalOrResourceConstraint,
 ) -> Result<Expr<()>, BuildError>
-    ensures ok { IfOk result (λ e. e ≡ scope_part var constraint.now) }
-    ensures depth { IfOk result (λ e. depth_of e ≤ 2) }
+    ensures ok { IfOk result (λ e. e ≡ scope_part slot constraint.now) }
+    ensures depth { IfOk result (λ e. depth_of e ≤ 3) }
     ensures shallow { result ≡ Err BuildError.Nested → ⊥ }
 {
     match constraint {
         PrincipalOrResourceConstraint::Any => Ok(anything()),
-        PrincipalOrResourceConstraint::Eq(EntityReference::EUID(uid)) => {
-            compared(alloc, BinaryOp::Eq, var, uid)
-        }
-        PrincipalOrResourceConstraint::In(EntityReference::EUID(uid)) => {
-            compared(alloc, BinaryOp::In, var, uid)
+        PrincipalOrResourceConstraint::Eq(entity) => compared(alloc, BinaryOp::Eq, slot, entity),
+        PrincipalOrResourceConstraint::In(entity) => compared(alloc, BinaryOp::In, slot, entity),
+        PrincipalOrResourceConstraint::Is(entity_type) => of_type(alloc, slot, entity_type),
+        PrincipalOrResourceConstraint::IsIn(entity_type, entity) => {
+            of_type_in(alloc, slot, entity_type, entity)
         }
     }
 }
 
 // What a constraint asks of the action.
+#[tactic(auto, using(crate::proofs::Depths::literals_depth))]
 fn action_condition(alloc: Global, constraint: &ActionConstraint) -> Result<Expr<()>, BuildError>
     ensures ok { IfOk result (λ e. e ≡ action_part constraint.now) }
-    ensures depth { IfOk result (λ e. depth_of e ≤ 2) }
+    ensures depth { IfOk result (λ e. depth_of e ≤ 3) }
     ensures shallow { result ≡ Err BuildError.Nested → ⊥ }
 {
     match constraint {
         ActionConstraint::Any => Ok(anything()),
-        ActionConstraint::Eq(uid) => compared(alloc, BinaryOp::Eq, Var::Action, uid),
+        ActionConstraint::Eq(uid) => {
+            let right = id_literal(uid)?;
+            let left = Expr::var(Var::Action, (), None);
+            Expr::binary_app(alloc, BinaryOp::Eq, left, right, (), None)
+        }
+        ActionConstraint::In(uids) => {
+            let items = literals(alloc, uids)?;
+            let right = Expr::set(items, (), None)?;
+            let left = Expr::var(Var::Action, (), None);
+            Expr::binary_app(alloc, BinaryOp::In, left, right, (), None)
+        }
     }
 }
-
-ghost use Rattle.policy_set.specs.Condition.{anything, compared};
 
 fn anything() -> Expr<()>
     ensures { result ≡ anything }
@@ -235,13 +294,86 @@ fn anything() -> Expr<()>
     Expr::lit(Literal::Bool(true), (), None)
 }
 
-fn compared(alloc: Global, op: BinaryOp, var: Var, uid: &EntityUID) -> Result<Expr<()>, BuildError>
-    ensures ok { IfOk result (λ e. e ≡ compared op var uid.now) }
+fn id_literal(uid: &EntityUID) -> Result<Expr<()>, AllocError>
+    ensures { IfOk result (λ e. e ≡ id_literal uid.now) }
+{
+    Ok(Expr::lit(Literal::EntityUID(uid.try_clone()?), (), None))
+}
+
+// The literals of the ids.
+fn literals(alloc: Global, uids: &Vec<EntityUID>) -> Result<Vec<Expr<()>>, AllocError>
+    ensures { IfOk result (λ es. es.items ≡ map id_literal uids.now.items) }
+{
+    let mut literals = Vec::new(alloc);
+    for uid in uids {
+        literals.push(id_literal(uid)?)?;
+    }
+    Ok(literals)
+}
+
+// The variable beside which the slot stands.
+fn variable_of(slot: SlotId) -> Var
+    ensures { result ≡ variable_of slot }
+{
+    match slot {
+        SlotId::Principal => Var::Principal,
+        SlotId::Resource => Var::Resource,
+    }
+}
+
+// The entity that is named, or the slot.
+fn referred(slot: SlotId, entity: &EntityReference) -> Result<Expr<()>, AllocError>
+    ensures ok { IfOk result (λ e. e ≡ referred slot entity.now) }
+    ensures depth { IfOk result (λ e. depth_of e ≡ 1) }
+{
+    match entity {
+        EntityReference::EUID(uid) => id_literal(uid),
+        EntityReference::Slot => Ok(Expr::slot(slot, (), None)),
+    }
+}
+
+fn compared(
+    alloc: Global,
+    op: BinaryOp,
+    slot: SlotId,
+    entity: &EntityReference,
+) -> Result<Expr<()>, BuildError>
+    ensures ok { IfOk result (λ e. e ≡ compared op slot entity.now) }
     ensures depth { IfOk result (λ e. depth_of e ≤ 2) }
     ensures shallow { result ≡ Err BuildError.Nested → ⊥ }
 {
-    let uid = uid.try_clone()?;
-    let left = Expr::var(var, (), None);
-    let right = Expr::lit(Literal::EntityUID(uid), (), None);
+    let right = referred(slot, entity)?;
+    let left = Expr::var(variable_of(slot), (), None);
     Expr::binary_app(alloc, op, left, right, (), None)
+}
+
+fn of_type(alloc: Global, slot: SlotId, entity_type: &EntityType) -> Result<Expr<()>, BuildError>
+    ensures ok { IfOk result (λ e. e ≡ of_type slot entity_type.now) }
+    ensures depth { IfOk result (λ e. depth_of e ≤ 2) }
+    ensures shallow { result ≡ Err BuildError.Nested → ⊥ }
+{
+    let entity_type = entity_type.try_clone()?;
+    let variable = Expr::var(variable_of(slot), (), None);
+    Expr::is(alloc, variable, entity_type, (), None)
+}
+
+fn of_type_in(
+    alloc: Global,
+    slot: SlotId,
+    entity_type: &EntityType,
+    entity: &EntityReference,
+) -> Result<Expr<()>, BuildError>
+    ensures ok { IfOk result (λ e. e ≡ conj (of_type slot entity_type.now) (compared In slot entity.now) unmarked) }
+    ensures depth { IfOk result (λ e. depth_of e ≤ 3) }
+    ensures shallow { result ≡ Err BuildError.Nested → ⊥ }
+{
+    let left = of_type(alloc, slot, entity_type)?;
+    let right = match compared(alloc, BinaryOp::In, slot, entity) {
+        Ok(right) => right,
+        Err(e) => {
+            drop(left);
+            return Err(e);
+        }
+    };
+    Expr::and(alloc, left, right, (), None)
 }

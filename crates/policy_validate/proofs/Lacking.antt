@@ -1,19 +1,14 @@
 -- Entities in which an ancestor of their action is missing: the least of their ids, and a walk through all entities up to it.
 use Rattle.std.proofs.Common.{◌≡◌, Bool, true, false, ◌||◌, ◌&&◌, not, ◌↔◌, inl, inr, IsTrue, List, [], ◌∷◌, ◌++◌, Option, Some, None, IsSome, IfSome, cond, refl, sym, ◌∙◌, ap, subst}
-use Rattle.std.specs.Prelude.{nat_eq}
-use Rattle.std.specs.Bool.{Decides}
-use Rattle.std.specs.Cmp.Lexicographic.{pointwise}
 use Rattle.std.specs.declared.cmp.Ordering.{Ordering}
 use Rattle.std.specs.declared.cmp.Ordering.TheVariants.{Less}
-use Rattle.std.specs.Cmp.{IsTotalOrder, tied_itself}
+use Rattle.std.specs.Cmp.{IsTotalOrder, both_ways, tied_itself}
 use Rattle.std.specs.List.{find, list_all, AllByRecursion}
 use Rattle.std.specs.List.Sorted.{IsStrictlySortedBy}
 use Rattle.std.specs.Option.{is_some, option_or, option_map, option_map_or}
 use Rattle.std.specs.Ordering.{is_eq, is_gt, ordering_reverse}
 use Rattle.std.proofs.lemmas.Bool.{or_cases, or_left, or_right, and_parts, and_from, false≢true}
-use Rattle.std.proofs.lemmas.Bool.Decides.{Decides-and, Decides-like}
 use Rattle.std.proofs.lemmas.List.Folds.{list_all-append}
-use Rattle.std.proofs.lemmas.Slice.Eq.{bytes_eq-Decides}
 use Rattle.std.proofs.lemmas.Map.Keys.{sorted_head, sorted_tail}
 use Rattle.std.proofs.lemmas.Map.Lookups.{CmpEqualImpliesEq}
 use Rattle.std.proofs.lemmas.Map.Views.{tells_apart}
@@ -30,12 +25,6 @@ use Rattle.schema_core.specs.Schema.{SchemaData, ActionData, action_at}
 use Rattle.policy_validate.specs.declared.store_rule.StoreRule.{StoreRule}
 use Rattle.policy_validate.specs.declared.store_rule.StoreRule.TheVariants.{ActionNotDeclared, ActionHasAttributes, ActionHasTags, ActionAncestorsDiffer}
 use Rattle.policy_validate.specs.Conformance.{is_ancestor_if_above, is_action_in, has_all_ancestors, action_entity_fault, entity_fault, first_store_fault, first_key, lacks, lacks_it, unless}
-
--- ids are equal where their parts have the same bytes
-pub id_told : (u v : EntityUID) → Decides (pointwise nat_eq u.entity_type v.entity_type && pointwise nat_eq u.eid v.eid) (u ≡ v)
-id_told u v = Decides-like _ (λ (p : (u.entity_type ≡ v.entity_type) × (u.eid ≡ v.eid)) i. record { entity_type = p.0 i; eid = p.1 i })
-    (λ e. (ap (λ (x : EntityUID). x.entity_type) e, ap (λ (x : EntityUID). x.eid) e))
-    (Decides-and _ _ (bytes_eq-Decides u.entity_type v.entity_type) (bytes_eq-Decides u.eid v.eid))
 
 -- what is found first among ascending keys is the least
 module _ {K : Type 0} {cmp : K → K → Ordering} (o : IsTotalOrder cmp) (exact : CmpEqualImpliesEq cmp) (all : List K) (p : K → Bool) where
@@ -128,12 +117,6 @@ below : (x q : EntityUID) (ys : List EntityUID) → AllByRecursion (λ y. uid_cm
 below x q [] all h = absurd (false≢true h)
 below x q (y ∷ ys) all h = elim (or_cases (is_eq (uid_cmp q y)) (has uid_cmp ys q) h) [ inl same ↦ rw (tells_apart exact_uid q y same) all.0 | inr later ↦ below x q ys all.1 later ]
 
-same_bool : (a b : Bool) → (a ≡ true → b ≡ true) → (b ≡ true → a ≡ true) → a ≡ b
-same_bool true true h k = refl
-same_bool false false h k = refl
-same_bool true false h k = sym (h refl)
-same_bool false true h k = k refl
-
 or_last : (a b : Option StoreRule) → option_or a b ≡ None → b ≡ None
 or_last None b h = h
 or_last (Some x) b h = absurd (cc)
@@ -175,7 +158,7 @@ module _ (schema : SchemaData) (s : Store) (least : Option EntityUID) (is_least 
 
     -- the test by the least id tells whether an ancestor is missing in the entity of an action
     pub told : (r : Bool) → IsTrue r ↔ (least ≡ Some e.uid) → IsTrue (is_action_type e.uid.entity_type) → r ≡ not (has_all_ancestors schema e)
-    told r is act = same_bool r (lacks schema.action_ids s e.uid) (λ t. holds (is.0 t)) (λ h. is.1 (next_is h)) ∙ here ∙ ap (λ t. t && not (has_all_ancestors schema e)) act where
+    told r is act = both_ways r (lacks schema.action_ids s e.uid) (λ t. holds (is.0 t)) (λ h. is.1 (next_is h)) ∙ here ∙ ap (λ t. t && not (has_all_ancestors schema e)) act where
       holds : least ≡ Some e.uid → lacks schema.action_ids s e.uid ≡ true
       holds same = let l : IsLeastIfAny uid_cmp (λ q. lacks schema.action_ids s q ≡ true) (Some e.uid) = subst (IsLeastIfAny uid_cmp (λ q. lacks schema.action_ids s q ≡ true)) same is_least in l.holds
 

@@ -6,12 +6,12 @@ use Rattle.policy_names.specs.declared.entity_uid.EntityUID.{EntityUID}
 use Rattle.policy_expressions.specs.declared.kinds.Literal.TheVariants as literal
 use Rattle.policy_expressions.specs.declared.kinds.UnaryOp.TheVariants.{Not}
 use Rattle.policy_expressions.specs.Tree.{Tree, lit, conj, disj, unary, binary}
-use Rattle.policy_set.specs.declared.template.TemplateBody.{TemplateBody}
+use Rattle.policy_set.specs.Data.{PolicyData}
 use Rattle.schema_core.specs.Schema.{SchemaData, type_at, action_at}
 use Rattle.schema_core.specs.Environments.{Environment, environments}
-use Rattle.policy_typecheck.specs.Typing.{known, not_type, and_type, or_type, comparison_type}
-use Rattle.policy_typecheck.specs.declared.truth_type.TruthType.{TruthType}
-use Rattle.policy_typecheck.specs.declared.truth_type.TruthType.TheVariants as typed
+use Rattle.truth_types.specs.Typing.{known, not_type, and_type, or_type, comparison_type}
+use Rattle.truth_types.specs.declared.truth_type.TruthType.{TruthType}
+use Rattle.truth_types.specs.declared.truth_type.TruthType.TheVariants as typed
 
 -- the id is that of a declared action, or of a declared type
 abbrev pub is_declared_id : SchemaData → EntityUID → Bool
@@ -52,5 +52,5 @@ module _ {A : Type 0} where
     is_false t = false
 
 -- the policy's condition is false in every environment, or there is none
-abbrev pub is_impossible : SchemaData → TemplateBody → Bool
+abbrev pub is_impossible : SchemaData → PolicyData → Bool
 is_impossible schema p = list_all (is_false_in schema p.condition) (environments schema)

@@ -8,8 +8,8 @@ ghost use Rattle.policy_validate.specs.Impossible.{checked_type, is_declared_ope
 
 use policy_core::{EntityType, EntityUID, Expr, ExprKind, Literal, UnaryOp};
 use policy_set::Policy;
-use policy_typecheck::{TruthType, comparison_type};
 use schema_core::{DeclaredEnv, ValidatorActionId, ValidatorSchema};
+use truth_types::{TruthType, comparison_type};
 
 // Whether the condition of the policy is false in every environment, or there is none.
 pub(crate) fn is_impossible(schema: &ValidatorSchema, policy: &Policy) -> bool

@@ -19,6 +19,9 @@ use std::collections::BTreeSet;
 /// nothing is asked of it.
 ///
 /// Errs with the first rule that is broken, in this order.
+///
+/// So far it is right over schemas without listed ids and without contexts: it looks neither at the ids of enumerated
+/// types nor at the context.
 pub fn validate_request(
     alloc: Global,
     schema: &ValidatorSchema,

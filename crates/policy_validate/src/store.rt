@@ -6,7 +6,7 @@ ghost use Rattle.std.specs.List.Sorted.{IsStrictlySortedBy};
 ghost use Rattle.std.specs.Option.{option_copied};
 ghost use Rattle.hierarchy.specs.Least.{IsLeastIfAny};
 ghost use Rattle.policy_names.specs.Basename.{is_action_type};
-ghost use Rattle.policy_names.specs.Uid.{uid_cmp};
+ghost use Rattle.policy_names.specs.Uid.{uid_cmp, uid_eq};
 ghost use Rattle.policy_values.specs.Value.{fields_of};
 ghost use Rattle.policy_validate.specs.Conformance.{StoreConforms, IsStoreFault, first_store_fault, entity_fault, action_entity_fault, typed_entity_fault, first_key, may_be_in, is_not_allowed, is_action_in, has_all_ancestors, lacks, lacks_it};
 
@@ -17,14 +17,18 @@ use policy_store::{Entities, Entity};
 use policy_values::Value;
 use schema_core::{ValidatorActionId, ValidatorSchema};
 use std::alloc::AllocError;
+use std::cmp::Ordering;
 use std::collections::BTreeMap;
 
 /// Whether the store conforms to the schema. The entity of an action has to be declared as an action, without
 /// attributes and tags, and with exactly the ancestors that the schema gives the action. Any other entity has to be
-/// of a declared type, with the attributes and tags that the type has, and with ancestors of the types that it may
+/// of a declared type, without attributes and tags, and with ancestors of the types that it may
 /// be in.
 ///
 /// Errs with the first entity that breaks a rule, in the order of the ids, and the first rule that it breaks.
+///
+/// So far it is right over schemas whose types have no attributes, no tags and no listed ids: it does not look at what
+/// a type declares of these, and refuses each attribute and each tag.
 pub fn conforms(schema: &ValidatorSchema, entities: &Entities) -> Result<(), ConformanceError>
     ensures { MatchResult result (λ _. StoreConforms schema.now entities.now) (IsStoreFault (first_store_fault schema.now entities.now)) }
 {
@@ -44,9 +48,15 @@ fn is_id(known: Option<&EntityUID>, uid: &EntityUID) -> bool
     ensures { IsTrue result ↔ (option_copied known.entry ≡ Some uid.now) }
 {
     match known {
-        Some(known) => known == uid,
+        Some(known) => same_id(known, uid),
         None => false,
     }
+}
+
+fn same_id(one: &EntityUID, other: &EntityUID) -> bool
+    ensures { result ≡ uid_eq one.now other.now }
+{
+    one.cmp(other) == Ordering::Equal
 }
 
 // The first rule that the entity breaks, where it is known whether an ancestor of its action is missing in it.

@@ -2,6 +2,7 @@
 
 ghost use Rattle.std.specs.Prelude.{◌≡◌, ◌++◌, map, IfOk, OnOk};
 ghost use Rattle.policy_scope.specs.declared.finding.ValidationError.TheVariants as error;
+ghost use Rattle.policy_set.specs.Condition.{written_of};
 ghost use Rattle.policy_scope.specs.Names.{entity_type_findings, action_id_findings};
 ghost use Rattle.policy_scope.specs.Scope.{application_findings};
 ghost use Rattle.policy_validate.specs.Accepted.{errors_of, warnings_of, is_too_deep, findings_of};
@@ -59,6 +60,9 @@ impl<'a> Validator<'a> {
     /// that are not declared, actions of literals that are not declared, a scope that no declared action meets, a
     /// condition deeper than 200. A policy that is not too deep is warned of where its condition is false in every
     /// environment of the schema.
+    ///
+    /// So far it is right over policies whose conditions are over ids alone: it does not type other expressions, and so
+    /// lets `1 < "a"` pass.
     pub fn validate(
         &self,
         alloc: Global,
@@ -143,7 +147,7 @@ fn add_applications(
     policy: &Policy,
     errors: &mut Vec<ValidationError>,
 ) -> Result<(), AllocError>
-    ensures { OnOk result (errors.new.items ≡ errors.old.items ++ map error.InvalidActionApplication (application_findings schema.now policy.now)) }
+    ensures { OnOk result (errors.new.items ≡ errors.old.items ++ map error.InvalidActionApplication (application_findings schema.now (written_of policy.now))) }
 {
     for finding in validate_template_action_application(alloc, schema, policy)? {
         errors.push(ValidationError::InvalidActionApplication(finding))?;

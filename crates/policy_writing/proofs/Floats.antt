@@ -2,7 +2,7 @@
 use Rattle.std.proofs.Common.{◌≡◌, ℤ, pos, negsuc, List, [], ◌∷◌, map, false, refl}
 use Rattle.policy_store.specs.Store.{StoredEntity, Store}
 use Rattle.policy_values.specs.Value.{Val, truth, long, string, entity, set, rec, decimal, ip, datetime, duration, Vals, no_vals, val, Fields, no_fields, field}
-use Rattle.policy_set.specs.Response.{ResponseData}
+use Rattle.authorizer.specs.Response.{ResponseData}
 use Rattle.serde_json.specs.Data as json
 use Rattle.serde_json.specs.Data.{Data}
 use Rattle.serde_json.specs.Find.{is_float, of_integer}

@@ -2,10 +2,10 @@
 use Rattle.std.specs.Prelude.{ℕ, List, ◌++◌, map, codes}
 use Rattle.policy_store.specs.Store.{StoredEntity, Store}
 use Rattle.policy_core.specs.Show.{error_text}
-use Rattle.policy_set.specs.Response.{ResponseData}
-use Rattle.policy_set.specs.declared.response.Decision.{Decision}
-use Rattle.policy_set.specs.declared.response.Decision.TheVariants.{Allow, Deny}
-use Rattle.policy_set.specs.declared.response.PolicyFailure.{PolicyFailure}
+use Rattle.authorizer.specs.Response.{ResponseData}
+use Rattle.authorizer.specs.declared.response.Decision.{Decision}
+use Rattle.authorizer.specs.declared.response.Decision.TheVariants.{Allow, Deny}
+use Rattle.authorizer.specs.declared.response.PolicyFailure.{PolicyFailure}
 use Rattle.serde_json.specs.Data.{Data, string, array, object, no_members, member}
 use Rattle.serde_json.specs.View.{items_of}
 use Rattle.serde_json.specs.Written.{compact_text}

@@ -8,7 +8,7 @@ ghost use Rattle.policy_writing.specs.SliceJson.{entity_data, decision_text, fai
 
 use crate::values::{write_fields, write_pair, write_uid};
 use policy_core::{Entities, Entity, EntityUID, Text};
-use policy_set::{Decision, PolicyFailure, Response};
+use authorizer::{Decision, PolicyFailure, Response};
 use serde_json::{Map, Value as Json, put};
 use std::alloc::{AllocError, Global};
 use std::collections::BTreeSet;

@@ -1,6 +1,6 @@
 use crate::slice_text;
 use policy_core::{Entities, EvalError, Text};
-use policy_set::{Decision, PolicyFailure, Response};
+use authorizer::{Decision, PolicyFailure, Response};
 use std::test::Fail;
 
 #[test]

@@ -1,4 +1,4 @@
-use Rattle.std.proofs.Common.{◌≤◌, ◌+◌, ◌*◌, drop}
+use Rattle.std.proofs.Common.{◌≤◌, ◌+◌, ◌*◌, max, drop}
 use Rattle.policy_expressions.specs.Tree.{depth_of, deepest, deepest_named, trees_of, named_of}
 use Rattle.schema_core.specs.RequestEnvs.{environment_of}
 use Rattle.entity_manifest.specs.Reads.{demands_each, demands_named}
@@ -7,6 +7,12 @@ use Rattle.entity_manifest.proofs.asked.+asked.Given as goal
 
 abbrev pub decreases-add_asked : goal.decreases-add_asked
 decreases-add_asked g l = 2 * depth_of l.condition.now
+
+abbrev pub decreases-add_of_and : goal.decreases-add_of_and
+decreases-add_of_and g l = 2 * max (depth_of l.x.now) (depth_of l.y.now) + 1
+
+abbrev pub decreases-add_of_or : goal.decreases-add_of_or
+decreases-add_of_or g l = 2 * max (depth_of l.x.now) (depth_of l.y.now) + 1
 
 abbrev pub decreases-add_each : goal.decreases-add_each
 decreases-add_each g l = 2 * deepest (trees_of l.xs.now.items) + 1

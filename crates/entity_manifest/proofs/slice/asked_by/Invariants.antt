@@ -7,4 +7,4 @@ use Rattle.entity_manifest.proofs.slice.asked_by.Given as goal
 -- what is left is still to be added
 abbrev pub invariant-loop-policy : goal.invariant-loop-policy
 invariant-loop-policy l =
-    SameAsked l.request l.asked.entries (demands_of l.schema (environment_of l.env) l.policy-iterator) [] (demands_of l.schema (environment_of l.env) l.policies)
+    SameAsked l.request l.asked.entries (demands_of l.schema (environment_of l.env) l.policy-iterator) [] (demands_of l.schema (environment_of l.env) l.policies.policies)

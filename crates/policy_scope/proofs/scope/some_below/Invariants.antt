@@ -5,4 +5,4 @@ use Rattle.policy_scope.proofs.scope.some_below.Given as goal
 
 -- those that are left decide
 abbrev pub invariant-loop-ty : goal.invariant-loop-ty
-invariant-loop-ty l = list_any (type_below l.schema l.above) l.ty-iterator ≡ list_any (type_below l.schema l.above) l.types.keys
+invariant-loop-ty l = list_any (λ ty. type_below l.schema ty l.above) l.ty-iterator ≡ list_any (λ ty. type_below l.schema ty l.above) l.types.keys

@@ -5,6 +5,6 @@ use Rattle.policy_validate.proofs.validator.Validator.validate.Given as goal
 
 abbrev pub invariant-loop-policy : goal.invariant-loop-policy
 invariant-loop-policy l = record {
-  errors : l.errors.items ++ flat_map (errors_of l.schema) l.policy-iterator ≡ flat_map (errors_of l.schema) l.policies;
-  warnings : l.warnings.items ++ flat_map (warnings_of l.schema) l.policy-iterator ≡ flat_map (warnings_of l.schema) l.policies;
+  errors : l.errors.items ++ flat_map (errors_of l.schema) l.policy-iterator ≡ flat_map (errors_of l.schema) l.policies.policies;
+  warnings : l.warnings.items ++ flat_map (warnings_of l.schema) l.policy-iterator ≡ flat_map (warnings_of l.schema) l.policies.policies;
 }

@@ -1,0 +1,140 @@
+-- Policies that are read keep the limits.
+use Rattle.std.proofs.Common.{◌≡◌, ℕ, ◌<◌, ◌≤◌, length, ◌&&◌, ◌||◌, ¬◌, Bool, true, false, Option, Some, None, option_map, Ok, Err, arith, refl}
+use Rattle.std.specs.Prelude.{nat_lt, option_and_then, if◌then◌else◌}
+use Rattle.std.proofs.lemmas.Bool.Decides.{nat_tests}
+use Rattle.policy_expressions.specs.Tree.{Tree, lit, var, slot, ite, conj, disj, unary, binary, attr, has, like, is_type, call, set, rec, depth_of}
+use Rattle.policy_expressions.specs.Slots.{has_slot}
+use Rattle.policy_expressions.specs.declared.kinds.Literal.TheVariants as literal
+use Rattle.policy_expressions.specs.declared.kinds.Var.TheVariants.{Principal, Action, Resource, Context}
+use Rattle.policy_expressions.specs.declared.kinds.SlotId.{SlotId}
+use Rattle.policy_expressions.specs.declared.kinds.SlotId.TheVariants as side
+use Rattle.policy_expressions.specs.declared.kinds.UnaryOp.TheVariants.{Not}
+use Rattle.policy_expressions.specs.declared.kinds.BinaryOp.TheVariants.{Eq as IsEqual, In as IsIn}
+use Rattle.policy_set.specs.declared.constraint.EntityReference.TheVariants.{EUID, Slot}
+use Rattle.policy_set.specs.declared.constraint.PrincipalOrResourceConstraint.{PrincipalOrResourceConstraint}
+use Rattle.policy_set.specs.declared.constraint.PrincipalOrResourceConstraint.TheVariants as scope
+use Rattle.policy_set.specs.Data.{Plain, TemplateData}
+use Rattle.policy_set.specs.Condition.{asks_slot, has_scope_slot, scope_part, action_part, condition_of}
+use Rattle.policy_set.specs.PolicySet.{PolicySetData}
+use Rattle.policy_set.proofs.Depths.{by_body}
+use Rattle.expr_documents.specs.Reads.{bounded}
+use Rattle.expr_documents.specs.declared.nesting.Bounded.TheVariants.{Within, Nested}
+use Rattle.policy_documents.specs.Limits.{is_id_operand, is_over_ids}
+use Rattle.policy_documents.specs.Policies.{added_entry, added_template, and_then, template_read}
+use Rattle.policy_documents.specs.Policy.{is_too_deep, policy_keeps_limits, policy_of_parts, policy_with_body, read_of, read_with}
+use Rattle.policy_documents.specs.declared.place.Place.TheVariants as place
+use Rattle.policy_documents.specs.declared.policy.PolicyParts.{PolicyParts}
+use Rattle.policy_documents.specs.declared.policy.PolicyRead.TheVariants as policy
+
+both_true : (a b : Bool) → (a && b) ≡ true → (a ≡ true) × (b ≡ true)
+both_true true b h = (refl, h)
+both_true false b h = absurd (cc)
+
+neither : (a b : Bool) → a ≡ false → b ≡ false → (a || b) ≡ false
+neither true b h k = cc
+neither false b h k = k
+
+-- what is over ids has no slot
+module _ {A : Type 0} where
+  id_has_no_slot : (e : Tree A) → is_id_operand e ≡ true → has_slot e ≡ false
+  id_has_no_slot (lit l a) h = refl
+  id_has_no_slot (var v a) h = refl
+  id_has_no_slot e h = absurd (cc)
+
+  ids_have_no_slot : (x y : Tree A) → (is_id_operand x && is_id_operand y) ≡ true → (has_slot x || has_slot y) ≡ false
+  ids_have_no_slot x y h =
+      let b = both_true (is_id_operand x) (is_id_operand y) h in
+      neither (has_slot x) (has_slot y) (id_has_no_slot x b.0) (id_has_no_slot y b.1)
+
+  has_no_slot : (e : Tree A) → is_over_ids e ≡ true → has_slot e ≡ false
+  has_no_slot (lit l a) h = refl
+  has_no_slot (conj x y a) h =
+      let b = both_true (is_over_ids x) (is_over_ids y) h in
+      neither (has_slot x) (has_slot y) (has_no_slot x b.0) (has_no_slot y b.1)
+  has_no_slot (disj x y a) h =
+      let b = both_true (is_over_ids x) (is_over_ids y) h in
+      neither (has_slot x) (has_slot y) (has_no_slot x b.0) (has_no_slot y b.1)
+  has_no_slot (unary Not x a) h = has_no_slot x h
+  has_no_slot (binary IsEqual x y a) h = ids_have_no_slot x y h
+  has_no_slot (binary IsIn x y a) h = ids_have_no_slot x y h
+  has_no_slot e h = absurd (cc)
+
+part_asks_none : (i : SlotId) (c : PrincipalOrResourceConstraint) → is_over_ids (scope_part i c) ≡ true → asks_slot c ≡ false
+part_asks_none i scope.Any h = refl
+part_asks_none i (scope.Eq (EUID u)) h = refl
+part_asks_none i (scope.Eq Slot) h = by i h where
+  by : (i : SlotId) → is_over_ids (scope_part i (scope.Eq Slot)) ≡ true → true ≡ false
+  by side.Principal h = cc
+  by side.Resource h = cc
+part_asks_none i (scope.In (EUID u)) h = refl
+part_asks_none i (scope.In Slot) h = by i h where
+  by : (i : SlotId) → is_over_ids (scope_part i (scope.In Slot)) ≡ true → true ≡ false
+  by side.Principal h = cc
+  by side.Resource h = cc
+part_asks_none i (scope.Is n) h = refl
+part_asks_none i (scope.IsIn n (EUID u)) h = refl
+part_asks_none i (scope.IsIn n Slot) h = absurd (cc)
+
+-- a policy that keeps the limits has no slot in its scope
+kept_asks_none : (t : TemplateData) → policy_keeps_limits t ≡ true → has_scope_slot t ≡ false
+kept_asks_none t h =
+    let whole = both_true _ (is_over_ids t.body) h in
+    let scope = both_true _ (is_over_ids (scope_part side.Resource t.resource)) whole.0 in
+    let first = both_true (is_over_ids (scope_part side.Principal t.principal)) (is_over_ids (action_part t.action)) scope.0 in
+    neither (asks_slot t.principal) (asks_slot t.resource) (part_asks_none side.Principal t.principal first.0) (part_asks_none side.Resource t.resource scope.1)
+
+read_by : (t u : TemplateData) (b c : Bool) → policy_keeps_limits t ≡ c → (if b then Some policy.Nested else (if c then Some (policy.Policy t) else None)) ≡ Some (policy.Policy u) → has_scope_slot u ≡ false
+read_by t u true c k h = absurd (cc)
+read_by t u false false k h = absurd (cc)
+read_by t u false true k h = let same : t ≡ u = cc in rw (← same) (kept_asks_none t k)
+
+-- nor has one that is read
+pub read_asks_none : (o : Option TemplateData) (u : TemplateData) → option_and_then read_of o ≡ Some (policy.Policy u) → has_scope_slot u ≡ false
+read_asks_none None u h = absurd (cc)
+read_asks_none (Some t) u h = read_by t u (is_too_deep t) (policy_keeps_limits t) refl h
+
+-- ---- the depth of a policy that is built, and of one that is not
+
+pub is_deep : (t : TemplateData) → 400 < depth_of (condition_of t) → is_too_deep t ≡ true
+is_deep t h = grind (arith, nat_tests)
+
+pub is_built : (t : TemplateData) → ¬ (400 < depth_of (condition_of t)) → is_too_deep t ≡ false
+is_built t h = grind (arith, nat_tests)
+
+past_by : (t : TemplateData) (b : Bool) → policy_keeps_limits t ≡ b → has_slot t.body ≡ true → b ≡ false
+past_by t true k h =
+    let whole = both_true _ (is_over_ids t.body) k in
+    absurd (cc (h, has_no_slot t.body whole.1))
+past_by t false k h = refl
+
+pub has_slot_past : (t : TemplateData) → has_slot t.body ≡ true → policy_keeps_limits t ≡ false
+has_slot_past t h = past_by t (policy_keeps_limits t) refl h
+
+-- ---- what is read, and what it is added as
+
+nested_by : (t : TemplateData) (b : Bool) → is_too_deep t ≡ b → 400 < depth_of (condition_of t) → Some policy.Nested ≡ (if b then Some policy.Nested else (if policy_keeps_limits t then Some (policy.Policy t) else None))
+nested_by t true e h = refl
+nested_by t false e h = grind (arith, nat_tests)
+
+with_by : (p : PolicyParts) (x : Plain) (b : Bool) → nat_lt 400 (depth_of x) ≡ b → read_with p (if b then Nested else Within x) ≡ read_of (policy_of_parts p x)
+with_by p x true e =
+    let deep : 400 < depth_of (condition_of (policy_of_parts p x)) = grind (arith, nat_tests) in
+    nested_by (policy_of_parts p x) (is_too_deep (policy_of_parts p x)) refl deep
+with_by p x false e = refl
+
+-- what is read of the parts and the body is what is read of the whole policy
+pub whole_read : (p : PolicyParts) (o : Option Plain) → option_and_then (read_with p) (option_map bounded o) ≡ option_and_then read_of (policy_with_body (Some p) o)
+whole_read p None = refl
+whole_read p (Some x) = with_by p x (nat_lt 400 (depth_of x)) refl
+
+added_by : (set : PolicySetData) (t : TemplateData) (b c : Bool)
+    → and_then (template_read (length set.policies) (if b then Some policy.Nested else (if c then Some (policy.Policy t) else None))) (added_template set)
+    ≡ and_then (if b then Err (place.PolicyNested (length set.policies)) else (if c then Ok t else Err (place.Policy (length set.policies)))) (added_template set)
+added_by set t true c = refl
+added_by set t false true = refl
+added_by set t false false = refl
+
+-- what was read is added as the policy is
+pub added_read : (set : PolicySetData) (o : Option TemplateData) → and_then (template_read (length set.policies) (option_and_then read_of o)) (added_template set) ≡ added_entry set o
+added_read set None = refl
+added_read set (Some t) = added_by set t (is_too_deep t) (policy_keeps_limits t)
