@@ -8,10 +8,12 @@ use Rattle.schema_core.specs.EnvData.{EnvData}
 use Rattle.capabilities.specs.Bare.{Plain}
 use Rattle.policy_typing.specs.Operands.{is_boolean}
 use Rattle.policy_typing.specs.Typing.{types}
-use Rattle.policy_links.specs.Condition.{Written, condition_of, linked_of}
+use Rattle.policy_set.specs.Data.{TemplateData}
+use Rattle.policy_set.specs.Condition.{condition_of}
+use Rattle.policy_set.specs.Links.{linked_of}
 use Rattle.policy_links.specs.Linked.{linked_envs}
 use Rattle.policy_links.specs.Names.{has_known_names, HasKnownType}
-use Rattle.policy_links.specs.Scope.{is_applicable}
+use Rattle.policy_scope.specs.Scope.{is_applicable}
 
 module _ (schema : SchemaData) where
   -- the condition has a type of booleans, with nothing known before it
@@ -23,14 +25,14 @@ module _ (schema : SchemaData) where
 
   -- a template or a static policy: its names are known, some action meets its scope, its condition is no deeper than 200 and has a type in
   -- each of its environments
-  pub record IsAcceptedTemplate (t : Written) : Type 0 where
+  pub record IsAcceptedTemplate (t : TemplateData) : Type 0 where
     pub names : IsTrue (has_known_names schema (condition_of t))
     pub scope : IsTrue (is_applicable schema t)
     pub depth : depth_of (condition_of t) ≤ 200
     pub typed : IsTypedIn (condition_of t) (linked_envs schema t)
 
   -- a link of the template: what it gives for slots is of known types, and some action meets its own scope
-  pub record IsAcceptedLink (w : SlotValues) (t : Written) : Type 0 where
+  pub record IsAcceptedLink (w : SlotValues) (t : TemplateData) : Type 0 where
     pub principal : HasKnownType schema w.principal
     pub resource : HasKnownType schema w.resource
     pub scope : IsTrue (is_applicable schema (linked_of w t))
