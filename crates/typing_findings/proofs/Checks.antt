@@ -1,12 +1,14 @@
 -- A condition is checked as it is typed.
 use Rattle.std.proofs.Common.{◌≡◌, ◌∙◌, ap, Bool, false, true, List, [], ◌++◌, Option, Some, None, cond, refl}
+use Rattle.std.specs.Prelude.{nat_lt, if◌then◌else◌}
 use Rattle.policy_expressions.specs.declared.kinds.Loc.{Loc}
-use Rattle.policy_expressions.specs.Tree.{mark_of}
+use Rattle.policy_expressions.specs.Tree.{mark_of, depth_of}
 use Rattle.schema_types.specs.declared.kinds.Primitive.TheVariants.{Bool as BoolType, Long, String}
 use Rattle.schema_types.specs.Ty.{Ty, true_type, false_type, primitive}
 use Rattle.capabilities.specs.Capability.{Capability}
 use Rattle.policy_typing.specs.Typing.{Typed, typing}
-use Rattle.typing_findings.specs.Expected.{a_boolean, is_boolean}
+use Rattle.policy_typing.specs.Operands.{is_boolean}
+use Rattle.typing_findings.specs.Expected.{a_boolean}
 use Rattle.typing_findings.specs.Walked.{Walked, Success, Fail, typing_of, findings_of, untyped, unexpected, expect_lent, expect}
 use Rattle.typing_findings.specs.Operators.{place}
 use Rattle.typing_findings.specs.Walk.{walked}
@@ -36,6 +38,4 @@ walked_check l (Fail t fs) = of_lent (mark_of t).note
     of_lent (Some u) = fit u (is_boolean u)
 
 pub check_exact : CheckIsExact
-check_exact schema env e shallow =
-    ap (λ b. cond b check.TooDeep (check_walked (condition_walked schema env e))) shallow ∙
-    (walked_check (place e) (walked schema env [] e) ∙ ap (λ t. check_by t (findings_of (condition_walked schema env e))) (exact schema env [] e))
+check_exact schema env e = ap (λ c. if nat_lt 200 (depth_of e) then check.TooDeep else c) (walked_check (place e) (walked schema env [] e) ∙ ap (λ t. check_by t (findings_of (condition_walked schema env e))) (exact schema env [] e))

@@ -52,41 +52,5 @@ checked schema env e = if nat_lt 200 (depth_of e) then TooDeep else check_walked
 -- a condition that is not too deep succeeds where it is typed True or Bool, is irrelevant where it is typed False, and fails elsewhere
 abbrev pub CheckIsExact : Type 0
 CheckIsExact =
-    (schema : SchemaData) (env : EnvData) (e : Plain) → nat_lt 200 (depth_of e) ≡ false →
-    checked schema env e ≡ check_by (types schema env [] e) (findings_of (condition_walked schema env e))
-
--- two findings that read alike and stand at the same place
-abbrev pub same_help : Option (List ℕ) → Option (List ℕ) → Bool
-same_help None None = true
-same_help (Some a) (Some b) = bytes_eq a b
-same_help a b = false
-
-abbrev pub same_loc : Option Loc → Option Loc → Bool
-same_loc None None = true
-same_loc (Some k) (Some l) = (k.start == l.start) && (k.end == l.end)
-same_loc k l = false
-
-abbrev pub is_alike : Finding → Finding → Bool
-is_alike f g =
-    bytes_eq (kind_text f.kind) (kind_text g.kind) && (bytes_eq (message [] f.kind) (message [] g.kind) && (same_help (help [] f.kind) (help [] g.kind) && same_loc f.loc g.loc))
-
--- the findings with one more, unless they have it
-abbrev pub with_new : List Finding → Finding → List Finding
-with_new fs f = if list_any (is_alike f) fs then fs else fs ++ f ∷ []
-
--- what a check of one environment finds
-abbrev pub failures : Check → List Finding
-failures (Fail fs) = fs
-failures c = []
-
-abbrev pub is_irrelevant : Check → Bool
-is_irrelevant (Irrelevant t) = true
-is_irrelevant c = false
-
--- what is found of a condition that is not too deep, environment by environment, each finding once, behind what was found before
-abbrev pub policy_findings : SchemaData → List EnvData → Plain → List Finding → List Finding
-policy_findings schema envs e before = fold with_new before (flat_map (λ env. failures (checked schema env e)) envs)
-
--- the policy is impossible: its condition is not too deep, and false in each environment
-abbrev pub is_impossible : SchemaData → List EnvData → Plain → Bool
-is_impossible schema envs e = not (nat_lt 200 (depth_of e)) && list_all (λ env. is_irrelevant (checked schema env e)) envs
+    (schema : SchemaData) (env : EnvData) (e : Plain) →
+    checked schema env e ≡ (if nat_lt 200 (depth_of e) then TooDeep else check_by (types schema env [] e) (findings_of (condition_walked schema env e)))
