@@ -1,6 +1,6 @@
 -- Datetimes: what is read is written so, and what is written so is read.
 use Rattle.std.proofs.Common.{◌≡◌, ◌↔◌, ℕ, ◌+◌, ◌-◌, ◌*◌, ◌/◌, ◌%◌, ◌≤◌, ◌⊎◌, inl, inr, ◌==◌, ◌&&◌, ◌||◌, Bool, true, false, List, [], ◌∷◌, ◌++◌, length, Option, Some, None, nat_lt, nat_le, cond, if◌then◌else◌, refl, sym, ap, subst, ◌∙◌, arith, ℤ, pos, ◌-ℤ◌, ◌*ℤ◌, ◌≤ℤ◌, negsuc, unsigned_abs}
-use Rattle.std.proofs.lemmas.Bool.{ltb-false, le-ltb, le-leb, leb-true, eqb-true, eq-eqb, and_parts}
+use Rattle.std.proofs.lemmas.Bool.{ltb-false, le-ltb, le-leb, leb-true, eqb-true, and_parts}
 use Rattle.std.specs.Char.{is_ascii_digit}
 use Rattle.std.specs.Option.{option_and_then, option_map}
 use Rattle.std.proofs.lemmas.Int.{ints}
@@ -54,9 +54,6 @@ two_is most n rest h low = rw (digits2_is n rest (omega arith)) (rw (le-ltb most
 mark_found : (c : ℕ) (text rest : List ℕ) → mark c text ≡ Some rest → text ≡ c ∷ rest
 mark_found c [] rest e = cc
 mark_found c (b ∷ bs) rest e = let some = guard (b == c) (Some bs) rest e in ap (λ k. k ∷ bs) (eqb-true b c some.0) ∙ ap (λ (l : List ℕ). c ∷ l) (same_Some _ _ some.1)
-
-mark_is : (c : ℕ) (rest : List ℕ) → mark c (c ∷ rest) ≡ Some rest
-mark_is c rest = rw (eq-eqb c c refl) refl
 
 -- YYYY-MM-DD in front, and the rest
 record IsYmdText (text : List ℕ) (p : ℕ × ℕ × ℕ × List ℕ) : Type 0 where

@@ -1,10 +1,8 @@
 -- Day numbers of dates, by jiff's calendar.
-use Rattle.std.proofs.Common.{inl, ◌<ℤ◌, ◌≤ℤ◌, ◌+ℤ◌, Result, Ok, Err, IsOk, IsSome, IfOk, IfSome, rules, ◌≡◌, ◌↔◌, ℕ, ◌*◌, ◌≤◌, Some, refl, sym, ap, ◌∙◌, arith, ℤ, pos, negsuc, ◌-ℤ◌, ◌*ℤ◌, neg_ℤ, zero, suc, ◌/◌, ◌<◌, int_div, FitsSigned, w8, w16, w32, w64, to_z, of_z}
+use Rattle.std.proofs.Common.{◌≡◌, ◌↔◌, ℕ, ◌*◌, ◌≤◌, Some, refl, sym, ap, ◌∙◌, arith, ℤ, pos, negsuc, ◌-ℤ◌, ◌*ℤ◌, neg_ℤ, zero, suc, ◌/◌, ◌<◌, int_div, FitsSigned, w8, w16, w32, w64, to_z, of_z}
 use Rattle.std.proofs.lemmas.Int.{ints, to_z_pos, to_z-of_z}
-use Rattle.std.specs.Result.{result_ok}
-use Rattle.jiff.proofs.Family.{epoch_day_same, epoch_day_range, epoch_day-lt}
+use Rattle.jiff.proofs.Family.{epoch_day_same, epoch_day_range}
 use Rattle.jiff.proofs.OnLiterals.{jiff_on_literals}
-use Rattle.jiff.proofs.SpanFacts.{signed_arith}
 use Rattle.jiff.specs.Types.{Date}
 use Rattle.jiff.specs.Words.{IsYmd, epoch_day}
 use Rattle.std.proofs.lemmas.Option.{same_Some}
@@ -16,7 +14,7 @@ same_nat e = cc
 epoch : Date
 epoch = record { year = pos 1970; month = 1; day = 1; year_in = (omega (arith, ints), omega (arith, ints)); month_in = (omega arith, omega arith); day_in = (omega arith, omega arith) }
 
-pub zero_day : (date : Date) → IsYmd (pos 1970) (pos 1) (pos 1) date → epoch_day date ≡ pos 0
+zero_day : (date : Date) → IsYmd (pos 1970) (pos 1) (pos 1) date → epoch_day date ≡ pos 0
 unfolding jiff_on_literals epoch
 zero_day date is = epoch_day_same date epoch is.0 (same_nat is.1) (same_nat is.2) ∙ refl
 
@@ -58,33 +56,3 @@ day_is year month day date number n is e = (
 -- the parts as the numbers of 16 and 8 bits that jiff takes
 pub narrow_parts : (year month day : ℕ) (date : Date) → year ≤ 9999 → month ≤ 99 → day ≤ 99 → IsYmd (to_z w16 year) (to_z w8 month) (to_z w8 day) date → IsYmd (pos year) (pos month) (pos day) date
 narrow_parts year month day date fy fm fd is = (is.0 ∙ to_z_pos w16 year (omega arith), is.1 ∙ to_z_pos w8 month (omega arith), is.2 ∙ to_z_pos w8 day (omega arith))
-
-year_zero : Date
-year_zero = record { year = pos 0; month = 1; day = 1; year_in = (omega (arith, ints), omega (arith, ints)); month_in = (omega arith, omega arith); day_in = (omega arith, omega arith) }
-
-first_day : epoch_day year_zero ≡ neg_ℤ (pos 719528)
-unfolding jiff_on_literals year_zero
-first_day = refl
-
-before_zero : (date : Date) (y : ℕ) → date.year ≡ negsuc y → epoch_day date <ℤ epoch_day year_zero
-unfolding year_zero
-before_zero date y is = epoch_day-lt date year_zero (inl (omega (arith, signed_arith, is)))
-
--- no date before the year 0 has a day number from that of 0000-01-01 on
-pub year_from : (date : Date) → neg_ℤ (pos 719528) ≤ℤ epoch_day date → pos 0 ≤ℤ date.year
-year_from date low = by date.year refl where
-  by : (y : ℤ) → date.year ≡ y → pos 0 ≤ℤ y
-  by (pos y) is = omega (arith, ints)
-  by (negsuc y) is = absurd (omega (arith, signed_arith, low, first_day, before_zero date y is))
-
--- the date so many days after 1970-01-01
-pub day_after : (start : Date) (day number : ℤ) → IsYmd (pos 1970) (pos 1) (pos 1) start → number ≡ epoch_day start +ℤ day → number ≡ day
-day_after start day number is e = omega (arith, ints, e, zero_day start is)
-
-pub some_of_ok : {X E : Type 0} (r : Result X E) → IsOk r → IsSome (result_ok r)
-some_of_ok (Ok x) is = search rules
-some_of_ok (Err e) is = search rules
-
-pub if_some_of_ok : {X E : Type 0} (P : X → Type 0) (r : Result X E) → IfOk r P → IfSome (result_ok r) P
-if_some_of_ok P (Ok x) is = is
-if_some_of_ok P (Err e) is = tt

@@ -11,7 +11,7 @@ use Rattle.policy_ext.specs.DecimalReading.{decimal_from, decimal_of}
 use Rattle.policy_ext.proofs.LackFacts.{cut_lacking, digits_lack}
 use Rattle.policy_ext.proofs.NumberFacts.{bind, unless, number_found, number_is, cut_found, minus_found, minus_is, signed_found, signed_is}
 
-pub decimal_found : (text : List ℕ) (v : ℤ) → decimal_of text ≡ Some v → IsDecimal text v
+decimal_found : (text : List ℕ) (v : ℤ) → decimal_of text ≡ Some v → IsDecimal text v
 decimal_found text v e =
     let parts = bind _ (cut 46 (without_minus text)) v e in
     let few = unless (nat_lt 4 (length parts.0.1)) _ v parts.2 in
@@ -43,7 +43,7 @@ taken d size =
     let m = number_is 10 d.part (omega arith) d.part_digits (omega (arith, le-mul_of_pos_right {m = 10 ^ (4 - length d.part)} (digits_value 10 d.part) (one-le-pow (4 - length d.part) 10 (omega arith)))) in
     rw (le-ltb 4 (length d.part) d.short, n, m) (signed_is d.minus _ (rw d.value at d.fits) ∙ ap Some (sym d.value))
 
-pub decimal_is : (text : List ℕ) (v : ℤ) → IsDecimal text v → decimal_of text ≡ Some v
+decimal_is : (text : List ℕ) (v : ℤ) → IsDecimal text v → decimal_of text ≡ Some v
 decimal_is text v d =
     let minus = minus_is d.minus d.whole (46 ∷ d.part) d.whole_digits in
     let is_sign : is_minus text ≡ d.minus = ap is_minus d.spelled ∙ minus.0 in

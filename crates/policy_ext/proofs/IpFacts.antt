@@ -16,7 +16,7 @@ one_group_more count bits n h small = rw (add-one) (omega (arith, pow-suc 65536 
 pub fits_128 : (count n : ℕ) → count ≤ 8 → n < 65536 ^ count → n < 2 ^ 128
 fits_128 count n few small = omega (arith, pow-le-pow_right {n = 65536} (omega arith) few)
 
-pub number_small : (text : List ℕ) (n : ℕ) → number_of 16 text ≡ Some n → length text ≤ 4 → n < 65536
+number_small : (text : List ℕ) (n : ℕ) → number_of 16 text ≡ Some n → length text ≤ 4 → n < 65536
 number_small text n e few =
     let is = number_found 16 text n e in
     omega (arith, digits_value-lt 16 text is.0.1, is.1, pow-le-pow_right {n = 16} (omega arith) few)
@@ -42,11 +42,11 @@ shift_room l r bits right few small low =
     omega (arith, whole, tops, under, suc-mul bits (65536 ^ (8 - l)))
 
 -- the pieces between colons, by the first of them
-pub pieces_by : List ℕ → Option (List ℕ × List ℕ) → List (List ℕ)
+pieces_by : List ℕ → Option (List ℕ × List ℕ) → List (List ℕ)
 pieces_by bs (Some p) = p.0 ∷ slice_split is_colon p.1
 pieces_by bs None = bs ∷ []
 
-pub pieces_by_cut : (bs : List ℕ) → slice_split is_colon bs ≡ pieces_by bs (cut 58 bs)
+pieces_by_cut : (bs : List ℕ) → slice_split is_colon bs ≡ pieces_by bs (cut 58 bs)
 unfolding pieces_by
 pieces_by_cut [] = refl
 pieces_by_cut (b ∷ bs) = by_first (b == 58) (cut 58 bs) (pieces_by_cut bs) where

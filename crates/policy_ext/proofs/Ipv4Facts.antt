@@ -40,7 +40,7 @@ plain_is most n fits low =
     let read = number_is 10 (decimal n) (omega arith) num.0 (omega (arith, num.1)) ∙ ap Some num.1 in
     rw (read) (rw (le-ltb most n low, plain_test n (omega arith)) refl)
 
-pub octet_found : (text : List ℕ) (p : ℕ × List ℕ) → octet_at text ≡ Some p → (text ≡ decimal p.0 ++ 46 ∷ p.1) × (p.0 ≤ 255)
+octet_found : (text : List ℕ) (p : ℕ × List ℕ) → octet_at text ≡ Some p → (text ≡ decimal p.0 ++ 46 ∷ p.1) × (p.0 ≤ 255)
 octet_found text p e =
     let parts = bind _ (cut 46 text) p e in
     let read = mapped (λ n. (n, parts.0.1)) (plain_of 255 parts.0.0) p parts.2 in
@@ -50,7 +50,7 @@ octet_found text p e =
     let size : read.0 ≡ p.0 = ap (λ (q : ℕ × List ℕ). q.0) read.2 in
     (cut_found 46 text parts.0.0 parts.0.1 parts.1 ∙ ap (λ (l : List ℕ). l ++ 46 ∷ parts.0.1) front ∙ ap (λ (l : List ℕ). decimal p.0 ++ 46 ∷ l) back, omega (arith, plain.1))
 
-pub octet_is : (n : ℕ) (rest : List ℕ) → n ≤ 255 → octet_at (decimal n ++ 46 ∷ rest) ≡ Some (n, rest)
+octet_is : (n : ℕ) (rest : List ℕ) → n ≤ 255 → octet_at (decimal n ++ 46 ∷ rest) ≡ Some (n, rest)
 octet_is n rest low =
     let num = decimal_is_IsNumeral n (omega arith) in
     rw (cut_lacking 46 (decimal n) rest (digits_lack 10 46 (decimal n) (omega arith) num.0.1)) (rw (plain_is 255 n (omega arith) low) refl)

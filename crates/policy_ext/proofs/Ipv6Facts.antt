@@ -191,12 +191,12 @@ at_double : (gs : List (List ℕ)) (rest : List ℕ) → AllByRecursion IsGroup 
 unfolding onto_all
 at_double gs rest each = double_joined gs (58 ∷ (58 ∷ rest)) each ∙ ap (λ (l : List ℕ). Some (l, rest)) (append-nil (join_with_byte 58 gs))
 
-pub full_is : (text : List ℕ) (bits : ℕ) → IsFull text bits → ipv6_of text ≡ Some bits
+full_is : (text : List ℕ) (bits : ℕ) → IsFull text bits → ipv6_of text ≡ Some bits
 full_is text bits f =
     let read = groups_is f.groups f.each (omega (arith, f.eight)) in
     ap ipv6_of f.spelled ∙ rw (no_double f.groups f.each) (rw (read) (rw (f.eight) (ap Some (sym f.value))))
 
-pub shortened_is : (text : List ℕ) (bits : ℕ) → IsShortened text bits → ipv6_of text ≡ Some bits
+shortened_is : (text : List ℕ) (bits : ℕ) → IsShortened text bits → ipv6_of text ≡ Some bits
 shortened_is text bits s =
     let l = groups_is s.left s.left_each (omega (arith, s.few)) in
     let r = groups_is s.right s.right_each (omega (arith, s.few)) in

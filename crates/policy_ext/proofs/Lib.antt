@@ -1,16 +1,15 @@
-pub mod NumberFacts
-pub mod LackFacts
-pub mod DecimalFacts
+mod NumberFacts
+mod LackFacts
+mod DecimalFacts
 pub mod DecimalText
-pub mod IpFacts
-pub mod Ipv4Facts
-pub mod Ipv6Facts
-pub mod RangeFacts
+mod IpFacts
+mod Ipv4Facts
+mod Ipv6Facts
+mod RangeFacts
 pub mod RangeText
-pub mod RangeTests
-pub mod DurationFacts
-pub mod DurationText
-pub mod DateTimeFacts
-pub mod DayFacts
-pub mod DateTimeText
+mod RangeTests
+mod DurationFacts
+mod DateTimeFacts
+mod DayFacts
+mod NumberTexts
 pub mod Readings

@@ -110,7 +110,3 @@ signed_is false n fits = rw (lt-ltb n (2 ^ 63) (omega (arith, ints))) refl
 pub size_of : (minus : Bool) (n : ℕ) → FitsSigned w64 (signed minus n) → n ≤ 2 ^ 63
 size_of true n fits = small n fits
 size_of false n fits = omega (arith, ints)
-
-pub none_if : {X : Type 0} (o : Option X) → ((x : X) → o ≡ Some x → ⊥) → o ≡ None
-none_if (Some x) h = absurd (h x refl)
-none_if None h = refl

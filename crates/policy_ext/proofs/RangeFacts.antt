@@ -66,7 +66,7 @@ range_by text v None is e =
     let a = mapped _ (address_of text) v e in
     subst (IsRange text) a.2 (record { address = text; is = address_found text a.0 a.1; spelled = inl (refl, refl) })
 
-pub range_found : (text : List ℕ) (v : Range) → range_of text ≡ Some v → IsRange text v
+range_found : (text : List ℕ) (v : Range) → range_of text ≡ Some v → IsRange text v
 range_found text v e = range_by text v (cut 47 text) refl e
 
 range_spelled : (text address : List ℕ) (v : Range) → IsAddress v.family address v.bits → ((text ≡ address) × (v.prefix ≡ width v.family)) ⊎ ((text ≡ address ++ 47 ∷ decimal v.prefix) × (v.prefix ≤ width v.family)) → range_of text ≡ Some v

@@ -30,7 +30,7 @@ group_is bits = let num = digits_is_IsNumeral 16 false (omega arith) (omega arit
 four_value : (n : ℕ) → n < 2 ^ 64 → ((n / 2 ^ 48 % 65536 * 65536 + n / 2 ^ 32 % 65536) * 65536 + n / 2 ^ 16 % 65536) * 65536 + n % 65536 ≡ n
 four_value n h = omega (arith, shr-shr n 16 16, shr-shr n 32 16)
 
-pub ipv6_written : (bits : ℕ) → bits < 2 ^ 128 → IsFull (address_text V6 bits) bits
+ipv6_written : (bits : ℕ) → bits < 2 ^ 128 → IsFull (address_text V6 bits) bits
 ipv6_written bits small =
     let h = bits / 2 ^ 64 in
     let l = bits % 2 ^ 64 in
@@ -50,7 +50,7 @@ ipv6_written bits small =
       value = sym (rw (a.1, b.1, c.1, d.1, e.1, f.1, g.1, k.1) (omega (arith, four_value h (omega arith), four_value l (omega arith))));
     }
 
-pub ipv4_written : (bits : ℕ) → bits < 2 ^ 32 → IsIpv4 (ipv4_text bits) bits
+ipv4_written : (bits : ℕ) → bits < 2 ^ 32 → IsIpv4 (ipv4_text bits) bits
 ipv4_written bits small = record { first = bits / 16777216; second = bits / 65536 % 256; third = bits / 256 % 256; fourth = bits % 256; first_fits = omega arith; second_fits = omega arith; third_fits = omega arith; fourth_fits = omega arith; spelled = refl; value = omega (arith, shr-shr bits 8 8, shr-shr bits 16 8) }
 
 pub range_written : (v : Range) → FitsWidth v.family v.bits v.prefix → IsRange (range_text v) v

@@ -1,7 +1,6 @@
--- The functions that texts are read by, and what readers answer.
+-- The functions that texts are read by are the grammars.
 use Rattle.std.proofs.Common.{◌≡◌, ◌↔◌, ◌≤◌, ℕ, Bool, true, false, ◌&&◌, List, ℤ, pos, Option, Some, None, option_map, refl, sym, ap, ◌∙◌, subst, arith}
 use Rattle.std.specs.Prelude.{nat_le}
-use Rattle.std.proofs.lemmas.Bool.{and_parts}
 use Rattle.std.proofs.lemmas.Bool.Decides.{nat_tests}
 use Rattle.std.proofs.lemmas.Int.{ints}
 use Rattle.std.proofs.lemmas.Option.{same_Some}
@@ -11,6 +10,15 @@ use Rattle.jiff.specs.Words.{IsYmd, days_in_month, epoch_day}
 use Rattle.policy_ext.specs.DateTime.{IsDateTime}
 use Rattle.policy_ext.specs.DateTimeReading.{IsDayOf, date_at}
 use Rattle.policy_ext.specs.DateTimeValue.{has_date, civil, dated, date_of, datetime_from, datetime_of}
+use Rattle.policy_ext.specs.Decimal.{IsDecimal}
+use Rattle.policy_ext.specs.DecimalReading.{decimal_of}
+use Rattle.policy_ext.specs.Duration.{IsDuration}
+use Rattle.policy_ext.specs.DurationReading.{duration_of}
+use Rattle.policy_ext.specs.IpAddr.{Range, IsRange}
+use Rattle.policy_ext.specs.IpReading.{range_of}
+use Rattle.policy_ext.proofs.DecimalFacts.{decimal_exact}
+use Rattle.policy_ext.proofs.DurationFacts.{duration_exact}
+use Rattle.policy_ext.proofs.RangeFacts.{range_exact}
 use Rattle.policy_ext.proofs.DayFacts.{same_nat}
 use Rattle.policy_ext.proofs.DateTimeFacts.{datetime_exact, datetime_none}
 
@@ -52,3 +60,12 @@ datetime_of_exact text v = by (date_at text) refl
     by : (o : Option (ℕ × ℕ × ℕ × List ℕ)) → date_at text ≡ o → (datetime_from o ≡ Some v) ↔ IsDateTime text v
     by (Some p) e = datetime_exact text p (option_map (λ t. epoch_day t) (date_of p.0 p.1 p.2)) v e (λ n. (day_found p.0 p.1 p.2 n (has_date p.0 p.1 p.2) refl, λ of. day_is p.0 p.1 p.2 n (has_date p.0 p.1 p.2) refl of.0 of.1 of.2))
     by None e = datetime_none text v e
+
+pub decimal_of_exact : (text : List ℕ) (v : ℤ) → (decimal_of text ≡ Some v) ↔ IsDecimal text v
+decimal_of_exact = decimal_exact
+
+pub range_of_exact : (text : List ℕ) (v : Range) → (range_of text ≡ Some v) ↔ IsRange text v
+range_of_exact = range_exact
+
+pub duration_of_exact : (text : List ℕ) (v : ℤ) → (duration_of text ≡ Some v) ↔ IsDuration text v
+duration_of_exact = duration_exact

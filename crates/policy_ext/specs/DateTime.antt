@@ -1,6 +1,5 @@
--- The texts of points in time, what is written of them, and what is asked of them.
-use Rattle.std.specs.Prelude.{ℕ, ◌+◌, ◌*◌, ◌/◌, ◌%◌, ◌≡◌, ◌≤◌, ◌⊎◌, Bool, List, [], ◌∷◌, ◌++◌, ℤ, pos, neg_ℤ, ◌+ℤ◌, ◌-ℤ◌, ◌*ℤ◌, ◌≤ℤ◌, unsigned_abs, if◌then◌else◌}
-use Rattle.std.specs.Fmt.{signed_decimal}
+-- The texts of points in time, and what is asked of them.
+use Rattle.std.specs.Prelude.{ℕ, ◌+◌, ◌*◌, ◌/◌, ◌%◌, ◌≡◌, ◌≤◌, ◌⊎◌, Bool, List, [], ◌∷◌, ◌++◌, ℤ, pos, ◌+ℤ◌, ◌-ℤ◌, ◌*ℤ◌, ◌≤ℤ◌, unsigned_abs, if◌then◌else◌}
 use Rattle.std.specs.Int.{int_div_euclid, int_rem_euclid}
 use Rattle.jiff.specs.Types.{Date}
 use Rattle.jiff.specs.Words.{epoch_day}
@@ -75,21 +74,3 @@ day_of v = int_div_euclid v (pos 86400000)
 
 abbrev pub time_of : ℤ → ℤ
 time_of v = int_rem_euclid v (pos 86400000)
-
--- v lies in the years 0000 to 9999
-abbrev pub IsInYears : ℤ → Type 0
-IsInYears v = (neg_ℤ (pos 62167219200000) ≤ℤ v) × (v ≤ℤ pos 253402300799999)
-
--- Thh:mm:ss.SSSZ of so many milliseconds since the day began
-abbrev pub clock_text : ℕ → List ℕ
-clock_text n = 84 ∷ (two (n / 3600000) ++ 58 ∷ (two (n / 60000 % 60) ++ 58 ∷ (two (n / 1000 % 60) ++ 46 ∷ (three (n % 1000) ++ 90 ∷ []))))
-
--- What is written of v in these years is its day and its time of day.
-pub record IsWritten (text : List ℕ) (v : ℤ) : Type 0 where
-  pub front : List ℕ
-  pub is_day : IsDay front (day_of v)
-  pub spelled : text ≡ front ++ clock_text (unsigned_abs (time_of v))
-
--- What is written of v: in these years its day and its time of day, and else the milliseconds alone, which are no datetime's text.
-abbrev pub IsDateTimeText : List ℕ → ℤ → Type 0
-IsDateTimeText text v = (IsInYears v × IsWritten text v) ⊎ ((IsInYears v → ⊥) × (text ≡ signed_decimal v))

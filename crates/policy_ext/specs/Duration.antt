@@ -1,6 +1,5 @@
 -- The texts of durations, and what is asked of them.
 use Rattle.std.specs.Prelude.{ℕ, ◌+◌, ◌*◌, ◌≡◌, ◌<◌, ◌⊎◌, Bool, List, [], ◌∷◌, ◌++◌, length, ℤ, FitsSigned}
-use Rattle.std.specs.Fmt.{signed_decimal}
 use Rattle.std.specs.Int.{w64}
 use Rattle.std.specs.Str.Parse.{IsNumeral, digits_value}
 use Rattle.policy_ext.specs.Sign.{sign, signed}
@@ -25,7 +24,3 @@ pub record IsDuration (text : List ℕ) (v : ℤ) : Type 0 where
   pub is_sum : IsSumOf units body sum
   pub value : v ≡ signed minus sum
   pub fits : FitsSigned w64 v
-
--- what is written of v milliseconds: the number, then ms
-abbrev pub duration_text : ℤ → List ℕ
-duration_text v = signed_decimal v ++ 109 ∷ (115 ∷ [])

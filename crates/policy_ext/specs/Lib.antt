@@ -10,5 +10,4 @@ pub mod Duration
 pub mod DurationReading
 pub mod DateTime
 pub mod DateTimeReading
-pub mod DateTimeWriting
 pub mod DateTimeValue

@@ -2,11 +2,11 @@
 
 ghost use Rattle.std.specs.Prelude.{◌≡◌, ◌↔◌, pos, ◌*ℤ◌, ◌+ℤ◌, ◌-ℤ◌, ◌≤ℤ◌, FitsSigned, SomeIff, ℤ, Some, IfOk, string_bytes};
 ghost use Rattle.std.specs.Int.{w64};
-ghost use Rattle.policy_ext.specs.DateTime.{IsDateTime, IsDateTimeText, IsInYears, day_of, time_of};
+ghost use Rattle.std.specs.Fmt.{signed_decimal};
+ghost use Rattle.policy_ext.specs.DateTime.{IsDateTime, day_of, time_of};
 
 use crate::Duration;
 use crate::datetime_reading::milliseconds;
-use crate::datetime_writing::written;
 use std::alloc::{AllocError, Global};
 use std::marker::Model;
 
@@ -41,15 +41,12 @@ impl DateTimeValue {
         from_number(milliseconds(text.as_bytes()))
     }
 
-    /// The text `YYYY-MM-DDThh:mm:ss.SSSZ` in the years 0000 to 9999, which is from -62167219200000 to 253402300799999
-    /// milliseconds: [`read`](DateTimeValue::read) gives the point in time back. Elsewhere the milliseconds alone, as
-    /// `253402300800000`, which `read` does not take.
+    /// The milliseconds from 1970-01-01, as `-62167219200000`. That is no text that [`read`](DateTimeValue::read) takes.
     pub fn text(&self, alloc: Global) -> Result<String, AllocError>
-        ensures spelling { IfOk result (λ s. IsDateTimeText (string_bytes s) self.now) }
-        ensures is_read { IsInYears self.now → IfOk result (λ s. IsDateTime (string_bytes s) self.now) }
-        ensures is_not_read { (IsInYears self.now → ⊥) → IfOk result (λ s. (v : ℤ) → IsDateTime (string_bytes s) v → ⊥) }
+        ensures spelling { IfOk result (λ s. string_bytes s ≡ signed_decimal self.now) }
+        ensures is_not_read { IfOk result (λ s. (v : ℤ) → IsDateTime (string_bytes s) v → ⊥) }
     {
-        text_of(alloc, self)
+        written(alloc, self)
     }
 
     /// The point in time so many milliseconds after 1970-01-01.
@@ -105,9 +102,9 @@ fn from_number(millis: Option<i64>) -> Option<DateTimeValue>
     millis.map(|millis| DateTimeValue { millis })
 }
 
-fn text_of(alloc: Global, value: &DateTimeValue) -> Result<String, AllocError>
-    ensures spelling { IfOk result (λ s. IsDateTimeText (string_bytes s) value.now) }
+fn written(alloc: Global, value: &DateTimeValue) -> Result<String, AllocError>
+    ensures spelling { IfOk result (λ s. string_bytes s ≡ signed_decimal value.now) }
     ensures fits { FitsSigned w64 value.now }
 {
-    written(alloc, value.millis)
+    format!(in alloc; "{}", value.millis)
 }

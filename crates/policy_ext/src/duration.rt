@@ -3,7 +3,8 @@
 ghost use Rattle.std.specs.Prelude.{◌≡◌, ◌↔◌, pos, int_div, FitsSigned, ℤ, Some, IfOk, string_bytes};
 ghost use Rattle.std.specs.Int.{w64};
 ghost use Rattle.std.specs.Option.{option_map};
-ghost use Rattle.policy_ext.specs.Duration.{IsDuration, units, duration_text};
+ghost use Rattle.std.specs.Fmt.{signed_decimal};
+ghost use Rattle.policy_ext.specs.Duration.{IsDuration, units};
 ghost use Rattle.policy_ext.specs.DurationReading.{cut_digits, strip, starts_new, part_at, part_of, sum_from, duration_of};
 
 use crate::digits::{number, signed_number, split_minus};
@@ -41,10 +42,10 @@ impl Duration {
         from_number(milliseconds(text.as_bytes()))
     }
 
-    /// The milliseconds with their unit, as `-93784005ms`. [`read`](Duration::read) gives the duration back.
+    /// The milliseconds, as `-93784005`. That is no text that [`read`](Duration::read) takes: it has no unit.
     pub fn text(&self, alloc: Global) -> Result<String, AllocError>
-        ensures spelling { IfOk result (λ s. string_bytes s ≡ duration_text self.now) }
-        ensures is_read { IfOk result (λ s. IsDuration (string_bytes s) self.now) }
+        ensures spelling { IfOk result (λ s. string_bytes s ≡ signed_decimal self.now) }
+        ensures is_not_read { IfOk result (λ s. (v : ℤ) → IsDuration (string_bytes s) v → ⊥) }
     {
         written(alloc, self)
     }
@@ -106,10 +107,10 @@ fn from_number(millis: Option<i64>) -> Option<Duration>
 }
 
 fn written(alloc: Global, duration: &Duration) -> Result<String, AllocError>
-    ensures value { IfOk result (λ s. string_bytes s ≡ duration_text duration.now) }
+    ensures spelling { IfOk result (λ s. string_bytes s ≡ signed_decimal duration.now) }
     ensures fits { FitsSigned w64 duration.now }
 {
-    format!(in alloc; "{}ms", duration.millis)
+    format!(in alloc; "{}", duration.millis)
 }
 
 fn milliseconds(text: &[u8]) -> Option<i64>

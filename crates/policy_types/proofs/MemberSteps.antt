@@ -5,7 +5,7 @@ use Rattle.std.specs.Map.{lookup}
 use Rattle.policy_names.specs.Uid.{text_cmp}
 use Rattle.policy_types.specs.Member.{has_field}
 use Rattle.policy_values.specs.Value.{Val, size_of, size_of_all, vals_of, fields_of}
-use Rattle.policy_values.proofs.ValueSteps.{size_of-get_or}
+use Rattle.policy_values.proofs.Sizes.{size_of-get_or}
 
 some_cond : {X : Type 0} (b : Bool) (x : X) (o : Option X) → is_some (cond b (Some x) o) ≡ (b || is_some o)
 some_cond true x o = refl

@@ -1,6 +1,7 @@
 pub mod HashSteps
 pub mod MapSteps
-pub mod Pushed
+mod Pushed
 pub mod ReadSteps
-pub mod SetSteps
-pub mod ValueSteps
+mod SetSteps
+pub mod Sizes
+mod ValueSteps

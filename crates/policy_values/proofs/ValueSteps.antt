@@ -1,8 +1,8 @@
 -- Steps of loops over values.
-use Rattle.std.proofs.Common.{◌≡◌, ℕ, ◌<◌, ◌≤◌, zero, suc, List, [], ◌∷◌, length, get_or, drop, arith, ap, ◌∙◌, refl, ◌++◌}
+use Rattle.std.proofs.Common.{◌≡◌, ℕ, ◌<◌, ◌≤◌, List, [], ◌∷◌, length, drop, arith, ap, ◌∙◌, refl}
 use Rattle.std.specs.declared.cmp.Ordering.TheVariants.{Less, Equal, Greater}
 use Rattle.std.proofs.lemmas.List.{at_drop_more, at_drop_all}
-use Rattle.policy_values.specs.Value.{Val, Vals, no_vals, val, size_of, size_of_all, size_of_fields, vals_of, fields_of}
+use Rattle.policy_values.specs.Value.{Val, Vals, no_vals, val, vals_of, fields_of}
 use Rattle.std.specs.declared.cmp.Ordering.{Ordering}
 use Rattle.std.specs.Ordering.{match_ordering, ordering_reverse}
 use Rattle.std.specs.List.{AllByRecursion}
@@ -13,16 +13,6 @@ use Rattle.policy_values.specs.Ascending.{ascending_of}
 use Rattle.policy_values.specs.ValueLaws.{val_cmp_total}
 use Rattle.policy_values.specs.ValueOrder.{vals_cmp, val_cmp, insert_val, set_of, IsBelow, Ascends, IsBelowField, AscendsFields}
 use Rattle.policy_names.specs.Uid.{text_cmp}
-
--- no element is larger than all together
-pub size_of-get_or : (xs : List Val) (i : ℕ) (d : Val) → i < length xs → size_of (get_or xs i d) ≤ size_of_all (vals_of xs)
-size_of-get_or [] i d h = absurd (omega arith)
-size_of-get_or (x ∷ xs) zero d h = omega arith
-size_of-get_or (x ∷ xs) (suc i) d h = omega (arith, size_of-get_or xs i d (omega arith))
-
-pub size_of-seam : (es : List (List ℕ × Val)) (e : List ℕ × Val) (rest : List (List ℕ × Val)) → size_of e.1 ≤ size_of_fields (fields_of (es ++ e ∷ rest))
-size_of-seam [] e rest = omega arith
-size_of-seam (d ∷ es) e rest = omega (arith, size_of-seam es e rest)
 
 -- a list that is over comes before one that is not
 pub vals_cmp-over : (xs ys : List Val) (i : ℕ) → length xs ≤ i → i < length ys → vals_cmp (vals_of (drop i xs)) (vals_of (drop i ys)) ≡ Less

@@ -1,13 +1,12 @@
 -- What the hash of a value is of; equal values have equal hashes.
-use Rattle.std.specs.Prelude.{◌++◌, pos, refl}
+use Rattle.std.specs.Prelude.{◌++◌, pos}
 use Rattle.std.proofs.Common.{◌≡◌, true, ap}
 use Rattle.std.specs.Ordering.{is_eq}
 use Rattle.std.specs.Hash as fed
 use Rattle.std.specs.Hash.{HashWrites}
-use Rattle.std.specs.declared.cmp.Ordering.{Ordering}
-use Rattle.std.specs.declared.cmp.Ordering.TheVariants.{Less, Equal, Greater}
 use Rattle.policy_names.specs.declared.entity_uid.EntityUID.{EntityUID}
 use Rattle.policy_ext.specs.IpAddr.{Range}
+use Rattle.policy_names.proofs.Ties.{equal_of}
 use Rattle.policy_values.specs.RangeOrder.{family_rank}
 use Rattle.policy_values.specs.Value.{Val, truth, long, string, entity, set, rec, decimal, ip, datetime, duration, Vals, no_vals, val, Fields, no_fields, field}
 use Rattle.policy_values.specs.ValueOrder.{val_cmp}
@@ -40,11 +39,6 @@ abbrev mutual
   pub fields_fed : Fields → HashWrites
   fields_fed no_fields = fed.u8 0
   fields_fed (field k v fs) = fed.u8 1 ++ (fed.str k ++ (val_fed v ++ fields_fed fs))
-
-equal_of : (o : Ordering) → is_eq o ≡ true → o ≡ Equal
-equal_of Less h = cc
-equal_of Equal h = refl
-equal_of Greater h = cc
 
 pub alike_val : (x y : Val) → is_eq (val_cmp x y) ≡ true → val_fed x ≡ val_fed y
 alike_val x y h = ap val_fed (exact_val x y (equal_of (val_cmp x y) h))

@@ -1,7 +1,7 @@
 -- The order of values is total, and ties are equal.
-use Rattle.std.proofs.Common.{◌≡◌, ℕ, Ordering, true, false, ap, ◌∙◌, sym, refl, ◌<◌, ◌≤◌, arith}
+use Rattle.std.proofs.Common.{◌≡◌, ℕ, true, false, ap, ◌∙◌, sym, refl, ◌<◌, ◌≤◌, arith}
 use Rattle.std.proofs.lemmas.Bool.Decides.{nat_tests}
-use Rattle.std.specs.declared.cmp.Ordering.TheVariants.{Less, Equal, Greater}
+use Rattle.std.specs.declared.cmp.Ordering.TheVariants.{Less, Equal}
 use Rattle.std.specs.Ordering.{nat_cmp, bool_cmp, ordering_then, ordering_reverse}
 use Rattle.std.specs.Cmp.{IsTotalOrder, then_flip, then_total, on_total, nat_cmp_total, bool_cmp_total, int_cmp_total}
 use Rattle.std.proofs.lemmas.Cmp.{nat_list_cmp_total}
@@ -10,6 +10,7 @@ use Rattle.policy_values.specs.Value.{Val, truth, long, string, entity, set, rec
 use Rattle.policy_names.specs.Uid.{text_cmp, uid_cmp_total, exact_uid}
 use Rattle.policy_ext.specs.declared.ip_addr.Family.{Family}
 use Rattle.policy_ext.specs.declared.ip_addr.Family.TheVariants.{V4, V6}
+use Rattle.policy_names.proofs.Ties.{then_equal, then_chain}
 use Rattle.policy_values.specs.RangeOrder.{family_rank, range_cmp}
 use Rattle.policy_values.specs.ValueOrder.{rank, val_cmp, vals_cmp, fields_cmp}
 
@@ -18,11 +19,6 @@ exact_bool true true h = refl
 exact_bool false false h = refl
 exact_bool true false h = cc
 exact_bool false true h = cc
-
-then_equal : (a b : Ordering) → ordering_then a b ≡ Equal → (a ≡ Equal) × (b ≡ Equal)
-then_equal Equal b h = (refl, h)
-then_equal Less b h = cc
-then_equal Greater b h = cc
 
 exact_family : (a b : Family) → family_rank a ≡ family_rank b → a ≡ b
 exact_family V4 V4 h = refl
@@ -111,16 +107,6 @@ mutual
       (λ i. ordering_then (ordering_then (nat_list_cmp_total.antisymm k l i) (val_flip x y i)) (fields_flip xs ys i))
       ∙ (λ i. ordering_then (then_flip (text_cmp l k) (val_cmp y x) i) (ordering_reverse (fields_cmp ys xs)))
       ∙ then_flip (ordering_then (text_cmp l k) (val_cmp y x)) (fields_cmp ys xs)
-
--- one step of "first, then the rest", for three values
-then_chain : (a b c p q s : Ordering) → (a ≡ Less → b ≡ Less → c ≡ Less) → (a ≡ Equal → c ≡ b) → (b ≡ Equal → c ≡ a) → (p ≡ Less → q ≡ Less → s ≡ Less) → ordering_then a p ≡ Less → ordering_then b q ≡ Less → ordering_then c s ≡ Less
-then_chain Less Less c p q s f g h k m n = rw (f refl refl) refl
-then_chain Less Equal c p q s f g h k m n = rw (h refl) refl
-then_chain Less Greater c p q s f g h k m n = cc
-then_chain Equal Less c p q s f g h k m n = rw (g refl) refl
-then_chain Equal Equal c p q s f g h k m n = rw (g refl) (k m n)
-then_chain Equal Greater c p q s f g h k m n = cc
-then_chain Greater b c p q s f g h k m n = cc
 
 -- a kind that comes first decides
 less_rank : (x z : Val) → rank x < rank z → val_cmp x z ≡ Less

@@ -5,7 +5,7 @@ ghost use Rattle.policy_values.specs.Sets.{elements_of, is_element};
 ghost use Rattle.policy_values.specs.ValueView.{val_of};
 ghost use Rattle.policy_values.specs.Value.{Val, truth, long, string, entity, set, rec, decimal, ip, datetime, duration, vals_of, fields_of};
 ghost use Rattle.policy_values.specs.RangeOrder.{range_cmp};
-ghost use Rattle.policy_values.specs.ValueOrder.{rank, val_cmp, vals_cmp, fields_cmp, set_of, Ascends};
+ghost use Rattle.policy_values.specs.ValueOrder.{rank, val_cmp, vals_cmp, fields_cmp, set_of, Ascends, IsInOrder};
 
 use crate::ascending::ascending_items;
 use crate::push_entry;
@@ -179,9 +179,10 @@ impl Value {
         copy_of(alloc, self)
     }
 
-    /// What the value is.
+    /// What the value is. The elements of a set ascend, and so do the keys of a record.
     pub fn kind(&self) -> &ValueKind
-        ensures { val_of result.now ≡ self.now }
+        ensures content { val_of result.now ≡ self.now }
+        ensures in_order { IsInOrder self.now }
     {
         &self.kind
     }

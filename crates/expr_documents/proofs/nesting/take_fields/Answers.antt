@@ -20,8 +20,8 @@ loop-name-preserved g c =
     let name = c.in-Some.name in
     let rest = c.next.new.self in
     record {
-      all = field_more done _ name c.in-Within.x (within c.in-Some.read) (fields_within rest) _ c.in_ok-push_entry.ensures (ap within c.in-Within.is)
+      all = field_more done _ name c.in-Within.x (within c.in-Some.read) (fields_within rest) _ c.in_ok-push_entry.ensures.added (ap within c.in-Within.is)
           (ap (λ es. option_map (λ ys. done ++ ys) (fields_within es)) (sym c.in-Some.ensures.steps) ∙ c.loop-name.invariant.all);
-      keys = keys_more (keys_of c.args.reads.entries) done _ name c.in-Within.x (keys_of rest) c.in_ok-push_entry.ensures
+      keys = keys_more (keys_of c.args.reads.entries) done _ name c.in-Within.x (keys_of rest) c.in_ok-push_entry.ensures.added
           (c.loop-name.invariant.keys ∙ ap (λ es. keys_of done ++ keys_of es) c.in-Some.ensures.steps);
     }

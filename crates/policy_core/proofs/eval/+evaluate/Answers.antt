@@ -21,7 +21,7 @@ evaluate_named-loop-name-preserved g t c =
     let x = c.in-Some.item.now in
     let v = c.in-Value.value in
     let is = c.in-Some.ensures.steps in
-    let pushed = c.in_ok-push_entry-in-Value.ensures ∙ ap (λ l. done ++ (l, v) ∷ []) c.in_ok-name-in-Value.ensures in
+    let pushed = c.in_ok-push_entry-in-Value.ensures.added ∙ ap (λ l. done ++ (l, v) ∷ []) c.in_ok-name-in-Value.ensures in
     record {
       so_far = so_far_more done _ k x v c.loop-name.name-iterator c.next.new.self is pushed _ c.args.request.now c.args.entities.now (sym c.in_ok-value.ensures ∙ c.in-Value.is) c.loop-name.invariant.so_far;
       keys = keys_more done _ k x v c.loop-name.name-iterator c.next.new.self is pushed _ c.loop-name.invariant.keys;

@@ -23,7 +23,7 @@ join_entries-push_entry-requires t c =
 pub join_entries-loop-key-preserved : goal.join_entries-loop-key-preserved
 join_entries-loop-key-preserved t c =
     let done = c.loop-key.joined.entries in
-    let made = c.in_ok-push_entry-in-Ok.ensures ∙ ap (λ k. done ++ (k, record { attr_type = c.in-Ok.attr_type; is_required = c.in-Some.x.now.is_required }) ∷ []) c.in_ok-key-in-Ok.ensures in
+    let made = c.in_ok-push_entry-in-Ok.ensures.added ∙ ap (λ k. done ++ (k, record { attr_type = c.in-Ok.attr_type; is_required = c.in-Some.x.now.is_required }) ∷ []) c.in_ok-key-in-Ok.ensures in
     record {
       left = join_turn (join_attrs (attrs_of c.args.a.now.entries) (attrs_of c.args.b.now.entries)) done c.push_entry.new.map.entries c.loop-key.key-iterator c.loop-key.rest c.next.new.self c.next-in-loop-key.new.self
           c.in-Some.key.now c.in-Some-next.field-0-0.now c.in-Some.x.now c.in-Some-next.y.now c.in-Ok.attr_type

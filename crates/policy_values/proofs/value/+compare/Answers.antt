@@ -1,6 +1,7 @@
 use Rattle.std.proofs.Common.{arith, sym, ◌∙◌, ap}
 use Rattle.policy_values.specs.Value.{size_of, size_of_all, size_of_fields, vals_of, fields_of}
-use Rattle.policy_values.proofs.ValueSteps.{size_of-get_or, vals_cmp-over}
+use Rattle.policy_values.proofs.Sizes.{size_of-get_or}
+use Rattle.policy_values.proofs.ValueSteps.{vals_cmp-over}
 use Rattle.policy_values.proofs.value.+compare.Goals as goal
 
 pub compare_all-compare-first-requires : goal.compare_all-compare-first-requires

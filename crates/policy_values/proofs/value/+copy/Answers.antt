@@ -4,7 +4,7 @@ use Rattle.std.specs.Map.{keys_of}
 use Rattle.policy_values.specs.Value.{size_of, size_of_all, size_of_fields, vals_of, fields_of}
 use Rattle.policy_names.specs.Uid.{text_cmp}
 use Rattle.policy_values.specs.Maps.{IsNext}
-use Rattle.policy_values.proofs.ValueSteps.{size_of-get_or, size_of-seam}
+use Rattle.policy_values.proofs.Sizes.{size_of-get_or, size_of-seam}
 use Rattle.policy_values.proofs.MapSteps.{next-seam, keys_of-append}
 use Rattle.policy_values.proofs.value.+copy.Goals as goal
 

@@ -1,6 +1,6 @@
 use Rattle.std.proofs.Common.{[], arith, ap, sym, ◌∙◌}
 use Rattle.policy_values.specs.Value.{size_of, size_of_all, vals_of, fields_of}
-use Rattle.policy_values.proofs.ValueSteps.{size_of-get_or}
+use Rattle.policy_values.proofs.Sizes.{size_of-get_or}
 use Rattle.policy_values.specs.ValueView.{val_of}
 use Rattle.serde_json.specs.Data.{array, object}
 use Rattle.serde_json.specs.View.{items_of, members_view}
@@ -14,7 +14,7 @@ write_value-returns-in_ok-items-in-Set t c =
     view-Array c.in_ok-items-in-Set.items
     ∙ ap (λ ds. array (items_of ds)) c.in_ok-items-in-Set.ensures
     ∙ ap array (items_of_map c.in-Set.items.items)
-    ∙ ap value_data (sym (ap val_of c.in-Set.is) ∙ c.kind.ensures)
+    ∙ ap value_data (sym (ap val_of c.in-Set.is) ∙ c.kind.ensures.content)
 
 pub write_items-write_value-requires : goal.write_items-write_value-requires
 write_items-write_value-requires t c =

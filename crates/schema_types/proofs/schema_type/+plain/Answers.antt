@@ -20,7 +20,7 @@ schema_entries-push_entry-requires t c =
 pub schema_entries-loop-key-preserved : goal.schema_entries-loop-key-preserved
 schema_entries-loop-key-preserved t c =
     let done = c.loop-key.made.entries in
-    let made = c.in_ok-push_entry-in-Some-2.ensures ∙ ap (λ k. done ++ (k, record { attr_type = c.in-Some-2.attr_type; is_required = c.in-Some.x.now.is_required }) ∷ []) c.in_ok-key-in-Some-2.ensures in
+    let made = c.in_ok-push_entry-in-Some-2.ensures.added ∙ ap (λ k. done ++ (k, record { attr_type = c.in-Some-2.attr_type; is_required = c.in-Some.x.now.is_required }) ∷ []) c.in_ok-key-in-Some-2.ensures in
     record {
       left = plain_turn (plain_attrs (attrs_of c.args.entries.now.entries)) done c.push_entry.new.map.entries c.loop-key.key-iterator c.next.new.self c.in-Some.key.now c.in-Some.x.now c.in-Some-2.attr_type
           c.loop-key.invariant.left c.in-Some.ensures.steps (sym (sym c.in-Some-2.is ∙ c.in_ok-schema_type_of.ensures)) made;

@@ -1,9 +1,8 @@
+use Rattle.std.proofs.Common.{subst}
 use Rattle.std.proofs.lemmas.Result.{IfOk-weaker}
-use Rattle.policy_ext.proofs.DateTimeText.{text_is_read, text_is_not_read}
+use Rattle.policy_ext.specs.DateTime.{IsDateTime}
+use Rattle.policy_ext.proofs.NumberTexts.{number_is_no_datetime}
 use Rattle.policy_ext.proofs.datetime.DateTimeValue.text.Goals as goal
 
-pub returns-clause-is_read : goal.returns-clause-is_read
-returns-clause-is_read c = λ years. IfOk-weaker c.text_of.result _ _ (λ s t. text_is_read _ c.args.self.now t years) c.text_of.ensures.spelling
-
 pub returns-clause-is_not_read : goal.returns-clause-is_not_read
-returns-clause-is_not_read c = λ outside. IfOk-weaker c.text_of.result _ _ (λ s t v. text_is_not_read _ c.args.self.now v c.text_of.ensures.fits t outside) c.text_of.ensures.spelling
+returns-clause-is_not_read c = IfOk-weaker c.written.result _ _ (λ s e v d. number_is_no_datetime c.args.self.now v c.written.ensures.fits (subst (λ text. IsDateTime text v) e d)) c.written.ensures.spelling
