@@ -1,5 +1,5 @@
--- The rule of names: each id and each type of `is` is of a known type; an action is declared, and an id of an enumerated type is listed.
-use Rattle.std.specs.Prelude.{Bool, ◌&&◌, Option, IfSome, IsTrue}
+-- The rule of names: each id, and each type that `is` tests for, is known.
+use Rattle.std.specs.Prelude.{Bool, ◌&&◌}
 use Rattle.std.specs.List.{list_all}
 use Rattle.policy_names.specs.declared.entity_uid.EntityUID.{EntityUID}
 use Rattle.policy_expressions.specs.Tree.{Tree, Mark}
@@ -8,6 +8,7 @@ use Rattle.policy_scope.specs.Names.{Mentioned, an_id, a_type, names_in, is_know
 use Rattle.policy_typing.specs.Conforms.{is_listed}
 
 module _ (schema : SchemaData) where
+  -- an id of a known type; that of an action is declared, and that of an enumerated type is listed
   abbrev pub is_known_id : EntityUID → Bool
   is_known_id u = is_known_type schema u.entity_type && (is_known_action schema u && is_listed schema u)
 
@@ -18,7 +19,3 @@ module _ (schema : SchemaData) where
   -- each name in an expression is known
   abbrev pub has_known_names : {T : Type 0} → Tree (Mark T) → Bool
   has_known_names e = list_all (λ m. is_known_name m.0) (names_in e)
-
-  -- what a link gives for a slot is of a known type
-  abbrev pub HasKnownType : Option EntityUID → Type 0
-  HasKnownType o = IfSome o (λ u. IsTrue (is_known_type schema u.entity_type))
