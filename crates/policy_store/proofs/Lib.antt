@@ -1,6 +1,5 @@
-pub mod FieldsFound
-pub mod Found
-pub mod Linking
+mod FieldsFound
+mod Linking
 pub mod OneStore
-pub mod Placed
-pub mod Pushed
+mod Placed
+mod Stored

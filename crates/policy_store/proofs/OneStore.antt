@@ -6,18 +6,13 @@ use Rattle.std.specs.List.{AllByRecursion}
 use Rattle.std.specs.List.Sorted.{IsStrictlySortedBy}
 use Rattle.std.proofs.lemmas.List.Elements.{recursion_from_All}
 use Rattle.std.proofs.lemmas.Map.Views.{btree_set_contains_iff}
+use Rattle.std.specs.Cmp.{both_ways}
 use Rattle.hierarchy.specs.Reaches.{has, Reaches}
 use Rattle.hierarchy.proofs.SameSorted.{same_sorted, same_values}
 use Rattle.policy_names.specs.declared.entity_uid.EntityUID.{EntityUID}
 use Rattle.policy_names.specs.Uid.{uid_cmp, uid_cmp_total, exact_uid}
 use Rattle.policy_store.specs.Store.{StoredEntity, is_named, entity_at}
 use Rattle.policy_store.specs.FromParents.{IsFromParents, Lists, without_links}
-
-same_bool : (a b : Bool) → (a ≡ true → b ≡ true) → (b ≡ true → a ≡ true) → a ≡ b
-same_bool true true h k = refl
-same_bool false false h k = refl
-same_bool true false h k = sym (h refl)
-same_bool false true h k = k refl
 
 -- ascending ids with the same elements are one list
 same_ids : (xs ys : List EntityUID) → IsStrictlySortedBy uid_cmp xs → IsStrictlySortedBy uid_cmp ys → ((y : EntityUID) → Contains xs y ↔ Contains ys y) → xs ≡ ys
@@ -27,7 +22,7 @@ same_ids xs ys h k same = same_sorted uid_cmp uid_cmp_total exact_uid xs ys h k 
     at q =
         let left = btree_set_contains_iff uid_cmp_total exact_uid (record { keys = xs }) q in
         let right = btree_set_contains_iff uid_cmp_total exact_uid (record { keys = ys }) q in
-        same_bool (has uid_cmp xs q) (has uid_cmp ys q) (λ e. right.1 ((same q).0 (left.0 e))) (λ e. left.1 ((same q).1 (right.0 e)))
+        both_ways (has uid_cmp xs q) (has uid_cmp ys q) (λ e. right.1 ((same q).0 (left.0 e))) (λ e. left.1 ((same q).1 (right.0 e)))
 
 abbrev AreSorted : List StoredEntity → Type 0
 AreSorted es = AllByRecursion (λ e. IsStrictlySortedBy uid_cmp e.ancestors) es

@@ -1,18 +1,14 @@
 -- Entities put under their ids one after another, where no id is repeated.
-use Rattle.std.proofs.Common.{◌≡◌, Bool, true, false, cond, List, [], ◌∷◌, ◌++◌, Option, Some, None, IfSome, Contains, inr, append_assoc, All, refl, sym, ◌∙◌, ap}
-use Rattle.std.specs.List.Sorted.{IsStrictlySortedBy}
-use Rattle.std.specs.Option.{is_some, option_map, option_or}
+use Rattle.std.proofs.Common.{map, ◌≡◌, Bool, true, false, cond, List, [], ◌∷◌, ◌++◌, Option, Some, None, Contains, inr, append_assoc, refl, sym, ◌∙◌, ap}
+use Rattle.std.specs.Option.{option_map, option_or}
 use Rattle.std.specs.Ordering.{is_eq}
-use Rattle.std.specs.BTreeMap.{BTreeMap, IsOrdered, get, values}
+use Rattle.std.specs.BTreeMap.{BTreeMap, get}
 use Rattle.std.specs.BTreeSet.{BTreeSet}
-use Rattle.std.specs.Cmp.{tied_itself}
 use Rattle.std.proofs.lemmas.Cmp.{eq_by_cmp_equiv}
 use Rattle.std.proofs.lemmas.List.{map-append, append-nil}
 use Rattle.std.proofs.lemmas.List.Elements.{Contains-append_left, Contains-append_right, Contains-push}
 use Rattle.std.proofs.lemmas.List.Folds.{find-append}
-use Rattle.std.proofs.lemmas.Map.Keys.{IsDistinct-from_sorted}
-use Rattle.std.proofs.lemmas.Map.Views.{tells_apart, All-values_from_lookup}
-use Rattle.std.specs.Map.{keys_of}
+use Rattle.std.proofs.lemmas.Map.Views.{tells_apart}
 use Rattle.hierarchy.specs.Reaches.{at}
 use Rattle.hierarchy.specs.Repeated.{IsRepeated}
 use Rattle.hierarchy.proofs.Repeated.{repeated_append, repeated_push}
@@ -20,16 +16,8 @@ use Rattle.policy_names.specs.declared.entity_uid.EntityUID.{EntityUID}
 use Rattle.policy_names.specs.Uid.{uid_cmp, uid_cmp_total, exact_uid}
 use Rattle.policy_store.specs.Store.{StoredEntity, is_named, entity_at}
 use Rattle.policy_store.specs.FromParents.{ids_of}
-use Rattle.policy_store.specs.Entries.{AreAtTheirIds}
+use Rattle.policy_store.specs.Entries.{AreStored}
 use Rattle.policy_store.specs.Linked.{linked}
-
--- an entity with the id, or none
-pub named_at : (es : List StoredEntity) (q : EntityUID) → IfSome (entity_at es q) (λ e. e.uid ≡ q)
-named_at [] q = tt
-named_at (e ∷ es) q = by_test (is_named q e) refl (named_at es q) where
-  by_test : (b : Bool) → is_named q e ≡ b → IfSome (entity_at es q) (λ x. x.uid ≡ q) → IfSome (cond b (Some e) (entity_at es q)) (λ x. x.uid ≡ q)
-  by_test true same later = sym (tells_apart exact_uid q e.uid same)
-  by_test false other later = later
 
 absent : (es : List StoredEntity) (q : EntityUID) → (Contains (ids_of es) q → ⊥) → entity_at es q ≡ None
 absent [] q out = refl
@@ -64,89 +52,46 @@ module _ (es : List StoredEntity) (once : (q : EntityUID) → IsRepeated (ids_of
         rw (u q, is, find-append (is_named q) front (e ∷ []), none, turned q, is) refl
     by_test q false is = rw (u q, is, find-append (is_named q) front (e ∷ []), turned q, is, p.at q) (or_none (entity_at front q))
 
--- the entities `front` were put with the ancestors that `first` had for them; those of `left` still have theirs
-pub record IsAssembled (es : List StoredEntity) (first now : EntityUID → Option (BTreeSet EntityUID)) (front left : List StoredEntity) (entries : BTreeMap EntityUID StoredEntity) : Type 0 where
-  pub split : es ≡ front ++ left
-  pub placed : IsPlaced (linked first) front entries.entries
-  pub ordered : IsOrdered uid_cmp entries
-  pub stays : (q : EntityUID) → entity_at front q ≡ None → now q ≡ first q
-  pub ascending : (q : EntityUID) → IfSome (get uid_cmp entries q) (λ m. IsStrictlySortedBy uid_cmp m.ancestors)
+-- linked entities have the ids that they had
+pub ids_linked : (links : EntityUID → Option (BTreeSet EntityUID)) (es : List StoredEntity) → ids_of (map (linked links) es) ≡ ids_of es
+ids_linked links [] = refl
+ids_linked links (e ∷ es) = let later : ids_of (map (linked links) es) ≡ ids_of es = ids_linked links es in λ i. e.uid ∷ later i
 
-none_both : {X : Type 0} (a b : Option X) → option_or a b ≡ None → (a ≡ None) × (b ≡ None)
-none_both None b h = (refl, h)
-none_both (Some x) b h = absurd (cc)
+pub linked_at : (links : EntityUID → Option (BTreeSet EntityUID)) (es : List StoredEntity) (q : EntityUID) → entity_at (map (linked links) es) q ≡ option_map (linked links) (entity_at es q)
+linked_at links [] q = refl
+linked_at links (e ∷ es) q = by_test (is_named q e) (linked_at links es q) where
+  by_test : (b : Bool) → entity_at (map (linked links) es) q ≡ option_map (linked links) (entity_at es q) → cond b (Some (linked links e)) (entity_at (map (linked links) es) q) ≡ option_map (linked links) (cond b (Some e) (entity_at es q))
+  by_test true later = refl
+  by_test false later = later
 
-module _ (es : List StoredEntity) (once : (q : EntityUID) → IsRepeated (ids_of es) q → ⊥) (first now : EntityUID → Option (BTreeSet EntityUID)) (front left : List StoredEntity) (entries : BTreeMap EntityUID StoredEntity)
-    (t : IsAssembled es first now front left entries) (e : StoredEntity) (rest : List StoredEntity) (is : left ≡ e ∷ rest) where
-  split_next : es ≡ (front ++ e ∷ []) ++ rest
-  split_next = t.split ∙ ap (λ l. front ++ l) is ∙ sym (append_assoc front (e ∷ []) rest)
+pub linked_some : (links : EntityUID → Option (BTreeSet EntityUID)) (e : StoredEntity) (set : BTreeSet EntityUID) → links e.uid ≡ Some set → record e { ancestors = set.keys } ≡ linked links e
+linked_some links e set is = rw is refl
 
-  -- the next entity has its ancestors yet
-  pub next_stays : now e.uid ≡ first e.uid
-  next_stays = t.stays e.uid (fresh_id es once front e rest split_next)
+pub linked_none : (links : EntityUID → Option (BTreeSet EntityUID)) (e : StoredEntity) → links e.uid ≡ None → e ≡ linked links e
+linked_none links e is = rw is refl
 
-  pub next_is_some : is_some (entity_at es e.uid) ≡ true
-  next_is_some = rw (split_next, find-append (is_named e.uid) (front ++ e ∷ []) rest, find-append (is_named e.uid) front (e ∷ []), fresh_id es once front e rest split_next, tied_itself uid_cmp_total e.uid) refl
-
-  pub assembled_more : (now' : EntityUID → Option (BTreeSet EntityUID)) (reached : BTreeSet EntityUID) (entries' : BTreeMap EntityUID StoredEntity)
-      → now e.uid ≡ Some reached
-      → IsStrictlySortedBy uid_cmp reached.keys
-      → ((q : EntityUID) → is_eq (uid_cmp e.uid q) ≡ false → now' q ≡ now q)
-      → IsOrdered uid_cmp entries'
-      → ((q : EntityUID) → get uid_cmp entries' q ≡ cond (is_eq (uid_cmp e.uid q)) (Some (record e { ancestors = reached.keys })) (get uid_cmp entries q))
-      → IsAssembled es first now' (front ++ e ∷ []) rest entries'
-  assembled_more now' reached entries' here sorted kept ordered u = record {
-    split = split_next;
-    placed = placed_more es once front e rest split_next (linked first) entries.entries entries'.entries t.placed (rw (sym next_stays ∙ here) u);
-    ordered = ordered;
-    stays = λ q none. stays_at q none (is_eq (uid_cmp e.uid q)) refl;
-    ascending = λ q. ascending_at q (is_eq (uid_cmp e.uid q)) refl;
-  } where
-    stays_at : (q : EntityUID) → entity_at (front ++ e ∷ []) q ≡ None → (b : Bool) → is_eq (uid_cmp e.uid q) ≡ b → now' q ≡ first q
-    stays_at q none true same =
-        let both = none_both (entity_at front q) (entity_at (e ∷ []) q) (sym (find-append (is_named q) front (e ∷ [])) ∙ none) in
-        let found : Some e ≡ None = rw ((eq_by_cmp_equiv uid_cmp_total).symm q e.uid, same) at both.1 in
-        absurd (cc)
-    stays_at q none false other = kept q other ∙ t.stays q (none_both (entity_at front q) (entity_at (e ∷ []) q) (sym (find-append (is_named q) front (e ∷ [])) ∙ none)).0
-
-    ascending_at : (q : EntityUID) (b : Bool) → is_eq (uid_cmp e.uid q) ≡ b → IfSome (get uid_cmp entries' q) (λ m. IsStrictlySortedBy uid_cmp m.ancestors)
-    ascending_at q true same = rw (u q, same) sorted
-    ascending_at q false other = rw (u q, other) (t.ascending q)
-
--- all entities were put
-module _ (es : List StoredEntity) (first now : EntityUID → Option (BTreeSet EntityUID)) (front : List StoredEntity) (entries : BTreeMap EntityUID StoredEntity) (t : IsAssembled es first now front [] entries) where
-  pub all_placed : (q : EntityUID) → get uid_cmp entries q ≡ option_map (linked first) (entity_at es q)
-  all_placed q = t.placed.at q ∙ ap (λ l. option_map (linked first) (entity_at l q)) (sym (append-nil front) ∙ sym t.split)
-
-  pub all_at_their_ids : AreAtTheirIds entries
-  all_at_their_ids = record {
-    ordered = t.ordered;
-    own = λ q. rw (all_placed q) (own_at q (entity_at es q) (named_at es q));
-  } where
-    own_at : (q : EntityUID) (r : Option StoredEntity) → IfSome r (λ e. e.uid ≡ q) → IfSome (option_map (linked first) r) (λ e. e.uid ≡ q)
-    own_at q None h = h
-    own_at q (Some e) h = h
-
-  pub all_ascend : All (λ e. IsStrictlySortedBy uid_cmp e.ancestors) (values entries)
-  all_ascend = All-values_from_lookup (eq_by_cmp_equiv uid_cmp_total) (λ e. IsStrictlySortedBy uid_cmp e.ancestors) entries.entries (IsDistinct-from_sorted uid_cmp (keys_of entries.entries) t.ordered) t.ascending
+-- one more of them
+pub linked_more : (links : EntityUID → Option (BTreeSet EntityUID)) (front : List StoredEntity) (e : StoredEntity) (made made' : List StoredEntity) → made ≡ map (linked links) front
+    → (x : StoredEntity) → x ≡ linked links e → made' ≡ made ++ x ∷ [] → made' ≡ map (linked links) (front ++ e ∷ [])
+linked_more links front e made made' m x is more = more ∙ (λ i. m i ++ is i ∷ []) ∙ sym (map-append (linked links) front (e ∷ []))
 
 -- the entities `front` were put under their ids; those of `left` were not
 pub record IsFilled (es front left : List StoredEntity) (entries : BTreeMap EntityUID StoredEntity) : Type 0 where
   pub split : es ≡ front ++ left
   pub placed : IsPlaced (λ e. e) front entries.entries
-  pub ordered : IsOrdered uid_cmp entries
+  pub stored : AreStored entries
 
 pub filled_more : (es : List StoredEntity) → ((q : EntityUID) → IsRepeated (ids_of es) q → ⊥) → (front left : List StoredEntity) (entries entries' : BTreeMap EntityUID StoredEntity)
     → IsFilled es front left entries → (e : StoredEntity) (rest : List StoredEntity) → left ≡ e ∷ rest
-    → IsOrdered uid_cmp entries'
+    → AreStored entries'
     → ((q : EntityUID) → get uid_cmp entries' q ≡ cond (is_eq (uid_cmp e.uid q)) (Some e) (get uid_cmp entries q))
     → IsFilled es (front ++ e ∷ []) rest entries'
-filled_more es once front left entries entries' t e rest is ordered u =
+filled_more es once front left entries entries' t e rest is stored u =
     let next : es ≡ (front ++ e ∷ []) ++ rest = t.split ∙ ap (λ l. front ++ l) is ∙ sym (append_assoc front (e ∷ []) rest) in
     record {
       split = next;
       placed = placed_more es once front e rest next (λ x. x) entries.entries entries'.entries t.placed u;
-      ordered = ordered;
+      stored = stored;
     }
 
 -- all entities were put
@@ -156,9 +101,3 @@ module _ (es front : List StoredEntity) (entries : BTreeMap EntityUID StoredEnti
     itself : (o : Option StoredEntity) → option_map (λ e. e) o ≡ o
     itself None = refl
     itself (Some e) = refl
-
-  pub filled_at_their_ids : AreAtTheirIds entries
-  filled_at_their_ids = record {
-    ordered = t.ordered;
-    own = λ q. rw (all_filled q) (named_at es q);
-  }

@@ -49,6 +49,7 @@ pub record IsFromAncestors (es store : List StoredEntity) : Type 0 where
   pub once : (uid : EntityUID) → ¬ IsRepeated (ids_of es) uid
   pub ordered : IsStrictlySortedBy uid_cmp (ids_of store)
   pub kept : (uid : EntityUID) → entity_at store uid ≡ entity_at es uid
+  pub ascending : All (λ e. IsStrictlySortedBy uid_cmp e.ancestors) store
 
 -- why they are no store: the least repeated id
 abbrev pub IsRepeatedly : List StoredEntity → EntitiesError → Type 0

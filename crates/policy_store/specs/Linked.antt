@@ -1,5 +1,5 @@
 -- Entities and their links apart.
-use Rattle.std.specs.Prelude.{[], Option, Some, None}
+use Rattle.std.specs.Prelude.{Option, Some, None}
 use Rattle.std.specs.Option.{option_map_or}
 use Rattle.std.specs.BTreeSet.{BTreeSet}
 use Rattle.policy_names.specs.declared.entity_uid.EntityUID.{EntityUID}
@@ -14,6 +14,6 @@ chosen None own = own
 abbrev pub links_of : StoredEntity → BTreeSet EntityUID
 links_of e = record { keys = e.ancestors }
 
--- the entity with those ancestors that a map has for it
+-- the entity with those ancestors that a map has for it, where it has some
 abbrev pub linked : (EntityUID → Option (BTreeSet EntityUID)) → StoredEntity → StoredEntity
-linked links e = record e { ancestors = option_map_or (λ s. s.keys) (links e.uid) [] }
+linked links e = record e { ancestors = option_map_or (λ s. s.keys) (links e.uid) e.ancestors }

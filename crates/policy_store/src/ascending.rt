@@ -23,7 +23,7 @@ impl Entities {
         ensures ok { OnOk result (self.new ≡ self.old ++ entity ∷ []) }
         ensures err { OnErr result (self.new ≡ self.old) }
     {
-        let uid = entity.uid().try_clone()?;
+        let (uid, entity) = entity.under_id()?;
         self.entities.insert(uid, entity)?;
         Ok(())
     }

@@ -1,6 +1,6 @@
 //! Stores of entities.
 
-ghost use Rattle.std.specs.Prelude.{◌≡◌, All, IfOk, OnOk, is_some, if◌then◌else◌};
+ghost use Rattle.std.specs.Prelude.{◌≡◌, All, map, IfOk, OnOk, if◌then◌else◌};
 ghost use Rattle.std.specs.List.Sorted.{IsStrictlySortedBy};
 ghost use Rattle.std.specs.Option.{option_map};
 ghost use Rattle.std.specs.Ordering.{is_eq};
@@ -9,6 +9,7 @@ ghost use Rattle.hierarchy.specs.Least.{IsLeastIfAny};
 ghost use Rattle.hierarchy.specs.Repeated.{IsRepeated};
 ghost use Rattle.policy_names.specs.Uid.{uid_cmp};
 ghost use Rattle.policy_store.specs.Store.{entity_at};
+ghost use Rattle.policy_store.specs.Entries.{AreStored};
 ghost use Rattle.policy_store.specs.Linked.{links_of, linked};
 ghost use Rattle.policy_store.specs.FromParents.{ids_of};
 
@@ -35,15 +36,15 @@ impl Model for Entities {
     ghost coded = { coded_list coded_entity };
 
     ghost use Rattle.std.specs.BTreeMap.{values};
-    ghost use Rattle.policy_store.specs.Entries.{AreAtTheirIds};
+    ghost use Rattle.policy_store.specs.Entries.{AreStored};
 
     ghost view = { λ s. values s.entities };
 
-    ghost invariant = { λ s. AreAtTheirIds s.entities };
+    ghost invariant = { λ s. AreStored s.entities };
 }
 
 impl Entities {
-    ghost use Rattle.std.specs.Prelude.{◌≡◌, length, map, MatchResult};
+    ghost use Rattle.std.specs.Prelude.{◌≡◌, All, length, map, MatchResult};
     ghost use Rattle.std.specs.Option.{option_copied};
     ghost use Rattle.std.specs.List.Sorted.{IsStrictlySortedBy};
     ghost use Rattle.std.specs.Map.Iter.{ShowsInOrder, deref};
@@ -66,7 +67,8 @@ impl Entities {
         if let Some(uid) = first_own(&ancestors) {
             return Err(EntitiesError::Cycle(uid.try_clone()?));
         }
-        Ok(with_ancestors(alloc, entities, ancestors)?)
+        let entities = with_ancestors(alloc, entities, &ancestors)?;
+        Ok(under_ids(alloc, entities)?)
     }
 
     /// The store of these entities, each with the ancestors that it lists. It is refused where two entities have one id, with
@@ -74,8 +76,8 @@ impl Entities {
     pub fn from_ancestors(alloc: Global, entities: Vec<Entity>) -> Result<Entities, EntitiesError>
         ensures { MatchResult result (IsFromAncestors entities.items) (IsRepeatedly entities.items) }
     {
-        if let Some(uid) = least_repeated_id(alloc, &entities)? {
-            return Err(EntitiesError::Duplicate(uid));
+        if let Some(repeated) = least_repeated_id(alloc, &entities)? {
+            return Err(EntitiesError::Duplicate(repeated));
         }
         Ok(under_ids(alloc, entities)?)
     }
@@ -99,6 +101,7 @@ impl Entities {
         ensures rest { result ≡ self.now }
         ensures runs { ShowsInOrder (deref {X = StoredEntity}) }
         ensures ascending { IsStrictlySortedBy uid_cmp (map (λ e. e.uid) self.now) }
+        ensures ancestors { All (λ e. IsStrictlySortedBy uid_cmp e.ancestors) self.now }
     {
         self.entities.values()
     }
@@ -149,25 +152,22 @@ fn parents_of(alloc: Global, entities: &[Entity]) -> Result<Steps<EntityUID>, Al
     Ok(parents)
 }
 
-// The entities under their ids, with these ancestors.
+// Each entity with the ancestors that there are for its id.
 fn with_ancestors(
     alloc: Global,
     entities: Vec<Entity>,
-    mut ancestors: SharedSteps<EntityUID>,
-) -> Result<Entities, AllocError>
-    requires once { (uid : EntityUID) → ¬ IsRepeated (ids_of entities.items) uid }
-    requires keys { (uid : EntityUID) → is_some (tree.get uid_cmp ancestors uid) ≡ is_some (entity_at entities.items uid) }
-    ensures ordered { IfOk result (λ store. IsStrictlySortedBy uid_cmp (ids_of store)) }
-    ensures linked { IfOk result (λ store. (uid : EntityUID) → entity_at store uid ≡ option_map (linked (tree.get uid_cmp ancestors)) (entity_at entities.items uid)) }
-    ensures ascending { IfOk result (All (λ e. IsStrictlySortedBy uid_cmp e.ancestors)) }
+    ancestors: &SharedSteps<EntityUID>,
+) -> Result<Vec<Entity>, AllocError>
+    ensures { IfOk result (λ list. list.items ≡ map (linked (tree.get uid_cmp ancestors.now)) entities.items) }
 {
-    let mut linked = BTreeMap::new(alloc);
+    let mut list = Vec::new(alloc);
     for entity in entities {
-        let reached = ancestors.remove(entity.uid()).unwrap();
-        let entity = entity.with_ancestors(reached);
-        add(&mut linked, entity)?;
+        match ancestors.get(entity.uid()) {
+            Some(reached) => list.push(entity.with_ancestors(reached.try_clone()?))?,
+            None => list.push(entity)?,
+        }
     }
-    Ok(Entities { entities: linked })
+    Ok(list)
 }
 
 // The entities under their ids.
@@ -175,6 +175,7 @@ fn under_ids(alloc: Global, entities: Vec<Entity>) -> Result<Entities, AllocErro
     requires { (uid : EntityUID) → ¬ IsRepeated (ids_of entities.items) uid }
     ensures ordered { IfOk result (λ store. IsStrictlySortedBy uid_cmp (ids_of store)) }
     ensures kept { IfOk result (λ store. (uid : EntityUID) → entity_at store uid ≡ entity_at entities.items uid) }
+    ensures ascending { IfOk result (All (λ e. IsStrictlySortedBy uid_cmp e.ancestors)) }
 {
     let mut placed = BTreeMap::new(alloc);
     for entity in entities {
@@ -185,10 +186,11 @@ fn under_ids(alloc: Global, entities: Vec<Entity>) -> Result<Entities, AllocErro
 
 // Adds an entity under its id.
 fn add(entities: &mut BTreeMap<EntityUID, Entity>, entity: Entity) -> Result<(), AllocError>
+    requires { AreStored entities.old }
     ensures added { OnOk result ((uid : EntityUID) → tree.get uid_cmp entities.new uid ≡ (if is_eq (uid_cmp entity.uid uid) then Some entity else tree.get uid_cmp entities.old uid)) }
-    ensures ordered { OnOk result (tree.IsOrdered uid_cmp entities.new) }
+    ensures stored { OnOk result (AreStored entities.new) }
 {
-    let uid = entity.uid().try_clone()?;
+    let (uid, entity) = entity.under_id()?;
     entities.insert(uid, entity)?;
     Ok(())
 }

@@ -1,6 +1,6 @@
 //! Entities.
 
-ghost use Rattle.std.specs.Prelude.{◌≡◌, ◌↔◌, IsTrue, Contains};
+ghost use Rattle.std.specs.Prelude.{◌≡◌, ◌↔◌, IsTrue, IfOk, Contains};
 ghost use Rattle.std.specs.Option.{option_copied};
 ghost use Rattle.std.specs.List.Sorted.{IsStrictlySortedBy};
 ghost use Rattle.policy_names.specs.Uid.{uid_cmp};
@@ -9,6 +9,7 @@ ghost use Rattle.policy_values.specs.Value.{fields_of, field_at};
 use hierarchy::SharedSet;
 use policy_names::{EntityUID, Text};
 use policy_values::Value;
+use std::alloc::AllocError;
 use std::collections::{BTreeMap, BTreeSet};
 use std::marker::Model;
 
@@ -35,6 +36,11 @@ impl Model for Entity {
     ghost use Rattle.policy_store.specs.Linked.{chosen};
 
     ghost view = { λ e. record { uid = e.uid; attrs = fields_of e.attrs.entries; ancestors = (chosen e.shared e.own).keys; tags = fields_of e.tags.entries } };
+
+    ghost use Rattle.std.specs.List.Sorted.{IsStrictlySortedBy};
+    ghost use Rattle.policy_names.specs.Uid.{uid_cmp};
+
+    ghost invariant = { λ e. IsStrictlySortedBy uid_cmp (chosen e.shared e.own).keys };
 }
 
 impl Entity {
@@ -105,9 +111,20 @@ impl Entity {
         &self.tags
     }
 
+    // The entity beside a copy of its id.
+    pub(crate) fn under_id(self) -> Result<(EntityUID, Entity), AllocError>
+        ensures uid { IfOk result (λ p. p.0 ≡ self.uid) }
+        ensures entity { IfOk result (λ p. p.1 ≡ self) }
+        ensures ascending { IsStrictlySortedBy uid_cmp self.ancestors }
+    {
+        let uid = self.uid.try_clone()?;
+        Ok((uid, self))
+    }
+
     /// The ids of its ancestors.
     pub fn ancestors(&self) -> &BTreeSet<EntityUID>
-        ensures { result.now.keys ≡ self.now.ancestors }
+        ensures value { result.now.keys ≡ self.now.ancestors }
+        ensures ascending { IsStrictlySortedBy uid_cmp self.now.ancestors }
     {
         match &self.shared {
             Some(shared) => shared.as_set(),

@@ -6,8 +6,6 @@ mod context;
 mod entities;
 mod entity;
 mod request;
-#[cfg(test)]
-mod tests;
 
 pub use context::Context;
 pub use entities::{Entities, EntitiesError};

@@ -4,6 +4,7 @@ ghost use Rattle.std.specs.Prelude.{◌≡◌, ◌↔◌, IfOk, IsTrue};
 ghost use Rattle.policy_store.specs.Request.{IsWhole, request_type_of};
 
 use crate::Context;
+use hierarchy::Key;
 use policy_names::{EntityType, EntityUID};
 use std::alloc::AllocError;
 
@@ -22,27 +23,37 @@ pub struct Request {
 }
 
 /// What a request is about, without its eids: the principal's type, the action and the resource's type.
-#[derive(Clone, Debug, Drop, PartialEq, Eq, PartialOrd, Ord)]
+/// Request types are ordered by their actions, then by their principals and then by their resources.
+#[derive(Clone, Debug, Drop, PartialEq, Eq, PartialOrd, Ord, Hash)]
 pub struct RequestType {
-    /// The type of the principal.
-    pub principal: EntityType,
     /// The action.
     pub action: EntityUID,
+    /// The type of the principal.
+    pub principal: EntityType,
     /// The type of the resource.
     pub resource: EntityType,
 }
 
 impl RequestType {
-    /// An equal request type with memory of its own.
+    /// An equal request type, which shares the characters.
     pub fn try_clone(&self) -> Result<RequestType, AllocError>
         ensures { IfOk result (λ t. t ≡ self.now) }
     {
         Ok(RequestType {
-            principal: self.principal.try_clone()?,
             action: self.action.try_clone()?,
+            principal: self.principal.try_clone()?,
             resource: self.resource.try_clone()?,
         })
     }
+}
+
+// Their order computes to the one of these clauses.
+impl Key for RequestType {
+    ghost use Rattle.policy_store.specs.Request.{exact_request_type, copied_request_type};
+
+    ghost exact = { exact_request_type };
+
+    ghost copies = { copied_request_type };
 }
 
 impl Request {
@@ -62,8 +73,8 @@ impl Request {
     {
         match (&self.principal, &self.action, &self.resource) {
             (Some(principal), Some(action), Some(resource)) => Ok(Some(RequestType {
-                principal: principal.entity_type.try_clone()?,
                 action: action.try_clone()?,
+                principal: principal.entity_type.try_clone()?,
                 resource: resource.entity_type.try_clone()?,
             })),
             _ => Ok(None),

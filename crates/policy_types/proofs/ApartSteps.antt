@@ -5,7 +5,7 @@ use Rattle.std.specs.declared.cmp.Ordering.{Ordering}
 use Rattle.std.specs.Ordering.{is_eq}
 use Rattle.std.proofs.lemmas.Map.Lookups.{exact_bytes}
 use Rattle.policy_names.specs.Uid.{text_cmp}
-use Rattle.schema_types.specs.NameLaws.{equal_of}
+use Rattle.policy_names.proofs.Ties.{equal_of}
 use Rattle.schema_types.specs.Names.{has_name, AreApart}
 use Rattle.policy_types.proofs.UnionLaws.{own_text}
 

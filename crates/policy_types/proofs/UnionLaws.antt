@@ -6,7 +6,7 @@ use Rattle.std.specs.BTreeSet.{insert_key}
 use Rattle.std.proofs.lemmas.Cmp.{nat_list_cmp_total}
 use Rattle.std.proofs.lemmas.Map.Lookups.{exact_bytes}
 use Rattle.policy_names.specs.Uid.{text_cmp}
-use Rattle.schema_types.specs.NameLaws.{equal_of}
+use Rattle.policy_names.proofs.Ties.{equal_of}
 use Rattle.schema_types.specs.Names.{has_name, AreAmong, union}
 
 or_right : (a b : Bool) → b ≡ true → (a || b) ≡ true

@@ -25,7 +25,7 @@ use Rattle.policy_names.specs.Uid.{uid_cmp, uid_cmp_total, exact_uid}
 use Rattle.policy_names.specs.Basename.{is_action_type}
 use Rattle.policy_store.specs.Store.{StoredEntity, Store, is_named, entity_at}
 use Rattle.policy_store.specs.FromParents.{ids_of}
-use Rattle.policy_store.proofs.Placed.{named_at}
+use Rattle.hierarchy.proofs.Keyed.{value_named}
 use Rattle.schema_core.specs.Schema.{SchemaData, ActionData, action_at}
 use Rattle.policy_validate.specs.declared.store_rule.StoreRule.{StoreRule}
 use Rattle.policy_validate.specs.declared.store_rule.StoreRule.TheVariants.{ActionNotDeclared, ActionHasAttributes, ActionHasTags, ActionAncestorsDiffer}
@@ -65,7 +65,7 @@ one_more true true true false = refl
 one_more true true true true = refl
 
 joined : (s : Store) (acts : List ActionData) (a : ActionData) (q : EntityUID) → lacks (acts ++ a ∷ []) s q ≡ (lacks acts s q || (has uid_cmp a.descendants q && lacks_it s a q))
-joined s acts a q = by_entity (entity_at s q) (named_at s q) where
+joined s acts a q = by_entity (entity_at s q) (value_named uid_cmp (λ (e : StoredEntity). e.uid) exact_uid s q) where
   by_entity : (r : Option StoredEntity) → IfSome r (λ e. e.uid ≡ q)
       → option_map_or (λ e. is_action_type q.entity_type && not (list_all (is_ancestor_if_above e) (acts ++ a ∷ []))) r false
       ≡ (option_map_or (λ e. is_action_type q.entity_type && not (list_all (is_ancestor_if_above e) acts)) r false

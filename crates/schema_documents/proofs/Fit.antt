@@ -7,7 +7,7 @@ use Rattle.std.proofs.lemmas.Bool.{and_from}
 use Rattle.std.proofs.lemmas.Map.Lookups.{exact_bytes}
 use Rattle.policy_names.specs.declared.entity_uid.EntityUID.{EntityUID}
 use Rattle.policy_names.specs.Uid.{text_cmp}
-use Rattle.schema_types.specs.NameLaws.{equal_of}
+use Rattle.policy_names.proofs.Ties.{equal_of}
 use Rattle.schema_types.specs.declared.ty.AttributeType.{AttributeType}
 use Rattle.schema_types.specs.Ty.{Ty, set_of, entity, extension, Attrs}
 use Rattle.schema_types.specs.TyView.{attrs_of}

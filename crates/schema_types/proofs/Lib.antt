@@ -1,6 +1,5 @@
 pub mod AttrSteps
 pub mod CoreSchemaSteps
-pub mod HashSteps
 pub mod OrderLaws
 pub mod PlainSteps
 pub mod ShowSteps

@@ -7,17 +7,8 @@ use Rattle.std.specs.Cmp.Lexicographic.{lists_total}
 use Rattle.std.proofs.lemmas.Cmp.{nat_list_cmp_total}
 use Rattle.std.proofs.lemmas.Map.Lookups.{CmpEqualImpliesEq, exact_bytes}
 use Rattle.policy_names.specs.Uid.{text_cmp}
+use Rattle.policy_names.proofs.Ties.{then_equal, equal_of}
 use Rattle.schema_types.specs.Names.{texts_cmp, texts_fed}
-
-pub then_equal : (a b : Ordering) → ordering_then a b ≡ Equal → (a ≡ Equal) × (b ≡ Equal)
-then_equal Equal b h = (refl, h)
-then_equal Less b h = cc
-then_equal Greater b h = cc
-
-pub equal_of : (o : Ordering) → is_eq o ≡ true → o ≡ Equal
-equal_of Equal h = refl
-equal_of Less h = cc
-equal_of Greater h = cc
 
 pub exact_texts : CmpEqualImpliesEq texts_cmp
 exact_texts [] [] h = refl

@@ -6,7 +6,8 @@ use Rattle.std.specs.Ordering.{nat_cmp, bool_cmp, ordering_then, ordering_revers
 use Rattle.std.specs.Cmp.{IsTotalOrder, then_flip, bool_cmp_total, nat_cmp_total}
 use Rattle.std.proofs.lemmas.Cmp.{nat_list_cmp_total}
 use Rattle.std.proofs.lemmas.Map.Lookups.{CmpEqualImpliesEq, exact_bytes}
-use Rattle.schema_types.specs.NameLaws.{then_equal, exact_texts, texts_cmp_total}
+use Rattle.policy_names.proofs.Ties.{then_equal, then_chain}
+use Rattle.schema_types.specs.NameLaws.{exact_texts, texts_cmp_total}
 use Rattle.policy_names.specs.Uid.{text_cmp}
 use Rattle.schema_types.specs.Ty.{Ty, never, true_type, false_type, primitive, any_set, set_of, record_of, any_entity, entity, action, extension, Attrs, no_attrs, attr}
 use Rattle.schema_types.specs.TyOrder.{place_of, open_place, rank, ty_cmp, attrs_cmp}
@@ -102,16 +103,6 @@ exact_entry k t q l u r h =
     let f = then_equal (text_cmp k l) (ordering_then (ty_cmp t u) (bool_cmp q r)) h in
     let g = then_equal (ty_cmp t u) (bool_cmp q r) f.1 in
     (exact_bytes k l f.0, exact_ty t u g.0, exact_bool q r g.1)
-
--- one step of "first, then the rest", for three values
-then_chain : (a b c p q s : Ordering) → (a ≡ Less → b ≡ Less → c ≡ Less) → (a ≡ Equal → c ≡ b) → (b ≡ Equal → c ≡ a) → (p ≡ Less → q ≡ Less → s ≡ Less) → ordering_then a p ≡ Less → ordering_then b q ≡ Less → ordering_then c s ≡ Less
-then_chain Less Less c p q s f g h k m n = rw (f refl refl) refl
-then_chain Less Equal c p q s f g h k m n = rw (h refl) refl
-then_chain Less Greater c p q s f g h k m n = cc
-then_chain Equal Less c p q s f g h k m n = rw (g refl) refl
-then_chain Equal Equal c p q s f g h k m n = rw (g refl) (k m n)
-then_chain Equal Greater c p q s f g h k m n = cc
-then_chain Greater b c p q s f g h k m n = cc
 
 less_rank : (t v : Ty) → rank t < rank v → ty_cmp t v ≡ Less
 less_rank never never h = absurd (omega arith)

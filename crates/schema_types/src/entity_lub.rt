@@ -1,6 +1,8 @@
 //! Unions of entity types.
 
 ghost use Rattle.std.specs.Prelude.{◌≡◌, ◌↔◌, ◌∷◌, [], IfOk, IsTrue, option_copied};
+ghost use Rattle.std.specs.List.Sorted.{IsStrictlySortedBy};
+ghost use Rattle.policy_names.specs.Uid.{text_cmp};
 ghost use Rattle.schema_types.specs.Names.{texts_cmp, has_name, AreAmong, AreApart, union, only_name};
 
 use policy_names::EntityType;
@@ -22,6 +24,11 @@ impl Model for EntityLUB {
     ghost Value = { List (List ℕ) };
 
     ghost view = { λ l. l.lub_elements.keys };
+
+    ghost use Rattle.std.specs.BTreeSet.{IsOrdered};
+    ghost use Rattle.policy_names.specs.Uid.{text_cmp};
+
+    ghost invariant = { λ l. IsOrdered text_cmp l.lub_elements };
 }
 
 impl EntityLUB {
@@ -64,7 +71,8 @@ impl EntityLUB {
 
     /// The types, ascending.
     pub fn iter(&self) -> btree_set::Iter<'_, EntityType>
-        ensures { result ≡ self.now }
+        ensures value { result ≡ self.now }
+        ensures ascending { IsStrictlySortedBy text_cmp self.now }
     {
         self.lub_elements.iter()
     }

@@ -11,7 +11,7 @@ use crate::{Attributes, EntityRecordKind, Type, TypeKind};
 use std::hash::{Hash, Hasher};
 
 #[cycle(feed)]
-#[tactic(auto, using(crate::proofs::HashSteps::fold_both))]
+#[tactic(auto, using(policy_values::proofs::HashSteps::fold_both))]
 pub fn feed<H: Hasher>(t: &Type, state: &mut H)
     ensures { state.new ≡ fold H.write state.old (ty_fed t.now) }
 {
@@ -19,7 +19,7 @@ pub fn feed<H: Hasher>(t: &Type, state: &mut H)
 }
 
 #[cycle(feed)]
-#[tactic(auto, using(crate::proofs::HashSteps::fold_both))]
+#[tactic(auto, using(policy_values::proofs::HashSteps::fold_both))]
 pub fn feed_type_kind<H: Hasher>(k: &TypeKind, state: &mut H)
     ensures { state.new ≡ fold H.write state.old (ty_fed (ty_of k.now)) }
 {
@@ -47,7 +47,7 @@ pub fn feed_type_kind<H: Hasher>(k: &TypeKind, state: &mut H)
 }
 
 #[cycle(feed)]
-#[tactic(auto, using(crate::proofs::HashSteps::fold_both))]
+#[tactic(auto, using(policy_values::proofs::HashSteps::fold_both))]
 pub fn feed_kind<H: Hasher>(k: &EntityRecordKind, state: &mut H)
     ensures { state.new ≡ fold H.write state.old (ty_fed (kind_of k.now)) }
 {
@@ -74,7 +74,7 @@ pub fn feed_kind<H: Hasher>(k: &EntityRecordKind, state: &mut H)
 }
 
 #[cycle(feed)]
-#[tactic(auto, using(crate::proofs::HashSteps::fold_both))]
+#[tactic(auto, using(policy_values::proofs::HashSteps::fold_both))]
 pub fn feed_attributes<H: Hasher>(a: &Attributes, state: &mut H)
     ensures { state.new ≡ fold H.write state.old (attrs_fed a.now) }
 {

@@ -6,6 +6,8 @@ ghost use Rattle.schema_types.specs.declared.kinds.OpenTag.TheVariants.{OpenAttr
 ghost use Rattle.schema_types.specs.Ty.{Ty, never, true_type, false_type, primitive, any_set, set_of, record_of, any_entity, entity, action, extension, Attrs, no_attrs, attr, keys_in};
 ghost use Rattle.schema_types.specs.TyView.{ty_of, kind_of, attrs_of};
 ghost use Rattle.schema_types.specs.Attrs.{attr_at};
+ghost use Rattle.std.specs.List.Sorted.{IsStrictlySortedBy};
+ghost use Rattle.policy_names.specs.Uid.{text_cmp};
 
 use crate::{EntityLUB, OpenTag, Primitive};
 use policy_names::{EntityType, Name, Text};
@@ -120,6 +122,11 @@ impl Model for Attributes {
     ghost use Rattle.schema_types.specs.TyView.{attrs_of};
 
     ghost view = { λ a. attrs_of a.attrs.entries };
+
+    ghost use Rattle.std.specs.BTreeMap.{IsOrdered};
+    ghost use Rattle.policy_names.specs.Uid.{text_cmp};
+
+    ghost invariant = { λ a. IsOrdered text_cmp a.attrs };
 
     ghost size = { size_of_attrs };
 
@@ -276,6 +283,7 @@ impl Attributes {
     pub fn with_attributes(attrs: BTreeMap<Text, AttributeType>) -> Attributes
         ensures { result ≡ attrs_of attrs.entries }
     {
+        let _count = attrs.len();
         Attributes { attrs }
     }
 
@@ -295,16 +303,18 @@ impl Attributes {
 
     /// The attributes with their keys, ascending.
     pub fn iter(&self) -> btree_map::Iter<'_, Text, AttributeType>
-        ensures { attrs_of result ≡ self.now }
+        ensures value { attrs_of result ≡ self.now }
+        ensures ascending { IsStrictlySortedBy text_cmp (keys_in self.now) }
     {
         self.attrs.iter()
     }
 
     /// The keys, ascending.
     pub fn keys(&self) -> btree_map::Keys<'_, Text, AttributeType>
-        ensures { result ≡ keys_in self.now }
+        ensures value { result ≡ keys_in self.now }
+        ensures ascending { IsStrictlySortedBy text_cmp (keys_in self.now) }
     {
-        keys_of(self.entries())
+        keys_of(&self.attrs)
     }
 
     /// The attribute under a key.
@@ -317,7 +327,8 @@ impl Attributes {
 
 #[tactic(auto, using(crate::proofs::AttrSteps::keys_of_attrs))]
 fn keys_of(entries: &BTreeMap<Text, AttributeType>) -> btree_map::Keys<'_, Text, AttributeType>
-    ensures { result ≡ keys_in (attrs_of entries.now.entries) }
+    ensures value { result ≡ keys_in (attrs_of entries.now.entries) }
+    ensures ascending { IsStrictlySortedBy text_cmp (keys_in (attrs_of entries.now.entries)) }
 {
     entries.keys()
 }

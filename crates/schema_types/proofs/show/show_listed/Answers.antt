@@ -8,7 +8,7 @@ use Rattle.schema_types.proofs.show.show_listed.Goals as goal
 pub loop-name-init : goal.loop-name-init
 loop-name-init g c = λ p.
     let all = listed c.args.lub.now in
-    let names = sym c.iter-names.ensures ∙ c.in-Some.ensures.steps in
+    let names = sym c.iter-names.ensures.value ∙ c.in-Some.ensures.steps in
     let rest = c.into_iter-name-iterator.ensures.into_iter_gives in
     left_less g.W.Write.write_str_gives _ _ _ all all _ c.in-Some.first.now (left_all g.W.Write.write_str_gives _ all p)
     (ap listed names ∙ listed_behind c.in-Some.first.now c.next.new.self ∙ ap (λ ns. c.in-Some.first.now ++ behind ns) (sym rest))

@@ -1,6 +1,7 @@
 use Rattle.std.proofs.Common.{◌∙◌}
-use Rattle.policy_store.proofs.Found.{entity_found}
+use Rattle.hierarchy.proofs.Keyed.{value_found}
+use Rattle.policy_names.specs.Uid.{uid_cmp}
 use Rattle.policy_store.proofs.entities.Entities.entity.Goals as goal
 
 pub returns : goal.returns
-returns c = c.get.ensures.value ∙ rw c.self.view_is at (entity_found c.self.inside.entities c.self.invariant c.args.uid.now)
+returns c = c.get.ensures.value ∙ rw c.self.view_is at (value_found uid_cmp (λ e. e.uid) c.self.inside.entities c.self.invariant.keyed c.args.uid.now)

@@ -1,4 +1,8 @@
-use Rattle.policy_store.proofs.Linking.{least_own, closed_keys, store_made}
+use Rattle.std.proofs.Common.{◌∙◌}
+use Rattle.std.specs.BTreeMap.{get}
+use Rattle.policy_names.specs.Uid.{uid_cmp}
+use Rattle.policy_store.proofs.Linking.{least_own, store_made}
+use Rattle.policy_store.proofs.Placed.{ids_linked, linked_at}
 use Rattle.policy_store.proofs.entities.Entities.from_parents.Goals as goal
 
 pub returns-in-Some : goal.returns-in-Some
@@ -11,19 +15,19 @@ pub returns-in-Some-first_own : goal.returns-in-Some-first_own
 returns-in-Some-first_own c =
     let once = rw (c.in_default.is, c.deref.ensures.value) at c.in_ok-uid.ensures in
     let placed = rw c.deref-2.ensures.value at c.in_ok-parents.ensures in
-    (once, rw c.in_ok-try_clone.ensures (least_own c.args.entities.items c.in_ok-parents.parents.entries c.in_ok-ancestors.ancestors.entries placed c.in_ok-ancestors.ensures.keys c.in_ok-ancestors.ensures.reached c.in-Some-first_own.uid.now c.in-Some-first_own.ensures))
+    (once, rw c.in_ok-try_clone.ensures (least_own c.args.entities.items c.in_ok-parents.parents.entries c.in_ok-ancestors.ancestors.entries placed c.in_ok-ancestors.ensures c.in-Some-first_own.uid.now c.in-Some-first_own.ensures))
 
-pub with_ancestors-requires-clause-once : goal.with_ancestors-requires-clause-once
-with_ancestors-requires-clause-once c = rw (c.in_default.is, c.deref.ensures.value) at c.in_ok-uid.ensures
-
-pub with_ancestors-requires-clause-keys : goal.with_ancestors-requires-clause-keys
-with_ancestors-requires-clause-keys c =
-    let placed = rw c.deref-2.ensures.value at c.in_ok-parents.ensures in
-    closed_keys c.args.entities.items c.in_ok-parents.parents.entries c.in_ok-ancestors.ancestors.entries placed c.in_ok-ancestors.ensures.keys c.in_ok-ancestors.ensures.reached
+pub under_ids-requires : goal.under_ids-requires
+under_ids-requires c =
+    let once = rw (c.in_default.is, c.deref.ensures.value) at c.in_ok-uid.ensures in
+    rw (c.in_ok-entities.ensures, ids_linked (get uid_cmp c.in_ok-ancestors.ancestors) c.args.entities.items) once
 
 pub returns : goal.returns
 returns c =
     let once = rw (c.in_default.is, c.deref.ensures.value) at c.in_ok-uid.ensures in
     let placed = rw c.deref-2.ensures.value at c.in_ok-parents.ensures in
-    store_made c.args.entities.items c.in_ok-parents.parents.entries c.in_ok-ancestors.ancestors.entries placed c.in_ok-ancestors.ensures.keys c.in_ok-ancestors.ensures.reached c.in_ok-with_ancestors.field-0 once c.in_default-first_own.ensures
-    c.in_ok-with_ancestors.ensures.ordered c.in_ok-with_ancestors.ensures.linked c.in_ok-with_ancestors.ensures.ascending
+    let links = get uid_cmp c.in_ok-ancestors.ancestors in
+    store_made c.args.entities.items c.in_ok-parents.parents.entries c.in_ok-ancestors.ancestors.entries placed c.in_ok-ancestors.ensures c.in_ok-under_ids.field-0 once c.in_default-first_own.ensures
+    c.in_ok-under_ids.ensures.ordered
+    (λ q. rw c.in_ok-entities.ensures at (c.in_ok-under_ids.ensures.kept q) ∙ linked_at links c.args.entities.items q)
+    c.in_ok-under_ids.ensures.ascending
