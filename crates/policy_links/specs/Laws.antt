@@ -1,5 +1,6 @@
 -- Links are typed, since their templates are.
 use Rattle.std.specs.Prelude.{◌≡◌, ◌⊎◌, ◌&&◌, ℕ, Bool, true, false, List, [], Option, Some, None, IfSome, IsSomeAnd, IsTrue}
+use Rattle.std.specs.List.{AllByRecursion}
 use Rattle.policy_names.specs.declared.entity_uid.EntityUID.{EntityUID}
 use Rattle.policy_expressions.specs.declared.kinds.BinaryOp.{BinaryOp}
 use Rattle.policy_expressions.specs.declared.kinds.Literal.TheVariants as literal
@@ -28,6 +29,8 @@ use Rattle.policy_set.specs.declared.constraint.PrincipalOrResourceConstraint.{P
 use Rattle.policy_set.specs.Data.{TemplateData}
 use Rattle.policy_set.specs.Condition.{condition_of, asks_slot}
 use Rattle.policy_set.specs.Links.{own_condition, linked_of, HasPlainBody, Fills}
+use Rattle.typing_findings.specs.Check.{checked, TellsWhy}
+use Rattle.typing_findings.specs.Names.{has_known_names}
 use Rattle.policy_links.specs.Linked.{linked_env, linked_envs}
 use Rattle.policy_scope.specs.Scope.{is_applicable}
 use Rattle.policy_links.specs.Accepted.{IsTyped, IsTypedIn, IsAcceptedTemplate, IsAcceptedLink}
@@ -139,3 +142,7 @@ abbrev pub StaticsAreSound : Type 0
 StaticsAreSound =
     (schema : SchemaData) → IsSchema schema → (t : TemplateData) → HasPlainBody t → HasKeysOnce t.body → asks_slot t.principal ≡ false → asks_slot t.resource ≡ false → IsAcceptedTemplate schema t →
     (q : Request) → RequestConforms schema q → (s : Store) → StoreConforms schema s → IsConditionFor schema (condition_of t) q s
+
+-- where each name of a template is known, a check that fails in one of its environments tells why
+abbrev pub RefusalsAreTold : Type 0
+RefusalsAreTold = (schema : SchemaData) (t : TemplateData) → IsTrue (has_known_names schema (condition_of t)) → AllByRecursion (λ env. TellsWhy (checked schema env (condition_of t))) (linked_envs schema t)

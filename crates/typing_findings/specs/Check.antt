@@ -1,17 +1,14 @@
 -- What typing the condition of a policy comes to.
-use Rattle.std.specs.Prelude.{◌≡◌, ℕ, ◌==◌, nat_lt, Bool, true, false, ◌&&◌, not, List, [], ◌∷◌, ◌++◌, fold, flat_map, Option, Some, None, if◌then◌else◌}
-use Rattle.std.specs.List.{list_any, list_all}
-use Rattle.std.specs.Str.{bytes_eq}
+use Rattle.std.specs.Prelude.{◌≡◌, ⊤, nat_lt, Bool, true, List, [], Option, Some, None, IsSome, IsTrue, if◌then◌else◌}
 use Rattle.schema_types.specs.declared.kinds.Primitive.TheVariants.{Bool as BoolType}
 use Rattle.schema_types.specs.Ty.{Ty, true_type, false_type, primitive}
 use Rattle.schema_core.specs.Schema.{SchemaData}
-use Rattle.schema_core.specs.EnvData.{EnvData}
-use Rattle.policy_expressions.specs.declared.kinds.Loc.{Loc}
+use Rattle.schema_core.specs.EnvData.{EnvData, action_type_in}
 use Rattle.policy_expressions.specs.Tree.{depth_of}
 use Rattle.capabilities.specs.Bare.{Plain}
 use Rattle.policy_typing.specs.Typing.{Typed, Typing, types}
 use Rattle.typing_findings.specs.Finding.{Finding}
-use Rattle.typing_findings.specs.Texts.{message, help, kind_text}
+use Rattle.typing_findings.specs.Names.{has_known_names}
 use Rattle.typing_findings.specs.Expected.{a_boolean}
 use Rattle.typing_findings.specs.Walked as walk
 use Rattle.typing_findings.specs.Walked.{Walked, findings_of, expect}
@@ -54,3 +51,12 @@ abbrev pub CheckIsExact : Type 0
 CheckIsExact =
     (schema : SchemaData) (env : EnvData) (e : Plain) →
     checked schema env e ≡ (if nat_lt 200 (depth_of e) then TooDeep else check_by (types schema env [] e) (findings_of (condition_walked schema env e)))
+
+-- a check that fails tells why
+abbrev pub TellsWhy : Check → Type 0
+TellsWhy (Fail []) = ⊥
+TellsWhy c = ⊤
+
+-- where each name is known and the environment's action is declared, every check that fails tells why
+abbrev pub RefusalIsTold : Type 0
+RefusalIsTold = (schema : SchemaData) (env : EnvData) → IsSome (action_type_in schema env) → (e : Plain) → IsTrue (has_known_names schema e) → TellsWhy (checked schema env e)
