@@ -73,7 +73,7 @@ keeps_types d schema g q request of s store =
     let ctx : Member (record_of g.context ClosedAttributes) (rec (known_fields q.context)) = rw (a.2, same) r.2.context in
     let held : IsTrue (are_held g.context) = rw a.2 (subst (λ o. IfSome (option_map (λ a. a.context) o) (λ xs. IsTrue (are_held xs))) a.1 (schema.types.contexts g.environment.action)) in
     record {
-      schema = schema;
+      valid = schema;
       closed = held;
       entries = λ v. entry (λ _. ctx) (subst (λ o. IsSomeAnd o (λ x. Unit {0})) (sym a.1) tt) v;
       entities = store_types d s store;

@@ -16,10 +16,10 @@ use Rattle.policy_typing.specs.Typing.{Typing, types}
 use Rattle.policy_reads.specs.Cover.{IsPartOf, restricted}
 
 -- a condition without slots, with its typing in the environment, which is a boolean; each of its records has each key once
-pub record IsAccepted (d : SchemaData) (g : LinkedEnvironment) (c : Plain × Typing) : Type 0 where
+pub record IsAccepted (schema : SchemaData) (env : LinkedEnvironment) (c : Plain × Typing) : Type 0 where
   pub filled : has_slot c.0 ≡ false
   pub keys : HasKeysOnce c.0
-  pub typed : types d (declared_action g) [] c.0 ≡ Some c.1
+  pub typed : types schema (declared_action env) [] c.0 ≡ Some c.1
   pub boolean : IsTrue (is_boolean c.1.type)
 
 -- where the request, of the environment, and the store conform, each accepted condition has, on each
@@ -27,8 +27,8 @@ pub record IsAccepted (d : SchemaData) (g : LinkedEnvironment) (c : Plain × Typ
 -- whole one
 abbrev pub ConditionsAreCovered : Type 0
 ConditionsAreCovered =
-    (d : SchemaData) → IsSchema d → (g : LinkedEnvironment) (q : Request) → RequestConforms d q → IsOf d q g →
-    (whole : Store) → StoreConforms d whole →
-    (cs : List (Plain × Typing)) → AllByRecursion (IsAccepted d g) cs →
-    (s : Store) → IsPartOf (restricted d (declared_action g) (map (λ c. c.1.tree) cs) q whole) s → IsPartOf s whole →
+    (schema : SchemaData) → IsSchema schema → (env : LinkedEnvironment) (q : Request) → RequestConforms schema q → IsOf schema q env →
+    (whole : Store) → StoreConforms schema whole →
+    (cs : List (Plain × Typing)) → AllByRecursion (IsAccepted schema env) cs →
+    (s : Store) → IsPartOf (restricted schema (declared_action env) (map (λ c. c.1.tree) cs) q whole) s → IsPartOf s whole →
     map (λ c. eval c.0 q s) cs ≡ map (λ c. eval c.0 q whole) cs
