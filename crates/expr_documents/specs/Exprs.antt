@@ -6,7 +6,7 @@ use Rattle.policy_expressions.specs.declared.kinds.Literal.TheVariants as litera
 use Rattle.serde_json.specs.Data as json
 use Rattle.serde_json.specs.Data.{Data, null, boolean, number, array, object, Items, no_items, item, Members, no_members, member}
 use Rattle.expr_documents.specs.Forms.{Plain, unmarked, form_named, listed_tree, unary_tree, get_tree, has_tree, like_tree, type_test_tree, call_tree, set_tree, record_tree, placed, in_turn, of_one, id_tree, long_tree, var_tree}
-use Rattle.expr_documents.specs.Parts.{names_of, pattern_of, type_of, function_of, loc_of}
+use Rattle.expr_documents.specs.Parts.{attr_names_of, pattern_of, tested_type_of, called_name_of, loc_of}
 use Rattle.json_parts.specs.Lists.{with_first, with_field}
 use Rattle.expr_documents.specs.declared.forms.Form.{Form}
 use Rattle.expr_documents.specs.declared.forms.Form.TheVariants as form
@@ -34,11 +34,11 @@ formed_tree form.Id d o = id_tree d
 formed_tree form.Var d o = var_tree d
 formed_tree (form.Unary op) d o = option_map (unary_tree op) o.one
 formed_tree (form.List f) d o = option_and_then (listed_tree f) o.all
-formed_tree form.Get d o = named_tree (names_of d) (in_turn get_tree) o.first
-formed_tree form.Has d o = named_tree (names_of d) (of_one has_tree) o.first
+formed_tree form.Get d o = named_tree (attr_names_of d) (in_turn get_tree) o.first
+formed_tree form.Has d o = named_tree (attr_names_of d) (of_one has_tree) o.first
 formed_tree form.Like d o = with_part like_tree (pattern_of d) o.first
-formed_tree form.Is d o = with_part type_test_tree (type_of d) o.first
-formed_tree form.Call d o = with_part call_tree (function_of d) o.behind
+formed_tree form.Is d o = with_part type_test_tree (tested_type_of d) o.first
+formed_tree form.Call d o = with_part call_tree (called_name_of d) o.behind
 formed_tree form.Record d o = option_map record_tree o.fields
 
 unfoldable pub named_form_tree : List ℕ → Data → Operands → Option Plain

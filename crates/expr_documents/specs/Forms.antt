@@ -1,7 +1,7 @@
 -- What the objects say that stand for expressions, once their parts are read.
-use Rattle.std.specs.Prelude.{ℕ, List, [], ◌∷◌, fold, if◌then◌else◌, Option, Some, None, option_map, option_and_then, codes}
-use Rattle.std.specs.Str.{bytes_eq}
+use Rattle.std.specs.Prelude.{ℕ, List, [], ◌∷◌, fold, Option, Some, None, option_map, option_and_then, codes}
 use Rattle.policy_expressions.specs.Tree.{Tree, Mark, lit, var, ite, conj, disj, unary, binary, attr, has, like, is_type, call, set, rec, with_mark, trees_of, named_of}
+use Rattle.policy_expressions.specs.Tables.{beside}
 use Rattle.policy_expressions.specs.declared.kinds.BinaryOp.{BinaryOp}
 use Rattle.policy_expressions.specs.declared.kinds.BinaryOp.TheVariants as operator
 use Rattle.policy_expressions.specs.declared.kinds.Literal.TheVariants as literal
@@ -30,36 +30,69 @@ unmarked = record { note = tt; loc = None }
 
 -- ---- names of forms
 
-abbrev pub unary_named : List ℕ → Option UnaryOp
-unary_named key = if bytes_eq key (codes "not") then Some Not else (if bytes_eq key (codes "neg") then Some Neg else (if bytes_eq key (codes "isEmpty") then Some IsEmpty else None))
-
--- operators that are spelled by signs and words of the language
-abbrev pub sign_named : List ℕ → Option BinaryOp
-sign_named key = if bytes_eq key (codes "==") then Some operator.Eq else (if bytes_eq key (codes "<") then Some operator.Less else (if bytes_eq key (codes "<=") then Some operator.LessEq else (if bytes_eq key (codes "+") then Some operator.Add else (if bytes_eq key (codes "-") then Some operator.Sub else (if bytes_eq key (codes "*") then Some operator.Mul else (if bytes_eq key (codes "in") then Some operator.In else None))))))
-
 abbrev pub or_else : {A : Type 0} → Option A → Option A → Option A
 or_else (Some x) o = Some x
 or_else None o = o
 
+abbrev pub unary_named : List ℕ → Option UnaryOp
+unary_named key = beside ((codes "not", Not) ∷ (codes "neg", Neg) ∷ (codes "isEmpty", IsEmpty) ∷ []) key
+
+-- operators that are spelled by signs and words of the language
+abbrev pub sign_named : List ℕ → Option BinaryOp
+sign_named key = beside (
+    (codes "==", operator.Eq)
+    ∷ (codes "<", operator.Less)
+    ∷ (codes "<=", operator.LessEq)
+    ∷ (codes "+", operator.Add)
+    ∷ (codes "-", operator.Sub)
+    ∷ (codes "*", operator.Mul)
+    ∷ (codes "in", operator.In)
+    ∷ []) key
+
 -- those that are spelled as calls
 abbrev pub call_named : List ℕ → Option BinaryOp
-call_named key = if bytes_eq key (codes "contains") then Some operator.Contains else (if bytes_eq key (codes "containsAll") then Some operator.ContainsAll else (if bytes_eq key (codes "containsAny") then Some operator.ContainsAny else (if bytes_eq key (codes "getTag") then Some operator.GetTag else (if bytes_eq key (codes "hasTag") then Some operator.HasTag else None))))
+call_named key = beside (
+    (codes "contains", operator.Contains)
+    ∷ (codes "containsAll", operator.ContainsAll)
+    ∷ (codes "containsAny", operator.ContainsAny)
+    ∷ (codes "getTag", operator.GetTag)
+    ∷ (codes "hasTag", operator.HasTag)
+    ∷ []) key
 
 abbrev pub binary_named : List ℕ → Option BinaryOp
 binary_named key = or_else (sign_named key) (call_named key)
 
+-- what is made of a list of operands
 abbrev pub list_form_named : List ℕ → Option ListForm
-list_form_named key = if bytes_eq key (codes "all") then Some (listed.Fold All) else (if bytes_eq key (codes "any") then Some (listed.Fold Any) else (if bytes_eq key (codes "if") then Some listed.If else option_map listed.Binary (binary_named key)))
+list_form_named key = or_else
+    (beside ((codes "all", listed.Fold All) ∷ (codes "any", listed.Fold Any) ∷ (codes "if", listed.If) ∷ []) key)
+    (option_map listed.Binary (binary_named key))
 
 abbrev pub other_form_named : List ℕ → Option Form
-other_form_named key = if bytes_eq key (codes "id") then Some form.Id else (if bytes_eq key (codes "var") then Some form.Var else (if bytes_eq key (codes "get") then Some form.Get else (if bytes_eq key (codes "has") then Some form.Has else (if bytes_eq key (codes "like") then Some form.Like else (if bytes_eq key (codes "is") then Some form.Is else (if bytes_eq key (codes "record") then Some form.Record else (if bytes_eq key (codes "call") then Some form.Call else option_map form.Unary (unary_named key))))))))
+other_form_named key = or_else
+    (beside (
+    (codes "id", form.Id)
+    ∷ (codes "var", form.Var)
+    ∷ (codes "get", form.Get)
+    ∷ (codes "has", form.Has)
+    ∷ (codes "like", form.Like)
+    ∷ (codes "is", form.Is)
+    ∷ (codes "record", form.Record)
+    ∷ (codes "call", form.Call)
+    ∷ []) key)
+    (option_map form.Unary (unary_named key))
 
 -- the form that the name of an object's one member tells
 abbrev pub form_named : List ℕ → Option Form
 form_named key = or_else (option_map form.List (list_form_named key)) (other_form_named key)
 
 abbrev pub var_named : List ℕ → Option Var
-var_named text = if bytes_eq text (codes "principal") then Some variable.Principal else (if bytes_eq text (codes "action") then Some variable.Action else (if bytes_eq text (codes "resource") then Some variable.Resource else (if bytes_eq text (codes "context") then Some variable.Context else None)))
+var_named text = beside (
+    (codes "principal", variable.Principal)
+    ∷ (codes "action", variable.Action)
+    ∷ (codes "resource", variable.Resource)
+    ∷ (codes "context", variable.Context)
+    ∷ []) text
 
 -- ---- the expressions that forms make of their operands
 

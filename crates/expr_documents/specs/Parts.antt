@@ -20,8 +20,8 @@ behind_first no_items = no_items
 behind_first (item d ds) = ds
 
 -- the texts behind the first item
-abbrev pub names_of : Data → Option (List (List ℕ))
-names_of d = option_and_then (λ ds. texts_of (behind_first ds)) (as_array d)
+abbrev pub attr_names_of : Data → Option (List (List ℕ))
+attr_names_of d = option_and_then (λ ds. texts_of (behind_first ds)) (as_array d)
 
 -- a text stands for its characters, null for the wildcard
 abbrev pub elements_of : Data → Option (List PatternElem)
@@ -45,16 +45,16 @@ abbrev pub pattern_of : Data → Option (List PatternElem)
 pattern_of d = option_and_then pattern_of_items (option_and_then as_array (second_of d))
 
 -- the type that the second of two items names
-abbrev pub type_of : Data → Option (List ℕ)
-type_of d = option_and_then name_of (second_of d)
+abbrev pub tested_type_of : Data → Option (List ℕ)
+tested_type_of d = option_and_then name_of (second_of d)
 
 -- the function that the first item names
-abbrev pub function_of_items : Items → Option (List ℕ)
-function_of_items no_items = None
-function_of_items (item d ds) = name_of d
+abbrev pub called_name_of_items : Items → Option (List ℕ)
+called_name_of_items no_items = None
+called_name_of_items (item d ds) = name_of d
 
-abbrev pub function_of : Data → Option (List ℕ)
-function_of d = option_and_then function_of_items (as_array d)
+abbrev pub called_name_of : Data → Option (List ℕ)
+called_name_of d = option_and_then called_name_of_items (as_array d)
 
 abbrev pub offset_from : ℤ → Option ℕ
 offset_from (pos n) = if nat_le n 4294967295 then Some n else None

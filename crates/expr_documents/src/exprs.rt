@@ -4,7 +4,7 @@ ghost use Rattle.std.specs.Prelude.{◌≡◌, IfOk, map, option_map, option_and
 ghost use Rattle.serde_json.specs.View.{view, items_view, members_view, number_view};
 ghost use Rattle.policy_expressions.specs.Tree.{lit};
 ghost use Rattle.expr_documents.specs.Forms.{call_tree, get_tree, has_tree, id_tree, in_turn, like_tree, listed_tree, long_tree, of_one, placed, record_tree, set_tree, type_test_tree, unary_tree, unmarked, var_tree};
-ghost use Rattle.expr_documents.specs.Parts.{function_of, names_of, pattern_of, type_of};
+ghost use Rattle.expr_documents.specs.Parts.{called_name_of, attr_names_of, pattern_of, tested_type_of};
 ghost use Rattle.expr_documents.specs.Reads.{bounded, bounded_field};
 ghost use Rattle.expr_documents.specs.Exprs.{expr_of, expr_of_members, exprs_of, first_expr_of, formed_tree, named_exprs_of, named_form_tree, named_tree, operands_all, operands_fields, operands_behind, operands_first, is_place, placed_tree, with_part};
 
@@ -248,7 +248,7 @@ fn read_first(alloc: Global, value: &Value) -> Result<Option<Bounded<Expr<()>>>,
 
 #[cycle(expr)]
 fn read_get(alloc: Global, value: &Value) -> Result<Option<Bounded<Expr<()>>>, AllocError>
-    ensures { IfOk result (λ o. o ≡ option_map bounded (named_tree (names_of (view value.now)) (in_turn get_tree) (operands_first (view value.now)))) }
+    ensures { IfOk result (λ o. o ≡ option_map bounded (named_tree (attr_names_of (view value.now)) (in_turn get_tree) (operands_first (view value.now)))) }
 {
     let Some(names) = read_names(alloc, value)? else {
         return Ok(None);
@@ -259,7 +259,7 @@ fn read_get(alloc: Global, value: &Value) -> Result<Option<Bounded<Expr<()>>>, A
 
 #[cycle(expr)]
 fn read_has(alloc: Global, value: &Value) -> Result<Option<Bounded<Expr<()>>>, AllocError>
-    ensures { IfOk result (λ o. o ≡ option_map bounded (named_tree (names_of (view value.now)) (of_one has_tree) (operands_first (view value.now)))) }
+    ensures { IfOk result (λ o. o ≡ option_map bounded (named_tree (attr_names_of (view value.now)) (of_one has_tree) (operands_first (view value.now)))) }
 {
     let Some(names) = read_names(alloc, value)? else {
         return Ok(None);
@@ -293,7 +293,7 @@ fn read_matched(
 
 #[cycle(expr)]
 fn read_is(alloc: Global, value: &Value) -> Result<Option<Bounded<Expr<()>>>, AllocError>
-    ensures { IfOk result (λ o. o ≡ option_map bounded (with_part type_test_tree (type_of (view value.now)) (operands_first (view value.now)))) }
+    ensures { IfOk result (λ o. o ≡ option_map bounded (with_part type_test_tree (tested_type_of (view value.now)) (operands_first (view value.now)))) }
 {
     match read_type(alloc, value)? {
         Some(entity_type) => read_typed(alloc, value, entity_type),
@@ -316,7 +316,7 @@ fn read_typed(
 
 #[cycle(expr)]
 fn read_call(alloc: Global, value: &Value) -> Result<Option<Bounded<Expr<()>>>, AllocError>
-    ensures { IfOk result (λ o. o ≡ option_map bounded (with_part call_tree (function_of (view value.now)) (operands_behind (view value.now)))) }
+    ensures { IfOk result (λ o. o ≡ option_map bounded (with_part call_tree (called_name_of (view value.now)) (operands_behind (view value.now)))) }
 {
     match read_function(alloc, value)? {
         Some(name) => read_called(alloc, value, name),

@@ -5,7 +5,7 @@ ghost use Rattle.std.specs.Str.{chars};
 ghost use Rattle.policy_expressions.specs.declared.kinds.PatternElem.TheVariants.{Char};
 ghost use Rattle.serde_json.specs.View.{view, items_view};
 ghost use Rattle.json_parts.specs.Names.{name_of, name_of_text};
-ghost use Rattle.expr_documents.specs.Parts.{elements_of, function_of, loc_of, loc_of_ends, loc_of_items, names_of, offset_of, pattern_of, pattern_of_items, second_of, texts_of, type_of};
+ghost use Rattle.expr_documents.specs.Parts.{elements_of, called_name_of, loc_of, loc_of_ends, loc_of_items, attr_names_of, offset_of, pattern_of, pattern_of_items, second_of, texts_of, tested_type_of};
 
 use json_parts::{pair, read_name, with_item};
 use policy_expressions::{Loc, Pattern, PatternElem};
@@ -28,7 +28,7 @@ fn read_texts(alloc: Global, items: &[Value]) -> Result<Option<Vec<Text>>, Alloc
 
 /// The texts behind the first item of a list.
 pub(crate) fn read_names(alloc: Global, value: &Value) -> Result<Option<Vec<Text>>, AllocError>
-    ensures { IfOk result (λ o. option_map (λ v. v.items) o ≡ names_of (view value.now)) }
+    ensures { IfOk result (λ o. option_map (λ v. v.items) o ≡ attr_names_of (view value.now)) }
 {
     let Some(items) = value.as_array() else {
         return Ok(None);
@@ -100,7 +100,7 @@ pub(crate) fn read_pattern(alloc: Global, value: &Value) -> Result<Option<Patter
 
 /// The type that the second of two items names.
 pub(crate) fn read_type(alloc: Global, value: &Value) -> Result<Option<EntityType>, AllocError>
-    ensures { IfOk result (λ o. o ≡ type_of (view value.now)) }
+    ensures { IfOk result (λ o. o ≡ tested_type_of (view value.now)) }
 {
     match second(value) {
         Some(name) => read_name(alloc, name),
@@ -129,7 +129,7 @@ fn read_function_name(alloc: Global, value: &Value) -> Result<Option<Name>, Allo
 
 /// The function that the first item names.
 pub(crate) fn read_function(alloc: Global, value: &Value) -> Result<Option<Name>, AllocError>
-    ensures { IfOk result (λ o. o ≡ function_of (view value.now)) }
+    ensures { IfOk result (λ o. o ≡ called_name_of (view value.now)) }
 {
     let Some(items) = value.as_array() else {
         return Ok(None);

@@ -1,4 +1,4 @@
 pub mod Ascending
-pub mod Bytes
+mod Bytes
 pub mod NameTest
-pub mod Steps
+mod Steps

@@ -1,7 +1,8 @@
 -- Names and ids of entities in JSON.
-use Rattle.std.specs.Prelude.{ℕ, List, [], ◌∷◌, ◌++◌, length, slice_index, Bool, ◌&&◌, ◌||◌, ◌==◌, not, nat_le, nat_lt, if◌then◌else◌, Option, Some, None, option_map, option_and_then, codes}
+use Rattle.std.specs.Prelude.{◌↔◌, IsTrue, ℕ, List, [], ◌∷◌, ◌++◌, length, slice_index, Bool, ◌&&◌, ◌||◌, ◌==◌, not, nat_le, nat_lt, if◌then◌else◌, Option, Some, None, option_map, option_and_then, codes}
 use Rattle.std.specs.List.{list_all}
 use Rattle.std.specs.Str.{bytes_eq}
+use Rattle.policy_names.specs.Name.{IsName}
 use Rattle.policy_names.specs.declared.entity_uid.EntityUID.{EntityUID}
 use Rattle.serde_json.specs.Data.{Data, Items, no_items, item}
 use Rattle.serde_json.specs.Find.{as_str, as_array}
@@ -28,6 +29,10 @@ is_name_after word (c ∷ d ∷ rest) = if c == 58 && d == 58 then is_component 
 -- components joined by double colons
 unfoldable pub is_name : List ℕ → Bool
 is_name text = is_name_after [] text
+
+-- the test tells the names
+abbrev pub TellsNames : Type 0
+TellsNames = (text : List ℕ) → IsTrue (is_name text) ↔ IsName text
 
 -- the text, where it is a name
 abbrev pub name_of_text : List ℕ → Option (List ℕ)

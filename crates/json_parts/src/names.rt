@@ -19,6 +19,7 @@ pub fn read_type_name(alloc: Global, text: &str) -> Result<Option<EntityType>, A
     }
 }
 
+/// The type that a value names.
 pub fn read_name(alloc: Global, value: &Value) -> Result<Option<EntityType>, AllocError>
     ensures { IfOk result (λ o. o ≡ name_of (view value.now)) }
 {
@@ -138,6 +139,7 @@ fn read_uid_items(alloc: Global, items: &Vec<Value>) -> Result<Option<Vec<Entity
     Ok(Some(all))
 }
 
+/// The types that a list names; an absent list has none.
 pub fn read_names(
     alloc: Global,
     value: Option<&Value>,
@@ -153,6 +155,7 @@ pub fn read_names(
     }
 }
 
+/// The ids that a list spells; an absent list has none.
 pub fn read_uids(alloc: Global, value: Option<&Value>) -> Result<Option<Vec<EntityUID>>, AllocError>
     ensures { IfOk result (λ o. option_map (λ v. v.items) o ≡ uids_of (option_map (λ v. view v.now) value.entry)) }
 {

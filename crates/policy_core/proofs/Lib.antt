@@ -1,4 +1,4 @@
-pub mod EvalSteps
-pub mod IdSteps
+mod EvalSteps
+mod IdSteps
 pub mod LawSteps
-pub mod LikeSteps
+mod LikeSteps

@@ -1,5 +1,5 @@
 -- Evaluation: the value of an expression, or its first error.
-use Rattle.std.specs.Prelude.{ℕ, Bool, true, false, List, [], ◌∷◌, Option, Some, None, Result, Ok, Err}
+use Rattle.std.specs.Prelude.{⊤, ℕ, Bool, true, false, List, [], ◌∷◌, Option, Some, None, Result, Ok, Err}
 use Rattle.policy_values.specs.Value.{Val, truth, long, string, entity, Fields, no_fields, fields_of}
 use Rattle.policy_values.specs.Value as value
 use Rattle.policy_values.specs.ValueOrder.{set_of}
@@ -28,6 +28,12 @@ literal_value (literal.Bool b) = truth b
 literal_value (literal.Long n) = long n
 literal_value (literal.String t) = string t
 literal_value (literal.EntityUID u) = entity u
+
+-- a boolean or a long, whose value takes no memory
+abbrev pub IsPlain : Literal → Type 0
+IsPlain (literal.Bool b) = ⊤
+IsPlain (literal.Long n) = ⊤
+IsPlain l = ⊥
 
 -- the fields of a context; only of whole requests are they asked
 abbrev pub known_fields : Option Fields → Fields
@@ -105,3 +111,8 @@ module _ {A : Type 0} where
     pub eval_named : Named A → Request → Store → Result (List (List ℕ × Val)) EvalError
     eval_named no_named q s = Ok []
     eval_named (named k x xs) q s = in_front (λ v. (k, v)) (eval x q s) (eval_named xs q s)
+
+  -- a literal that is a boolean or a long
+  abbrev pub IsPlainLiteral : Tree A → Type 0
+  IsPlainLiteral (lit l a) = IsPlain l
+  IsPlainLiteral e = ⊥

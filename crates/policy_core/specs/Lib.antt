@@ -1,3 +1,4 @@
+pub mod Allowed
 pub mod Calls
 pub mod Eval
 pub mod Laws

@@ -1,10 +1,10 @@
 //! Evaluation.
 
-ghost use Rattle.std.specs.Prelude.{◌≡◌, IfOk, IsSome};
-ghost use Rattle.policy_values.specs.Value.{entity, rec};
+ghost use Rattle.std.specs.Prelude.{◌≡◌, IfOk, IsOk, IsSome, true, false};
+ghost use Rattle.policy_values.specs.Value.{entity, rec, truth};
 ghost use Rattle.policy_store.specs.Request.{IsWhole, known};
 ghost use Rattle.policy_expressions.specs.Tree.{trees_of, named_of};
-ghost use Rattle.policy_core.specs.Eval.{eval, eval_all, eval_named, result_map, known_fields, literal_value, variable_value, truth_of, truth_outcome, with_value};
+ghost use Rattle.policy_core.specs.Eval.{eval, eval_all, eval_named, result_map, known_fields, literal_value, variable_value, truth_of, truth_outcome, choose, with_value, set_outcome, record_outcome, IsPlain, IsPlainLiteral};
 ghost use Rattle.policy_core.specs.Calls.{call_outcome};
 ghost use Rattle.policy_core.specs.Operators.{unary_value, binary_value, attr_value, has_value, like_value, is_value};
 
@@ -21,9 +21,25 @@ use std::collections::BTreeMap;
 ///
 /// `if`, `&&` and `||` evaluate their left operand and stop early; each operand that they use must be a boolean.
 /// Every other operator evaluates its operands from the left, and then asks what kinds they are. Errs where memory
-/// runs out.
-#[cycle(evaluate)]
+/// runs out; a boolean and a long take none.
 pub fn evaluate<T>(
+    alloc: Global,
+    expr: &Expr<T>,
+    request: &Request,
+    entities: &Entities,
+) -> Result<Outcome, AllocError>
+    requires { IsWhole request.now }
+    ensures outcome { IfOk result (λ o. o ≡ eval expr.now request.now entities.now) }
+    ensures no_memory { IsPlainLiteral expr.now → IsOk result }
+{
+    match expr.kind() {
+        ExprKind::Lit(value) => literal_outcome(value),
+        _ => outcome_of(alloc, expr, request, entities),
+    }
+}
+
+#[cycle(evaluate)]
+fn outcome_of<T>(
     alloc: Global,
     expr: &Expr<T>,
     request: &Request,
@@ -33,63 +49,122 @@ pub fn evaluate<T>(
     ensures { IfOk result (λ o. o ≡ eval expr.now request.now entities.now) }
 {
     match expr.kind() {
-        ExprKind::Lit(value) => Ok(Outcome::Value(literal(value)?)),
+        ExprKind::Lit(value) => literal_outcome(value),
         ExprKind::Var(value) => Ok(Outcome::Value(variable(alloc, *value, request)?)),
         ExprKind::Slot(_) => Ok(Outcome::Error(EvalError::TypeFault)),
-        ExprKind::If(x, y, z) => match truth(evaluate(alloc, x, request, entities)?) {
-            Ok(true) => evaluate(alloc, y, request, entities),
-            Ok(false) => evaluate(alloc, z, request, entities),
-            Err(error) => Ok(Outcome::Error(error)),
-        },
-        ExprKind::And(x, y) => match truth(evaluate(alloc, x, request, entities)?) {
-            Ok(true) => Ok(as_truth(evaluate(alloc, y, request, entities)?)),
-            Ok(false) => Ok(Outcome::Value(Value::bool(false))),
-            Err(error) => Ok(Outcome::Error(error)),
-        },
-        ExprKind::Or(x, y) => match truth(evaluate(alloc, x, request, entities)?) {
-            Ok(true) => Ok(Outcome::Value(Value::bool(true))),
-            Ok(false) => Ok(as_truth(evaluate(alloc, y, request, entities)?)),
-            Err(error) => Ok(Outcome::Error(error)),
-        },
+        ExprKind::If(x, y, z) => if_of(alloc, x, y, z, request, entities),
+        ExprKind::And(x, y) => and_of(alloc, x, y, request, entities),
+        ExprKind::Or(x, y) => or_of(alloc, x, y, request, entities),
         ExprKind::UnaryApp(op, x) => {
-            let x = evaluate(alloc, x, request, entities)?;
+            let x = outcome_of(alloc, x, request, entities)?;
             Ok(applied(*op, x))
         }
-        ExprKind::BinaryApp(op, x, y) => match evaluate(alloc, x, request, entities)? {
-            Outcome::Value(x) => {
-                let y = evaluate(alloc, y, request, entities)?;
-                applied_to_both(alloc, *op, x, y, entities)
-            }
-            Outcome::Error(error) => Ok(Outcome::Error(error)),
-        },
+        ExprKind::BinaryApp(op, x, y) => both_of(alloc, *op, x, y, request, entities),
         ExprKind::GetAttr(x, name) => {
-            let x = evaluate(alloc, x, request, entities)?;
+            let x = outcome_of(alloc, x, request, entities)?;
             attribute_of(alloc, x, name, entities)
         }
         ExprKind::HasAttr(x, name) => {
-            let x = evaluate(alloc, x, request, entities)?;
+            let x = outcome_of(alloc, x, request, entities)?;
             Ok(has_attribute_of(x, name, entities))
         }
         ExprKind::Like(x, pattern) => {
-            let x = evaluate(alloc, x, request, entities)?;
+            let x = outcome_of(alloc, x, request, entities)?;
             like_of(alloc, x, pattern)
         }
         ExprKind::Is(x, entity_type) => {
-            let x = evaluate(alloc, x, request, entities)?;
+            let x = outcome_of(alloc, x, request, entities)?;
             Ok(is_of(x, entity_type))
         }
         ExprKind::ExtensionFunctionApp(name, args) => {
             let args = evaluate_all(alloc, args, request, entities)?;
             Ok(call_of(name, args))
         }
-        ExprKind::Set(items) => match evaluate_all(alloc, items, request, entities)? {
-            Ok(values) => Ok(Outcome::Value(Value::set(alloc, values)?)),
-            Err(error) => Ok(Outcome::Error(error)),
-        },
-        ExprKind::Record(fields) => match evaluate_named(alloc, fields, request, entities)? {
-            Ok(values) => Ok(Outcome::Value(Value::record(values))),
-            Err(error) => Ok(Outcome::Error(error)),
-        },
+        ExprKind::Set(items) => {
+            let values = evaluate_all(alloc, items, request, entities)?;
+            set_of_values(alloc, values)
+        }
+        ExprKind::Record(fields) => {
+            let values = evaluate_named(alloc, fields, request, entities)?;
+            Ok(record_of_values(values))
+        }
+    }
+}
+
+#[cycle(evaluate)]
+fn if_of<T>(
+    alloc: Global,
+    x: &Box<Expr<T>>,
+    y: &Box<Expr<T>>,
+    z: &Box<Expr<T>>,
+    request: &Request,
+    entities: &Entities,
+) -> Result<Outcome, AllocError>
+    requires { IsWhole request.now }
+    ensures { IfOk result (λ o. o ≡ choose (truth_of (eval x.now.value request.now entities.now)) (eval y.now.value request.now entities.now) (eval z.now.value request.now entities.now)) }
+{
+    match truth(outcome_of(alloc, x, request, entities)?) {
+        Ok(true) => outcome_of(alloc, y, request, entities),
+        Ok(false) => outcome_of(alloc, z, request, entities),
+        Err(error) => Ok(Outcome::Error(error)),
+    }
+}
+
+#[cycle(evaluate)]
+fn and_of<T>(
+    alloc: Global,
+    x: &Box<Expr<T>>,
+    y: &Box<Expr<T>>,
+    request: &Request,
+    entities: &Entities,
+) -> Result<Outcome, AllocError>
+    requires { IsWhole request.now }
+    ensures { IfOk result (λ o. o ≡ choose (truth_of (eval x.now.value request.now entities.now)) (truth_outcome (truth_of (eval y.now.value request.now entities.now))) (Outcome.Value (truth false))) }
+{
+    match truth(outcome_of(alloc, x, request, entities)?) {
+        Ok(true) => Ok(as_truth(outcome_of(alloc, y, request, entities)?)),
+        Ok(false) => Ok(Outcome::Value(Value::bool(false))),
+        Err(error) => Ok(Outcome::Error(error)),
+    }
+}
+
+#[cycle(evaluate)]
+fn or_of<T>(
+    alloc: Global,
+    x: &Box<Expr<T>>,
+    y: &Box<Expr<T>>,
+    request: &Request,
+    entities: &Entities,
+) -> Result<Outcome, AllocError>
+    requires { IsWhole request.now }
+    ensures { IfOk result (λ o. o ≡ choose (truth_of (eval x.now.value request.now entities.now)) (Outcome.Value (truth true)) (truth_outcome (truth_of (eval y.now.value request.now entities.now)))) }
+{
+    match truth(outcome_of(alloc, x, request, entities)?) {
+        Ok(true) => Ok(Outcome::Value(Value::bool(true))),
+        Ok(false) => Ok(as_truth(outcome_of(alloc, y, request, entities)?)),
+        Err(error) => Ok(Outcome::Error(error)),
+    }
+}
+
+// The left operand first; its error stays.
+#[cycle(evaluate)]
+fn both_of<T>(
+    alloc: Global,
+    op: BinaryOp,
+    x: &Box<Expr<T>>,
+    y: &Box<Expr<T>>,
+    request: &Request,
+    entities: &Entities,
+) -> Result<Outcome, AllocError>
+    requires { IsWhole request.now }
+    ensures { IfOk result (λ o. o ≡ with_value (eval x.now.value request.now entities.now) (λ v. with_value (eval y.now.value request.now entities.now) (λ w. binary_value op v w entities.now))) }
+{
+    match outcome_of(alloc, x, request, entities)? {
+        Outcome::Value(x) => {
+            let y = outcome_of(alloc, y, request, entities)?;
+            applied_to_both(alloc, op, x, y, entities)
+        }
+        Outcome::Error(error) => Ok(Outcome::Error(error)),
     }
 }
 
@@ -106,7 +181,7 @@ fn evaluate_all<T>(
 {
     let mut values = Vec::new(alloc);
     for item in items {
-        match evaluate(alloc, item, request, entities)? {
+        match outcome_of(alloc, item, request, entities)? {
             Outcome::Value(value) => values.push(value)?,
             Outcome::Error(error) => return Ok(Err(error)),
         }
@@ -126,7 +201,7 @@ fn evaluate_named<T>(
 {
     let mut values = BTreeMap::new(alloc);
     for (name, item) in fields.iter() {
-        match evaluate(alloc, item, request, entities)? {
+        match outcome_of(alloc, item, request, entities)? {
             Outcome::Value(value) => {
                 let name = name.try_clone()?;
                 push_entry(&mut values, name, value)?;
@@ -137,14 +212,16 @@ fn evaluate_named<T>(
     Ok(Ok(values))
 }
 
-fn literal(literal: &Literal) -> Result<Value, AllocError>
-    ensures { IfOk result (λ v. v ≡ literal_value literal.now) }
+// A boolean and a long take no memory.
+fn literal_outcome(literal: &Literal) -> Result<Outcome, AllocError>
+    ensures outcome { IfOk result (λ o. o ≡ Outcome.Value (literal_value literal.now)) }
+    ensures no_memory { IsPlain literal.now → IsOk result }
 {
     match literal {
-        Literal::Bool(b) => Ok(Value::bool(*b)),
-        Literal::Long(n) => Ok(Value::long(*n)),
-        Literal::String(text) => Ok(Value::string(text.try_clone()?)),
-        Literal::EntityUID(uid) => Ok(Value::entity_uid(uid.try_clone()?)),
+        Literal::Bool(b) => Ok(Outcome::Value(Value::bool(*b))),
+        Literal::Long(n) => Ok(Outcome::Value(Value::long(*n))),
+        Literal::String(text) => Ok(Outcome::Value(Value::string(text.try_clone()?))),
+        Literal::EntityUID(uid) => Ok(Outcome::Value(Value::entity_uid(uid.try_clone()?))),
     }
 }
 
@@ -311,6 +388,29 @@ fn is_of(x: Outcome, entity_type: &EntityType) -> Outcome
             outcome
         }
         Outcome::Error(error) => Outcome::Error(error),
+    }
+}
+
+// The set of values; an error stays.
+fn set_of_values(
+    alloc: Global,
+    values: Result<Vec<Value>, EvalError>,
+) -> Result<Outcome, AllocError>
+    ensures { IfOk result (λ o. o ≡ set_outcome (result_map (λ v. v.items) values)) }
+{
+    match values {
+        Ok(values) => Ok(Outcome::Value(Value::set(alloc, values)?)),
+        Err(error) => Ok(Outcome::Error(error)),
+    }
+}
+
+// The record of values; an error stays.
+fn record_of_values(values: Result<BTreeMap<Text, Value>, EvalError>) -> Outcome
+    ensures { result ≡ record_outcome (result_map (λ m. m.entries) values) }
+{
+    match values {
+        Ok(values) => Outcome::Value(Value::record(values)),
+        Err(error) => Outcome::Error(error),
     }
 }
 

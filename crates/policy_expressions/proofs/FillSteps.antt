@@ -1,10 +1,12 @@
--- Expressions with literals in the places of slots: they are as deep, and without any literal they are the same.
+-- Expressions with literals in the places of slots: they are as deep and have the same keys, and without any literal they are
+-- the same.
 use Rattle.std.proofs.Common.{◌≡◌, ℕ, List, [], ◌∷◌, map, Option, Some, None, ap, refl, arith}
 use Rattle.policy_names.specs.declared.entity_uid.EntityUID.{EntityUID}
 use Rattle.policy_expressions.specs.declared.kinds.SlotId.{SlotId}
 use Rattle.policy_expressions.specs.declared.kinds.SlotId.TheVariants.{Principal, Resource}
 use Rattle.policy_expressions.specs.declared.kinds.SlotValues.{SlotValues}
 use Rattle.policy_expressions.specs.Tree.{Tree, lit, var, slot, ite, conj, disj, unary, binary, attr, has, like, is_type, call, set, rec, Trees, no_trees, tree, Named, no_named, named, depth_of, deepest, deepest_named, trees_of, named_of}
+use Rattle.policy_expressions.specs.Keys.{IsFresh, HasKeysOnce, HaveKeysOnce, AreKeysOnce}
 use Rattle.policy_expressions.specs.Slots.{value_of, in_place, filled, filled_all, filled_named, filled_entry}
 
 no_values : (i : SlotId) → value_of (record { principal = None; resource = None }) i ≡ None
@@ -34,13 +36,47 @@ module _ {A : Type 0} where
     depth_filled w (set xs a) = omega (arith, depth_filled_all w xs)
     depth_filled w (rec xs a) = omega (arith, depth_filled_named w xs)
 
-    pub depth_filled_all : (w : SlotValues) (xs : Trees A) → deepest (filled_all w xs) ≡ deepest xs
+    depth_filled_all : (w : SlotValues) (xs : Trees A) → deepest (filled_all w xs) ≡ deepest xs
     depth_filled_all w no_trees = refl
     depth_filled_all w (tree x xs) = omega (arith, depth_filled w x, depth_filled_all w xs)
 
-    pub depth_filled_named : (w : SlotValues) (xs : Named A) → deepest_named (filled_named w xs) ≡ deepest_named xs
+    depth_filled_named : (w : SlotValues) (xs : Named A) → deepest_named (filled_named w xs) ≡ deepest_named xs
     depth_filled_named w no_named = refl
     depth_filled_named w (named k x xs) = omega (arith, depth_filled w x, depth_filled_named w xs)
+
+  placed : (o : Option EntityUID) (i : SlotId) (a : A) → HasKeysOnce (in_place o i a)
+  placed (Some u) i a = tt
+  placed None i a = tt
+
+  fresh_filled : (w : SlotValues) (k : List ℕ) (xs : Named A) → IsFresh k xs → IsFresh k (filled_named w xs)
+  fresh_filled w k no_named h = tt
+  fresh_filled w k (named l x xs) h = (h.0, fresh_filled w k xs h.1)
+
+  mutual
+    pub keys_filled : (w : SlotValues) (e : Tree A) → HasKeysOnce e → HasKeysOnce (filled w e)
+    keys_filled w (lit l a) h = tt
+    keys_filled w (var v a) h = tt
+    keys_filled w (slot i a) h = placed (value_of w i) i a
+    keys_filled w (ite x y z a) h = (keys_filled w x h.0, keys_filled w y h.1, keys_filled w z h.2)
+    keys_filled w (conj x y a) h = (keys_filled w x h.0, keys_filled w y h.1)
+    keys_filled w (disj x y a) h = (keys_filled w x h.0, keys_filled w y h.1)
+    keys_filled w (unary o x a) h = keys_filled w x h
+    keys_filled w (binary o x y a) h = (keys_filled w x h.0, keys_filled w y h.1)
+    keys_filled w (attr x n a) h = keys_filled w x h
+    keys_filled w (has x n a) h = keys_filled w x h
+    keys_filled w (like x p a) h = keys_filled w x h
+    keys_filled w (is_type x t a) h = keys_filled w x h
+    keys_filled w (call f xs a) h = keys_filled_all w xs h
+    keys_filled w (set xs a) h = keys_filled_all w xs h
+    keys_filled w (rec xs a) h = keys_filled_named w xs h
+
+    keys_filled_all : (w : SlotValues) (xs : Trees A) → HaveKeysOnce xs → HaveKeysOnce (filled_all w xs)
+    keys_filled_all w no_trees h = tt
+    keys_filled_all w (tree x xs) h = (keys_filled w x h.0, keys_filled_all w xs h.1)
+
+    keys_filled_named : (w : SlotValues) (xs : Named A) → AreKeysOnce xs → AreKeysOnce (filled_named w xs)
+    keys_filled_named w no_named h = tt
+    keys_filled_named w (named k x xs) h = (keys_filled w x h.0, fresh_filled w k xs h.1, keys_filled_named w xs h.2)
 
   pub trees_filled : (w : SlotValues) (xs : List (Tree A)) → trees_of (map (filled w) xs) ≡ filled_all w (trees_of xs)
   trees_filled w [] = refl

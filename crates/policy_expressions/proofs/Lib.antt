@@ -1,3 +1,5 @@
-pub mod FillSteps
-pub mod ShapeSteps
+mod AroundSteps
+mod FillSteps
+mod KeySteps
+mod ShapeSteps
 pub mod TreeSteps

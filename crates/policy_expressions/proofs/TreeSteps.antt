@@ -16,10 +16,6 @@ module _ {A : Type 0} where
   depth_of-get_or (x ∷ xs) zero d h = omega arith
   depth_of-get_or (x ∷ xs) (suc i) d h = omega (arith, depth_of-get_or xs i d (omega arith))
 
-  pub depth_of-seam : (es : List (List ℕ × Tree A)) (e : List ℕ × Tree A) (rest : List (List ℕ × Tree A)) → depth_of e.1 ≤ deepest_named (named_of (es ++ e ∷ rest))
-  depth_of-seam [] e rest = omega arith
-  depth_of-seam (d ∷ es) e rest = omega (arith, depth_of-seam es e rest)
-
   -- in the form that the call on an element of a loop asks
   pub depth_in : (xs ys : List (Tree A)) (i : ℕ) (x : Tree A) → x ≡ get_or xs i x → xs ≡ ys → i < length xs → depth_of x ≤ deepest (trees_of ys)
   depth_in xs ys i x is same h =

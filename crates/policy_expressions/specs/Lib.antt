@@ -1,7 +1,9 @@
 pub mod Functions
+pub mod Keys
 pub mod Shape
 pub mod Show
 pub mod Slots
+pub mod Tables
 pub mod Tree
 pub mod TreeCode
 pub mod TreeFalls

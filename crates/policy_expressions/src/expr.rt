@@ -3,8 +3,10 @@
 ghost use Rattle.std.specs.Prelude.{◌≡◌, ◌≢◌, ◌≤◌, IfOk, max, ◌↔◌};
 ghost use Rattle.policy_expressions.specs.Tree.{Tree, lit, var, slot, ite, conj, disj, unary, binary, attr, has, like, is_type, call, set, rec, Mark, mark_of, with_mark, depth_of, deepest, trees_of, deepest_named, named_of};
 ghost use Rattle.policy_expressions.specs.TreeView.{tree_of};
+ghost use Rattle.policy_expressions.specs.Keys.{HasKeysOnce, HaveKeysOnce, AreKeysOnce};
+ghost use Rattle.policy_expressions.specs.Slots.{filled};
 
-use crate::{BinaryOp, Literal, Loc, Note, Pattern, SlotId, UnaryOp, Var};
+use crate::{BinaryOp, Literal, Loc, Note, Pattern, SlotId, SlotValues, UnaryOp, Var};
 use policy_names::{EntityType, Name, Text};
 use std::alloc::{AllocError, Global};
 use std::collections::BTreeMap;
@@ -12,7 +14,8 @@ use std::fmt;
 use std::marker::Model;
 
 /// An expression, with a note of type T at each node and the place where it stands in its source. It is at most 400
-/// deep: a literal, a variable or a slot has depth 1, any other expression one more than its deepest operand.
+/// deep: a literal, a variable or a slot has depth 1, any other expression one more than its deepest operand. Each
+/// record in it has each of its keys once.
 #[derive(Debug, Drop)]
 #[cycle(expr)]
 pub struct Expr<T> {
@@ -71,7 +74,9 @@ impl<T> Model for Expr<T> {
 
     ghost view = { λ a. tree_of a.kind (record { note = a.note; loc = a.loc }) };
 
-    ghost invariant = { λ a. (a.depth ≡ depth_of (tree_of a.kind (record { note = a.note; loc = a.loc }))) × (a.depth ≤ 400) };
+    ghost use Rattle.policy_expressions.specs.Keys.{HasKeysOnce};
+
+    ghost invariant = { λ a. (a.depth ≡ depth_of (tree_of a.kind (record { note = a.note; loc = a.loc }))) × (a.depth ≤ 400) × HasKeysOnce (tree_of a.kind (record { note = a.note; loc = a.loc })) };
 
     ghost size = { depth_of };
 
@@ -193,7 +198,7 @@ impl<T: Drop> Expr<T> {
         ensures ok { IfOk result (λ e. e ≡ ite x y z (record { note = note; loc = loc })) }
         ensures nested { (result ≡ Err BuildError.Nested) ↔ (400 ≤ max (depth_of x) (max (depth_of y) (depth_of z))) }
     {
-        let depth = x.depth().max(y.depth().max(z.depth()));
+        let depth = operand_depth(&x).max(operand_depth(&y).max(operand_depth(&z)));
         if depth >= MAX_DEPTH {
             drop(x);
             drop(y);
@@ -220,7 +225,7 @@ impl<T: Drop> Expr<T> {
         ensures ok { IfOk result (λ e. e ≡ conj x y (record { note = note; loc = loc })) }
         ensures nested { (result ≡ Err BuildError.Nested) ↔ (400 ≤ max (depth_of x) (depth_of y)) }
     {
-        let depth = x.depth().max(y.depth());
+        let depth = operand_depth(&x).max(operand_depth(&y));
         if depth >= MAX_DEPTH {
             drop(x);
             drop(y);
@@ -246,7 +251,7 @@ impl<T: Drop> Expr<T> {
         ensures ok { IfOk result (λ e. e ≡ disj x y (record { note = note; loc = loc })) }
         ensures nested { (result ≡ Err BuildError.Nested) ↔ (400 ≤ max (depth_of x) (depth_of y)) }
     {
-        let depth = x.depth().max(y.depth());
+        let depth = operand_depth(&x).max(operand_depth(&y));
         if depth >= MAX_DEPTH {
             drop(x);
             drop(y);
@@ -272,7 +277,7 @@ impl<T: Drop> Expr<T> {
         ensures ok { IfOk result (λ e. e ≡ unary op x (record { note = note; loc = loc })) }
         ensures nested { (result ≡ Err BuildError.Nested) ↔ (400 ≤ depth_of x) }
     {
-        let depth = x.depth();
+        let depth = operand_depth(&x);
         if depth >= MAX_DEPTH {
             drop(x);
             return Err(BuildError::Nested);
@@ -298,7 +303,7 @@ impl<T: Drop> Expr<T> {
         ensures ok { IfOk result (λ e. e ≡ binary op x y (record { note = note; loc = loc })) }
         ensures nested { (result ≡ Err BuildError.Nested) ↔ (400 ≤ max (depth_of x) (depth_of y)) }
     {
-        let depth = x.depth().max(y.depth());
+        let depth = operand_depth(&x).max(operand_depth(&y));
         if depth >= MAX_DEPTH {
             drop(x);
             drop(y);
@@ -324,7 +329,7 @@ impl<T: Drop> Expr<T> {
         ensures ok { IfOk result (λ e. e ≡ attr x name (record { note = note; loc = loc })) }
         ensures nested { (result ≡ Err BuildError.Nested) ↔ (400 ≤ depth_of x) }
     {
-        let depth = x.depth();
+        let depth = operand_depth(&x);
         if depth >= MAX_DEPTH {
             drop(x);
             return Err(BuildError::Nested);
@@ -349,7 +354,7 @@ impl<T: Drop> Expr<T> {
         ensures ok { IfOk result (λ e. e ≡ has x name (record { note = note; loc = loc })) }
         ensures nested { (result ≡ Err BuildError.Nested) ↔ (400 ≤ depth_of x) }
     {
-        let depth = x.depth();
+        let depth = operand_depth(&x);
         if depth >= MAX_DEPTH {
             drop(x);
             return Err(BuildError::Nested);
@@ -374,7 +379,7 @@ impl<T: Drop> Expr<T> {
         ensures ok { IfOk result (λ e. e ≡ like x pattern (record { note = note; loc = loc })) }
         ensures nested { (result ≡ Err BuildError.Nested) ↔ (400 ≤ depth_of x) }
     {
-        let depth = x.depth();
+        let depth = operand_depth(&x);
         if depth >= MAX_DEPTH {
             drop(x);
             return Err(BuildError::Nested);
@@ -399,7 +404,7 @@ impl<T: Drop> Expr<T> {
         ensures ok { IfOk result (λ e. e ≡ is_type x entity_type (record { note = note; loc = loc })) }
         ensures nested { (result ≡ Err BuildError.Nested) ↔ (400 ≤ depth_of x) }
     {
-        let depth = x.depth();
+        let depth = operand_depth(&x);
         if depth >= MAX_DEPTH {
             drop(x);
             return Err(BuildError::Nested);
@@ -512,40 +517,54 @@ fn three_boxes<X: Drop>(
     Ok((x, y, Box::new(alloc, z)?))
 }
 
+// The depth of an operand.
+pub(crate) fn operand_depth<T>(e: &Expr<T>) -> u32
+    ensures value { result ≡ depth_of e.now }
+    ensures bound { result ≤ 400 }
+    ensures keys { HasKeysOnce e.now }
+{
+    e.depth
+}
+
 // The greatest depth among expressions, 0 where there is none.
 #[tactic(auto, using(crate::proofs::TreeSteps::deepest_more, crate::proofs::TreeSteps::deepest_all))]
 fn deepest_of<T>(items: &Vec<Expr<T>>) -> u32
     ensures value { result ≡ deepest (trees_of items.now.items) }
     ensures bound { result ≤ 400 }
+    ensures keys { HaveKeysOnce (trees_of items.now.items) }
 {
     let mut depth = 0;
     for item in items {
-        depth = item.depth().max(depth);
+        depth = operand_depth(item).max(depth);
     }
     depth
 }
 
 // The same of the expressions in a map.
+#[tactic(auto, using(crate::proofs::KeySteps::fresh_first, crate::proofs::KeySteps::sorted_rest))]
 fn deepest_of_named<T>(fields: &BTreeMap<Text, Expr<T>>) -> u32
     ensures value { result ≡ deepest_named (named_of fields.now.entries) }
     ensures bound { result ≤ 400 }
+    ensures keys { AreKeysOnce (named_of fields.now.entries) }
 {
     let mut depth = 0;
     for (_, item) in fields.iter() {
-        depth = item.depth().max(depth);
+        depth = operand_depth(item).max(depth);
     }
     depth
 }
 
-// The expression around other operands that are as deep, with a copy of its note.
-pub(crate) fn with_kind<T: Note>(
+// The expression around its operands, with ids in the places of slots, and with a copy of its note.
+pub(crate) fn around<T: Note>(
     alloc: Global,
     e: &Expr<T>,
+    values: &SlotValues,
     kind: ExprKind<T>,
 ) -> Result<Expr<T>, AllocError>
-    requires { depth_of (tree_of kind (mark_of e.now)) ≡ depth_of e.now }
-    ensures { IfOk result (λ r. r ≡ tree_of kind (mark_of e.now)) }
+    requires { tree_of kind (mark_of e.now) ≡ filled values.now e.now }
+    ensures { IfOk result (λ r. r ≡ filled values.now e.now) }
 {
+    let _values = values;
     let note = e.note.try_copy(alloc)?;
     Ok(Expr {
         kind,

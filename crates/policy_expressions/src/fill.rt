@@ -2,8 +2,10 @@
 
 ghost use Rattle.std.specs.Prelude.{◌≡◌, IfOk, map};
 ghost use Rattle.policy_expressions.specs.Slots.{filled, filled_entry};
+ghost use Rattle.policy_expressions.specs.Tree.{mark_of};
+ghost use Rattle.policy_expressions.specs.TreeView.{tree_of};
 
-use crate::expr::with_kind;
+use crate::expr::around;
 use crate::{Expr, ExprKind, Literal, Note, SlotValues};
 use policy_names::Text;
 use policy_values::push_entry;
@@ -34,80 +36,69 @@ impl<T: Note> Expr<T> {
 }
 
 #[cycle(fill)]
-#[tactic(auto, using(crate::proofs::FillSteps::depth_filled, crate::proofs::FillSteps::trees_filled, crate::proofs::FillSteps::named_filled, crate::proofs::FillSteps::depth_filled_all, crate::proofs::FillSteps::depth_filled_named))]
 fn fill<T: Note>(alloc: Global, e: &Expr<T>, values: &SlotValues) -> Result<Expr<T>, AllocError>
     ensures { IfOk result (λ r. r ≡ filled values.now e.now) }
 {
+    let kind = fill_kind(alloc, e, values)?;
+    around(alloc, e, values, kind)
+}
+
+#[cycle(fill)]
+#[tactic(auto, using(crate::proofs::FillSteps::trees_filled, crate::proofs::FillSteps::named_filled))]
+fn fill_kind<T: Note>(
+    alloc: Global,
+    e: &Expr<T>,
+    values: &SlotValues,
+) -> Result<ExprKind<T>, AllocError>
+    ensures { IfOk result (λ k. tree_of k (mark_of e.now) ≡ filled values.now e.now) }
+{
     match e.kind() {
-        ExprKind::Lit(value) => {
-            let value = value.try_clone()?;
-            with_kind(alloc, e, ExprKind::Lit(value))
-        }
-        ExprKind::Var(value) => with_kind(alloc, e, ExprKind::Var(*value)),
+        ExprKind::Lit(value) => Ok(ExprKind::Lit(value.try_clone()?)),
+        ExprKind::Var(value) => Ok(ExprKind::Var(*value)),
         ExprKind::Slot(slot) => match values.value(*slot) {
-            Some(uid) => {
-                let uid = uid.try_clone()?;
-                with_kind(alloc, e, ExprKind::Lit(Literal::EntityUID(uid)))
-            }
-            None => with_kind(alloc, e, ExprKind::Slot(*slot)),
+            Some(uid) => Ok(ExprKind::Lit(Literal::EntityUID(uid.try_clone()?))),
+            None => Ok(ExprKind::Slot(*slot)),
         },
         ExprKind::If(x, y, z) => {
             let x = fill_box(alloc, x, values)?;
-            let y = fill_box(alloc, y, values)?;
-            let z = fill_box(alloc, z, values)?;
-            with_kind(alloc, e, ExprKind::If(x, y, z))
+            let (y, z) = fill_two(alloc, y, z, values)?;
+            Ok(ExprKind::If(x, y, z))
         }
         ExprKind::And(x, y) => {
-            let x = fill_box(alloc, x, values)?;
-            let y = fill_box(alloc, y, values)?;
-            with_kind(alloc, e, ExprKind::And(x, y))
+            let (x, y) = fill_two(alloc, x, y, values)?;
+            Ok(ExprKind::And(x, y))
         }
         ExprKind::Or(x, y) => {
-            let x = fill_box(alloc, x, values)?;
-            let y = fill_box(alloc, y, values)?;
-            with_kind(alloc, e, ExprKind::Or(x, y))
-        }
-        ExprKind::UnaryApp(op, x) => {
-            let x = fill_box(alloc, x, values)?;
-            with_kind(alloc, e, ExprKind::UnaryApp(*op, x))
+            let (x, y) = fill_two(alloc, x, y, values)?;
+            Ok(ExprKind::Or(x, y))
         }
         ExprKind::BinaryApp(op, x, y) => {
-            let x = fill_box(alloc, x, values)?;
-            let y = fill_box(alloc, y, values)?;
-            with_kind(alloc, e, ExprKind::BinaryApp(*op, x, y))
-        }
-        ExprKind::GetAttr(x, name) => {
-            let x = fill_box(alloc, x, values)?;
-            let name = name.try_clone()?;
-            with_kind(alloc, e, ExprKind::GetAttr(x, name))
-        }
-        ExprKind::HasAttr(x, name) => {
-            let x = fill_box(alloc, x, values)?;
-            let name = name.try_clone()?;
-            with_kind(alloc, e, ExprKind::HasAttr(x, name))
-        }
-        ExprKind::Like(x, pattern) => {
-            let x = fill_box(alloc, x, values)?;
-            let pattern = pattern.try_clone(alloc)?;
-            with_kind(alloc, e, ExprKind::Like(x, pattern))
-        }
-        ExprKind::Is(x, entity_type) => {
-            let x = fill_box(alloc, x, values)?;
-            let entity_type = entity_type.try_clone()?;
-            with_kind(alloc, e, ExprKind::Is(x, entity_type))
+            let (x, y) = fill_two(alloc, x, y, values)?;
+            Ok(ExprKind::BinaryApp(*op, x, y))
         }
         ExprKind::ExtensionFunctionApp(name, args) => {
             let name = name.try_clone()?;
             let args = fill_all(alloc, args, values)?;
-            with_kind(alloc, e, ExprKind::ExtensionFunctionApp(name, args))
+            Ok(ExprKind::ExtensionFunctionApp(name, args))
         }
-        ExprKind::Set(items) => {
-            let items = fill_all(alloc, items, values)?;
-            with_kind(alloc, e, ExprKind::Set(items))
+        ExprKind::Set(items) => Ok(ExprKind::Set(fill_all(alloc, items, values)?)),
+        ExprKind::Record(fields) => Ok(ExprKind::Record(fill_named(alloc, fields, values)?)),
+        ExprKind::UnaryApp(op, x) => Ok(ExprKind::UnaryApp(*op, fill_box(alloc, x, values)?)),
+        ExprKind::GetAttr(x, name) => {
+            let name = name.try_clone()?;
+            Ok(ExprKind::GetAttr(fill_box(alloc, x, values)?, name))
         }
-        ExprKind::Record(fields) => {
-            let fields = fill_named(alloc, fields, values)?;
-            with_kind(alloc, e, ExprKind::Record(fields))
+        ExprKind::HasAttr(x, name) => {
+            let name = name.try_clone()?;
+            Ok(ExprKind::HasAttr(fill_box(alloc, x, values)?, name))
+        }
+        ExprKind::Like(x, pattern) => {
+            let pattern = pattern.try_clone(alloc)?;
+            Ok(ExprKind::Like(fill_box(alloc, x, values)?, pattern))
+        }
+        ExprKind::Is(x, entity_type) => {
+            let entity_type = entity_type.try_clone()?;
+            Ok(ExprKind::Is(fill_box(alloc, x, values)?, entity_type))
         }
     }
 }
@@ -122,6 +113,19 @@ fn fill_box<T: Note>(
 {
     let copy = fill(alloc, e, values)?;
     Ok(Box::new(alloc, copy)?)
+}
+
+#[cycle(fill)]
+fn fill_two<T: Note>(
+    alloc: Global,
+    x: &Box<Expr<T>>,
+    y: &Box<Expr<T>>,
+    values: &SlotValues,
+) -> Result<(Box<Expr<T>>, Box<Expr<T>>), AllocError>
+    ensures { IfOk result (λ r. (r.0.value ≡ filled values.now x.now.value) × (r.1.value ≡ filled values.now y.now.value)) }
+{
+    let x = fill_box(alloc, x, values)?;
+    Ok((x, fill_box(alloc, y, values)?))
 }
 
 #[cycle(fill)]

@@ -1,7 +1,8 @@
 //! Extension functions, and which name stands for which.
 
 ghost use Rattle.std.specs.Prelude.{◌≡◌, Some};
-ghost use Rattle.policy_expressions.specs.Functions.{function_of, decimal_function, ip_function, datetime_function, duration_function};
+ghost use Rattle.policy_expressions.specs.Functions.{function_of, decimal_functions, ip_functions, datetime_functions, duration_functions};
+ghost use Rattle.policy_expressions.specs.Tables.{beside};
 
 /// An extension function of one argument.
 #[derive(Clone, Copy, Debug, PartialEq, Eq)]
@@ -67,7 +68,7 @@ pub enum ExtensionFunction {
 }
 
 /// The extension function of a name, where there is one.
-#[tactic(auto, unfolding(crate::specs::Functions::function_of))]
+#[tactic(auto, unfolding(crate::specs::Functions::functions))]
 pub fn extension_function(name: &str) -> Option<ExtensionFunction>
     ensures { result ≡ function_of name.now }
 {
@@ -92,9 +93,9 @@ fn binary(function: BinaryFunction) -> Option<ExtensionFunction>
     Some(ExtensionFunction::Binary(function))
 }
 
-#[tactic(auto, unfolding(crate::specs::Functions::decimal_function))]
+#[tactic(auto, unfolding(crate::specs::Functions::decimal_functions))]
 fn decimal_function(name: &str) -> Option<ExtensionFunction>
-    ensures { result ≡ decimal_function name.now }
+    ensures { result ≡ beside decimal_functions name.now }
 {
     match name {
         "lessThan" => binary(BinaryFunction::LessThan),
@@ -105,9 +106,9 @@ fn decimal_function(name: &str) -> Option<ExtensionFunction>
     }
 }
 
-#[tactic(auto, unfolding(crate::specs::Functions::ip_function))]
+#[tactic(auto, unfolding(crate::specs::Functions::ip_functions))]
 fn ip_function(name: &str) -> Option<ExtensionFunction>
-    ensures { result ≡ ip_function name.now }
+    ensures { result ≡ beside ip_functions name.now }
 {
     match name {
         "isIpv4" => unary(UnaryFunction::IsIpv4),
@@ -119,9 +120,9 @@ fn ip_function(name: &str) -> Option<ExtensionFunction>
     }
 }
 
-#[tactic(auto, unfolding(crate::specs::Functions::datetime_function))]
+#[tactic(auto, unfolding(crate::specs::Functions::datetime_functions))]
 fn datetime_function(name: &str) -> Option<ExtensionFunction>
-    ensures { result ≡ datetime_function name.now }
+    ensures { result ≡ beside datetime_functions name.now }
 {
     match name {
         "offset" => binary(BinaryFunction::Offset),
@@ -132,9 +133,9 @@ fn datetime_function(name: &str) -> Option<ExtensionFunction>
     }
 }
 
-#[tactic(auto, unfolding(crate::specs::Functions::duration_function))]
+#[tactic(auto, unfolding(crate::specs::Functions::duration_functions))]
 fn duration_function(name: &str) -> Option<ExtensionFunction>
-    ensures { result ≡ duration_function name.now }
+    ensures { result ≡ beside duration_functions name.now }
 {
     match name {
         "toMilliseconds" => unary(UnaryFunction::ToMilliseconds),

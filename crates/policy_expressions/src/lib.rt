@@ -5,6 +5,7 @@ mod expr;
 mod fill;
 mod functions;
 mod kinds;
+pub mod laws;
 mod note;
 mod pattern;
 mod shape;

@@ -1,4 +1,4 @@
-mod FieldsFound
+pub mod FieldsFound
 mod Linking
 pub mod OneStore
 mod Placed

@@ -5,7 +5,7 @@ use Rattle.serde_json.specs.View.{view, items_view, members_view}
 use Rattle.serde_json.specs.declared.value.Value.{Value}
 use Rattle.policy_values.specs.Maps.{IsNext}
 use Rattle.expr_documents.specs.Forms.{call_tree, get_tree, has_tree, in_turn, of_one}
-use Rattle.expr_documents.specs.Parts.{names_of}
+use Rattle.expr_documents.specs.Parts.{attr_names_of}
 use Rattle.expr_documents.specs.Nesting.{all_within}
 use Rattle.expr_documents.specs.Reads.{bounded, bounded_field, listed_read, on_all, on_name}
 use Rattle.expr_documents.specs.Exprs.{expr_of, expr_of_members, exprs_of, named_exprs_of, named_tree, operands_behind, operands_first, placed_tree}
@@ -51,7 +51,7 @@ pub read_get-returns : goal.read_get-returns
 read_get-returns t c =
     let names = c.in-Some.names.items in
     let first = operands_first (view c.args.value.now) in
-    let named : names_of (view c.args.value.now) ≡ Some names = sym c.in_ok-names.ensures ∙ ap (option_map (λ v. v.items)) c.in-Some.is in
+    let named : attr_names_of (view c.args.value.now) ≡ Some names = sym c.in_ok-names.ensures ∙ ap (option_map (λ v. v.items)) c.in-Some.is in
     subst (λ o. IfOk c.get_all.result (λ r. r ≡ o))
     (ap (option_and_then (in_turn (on_name get_tree) names)) c.in_ok-read.ensures
     ∙ get_reads names first
@@ -62,7 +62,7 @@ pub read_has-returns : goal.read_has-returns
 read_has-returns t c =
     let names = c.in-Some.names.items in
     let first = operands_first (view c.args.value.now) in
-    let named : names_of (view c.args.value.now) ≡ Some names = sym c.in_ok-names.ensures ∙ ap (option_map (λ v. v.items)) c.in-Some.is in
+    let named : attr_names_of (view c.args.value.now) ≡ Some names = sym c.in_ok-names.ensures ∙ ap (option_map (λ v. v.items)) c.in-Some.is in
     subst (λ o. IfOk c.has_one.result (λ r. r ≡ o))
     (ap (option_and_then (of_one (on_name has_tree) names)) c.in_ok-read.ensures
     ∙ has_reads names first

@@ -1,11 +1,23 @@
-use Rattle.std.proofs.Common.{◌≡◌, ◌≤◌, ◌+◌, ◌*◌, ◌++◌, drop}
+use Rattle.std.proofs.Common.{◌≡◌, ◌≤◌, ◌+◌, ◌*◌, ◌++◌, drop, max}
 use Rattle.std.specs.Map.{keys_of}
 use Rattle.policy_expressions.specs.Tree.{depth_of, deepest, deepest_named, trees_of, named_of}
 use Rattle.policy_core.specs.Eval.{result_map, eval_all, eval_named}
 use Rattle.policy_core.proofs.eval.+evaluate.Given as goal
 
-abbrev pub decreases-evaluate : goal.decreases-evaluate
-decreases-evaluate g l = 2 * depth_of l.expr.now
+abbrev pub decreases-outcome_of : goal.decreases-outcome_of
+decreases-outcome_of g l = 2 * depth_of l.expr.now
+
+abbrev pub decreases-if_of : goal.decreases-if_of
+decreases-if_of g l = 2 * max (depth_of l.x.now.value) (max (depth_of l.y.now.value) (depth_of l.z.now.value)) + 1
+
+abbrev pub decreases-and_of : goal.decreases-and_of
+decreases-and_of g l = 2 * max (depth_of l.x.now.value) (depth_of l.y.now.value) + 1
+
+abbrev pub decreases-or_of : goal.decreases-or_of
+decreases-or_of g l = 2 * max (depth_of l.x.now.value) (depth_of l.y.now.value) + 1
+
+abbrev pub decreases-both_of : goal.decreases-both_of
+decreases-both_of g l = 2 * max (depth_of l.x.now.value) (depth_of l.y.now.value) + 1
 
 abbrev pub decreases-evaluate_all : goal.decreases-evaluate_all
 decreases-evaluate_all g l = 2 * deepest (trees_of l.items.now.items) + 1

@@ -1,20 +1,26 @@
-use Rattle.std.proofs.Common.{◌≡◌, ◌≤◌, ◌+◌, ◌*◌, ◌++◌, take, map}
+use Rattle.std.proofs.Common.{◌≡◌, ◌≤◌, ◌+◌, ◌*◌, ◌++◌, take, map, max}
 use Rattle.std.specs.Map.{keys_of}
 use Rattle.policy_expressions.specs.Tree.{depth_of, deepest, deepest_named, trees_of, named_of}
 use Rattle.policy_expressions.specs.Slots.{filled, filled_entry}
 use Rattle.policy_expressions.proofs.fill.+fill.Given as goal
 
 abbrev pub decreases-fill : goal.decreases-fill
-decreases-fill g l = 3 * depth_of l.e.now
+decreases-fill g l = 5 * depth_of l.e.now + 1
+
+abbrev pub decreases-fill_kind : goal.decreases-fill_kind
+decreases-fill_kind g l = 5 * depth_of l.e.now
 
 abbrev pub decreases-fill_box : goal.decreases-fill_box
-decreases-fill_box g l = 3 * depth_of l.e.now.value + 1
+decreases-fill_box g l = 5 * depth_of l.e.now.value + 2
+
+abbrev pub decreases-fill_two : goal.decreases-fill_two
+decreases-fill_two g l = 5 * max (depth_of l.x.now.value) (depth_of l.y.now.value) + 3
 
 abbrev pub decreases-fill_all : goal.decreases-fill_all
-decreases-fill_all g l = 3 * deepest (trees_of l.items.now.items) + 1
+decreases-fill_all g l = 5 * deepest (trees_of l.items.now.items) + 2
 
 abbrev pub decreases-fill_named : goal.decreases-fill_named
-decreases-fill_named g l = 3 * deepest_named (named_of l.fields.now.entries) + 1
+decreases-fill_named g l = 5 * deepest_named (named_of l.fields.now.entries) + 2
 
 abbrev pub invariant-fill_all-loop-item : goal.invariant-fill_all-loop-item
 invariant-fill_all-loop-item g l = l.copies.items ≡ map (filled l.values) (take l.item-index l.items.items)
