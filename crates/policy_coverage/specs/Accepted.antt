@@ -11,7 +11,7 @@ use Rattle.schema_core.specs.Schema.{SchemaData}
 use Rattle.capabilities.specs.Bare.{Plain}
 use Rattle.policy_typing.specs.Conforms.{RequestConforms, StoreConforms, IsOf}
 use Rattle.policy_typing.specs.Operands.{is_boolean}
-use Rattle.policy_typing.specs.Keys.{HasKeysOnce}
+use Rattle.policy_expressions.specs.Keys.{HasKeysOnce}
 use Rattle.policy_typing.specs.Typing.{Typing, types}
 use Rattle.policy_reads.specs.Cover.{IsPartOf, restricted}
 

@@ -20,7 +20,7 @@ use Rattle.schema_core.specs.Schema.{ActionData, SchemaData, is_action_named, ac
 use Rattle.policy_typing.specs.Conforms.{RequestConforms, Applies, IsOf}
 use Rattle.policy_typing.specs.Conditions.{IsCondition, ConditionsAreSound}
 use Rattle.policy_typing.specs.Operands.{is_boolean}
-use Rattle.policy_typing.specs.Keys.{HasKeysOnce, HaveKeysOnce}
+use Rattle.policy_expressions.specs.Keys.{HasKeysOnce, HaveKeysOnce}
 use Rattle.policy_typing.specs.Typing.{Typing, unreached, types}
 use Rattle.policy_set.specs.declared.constraint.EntityReference.TheVariants.{EUID, Slot}
 use Rattle.policy_set.specs.declared.constraint.PrincipalOrResourceConstraint.{PrincipalOrResourceConstraint}

@@ -15,7 +15,7 @@ use Rattle.policy_expressions.specs.declared.kinds.UnaryOp.TheVariants.{Not, Neg
 use Rattle.policy_expressions.specs.declared.kinds.BinaryOp.{BinaryOp}
 use Rattle.policy_expressions.specs.declared.kinds.BinaryOp.TheVariants.{Eq, Less, Add, In, Contains, ContainsAll, GetTag, HasTag}
 use Rattle.policy_expressions.specs.Tree.{Trees, lit, var, slot, ite, conj, disj, unary, binary, attr, has, like, is_type, set, rec, no_trees, tree, no_named, named, Mark, call}
-use Rattle.policy_expressions.specs.Functions.{function_of, decimal_function, ip_function, datetime_function, duration_function}
+use Rattle.policy_expressions.specs.Functions.{functions, decimal_functions, ip_functions, datetime_functions, duration_functions}
 use Rattle.policy_values.specs.Readings.{decimal_in}
 use Rattle.capabilities.specs.Bare.{Plain}
 use Rattle.capabilities.specs.Capability.{Capability, has_cap}
@@ -253,9 +253,9 @@ calls f xs = call f xs here
 
 constructed : Agree ((calls (codes "decimal") (tree (string (codes "1.2345")) no_trees), Some decimal_type) ∷ (calls (codes "decimal") (tree (string (codes "1.23456")) no_trees), None) ∷
     (calls (codes "decimal") (tree (string (codes "1.0")) (tree (string (codes "2")) no_trees)), None) ∷ (calls (codes "decimal") (tree (get principal b) no_trees), None) ∷ (calls (codes "decimal") (tree (number 1) no_trees), None) ∷ [])
-unfolding function_of decimal_in
+unfolding functions decimal_in
 constructed = refl
 
 unknown_function : type_of (calls (codes "nope") no_trees) ≡ None
-unfolding function_of decimal_function ip_function datetime_function duration_function
+unfolding functions decimal_functions ip_functions datetime_functions duration_functions
 unknown_function = refl
