@@ -1,6 +1,6 @@
 -- The joins of a dozen types, worked out by hand.
 use Rattle.std.proofs.Common.{◌≡◌, ℕ, true, false, List, [], ◌∷◌, map, Result, Ok, Err, codes, refl}
-use Rattle.std.specs.Prelude.{find, eqb, None}
+use Rattle.std.specs.Prelude.{find, eqb}
 use Rattle.std.specs.Option.{option_map_or}
 use Rattle.schema_types.specs.declared.kinds.Primitive.TheVariants.{Bool as BoolType, Long}
 use Rattle.schema_types.specs.declared.kinds.OpenTag.TheVariants.{OpenAttributes, ClosedAttributes}
