@@ -9,17 +9,17 @@ use Rattle.policy_store.specs.Request.{principal_of, action_of, resource_of}
 use Rattle.policy_store.specs.Store.{Store}
 use Rattle.policy_core.specs.Eval.{eval}
 use Rattle.schema_core.specs.EnvData.{EnvData, declared_action, unlinked}
-use Rattle.schema_core.specs.Environments.{Environment, environment}
-use Rattle.schema_core.specs.Schema.{ActionData, SchemaData, action_at}
+use Rattle.schema_core.specs.Environments.{environment}
+use Rattle.schema_core.specs.Schema.{ActionData}
 use Rattle.capabilities.specs.Bare.{Plain}
 use Rattle.policy_typing.specs.Operands.{is_boolean}
-use Rattle.policy_typing.specs.Typing.{Typed, Typing, types}
+use Rattle.policy_typing.specs.Typing.{Typing, types}
 use Rattle.policy_links.specs.Accepted.{IsTyped}
 use Rattle.policy_set.specs.Data.{TemplateData}
 use Rattle.policy_set.specs.Condition.{condition_of, asks_slot}
 use Rattle.policy_set.specs.Links.{own_condition}
-use Rattle.policy_links.specs.Laws.{LooksPastSlots, IsFilled, FilledKeeps, FollowsTyping, if_slot, own_slot, LinksFollowTemplates, LinksAreWrittenOut, LinksHaveKeysOnce}
-use Rattle.policy_links.specs.Linked.{linked_env, linked_envs}
+use Rattle.policy_links.specs.Laws.{LooksPastSlots, FilledKeeps, FollowsTyping, if_slot, own_slot, LinksFollowTemplates, LinksAreWrittenOut, LinksHaveKeysOnce}
+use Rattle.policy_links.specs.Linked.{linked_env}
 use Rattle.policy_links.proofs.Own.{own_everywhere}
 use Rattle.policy_links.proofs.Statics.{env_for, for_request, condition_plain, condition_once}
 use Rattle.policy_levels.specs.Cut.{cut}

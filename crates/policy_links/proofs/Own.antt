@@ -5,7 +5,7 @@ use Rattle.hierarchy.specs.Reaches.{has}
 use Rattle.policy_names.specs.declared.entity_uid.EntityUID.{EntityUID}
 use Rattle.policy_names.specs.Uid.{text_cmp}
 use Rattle.schema_core.specs.EnvData.{EnvData}
-use Rattle.schema_core.specs.Environments.{Environment, environment, environments_of}
+use Rattle.schema_core.specs.Environments.{environment, environments_of}
 use Rattle.schema_core.specs.Schema.{SchemaData, action_at}
 use Rattle.policy_set.specs.Data.{TemplateData}
 use Rattle.policy_links.specs.Laws.{own_slot}

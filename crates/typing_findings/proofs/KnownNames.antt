@@ -1,5 +1,5 @@
 -- Where each name of an expression is known, all its literals have types.
-use Rattle.std.proofs.Common.{◌≡◌, true≢false, sym, ℕ, Bool, true, false, ◌&&◌, ◌||◌, not, List, ◌∷◌, [], ◌++◌, Option, Some, None, is_some, IsSome, refl, ◌∙◌}
+use Rattle.std.proofs.Common.{◌≡◌, true≢false, sym, Bool, true, false, ◌&&◌, ◌||◌, not, List, ◌∷◌, [], ◌++◌, Option, Some, None, is_some, IsSome, refl, ◌∙◌}
 use Rattle.std.specs.Prelude.{⊤}
 use Rattle.std.specs.List.{list_all}
 use Rattle.std.proofs.lemmas.List.Folds.{list_all-append}

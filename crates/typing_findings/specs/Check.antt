@@ -1,5 +1,5 @@
 -- What typing the condition of a policy comes to.
-use Rattle.std.specs.Prelude.{◌≡◌, ⊤, nat_lt, Bool, true, List, [], Option, Some, None, IsSome, IsTrue, if◌then◌else◌}
+use Rattle.std.specs.Prelude.{◌≡◌, ⊤, nat_lt, List, [], Option, Some, None, IsSome, IsTrue, if◌then◌else◌}
 use Rattle.schema_types.specs.declared.kinds.Primitive.TheVariants.{Bool as BoolType}
 use Rattle.schema_types.specs.Ty.{Ty, true_type, false_type, primitive}
 use Rattle.schema_core.specs.Schema.{SchemaData}
