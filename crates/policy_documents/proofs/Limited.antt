@@ -1,8 +1,8 @@
 -- Policies that are read keep the limits.
-use Rattle.std.proofs.Common.{◌≡◌, ℕ, ◌<◌, ◌≤◌, length, ◌&&◌, ◌||◌, ¬◌, Bool, true, false, Option, Some, None, option_map, Ok, Err, arith, refl}
+use Rattle.std.proofs.Common.{◌≡◌, ℕ, ◌<◌, ◌≤◌, length, ◌&&◌, ◌||◌, Bool, true, false, Option, Some, None, option_map, Ok, Err, arith, refl, sym}
 use Rattle.std.specs.Prelude.{nat_lt, option_and_then, if◌then◌else◌}
 use Rattle.std.proofs.lemmas.Bool.Decides.{nat_tests}
-use Rattle.policy_expressions.specs.Tree.{Tree, lit, var, slot, ite, conj, disj, unary, binary, attr, has, like, is_type, call, set, rec, depth_of}
+use Rattle.policy_expressions.specs.Tree.{Tree, lit, var, conj, disj, unary, binary, depth_of}
 use Rattle.policy_expressions.specs.Slots.{has_slot}
 use Rattle.policy_expressions.specs.declared.kinds.Literal.TheVariants as literal
 use Rattle.policy_expressions.specs.declared.kinds.Var.TheVariants.{Principal, Action, Resource, Context}
@@ -24,6 +24,7 @@ use Rattle.policy_documents.specs.Policies.{added_entry, added_template, and_the
 use Rattle.policy_documents.specs.Policy.{is_too_deep, policy_keeps_limits, policy_of_parts, policy_with_body, read_of, read_with}
 use Rattle.policy_documents.specs.declared.place.Place.TheVariants as place
 use Rattle.policy_documents.specs.declared.policy.PolicyParts.{PolicyParts}
+use Rattle.policy_documents.specs.declared.policy.PolicyRead.{PolicyRead}
 use Rattle.policy_documents.specs.declared.policy.PolicyRead.TheVariants as policy
 
 both_true : (a b : Bool) → (a && b) ≡ true → (a ≡ true) × (b ≡ true)
@@ -89,9 +90,15 @@ read_by t u false false k h = absurd (cc)
 read_by t u false true k h = let same : t ≡ u = cc in rw (← same) (kept_asks_none t k)
 
 -- nor has one that is read
-pub read_asks_none : (o : Option TemplateData) (u : TemplateData) → option_and_then read_of o ≡ Some (policy.Policy u) → has_scope_slot u ≡ false
+read_asks_none : (o : Option TemplateData) (u : TemplateData) → option_and_then read_of o ≡ Some (policy.Policy u) → has_scope_slot u ≡ false
 read_asks_none None u h = absurd (cc)
 read_asks_none (Some t) u h = read_by t u (is_too_deep t) (policy_keeps_limits t) refl h
+
+-- nor has one that is read at an index
+pub at_asks_none : (i : ℕ) (o : Option TemplateData) (r : Option PolicyRead) (u : TemplateData) → r ≡ option_and_then read_of o → template_read i r ≡ Ok u → has_scope_slot u ≡ false
+at_asks_none i o None u e h = absurd (cc (h))
+at_asks_none i o (Some policy.Nested) u e h = absurd (cc (h))
+at_asks_none i o (Some (policy.Policy t)) u e h = let same : t ≡ u = cc (h) in rw (← same) (read_asks_none o t (sym e))
 
 -- ---- the depth of a policy that is built, and of one that is not
 
@@ -115,6 +122,19 @@ has_slot_past t h = past_by t (policy_keeps_limits t) refl h
 nested_by : (t : TemplateData) (b : Bool) → is_too_deep t ≡ b → 400 < depth_of (condition_of t) → Some policy.Nested ≡ (if b then Some policy.Nested else (if policy_keeps_limits t then Some (policy.Policy t) else None))
 nested_by t true e h = refl
 nested_by t false e h = grind (arith, nat_tests)
+
+-- a policy that is built is read where it keeps the limits; one that is nested too deep, and one with a slot in its body, are not
+pub kept_read : (t : TemplateData) → is_too_deep t ≡ false → (if policy_keeps_limits t then Some (policy.Policy t) else None) ≡ read_of t
+kept_read t h = rw h refl
+
+pub nested_read : (t : TemplateData) → 400 < depth_of (condition_of t) → Some policy.Nested ≡ read_of t
+nested_read t h = nested_by t (is_too_deep t) refl h
+
+pub deep_read : (t : TemplateData) → 400 ≤ depth_of t.body → Some policy.Nested ≡ read_of t
+deep_read t h = nested_read t ((by_body t).0 h)
+
+pub slot_read : (t : TemplateData) → ¬ (400 ≤ depth_of t.body) → has_slot t.body ≡ true → None ≡ read_of t
+slot_read t h k = rw (is_built t (λ d. h ((by_body t).1 d)), has_slot_past t k) refl
 
 with_by : (p : PolicyParts) (x : Plain) (b : Bool) → nat_lt 400 (depth_of x) ≡ b → read_with p (if b then Nested else Within x) ≡ read_of (policy_of_parts p x)
 with_by p x true e =

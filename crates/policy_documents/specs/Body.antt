@@ -37,7 +37,7 @@ with_one o os = option_and_then (λ x. option_map (λ xs. x ∷ xs) os) o
 abbrev pub clause_form : List ℕ → Option Plain → Option Plain
 clause_form key o = if bytes_eq key (codes "when") then o else (if bytes_eq key (codes "unless") then option_map negated o else None)
 
-abbrev pub clause_of : Data → Option Plain
+unfoldable pub clause_of : Data → Option Plain
 clause_of d = option_and_then (λ m. clause_form m.0 (expr_of m.1)) (option_and_then only_member (as_object d))
 
 abbrev pub clauses_of : Items → Option (List Plain)

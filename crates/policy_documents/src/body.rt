@@ -50,6 +50,7 @@ fn read_clause_form(
     }
 }
 
+#[tactic(auto, unfolding(crate::specs::Body::clause_of))]
 fn read_clause(alloc: Global, value: &Value) -> Result<Option<Bounded<Expr<()>>>, AllocError>
     ensures { IfOk result (λ o. o ≡ option_map bounded (clause_of (view value.now))) }
 {

@@ -181,7 +181,7 @@ fn read_policy_parts(alloc: Global, value: &Value) -> Result<Option<PolicyParts>
 }
 
 // The policy of these parts and this body.
-#[tactic(auto, using(crate::proofs::Limited::is_deep, crate::proofs::Limited::is_built, crate::proofs::Limited::has_slot_past))]
+#[tactic(auto, using(crate::proofs::Limited::kept_read, crate::proofs::Limited::nested_read, crate::proofs::Limited::deep_read, crate::proofs::Limited::slot_read))]
 fn with_expression(
     alloc: Global,
     parts: PolicyParts,
@@ -196,27 +196,23 @@ fn with_expression(
         action,
         resource,
     } = parts;
-    let is_deep = body.depth() >= MOST_BODY_DEPTH;
+    let depth = body.depth();
     match Template::new(alloc, id, effect, principal, action, resource, body) {
         Ok(template) => Ok(within_limits(template)),
         Err(TemplateError::Nested) => Ok(Some(PolicyRead::Nested)),
-        Err(TemplateError::SlotInCondition) => Ok(nested_if(is_deep)),
+        Err(TemplateError::SlotInCondition) => {
+            if depth >= MOST_BODY_DEPTH {
+                Ok(Some(PolicyRead::Nested))
+            } else {
+                Ok(None)
+            }
+        }
         Err(TemplateError::OutOfMemory) => Err(AllocError),
     }
 }
 
 // A condition is one deeper than its body, and may be 400 deep.
 const MOST_BODY_DEPTH: u32 = 400;
-
-fn nested_if(is_deep: bool) -> Option<PolicyRead>
-    ensures { result ≡ (if is_deep then Some PolicyRead.Nested else None) }
-{
-    if is_deep {
-        Some(PolicyRead::Nested)
-    } else {
-        None
-    }
-}
 
 // The policy, where it keeps the limits.
 fn within_limits(template: Template) -> Option<PolicyRead>
