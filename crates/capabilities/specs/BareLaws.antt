@@ -6,26 +6,27 @@ use Rattle.std.proofs.lemmas.Bool.Decides.{Decides-and, Decides-like}
 use base.Stored.{Gv, gnil, gnum, gcons}
 use Rattle.policy_expressions.specs.Tree.{Tree, lit, var, slot, ite, conj, disj, unary, binary, attr, has, like, is_type, call, set, rec, Trees, no_trees, tree, Named, no_named, named, depth_of, deepest, deepest_named}
 use Rattle.policy_expressions.specs.Shape.{SameShape, SameShapes, SameNamed}
-use Rattle.capabilities.specs.Bare.{no_mark, bare, bare_trees, bare_named, coded_plain, same_stored, same_tree}
+use Rattle.capabilities.specs.Bare.{bare, bare_trees, bare_named, coded_plain, same_stored, same_tree}
+use Rattle.policy_expressions.specs.Plain.{unmarked}
 
 module _ {A B : Type 0} where
   mutual
     pub bare_alike : (x : Tree A) (u : Tree B) → SameShape x u → bare x ≡ bare u
-    bare_alike (lit l a) (lit m b) h = λ i. lit (h i) no_mark
-    bare_alike (var v a) (var w b) h = λ i. var (h i) no_mark
-    bare_alike (slot i a) (slot j b) h = λ k. slot (h k) no_mark
-    bare_alike (ite x y z a) (ite u v w b) h = λ i. ite (bare_alike x u h.0 i) (bare_alike y v h.1 i) (bare_alike z w h.2 i) no_mark
-    bare_alike (conj x y a) (conj u v b) h = λ i. conj (bare_alike x u h.0 i) (bare_alike y v h.1 i) no_mark
-    bare_alike (disj x y a) (disj u v b) h = λ i. disj (bare_alike x u h.0 i) (bare_alike y v h.1 i) no_mark
-    bare_alike (unary o x a) (unary p u b) h = λ i. unary (h.0 i) (bare_alike x u h.1 i) no_mark
-    bare_alike (binary o x y a) (binary p u v b) h = λ i. binary (h.0 i) (bare_alike x u h.1 i) (bare_alike y v h.2 i) no_mark
-    bare_alike (attr x m a) (attr u n b) h = λ i. attr (bare_alike x u h.0 i) (h.1 i) no_mark
-    bare_alike (has x m a) (has u n b) h = λ i. has (bare_alike x u h.0 i) (h.1 i) no_mark
-    bare_alike (like x p a) (like u q b) h = λ i. like (bare_alike x u h.0 i) (h.1 i) no_mark
-    bare_alike (is_type x s a) (is_type u t b) h = λ i. is_type (bare_alike x u h.0 i) (h.1 i) no_mark
-    bare_alike (call f xs a) (call g us b) h = λ i. call (h.0 i) (trees_alike xs us h.1 i) no_mark
-    bare_alike (set xs a) (set us b) h = λ i. set (trees_alike xs us h i) no_mark
-    bare_alike (rec xs a) (rec us b) h = λ i. rec (named_alike xs us h i) no_mark
+    bare_alike (lit l a) (lit m b) h = λ i. lit (h i) unmarked
+    bare_alike (var v a) (var w b) h = λ i. var (h i) unmarked
+    bare_alike (slot i a) (slot j b) h = λ k. slot (h k) unmarked
+    bare_alike (ite x y z a) (ite u v w b) h = λ i. ite (bare_alike x u h.0 i) (bare_alike y v h.1 i) (bare_alike z w h.2 i) unmarked
+    bare_alike (conj x y a) (conj u v b) h = λ i. conj (bare_alike x u h.0 i) (bare_alike y v h.1 i) unmarked
+    bare_alike (disj x y a) (disj u v b) h = λ i. disj (bare_alike x u h.0 i) (bare_alike y v h.1 i) unmarked
+    bare_alike (unary o x a) (unary p u b) h = λ i. unary (h.0 i) (bare_alike x u h.1 i) unmarked
+    bare_alike (binary o x y a) (binary p u v b) h = λ i. binary (h.0 i) (bare_alike x u h.1 i) (bare_alike y v h.2 i) unmarked
+    bare_alike (attr x m a) (attr u n b) h = λ i. attr (bare_alike x u h.0 i) (h.1 i) unmarked
+    bare_alike (has x m a) (has u n b) h = λ i. has (bare_alike x u h.0 i) (h.1 i) unmarked
+    bare_alike (like x p a) (like u q b) h = λ i. like (bare_alike x u h.0 i) (h.1 i) unmarked
+    bare_alike (is_type x s a) (is_type u t b) h = λ i. is_type (bare_alike x u h.0 i) (h.1 i) unmarked
+    bare_alike (call f xs a) (call g us b) h = λ i. call (h.0 i) (trees_alike xs us h.1 i) unmarked
+    bare_alike (set xs a) (set us b) h = λ i. set (trees_alike xs us h i) unmarked
+    bare_alike (rec xs a) (rec us b) h = λ i. rec (named_alike xs us h i) unmarked
     bare_alike x u h = absurd h
 
     pub trees_alike : (xs : Trees A) (us : Trees B) → SameShapes xs us → bare_trees xs ≡ bare_trees us

@@ -7,7 +7,8 @@ use Rattle.std.specs.Hash as fed
 use Rattle.std.specs.Hash.{HashWrites}
 use Rattle.policy_expressions.specs.Tree.{depth_of}
 use Rattle.policy_expressions.specs.Shape.{SameShape}
-use Rattle.capabilities.specs.Bare.{Plain, coded_plain, bare, same_stored, same_tree}
+use Rattle.capabilities.specs.Bare.{coded_plain, bare, same_stored, same_tree}
+use Rattle.policy_expressions.specs.Plain.{Plain}
 
 -- an attribute, or the tag that an expression names
 pub data Access : Type 0 where

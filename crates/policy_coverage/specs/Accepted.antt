@@ -8,7 +8,7 @@ use Rattle.policy_expressions.specs.Slots.{has_slot}
 use Rattle.schema_core.specs.EnvData.{LinkedEnvironment, declared_action}
 use Rattle.schema_core.specs.Faults.{IsSchema}
 use Rattle.schema_core.specs.Schema.{SchemaData}
-use Rattle.capabilities.specs.Bare.{Plain}
+use Rattle.policy_expressions.specs.Plain.{Plain}
 use Rattle.policy_typing.specs.Conforms.{RequestConforms, StoreConforms, IsOf}
 use Rattle.policy_typing.specs.Operands.{is_boolean}
 use Rattle.policy_expressions.specs.Keys.{HasKeysOnce}

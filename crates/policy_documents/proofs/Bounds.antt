@@ -5,7 +5,7 @@ use Rattle.std.proofs.lemmas.Bool.Decides.{nat_tests}
 use Rattle.policy_expressions.specs.Tree.{depth_of}
 use Rattle.policy_expressions.specs.declared.expr.BuildError.{BuildError}
 use Rattle.policy_expressions.specs.declared.expr.BuildError.TheVariants as build
-use Rattle.policy_set.specs.Data.{Plain}
+use Rattle.policy_expressions.specs.Plain.{Plain}
 use Rattle.expr_documents.specs.Forms.{join_tree}
 use Rattle.expr_documents.specs.Reads.{bounded, on_two}
 use Rattle.expr_documents.specs.declared.forms.Junction.{Junction}

@@ -13,7 +13,8 @@ use Rattle.policy_expressions.specs.declared.kinds.BinaryOp.TheVariants.{Eq as I
 use Rattle.policy_set.specs.declared.constraint.EntityReference.TheVariants.{EUID, Slot}
 use Rattle.policy_set.specs.declared.constraint.PrincipalOrResourceConstraint.{PrincipalOrResourceConstraint}
 use Rattle.policy_set.specs.declared.constraint.PrincipalOrResourceConstraint.TheVariants as scope
-use Rattle.policy_set.specs.Data.{Plain, TemplateData}
+use Rattle.policy_set.specs.Data.{TemplateData}
+use Rattle.policy_expressions.specs.Plain.{Plain}
 use Rattle.policy_set.specs.Condition.{asks_slot, has_scope_slot, scope_part, action_part, condition_of}
 use Rattle.policy_set.specs.PolicySet.{PolicySetData}
 use Rattle.policy_set.proofs.Depths.{by_body}

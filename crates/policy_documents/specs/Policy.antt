@@ -16,7 +16,8 @@ use Rattle.policy_set.specs.declared.constraint.PrincipalOrResourceConstraint.Th
 use Rattle.policy_set.specs.declared.constraint.ActionConstraint.{ActionConstraint}
 use Rattle.policy_set.specs.declared.constraint.ActionConstraint.TheVariants as action
 use Rattle.policy_expressions.specs.Tree.{depth_of}
-use Rattle.policy_set.specs.Data.{Plain, TemplateData}
+use Rattle.policy_set.specs.Data.{TemplateData}
+use Rattle.policy_expressions.specs.Plain.{Plain}
 use Rattle.policy_set.specs.Condition.{condition_of}
 use Rattle.policy_documents.specs.Body.{body_of}
 use Rattle.policy_documents.specs.Limits.{is_over_ids}

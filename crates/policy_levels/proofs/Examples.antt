@@ -16,7 +16,7 @@ use Rattle.policy_expressions.specs.declared.kinds.Var.TheVariants.{Principal, A
 use Rattle.policy_expressions.specs.declared.kinds.BinaryOp.{BinaryOp}
 use Rattle.policy_expressions.specs.declared.kinds.BinaryOp.TheVariants.{In, GetTag, HasTag}
 use Rattle.policy_expressions.specs.Tree.{lit, var, ite, conj, binary, attr, has, is_type, rec, no_named, named, Mark}
-use Rattle.capabilities.specs.Bare.{Plain}
+use Rattle.policy_expressions.specs.Plain.{Plain}
 use Rattle.capabilities.specs.Capability.{Capability, has_cap}
 use Rattle.capabilities.specs.CapabilityLaws.{known_decides, alike_itself}
 use Rattle.policy_typing.specs.Signatures.{bool_type}

@@ -18,7 +18,7 @@ use Rattle.schema_types.specs.Ty.{Ty, true_type, false_type, primitive, any_enti
 use Rattle.schema_core.specs.EnvData.{LinkedEnvironment, declared_action}
 use Rattle.schema_core.specs.Faults.{IsSchema}
 use Rattle.schema_core.specs.Schema.{SchemaData}
-use Rattle.capabilities.specs.Bare.{Plain}
+use Rattle.policy_expressions.specs.Plain.{Plain}
 use Rattle.capabilities.specs.Capability.{Capability, has_cap}
 use Rattle.capabilities.specs.Holds.{AllHold}
 use Rattle.policy_typing.specs.Conforms.{RequestConforms, StoreConforms, IsOf}

@@ -11,7 +11,7 @@ use Rattle.policy_core.specs.Eval.{eval}
 use Rattle.schema_core.specs.EnvData.{EnvData, declared_action, unlinked}
 use Rattle.schema_core.specs.Environments.{environment}
 use Rattle.schema_core.specs.Schema.{ActionData}
-use Rattle.capabilities.specs.Bare.{Plain}
+use Rattle.policy_expressions.specs.Plain.{Plain}
 use Rattle.policy_typing.specs.Operands.{is_boolean}
 use Rattle.policy_typing.specs.Typing.{Typing, types}
 use Rattle.policy_links.specs.Accepted.{IsTyped}

@@ -8,7 +8,7 @@ use Rattle.policy_core.specs.Eval.{eval}
 use Rattle.schema_core.specs.Schema.{SchemaData}
 use Rattle.schema_core.specs.Faults.{IsSchema}
 use Rattle.schema_core.specs.EnvData.{EnvData, action_in}
-use Rattle.capabilities.specs.Bare.{Plain}
+use Rattle.policy_expressions.specs.Plain.{Plain}
 use Rattle.policy_typing.specs.Conforms.{RequestConforms, StoreConforms}
 use Rattle.policy_expressions.specs.Keys.{HasKeysOnce}
 use Rattle.policy_typing.specs.Typing.{types}

@@ -7,7 +7,7 @@ use Rattle.schema_core.specs.Faults.{IsSchema}
 use Rattle.schema_core.specs.EnvData.{LinkedEnvironment, declared_action}
 use Rattle.policy_core.specs.Eval.{eval}
 use Rattle.policy_expressions.specs.Slots.{has_slot}
-use Rattle.capabilities.specs.Bare.{Plain}
+use Rattle.policy_expressions.specs.Plain.{Plain}
 use Rattle.policy_typing.specs.Conforms.{RequestConforms, StoreConforms, IsOf}
 use Rattle.policy_expressions.specs.Keys.{HasKeysOnce}
 use Rattle.policy_typing.specs.Typing.{types}

@@ -11,7 +11,7 @@ use Rattle.schema_core.specs.EnvData.{principal_slot_in, unlinked}
 use Rattle.schema_core.specs.Environments.{environment}
 use Rattle.schema_core.specs.Kinds.{standard}
 use Rattle.schema_core.specs.Schema.{TypeData, ActionData, SchemaData}
-use Rattle.capabilities.specs.Bare.{Plain}
+use Rattle.policy_expressions.specs.Plain.{Plain}
 use Rattle.policy_typing.specs.Signatures.{bool_type}
 use Rattle.policy_typing.specs.Typing.{types}
 use Rattle.policy_set.specs.declared.constraint.EntityReference.TheVariants.{Slot}
@@ -20,7 +20,8 @@ use Rattle.policy_set.specs.declared.constraint.PrincipalOrResourceConstraint.{P
 use Rattle.policy_set.specs.declared.constraint.PrincipalOrResourceConstraint.TheVariants.{Any, Eq, In, Is, IsIn}
 use Rattle.policy_set.specs.declared.constraint.ActionConstraint.TheVariants as action
 use Rattle.policy_set.specs.Data.{TemplateData}
-use Rattle.policy_set.specs.Condition.{unmarked, anything, condition_of}
+use Rattle.policy_set.specs.Condition.{anything, condition_of}
+use Rattle.policy_expressions.specs.Plain.{unmarked}
 use Rattle.policy_set.specs.Links.{own_condition, linked_of}
 use Rattle.policy_links.specs.Linked.{types_around, linked_env, linked_envs}
 use Rattle.policy_scope.specs.Names.{is_known_type}

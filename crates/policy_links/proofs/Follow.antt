@@ -7,7 +7,7 @@ use Rattle.schema_types.specs.declared.kinds.Primitive.TheVariants.{Bool as Bool
 use Rattle.schema_types.specs.Ty.{Ty, true_type, false_type, primitive}
 use Rattle.schema_core.specs.EnvData.{EnvData}
 use Rattle.schema_core.specs.Schema.{SchemaData}
-use Rattle.capabilities.specs.Bare.{Plain}
+use Rattle.policy_expressions.specs.Plain.{Plain}
 use Rattle.capabilities.specs.Capability.{Capability}
 use Rattle.policy_typing.specs.Rules.{and_type}
 use Rattle.policy_typing.specs.Typing.{Typed, Typing, typing, at, unreached, and_caps, and_typing, types}

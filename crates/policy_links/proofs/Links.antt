@@ -18,7 +18,8 @@ use Rattle.policy_set.specs.declared.constraint.PrincipalOrResourceConstraint.{P
 use Rattle.policy_set.specs.declared.constraint.PrincipalOrResourceConstraint.TheVariants.{Any, Eq, In, Is, IsIn}
 use Rattle.policy_links.specs.Accepted.{IsTyped}
 use Rattle.policy_set.specs.Data.{TemplateData}
-use Rattle.policy_set.specs.Condition.{unmarked, scope_part, action_part, condition_of}
+use Rattle.policy_set.specs.Condition.{scope_part, action_part, condition_of}
+use Rattle.policy_expressions.specs.Plain.{unmarked}
 use Rattle.policy_set.specs.Links.{own_condition, linked, linked_of, HasPlainBody}
 use Rattle.policy_links.specs.Laws.{IsSameOrFalse, FollowsTyping, own_slot, LinksFollowTemplates, LinksAreTyped}
 use Rattle.policy_links.specs.Linked.{linked_env, types_above, types_around, slot_types, linked_envs_with, linked_envs_at, linked_envs_of}

@@ -21,7 +21,7 @@ use Rattle.schema_types.specs.Ty.{Ty, false_type, entity}
 use Rattle.schema_core.specs.EnvData.{EnvData, unlinked, literal_type}
 use Rattle.schema_core.specs.Environments.{Environment}
 use Rattle.schema_core.specs.Schema.{ActionData, SchemaData}
-use Rattle.capabilities.specs.Bare.{Plain}
+use Rattle.policy_expressions.specs.Plain.{Plain}
 use Rattle.policy_typing.specs.Environment.{is_type_within}
 use Rattle.policy_typing.specs.Rules.{bool_if, strict_join, is_entity_set, equal_type, possible, type_in}
 use Rattle.policy_typing.specs.Signatures.{bool_type}
@@ -31,7 +31,8 @@ use Rattle.policy_set.specs.declared.constraint.PrincipalOrResourceConstraint.{P
 use Rattle.policy_set.specs.declared.constraint.PrincipalOrResourceConstraint.TheVariants.{Any, Eq, In, Is, IsIn as IsWithin}
 use Rattle.policy_set.specs.declared.constraint.ActionConstraint.{ActionConstraint}
 use Rattle.policy_set.specs.declared.constraint.ActionConstraint.TheVariants as action
-use Rattle.policy_set.specs.Condition.{unmarked, anything, variable_of, referred, compared, of_type, scope_part, literals, action_part, asks_slot}
+use Rattle.policy_set.specs.Condition.{anything, variable_of, referred, compared, of_type, scope_part, literals, action_part, asks_slot}
+use Rattle.policy_expressions.specs.Plain.{unmarked}
 use Rattle.policy_set.specs.Links.{with_id, linked}
 use Rattle.policy_links.specs.Laws.{with_id as slot_filled, FollowsTyping, own_slot}
 use Rattle.policy_links.specs.Linked.{linked_env}

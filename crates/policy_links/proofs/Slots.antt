@@ -17,7 +17,7 @@ use Rattle.schema_core.specs.EnvData.{EnvData}
 use Rattle.schema_core.specs.Environments.{Environment}
 use Rattle.schema_core.specs.Schema.{ActionData, SchemaData}
 use Rattle.policy_types.specs.Join.{is_entity}
-use Rattle.capabilities.specs.Bare.{Plain}
+use Rattle.policy_expressions.specs.Plain.{Plain}
 use Rattle.capabilities.specs.Capability.{Capability, has_cap}
 use Rattle.policy_typing.specs.Environment.{type_of_variable, known_id, known_ids, listed_ids}
 use Rattle.policy_typing.specs.Rules as rule

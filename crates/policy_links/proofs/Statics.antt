@@ -28,7 +28,7 @@ use Rattle.policy_set.specs.declared.constraint.PrincipalOrResourceConstraint.Th
 use Rattle.policy_set.specs.declared.constraint.ActionConstraint.{ActionConstraint}
 use Rattle.policy_set.specs.declared.constraint.ActionConstraint.TheVariants as action
 use Rattle.policy_links.specs.Accepted.{IsTyped, IsTypedIn}
-use Rattle.capabilities.specs.Bare.{Plain}
+use Rattle.policy_expressions.specs.Plain.{Plain}
 use Rattle.policy_set.specs.Data.{TemplateData}
 use Rattle.policy_set.specs.Condition.{scope_part, literals, action_part, condition_of, asks_slot}
 use Rattle.policy_set.specs.Links.{own_condition, linked, linked_of, HasPlainBody}

@@ -6,7 +6,7 @@ use Rattle.policy_expressions.specs.declared.kinds.SlotValues.{SlotValues}
 use Rattle.policy_expressions.specs.Tree.{depth_of}
 use Rattle.schema_core.specs.Schema.{SchemaData}
 use Rattle.schema_core.specs.EnvData.{EnvData}
-use Rattle.capabilities.specs.Bare.{Plain}
+use Rattle.policy_expressions.specs.Plain.{Plain}
 use Rattle.policy_typing.specs.Operands.{is_boolean}
 use Rattle.policy_typing.specs.Typing.{types}
 use Rattle.policy_set.specs.Data.{TemplateData}

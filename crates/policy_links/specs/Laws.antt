@@ -22,7 +22,7 @@ use Rattle.schema_core.specs.Environments.{Environment, environment}
 use Rattle.schema_core.specs.EnvData.{unlinked, unlinked_envs}
 use Rattle.schema_core.specs.Faults.{IsSchema}
 use Rattle.schema_core.specs.Schema.{ActionData, SchemaData, action_at}
-use Rattle.capabilities.specs.Bare.{Plain}
+use Rattle.policy_expressions.specs.Plain.{Plain}
 use Rattle.capabilities.specs.Capability.{Capability}
 use Rattle.policy_typing.specs.Typing.{Typed, Typing, unreached, types}
 use Rattle.policy_set.specs.declared.constraint.PrincipalOrResourceConstraint.{PrincipalOrResourceConstraint}

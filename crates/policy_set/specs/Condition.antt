@@ -10,8 +10,9 @@ use Rattle.policy_expressions.specs.declared.kinds.SlotId.TheVariants.{Principal
 use Rattle.policy_expressions.specs.declared.kinds.BinaryOp.{BinaryOp}
 use Rattle.policy_expressions.specs.declared.kinds.BinaryOp.TheVariants.{Eq as IsEqual, In as IsIn}
 use Rattle.policy_expressions.specs.Tree.{Trees, trees_of, Mark, lit, var, slot, conj, binary, set, is_type}
+use Rattle.policy_expressions.specs.Plain.{Plain, unmarked}
 use Rattle.policy_expressions.specs.Slots.{has_slot}
-use Rattle.policy_set.specs.Data.{Plain, TemplateData, PolicyData}
+use Rattle.policy_set.specs.Data.{TemplateData, PolicyData}
 use Rattle.policy_set.specs.declared.constraint.Effect.{Effect}
 use Rattle.policy_set.specs.declared.constraint.EntityReference.{EntityReference}
 use Rattle.policy_set.specs.declared.constraint.EntityReference.TheVariants.{EUID, Slot}
@@ -24,10 +25,6 @@ use Rattle.policy_expressions.specs.declared.expr.BuildError.{BuildError}
 use Rattle.policy_expressions.specs.declared.expr.BuildError.TheVariants as build
 use Rattle.policy_set.specs.declared.template.TemplateError.{TemplateError}
 use Rattle.policy_set.specs.declared.template.TemplateError.TheVariants.{Nested, OutOfMemory}
-
--- a policy's own condition has no notes, and its scope no places
-abbrev pub unmarked : Mark (Unit {0})
-unmarked = record { note = tt; loc = None }
 
 abbrev pub anything : Plain
 anything = lit (literal.Bool true) unmarked

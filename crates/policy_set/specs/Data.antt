@@ -2,7 +2,7 @@
 use Rattle.std.specs.Prelude.{ℕ, List, Option, refl}
 use Rattle.std.specs.Coded.{Coded, coded_ℕ, coded_list, coded_option, coded×, code_by}
 use base.Stored.{coded_unit}
-use Rattle.policy_expressions.specs.Tree.{Tree, Mark}
+use Rattle.policy_expressions.specs.Plain.{Plain}
 use Rattle.policy_expressions.specs.TreeCode.{coded_tree, coded_mark}
 use Rattle.policy_set.specs.declared.constraint.Effect.{Effect}
 use Rattle.policy_set.specs.declared.constraint.PrincipalOrResourceConstraint.{PrincipalOrResourceConstraint}
@@ -10,10 +10,6 @@ use Rattle.policy_set.specs.declared.constraint.ActionConstraint.{ActionConstrai
 use Rattle.policy_set.specs.contracts.constraint.Effect.{the_row as effect_row}
 use Rattle.policy_set.specs.contracts.constraint.PrincipalOrResourceConstraint.{the_row as constraint_row}
 use Rattle.policy_set.specs.contracts.constraint.ActionConstraint.{the_row as action_row}
-
--- an expression without notes
-abbrev pub Plain : Type 0
-Plain = Tree (Mark (Unit {0}))
 
 -- a template: what it does where its condition is true, what its scope asks for, and its body
 pub record TemplateData : Type 0 where

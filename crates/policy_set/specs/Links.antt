@@ -3,7 +3,8 @@ use Rattle.std.specs.Prelude.{◌≡◌, false, Option, Some, None, is_some}
 use Rattle.policy_names.specs.declared.entity_uid.EntityUID.{EntityUID}
 use Rattle.policy_expressions.specs.declared.kinds.SlotValues.{SlotValues}
 use Rattle.policy_expressions.specs.Slots.{has_slot, filled}
-use Rattle.policy_set.specs.Data.{Plain, TemplateData}
+use Rattle.policy_set.specs.Data.{TemplateData}
+use Rattle.policy_expressions.specs.Plain.{Plain}
 use Rattle.policy_set.specs.Condition.{condition_of, asks_slot}
 use Rattle.policy_set.specs.declared.constraint.EntityReference.{EntityReference}
 use Rattle.policy_set.specs.declared.constraint.EntityReference.TheVariants.{EUID, Slot}

@@ -178,7 +178,8 @@ impl Template {
 
 ghost use Rattle.policy_expressions.specs.declared.kinds.BinaryOp.TheVariants.{In};
 ghost use Rattle.std.specs.Prelude.{map};
-ghost use Rattle.policy_set.specs.Condition.{unmarked, scope_of, anything, referred, id_literal, compared, of_type, scope_part, action_part, variable_of};
+ghost use Rattle.policy_set.specs.Condition.{scope_of, anything, referred, id_literal, compared, of_type, scope_part, action_part, variable_of};
+ghost use Rattle.policy_expressions.specs.Plain.{unmarked};
 ghost use Rattle.policy_expressions.specs.Tree.{conj};
 
 // Scope and body. What the body may be is tested before memory is asked for.

@@ -28,7 +28,7 @@ use Rattle.policy_core.specs.Eval.{literal_value, eval_all}
 use Rattle.policy_expressions.specs.Functions.{function_of}
 use Rattle.policy_core.specs.Operators.{fit}
 use Rattle.policy_expressions.specs.Tree.{lit, Trees, no_trees, tree, Mark}
-use Rattle.capabilities.specs.Bare.{Plain}
+use Rattle.policy_expressions.specs.Plain.{Plain}
 use Rattle.policy_typing.specs.Signatures.{bool_type, long_type, string_type, decimal_type, ip_type, datetime_type, duration_type, same_type, same_types, unary_signature, binary_signature, signature_of, is_readable, is_literal, are_literals, count_of, has_count, has_literals, has_readable, call_type}
 use Rattle.policy_typing.specs.Sound.{IsOfType}
 use Rattle.policy_typing.proofs.Lists.{AreMembers, AreOf}

@@ -17,7 +17,7 @@ use Rattle.policy_expressions.specs.declared.kinds.BinaryOp.TheVariants.{Eq, Les
 use Rattle.policy_expressions.specs.Tree.{Trees, lit, var, slot, ite, conj, disj, unary, binary, attr, has, like, is_type, set, rec, no_trees, tree, no_named, named, Mark, call}
 use Rattle.policy_expressions.specs.Functions.{functions, decimal_functions, ip_functions, datetime_functions, duration_functions}
 use Rattle.policy_values.specs.Readings.{decimal_in}
-use Rattle.capabilities.specs.Bare.{Plain}
+use Rattle.policy_expressions.specs.Plain.{Plain}
 use Rattle.capabilities.specs.Capability.{Capability, has_cap}
 use Rattle.capabilities.specs.CapabilityLaws.{known_decides, alike_itself}
 use Rattle.policy_typing.specs.Signatures.{bool_type, long_type, string_type, decimal_type}

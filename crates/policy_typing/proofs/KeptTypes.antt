@@ -31,7 +31,7 @@ use Rattle.policy_expressions.specs.declared.kinds.BinaryOp.{BinaryOp}
 use Rattle.policy_expressions.specs.declared.kinds.BinaryOp.TheVariants.{Eq, Less, LessEq, Add, Sub, Mul, In, Contains, ContainsAll, ContainsAny, GetTag, HasTag}
 use Rattle.policy_expressions.specs.Functions.{function_of}
 use Rattle.policy_expressions.specs.Tree.{lit, var, slot, ite, conj, disj, unary, binary, attr as get, has, like, is_type, call, set, rec, Trees, no_trees, tree, Named, no_named, named, Mark}
-use Rattle.capabilities.specs.Bare.{Plain}
+use Rattle.policy_expressions.specs.Plain.{Plain}
 use Rattle.capabilities.specs.Capability.{Capability, has_cap, common}
 use Rattle.policy_typing.specs.Environment.{truth_type, type_of_literal, type_of_variable, slot_entity, type_of_slot, declared_attributes, is_type_within, known_id, listed_ids}
 use Rattle.policy_typing.specs.Rules as rule

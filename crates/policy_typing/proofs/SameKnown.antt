@@ -11,7 +11,7 @@ use Rattle.schema_core.specs.EnvData.{EnvData}
 use Rattle.schema_core.specs.Schema.{SchemaData}
 use Rattle.policy_expressions.specs.Functions.{function_of}
 use Rattle.policy_expressions.specs.Tree.{lit, var, slot, ite, conj, disj, unary, binary, attr, has, like, is_type, call, set, rec, Trees, no_trees, tree, Named, no_named, named, Mark, named_of}
-use Rattle.capabilities.specs.Bare.{Plain}
+use Rattle.policy_expressions.specs.Plain.{Plain}
 use Rattle.capabilities.specs.Capability.{Capability, IsKnown, has_cap, common}
 use Rattle.capabilities.specs.CapabilityLaws.{known_decides, known_append, known_common}
 use Rattle.policy_typing.specs.Known.{KnowTheSame, AreSame, TypedTheSame, WhatIsKnownDecides}

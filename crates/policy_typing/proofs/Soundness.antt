@@ -27,7 +27,7 @@ use Rattle.policy_core.specs.Eval.{known_fields, eval, eval_all, eval_named, lit
 use Rattle.policy_expressions.specs.Functions.{function_of}
 use Rattle.policy_core.specs.Operators.{unary_value, binary_value, attr_value, has_value, has_tag_value, like_value, is_value}
 use Rattle.policy_expressions.specs.Tree.{lit, var, slot, ite, conj, disj, unary, binary, attr, has, like, is_type, call, set, rec, Trees, no_trees, tree, Named, no_named, named, Mark}
-use Rattle.capabilities.specs.Bare.{Plain}
+use Rattle.policy_expressions.specs.Plain.{Plain}
 use Rattle.capabilities.specs.Capability.{Capability, has_cap, common}
 use Rattle.capabilities.specs.Holds.{HasAttribute, AllHold}
 use Rattle.capabilities.specs.Holds as holds

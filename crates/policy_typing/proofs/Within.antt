@@ -25,7 +25,7 @@ use Rattle.policy_core.specs.declared.outcome.Outcome.TheVariants.{Value, Error}
 use Rattle.policy_core.specs.Eval.{eval, eval_all, in_front, set_outcome}
 use Rattle.policy_core.specs.Operators.{above, within, or_within, within_any, in_value}
 use Rattle.policy_expressions.specs.Tree.{lit, var, set, Trees, no_trees, tree, Mark}
-use Rattle.capabilities.specs.Bare.{Plain}
+use Rattle.policy_expressions.specs.Plain.{Plain}
 use Rattle.policy_typing.specs.Conforms.{IsAllowedAncestor, StoreConforms, RequestConforms, IsOf, IdConforms, is_listed_in}
 use Rattle.schema_core.specs.Schema.{type_below, action_below}
 use Rattle.policy_typing.specs.Environment.{is_type_within, is_action_within, known_id, known_ids, listed_ids}

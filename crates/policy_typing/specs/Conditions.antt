@@ -9,7 +9,7 @@ use Rattle.schema_core.specs.Schema.{SchemaData}
 use Rattle.policy_core.specs.declared.outcome.Outcome.{Outcome}
 use Rattle.policy_core.specs.Eval.{eval}
 use Rattle.policy_expressions.specs.Slots.{has_slot}
-use Rattle.capabilities.specs.Bare.{Plain}
+use Rattle.policy_expressions.specs.Plain.{Plain}
 use Rattle.policy_typing.specs.Conforms.{RequestConforms, StoreConforms, IsOf}
 use Rattle.policy_typing.specs.Operands.{is_boolean}
 use Rattle.policy_typing.specs.Signatures.{bool_type}

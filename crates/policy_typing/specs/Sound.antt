@@ -14,7 +14,7 @@ use Rattle.policy_core.specs.declared.outcome.Outcome.TheVariants.{Value, Error}
 use Rattle.policy_expressions.specs.Tree.{mark_of}
 use Rattle.policy_core.specs.Eval.{eval}
 use Rattle.policy_expressions.specs.Slots.{has_slot}
-use Rattle.capabilities.specs.Bare.{Plain}
+use Rattle.policy_expressions.specs.Plain.{Plain}
 use Rattle.capabilities.specs.Capability.{Capability}
 use Rattle.capabilities.specs.Holds.{AllHold}
 use Rattle.policy_expressions.specs.Keys.{HasKeysOnce}

@@ -7,8 +7,6 @@ pub mod laws;
 mod map;
 mod readings;
 mod sets;
-#[cfg(test)]
-mod tests;
 mod value;
 
 pub use map::push_entry;

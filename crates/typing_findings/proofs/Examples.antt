@@ -13,7 +13,7 @@ use Rattle.schema_types.specs.declared.kinds.LubHelp.TheVariants.{RecordWidth}
 use Rattle.schema_types.specs.Ty.{Ty, true_type, false_type, entity}
 use Rattle.schema_core.specs.Schema.{SchemaData}
 use Rattle.schema_core.specs.EnvData.{EnvData, LinkedEnvironment, declared_action}
-use Rattle.capabilities.specs.Bare.{Plain}
+use Rattle.policy_expressions.specs.Plain.{Plain}
 use Rattle.policy_typing.specs.Signatures.{long_type, string_type, datetime_type, duration_type}
 use Rattle.policy_typing.specs.Typing.{Typed, typing, at, unreached}
 use Rattle.typing_findings.specs.declared.finding.UnexpectedTypeHelp.TheVariants.{ConcatenationNotSupported}

@@ -16,7 +16,7 @@ use Rattle.policy_expressions.specs.declared.kinds.PatternElem.{PatternElem}
 use Rattle.policy_expressions.specs.declared.kinds.UnaryOp.{UnaryOp}
 use Rattle.policy_expressions.specs.declared.kinds.BinaryOp.{BinaryOp}
 use Rattle.policy_expressions.specs.Tree.{set, rec, named_of, Mark}
-use Rattle.capabilities.specs.Bare.{Plain}
+use Rattle.policy_expressions.specs.Plain.{Plain}
 use Rattle.capabilities.specs.Capability.{Capability}
 use Rattle.policy_typing.specs.Rules as rule
 use Rattle.policy_typing.specs.Rules.{attribute_of}

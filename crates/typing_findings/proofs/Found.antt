@@ -17,7 +17,7 @@ use Rattle.policy_expressions.specs.declared.kinds.UnaryOp.TheVariants.{Not, Neg
 use Rattle.policy_expressions.specs.declared.kinds.BinaryOp.{BinaryOp}
 use Rattle.policy_expressions.specs.declared.kinds.BinaryOp.TheVariants.{Eq, Less, LessEq, Add, Sub, Mul, In, Contains, ContainsAll, ContainsAny, GetTag, HasTag}
 use Rattle.policy_expressions.specs.Tree.{mark_of}
-use Rattle.capabilities.specs.Bare.{Plain}
+use Rattle.policy_expressions.specs.Plain.{Plain}
 use Rattle.policy_typing.specs.Signatures.{bool_type, long_type, datetime_type, duration_type, same_type}
 use Rattle.policy_typing.specs.Environment.{truth_type, known_id}
 use Rattle.policy_typing.specs.Rules as rule

@@ -12,7 +12,7 @@ use Rattle.policy_expressions.specs.declared.kinds.BinaryOp.{BinaryOp}
 use Rattle.policy_expressions.specs.declared.kinds.BinaryOp.TheVariants.{Eq, Less, LessEq, Add, Sub, Mul, In, Contains as ContainsOp, ContainsAll, ContainsAny, GetTag, HasTag}
 use Rattle.policy_expressions.specs.declared.functions.ExtensionFunction.{ExtensionFunction}
 use Rattle.policy_expressions.specs.Tree.{Trees, Mark}
-use Rattle.capabilities.specs.Bare.{Plain}
+use Rattle.policy_expressions.specs.Plain.{Plain}
 use Rattle.policy_typing.specs.Signatures.{long_type, datetime_type, duration_type, same_type, only_text, is_readable, has_count, has_literals, has_readable}
 use Rattle.policy_typing.specs.Rules.{order_type, attribute_of, safe_type, tag_type}
 use Rattle.typing_findings.specs.declared.finding.LubContext.{LubContext}

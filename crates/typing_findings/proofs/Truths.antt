@@ -13,7 +13,7 @@ use Rattle.policy_expressions.specs.declared.kinds.BinaryOp.{BinaryOp}
 use Rattle.policy_expressions.specs.declared.functions.ExtensionFunction.{ExtensionFunction}
 use Rattle.policy_expressions.specs.Functions.{function_of}
 use Rattle.policy_expressions.specs.Tree.{lit, var, slot, ite, conj, disj, unary, binary, attr, has, like, is_type, call, set, rec, Trees, no_trees, tree, Named, no_named, named, Mark, named_of}
-use Rattle.capabilities.specs.Bare.{Plain}
+use Rattle.policy_expressions.specs.Plain.{Plain}
 use Rattle.capabilities.specs.Capability.{Capability, has_cap}
 use Rattle.policy_typing.specs.Signatures.{bool_type, signature_of}
 use Rattle.policy_typing.specs.Environment.{type_of_literal, type_of_variable}

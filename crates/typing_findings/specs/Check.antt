@@ -5,7 +5,7 @@ use Rattle.schema_types.specs.Ty.{Ty, true_type, false_type, primitive}
 use Rattle.schema_core.specs.Schema.{SchemaData}
 use Rattle.schema_core.specs.EnvData.{EnvData, action_type_in}
 use Rattle.policy_expressions.specs.Tree.{depth_of}
-use Rattle.capabilities.specs.Bare.{Plain}
+use Rattle.policy_expressions.specs.Plain.{Plain}
 use Rattle.policy_typing.specs.Typing.{Typed, Typing, types}
 use Rattle.typing_findings.specs.Finding.{Finding}
 use Rattle.typing_findings.specs.Names.{has_known_names}

@@ -13,7 +13,7 @@ use Rattle.policy_expressions.specs.declared.kinds.BinaryOp.{BinaryOp}
 use Rattle.policy_expressions.specs.declared.kinds.BinaryOp.TheVariants.{Eq, Add, Sub, Mul, GetTag, HasTag}
 use Rattle.policy_expressions.specs.declared.functions.ExtensionFunction.{ExtensionFunction}
 use Rattle.policy_expressions.specs.Tree.{ite, conj, disj, unary, binary, attr, has, like, is_type, call, set, rec, Trees, no_trees, tree, Mark, mark_of, named_of}
-use Rattle.capabilities.specs.Bare.{Plain}
+use Rattle.policy_expressions.specs.Plain.{Plain}
 use Rattle.capabilities.specs.Capability.{Capability}
 use Rattle.policy_typing.specs.Signatures.{bool_type, long_type, call_type, signature_of}
 use Rattle.policy_typing.specs.Environment.{truth_type, known_id}

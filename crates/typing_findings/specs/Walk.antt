@@ -4,7 +4,7 @@ use Rattle.schema_core.specs.Schema.{SchemaData}
 use Rattle.schema_core.specs.EnvData.{EnvData}
 use Rattle.policy_expressions.specs.Functions.{function_of}
 use Rattle.policy_expressions.specs.Tree.{lit, var, slot, ite, conj, disj, unary, binary, attr, has, like, is_type, call, set, rec, Trees, no_trees, tree, Named, no_named, named, Mark}
-use Rattle.capabilities.specs.Bare.{Plain}
+use Rattle.policy_expressions.specs.Plain.{Plain}
 use Rattle.capabilities.specs.Capability.{Capability, has_cap}
 use Rattle.policy_typing.specs.Environment.{type_of_literal, type_of_variable, type_of_slot}
 use Rattle.policy_typing.specs.Typing.{typing, at, attribute_known, tag_known}

@@ -2,7 +2,7 @@ use Rattle.std.proofs.Common.{◌≡◌, None, IfOk, Option, option_map, ap, ◌
 use Rattle.std.specs.Prelude.{option_and_then}
 use Rattle.serde_json.specs.Data.{Items}
 use Rattle.serde_json.specs.View.{items_view}
-use Rattle.policy_set.specs.Data.{Plain}
+use Rattle.policy_expressions.specs.Plain.{Plain}
 use Rattle.policy_documents.specs.Body.{clauses_of, conjunction, left_fold, or_anything}
 use Rattle.expr_documents.specs.Reads.{bounded}
 use Rattle.expr_documents.specs.declared.nesting.Bounded.{Bounded}

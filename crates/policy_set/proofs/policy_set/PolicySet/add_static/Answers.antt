@@ -4,7 +4,6 @@ use Rattle.std.specs.List.{AllByRecursion}
 use Rattle.std.specs.Map.{values_of}
 use Rattle.std.specs.BTreeMap.{values, insert_entry}
 use Rattle.std.proofs.lemmas.Map.Lookups.{exact_bytes}
-use Rattle.hierarchy.specs.Keyed.{value_at}
 use Rattle.hierarchy.proofs.Keyed.{value_found, value_put, own_put}
 use Rattle.policy_names.specs.Uid.{text_cmp}
 use Rattle.policy_set.specs.Condition.{IsPolicy, static_of}
