@@ -71,7 +71,7 @@ impl<'a> Capability<'a> {
         }
     }
 
-    /// An equal capability with memory of its own.
+    /// An equal capability.
     pub fn try_clone(&self, alloc: Global) -> Result<Capability<'a>, AllocError>
         ensures { IfOk result (λ k. k ≡ self.now) }
     {

@@ -15,8 +15,8 @@ use Rattle.schema_core.specs.Schema.{SchemaData}
 use Rattle.schema_core.specs.Entries.{Declarations}
 use Rattle.schema_core.specs.Declarations.{IsSchemaOf, IsRefused, declared_outline}
 use Rattle.schema_core.proofs.OneSchema.{one_schema}
-use Rattle.schema_core.specs.declared.fault.SchemaFault.{SchemaFault}
-use Rattle.schema_core.specs.declared.fault.SchemaFault.TheVariants as refused
+use Rattle.schema_declarations.specs.declared.fault.SchemaFault.{SchemaFault}
+use Rattle.schema_declarations.specs.declared.fault.SchemaFault.TheVariants as refused
 use Rattle.policy_documents.specs.Faults.{Then}
 use Rattle.policy_documents.specs.Parts.{DocumentParts, parts_of}
 use Rattle.policy_documents.specs.Policies.{no_policies, policies_of}

@@ -6,7 +6,7 @@ use Rattle.policy_store.specs.declared.request.Request.{Request}
 use Rattle.schema_core.specs.Declarations.{IsSchemaOf, IsRefused}
 use Rattle.schema_core.specs.Entries.{Declarations}
 use Rattle.schema_core.specs.Schema.{SchemaData}
-use Rattle.schema_core.specs.declared.fault.SchemaFault.TheVariants as refused
+use Rattle.schema_declarations.specs.declared.fault.SchemaFault.TheVariants as refused
 use Rattle.serde_json.specs.Data.{Data}
 use Rattle.policy_documents.specs.Faults.{Then}
 use Rattle.policy_documents.specs.Parts.{DocumentParts, parts_of}

@@ -1,7 +1,7 @@
 -- Steps of loops over expressions.
-use Rattle.std.proofs.Common.{◌≡◌, ℕ, zero, suc, ◌+◌, ◌<◌, ◌≤◌, List, [], ◌∷◌, ◌++◌, max, length, get_or, drop, arith, subst, sym}
+use Rattle.std.proofs.Common.{◌≡◌, ℕ, zero, suc, ◌+◌, ◌<◌, ◌≤◌, List, [], ◌∷◌, max, length, get_or, drop, arith, subst, sym}
 use Rattle.std.proofs.lemmas.List.{at_drop_more, at_drop_all}
-use Rattle.policy_expressions.specs.Tree.{Tree, depth_of, deepest, deepest_named, trees_of, named_of}
+use Rattle.policy_expressions.specs.Tree.{Tree, depth_of, deepest, trees_of}
 
 module _ {A : Type 0} where
   pub deepest_more : (xs : List (Tree A)) (i : ℕ) (d : Tree A) → i < length xs → deepest (trees_of (drop i xs)) ≡ max (depth_of (get_or xs i d)) (deepest (trees_of (drop (i + 1) xs)))

@@ -20,7 +20,7 @@ impl<T: Note> Expr<T> {
         fill(alloc, self, values)
     }
 
-    /// An equal expression with memory of its own.
+    /// An equal expression.
     pub fn try_clone(&self, alloc: Global) -> Result<Expr<T>, AllocError>
         ensures { IfOk result (λ e. e ≡ self.now) }
     {

@@ -122,7 +122,7 @@ impl SlotValues {
 }
 
 impl Literal {
-    /// An equal literal with memory of its own.
+    /// An equal literal.
     pub fn try_clone(&self) -> Result<Literal, AllocError>
         ensures { IfOk result (λ l. l ≡ self.now) }
     {

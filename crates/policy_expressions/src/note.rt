@@ -6,7 +6,7 @@ use std::alloc::{AllocError, Global};
 
 /// A note at a node of an expression that can be copied with it.
 pub trait Note: Drop {
-    /// An equal note with memory of its own.
+    /// An equal note.
     fn try_copy(&self, alloc: Global) -> Result<Self, AllocError>
         ensures { IfOk result (λ copy. copy ≡ self.now) };
 }

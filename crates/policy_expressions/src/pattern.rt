@@ -36,7 +36,7 @@ impl Pattern {
         self.elements.as_slice()
     }
 
-    /// An equal pattern with memory of its own.
+    /// An equal pattern.
     pub fn try_clone(&self, alloc: Global) -> Result<Pattern, AllocError>
         ensures { IfOk result (λ p. p ≡ self.now) }
     {

@@ -22,7 +22,7 @@ use Rattle.capabilities.specs.Bare.{Plain}
 use Rattle.capabilities.specs.Capability.{Capability, has_cap}
 use Rattle.capabilities.specs.Holds.{AllHold}
 use Rattle.policy_typing.specs.Conforms.{RequestConforms, StoreConforms, IsOf}
-use Rattle.policy_typing.specs.Keys.{HasKeysOnce, HaveKeysOnce, AreKeysOnce}
+use Rattle.policy_expressions.specs.Keys.{HasKeysOnce, HaveKeysOnce, AreKeysOnce}
 use Rattle.policy_typing.specs.Sound.{IsOfType, Fulfils}
 use Rattle.policy_typing.specs.Typing.{Typed, Typing, typing, if_typing, and_typing, and_caps, or_typing, or_caps, trees_in, named_in, types_in, record_type, types, types_all, types_named, attribute_known, tag_known, at}
 use Rattle.policy_typing.specs.Environment.{type_of_literal, type_of_variable}

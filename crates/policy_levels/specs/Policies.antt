@@ -10,7 +10,7 @@ use Rattle.schema_core.specs.Faults.{IsSchema}
 use Rattle.schema_core.specs.EnvData.{EnvData, action_in}
 use Rattle.capabilities.specs.Bare.{Plain}
 use Rattle.policy_typing.specs.Conforms.{RequestConforms, StoreConforms}
-use Rattle.policy_typing.specs.Keys.{HasKeysOnce}
+use Rattle.policy_expressions.specs.Keys.{HasKeysOnce}
 use Rattle.policy_typing.specs.Typing.{types}
 use Rattle.policy_links.specs.Accepted.{IsAcceptedTemplate, IsAcceptedLink}
 use Rattle.policy_links.specs.Condition.{Written, condition_of, own_condition, asks_slot, HasPlainBody, Fills}

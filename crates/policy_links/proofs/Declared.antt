@@ -15,7 +15,7 @@ use Rattle.schema_types.specs.Ty.{entity}
 use Rattle.schema_core.specs.EnvData.{id_type, literal_type}
 use Rattle.schema_core.specs.Faults.{IsSchema}
 use Rattle.schema_core.specs.Schema.{TypeData, ActionData, SchemaData, type_at, action_at}
-use Rattle.policy_typing.specs.Environment.{type_below}
+use Rattle.schema_core.specs.Schema.{type_below}
 use Rattle.policy_links.specs.declared.constraint.EntityReference.TheVariants.{Slot}
 use Rattle.policy_links.specs.declared.constraint.PrincipalOrResourceConstraint.{PrincipalOrResourceConstraint}
 use Rattle.policy_links.specs.declared.constraint.PrincipalOrResourceConstraint.TheVariants.{Eq, In, IsIn}

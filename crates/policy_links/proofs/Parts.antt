@@ -16,7 +16,7 @@ use Rattle.policy_expressions.specs.declared.kinds.Var.TheVariants as variable
 use Rattle.policy_types.specs.Join.{is_entity}
 use Rattle.policy_expressions.specs.Slots.{has_slot, some_has_slot, filled, in_place, value_of}
 use Rattle.policy_expressions.specs.Tree.{lit, var, slot, conj, binary}
-use Rattle.schema_types.specs.NameLaws.{equal_of}
+use Rattle.policy_names.proofs.Ties.{equal_of}
 use Rattle.schema_types.specs.Ty.{Ty, false_type, entity}
 use Rattle.schema_core.specs.EnvData.{EnvData, unlinked, literal_type}
 use Rattle.schema_core.specs.Environments.{Environment}

@@ -13,14 +13,14 @@ use Rattle.policy_expressions.specs.declared.kinds.SlotId.TheVariants.{Principal
 use Rattle.policy_core.specs.Eval.{eval}
 use Rattle.policy_expressions.specs.Slots.{has_slot}
 use Rattle.policy_expressions.specs.Tree.{depth_of}
-use Rattle.schema_types.specs.NameLaws.{equal_of}
+use Rattle.policy_names.proofs.Ties.{equal_of}
 use Rattle.schema_core.specs.EnvData.{EnvData, LinkedEnvironment, declared_action, unlinked, unlinked_of}
 use Rattle.schema_core.specs.Environments.{Environment, environment, environments_of, environments_at}
 use Rattle.schema_core.specs.Schema.{ActionData, SchemaData, is_action_named, action_at}
 use Rattle.policy_typing.specs.Conforms.{RequestConforms, Applies, IsOf}
 use Rattle.policy_typing.specs.Conditions.{IsCondition, ConditionsAreSound}
 use Rattle.policy_typing.specs.Operands.{is_boolean}
-use Rattle.policy_typing.specs.Keys.{HasKeysOnce, HaveKeysOnce}
+use Rattle.policy_expressions.specs.Keys.{HasKeysOnce, HaveKeysOnce}
 use Rattle.policy_typing.specs.Typing.{Typing, unreached, types}
 use Rattle.policy_links.specs.declared.constraint.EntityReference.TheVariants.{EUID, Slot}
 use Rattle.policy_links.specs.declared.constraint.PrincipalOrResourceConstraint.{PrincipalOrResourceConstraint}

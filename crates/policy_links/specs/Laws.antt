@@ -13,7 +13,7 @@ use Rattle.policy_store.specs.Request.{principal_of, action_of, resource_of}
 use Rattle.policy_store.specs.Store.{Store}
 use Rattle.policy_typing.specs.Conforms.{RequestConforms, StoreConforms}
 use Rattle.policy_typing.specs.Conditions.{IsCondition}
-use Rattle.policy_typing.specs.Keys.{HasKeysOnce}
+use Rattle.policy_expressions.specs.Keys.{HasKeysOnce}
 use Rattle.hierarchy.specs.Reaches.{has}
 use Rattle.policy_names.specs.Uid.{text_cmp}
 use Rattle.schema_types.specs.Ty.{Ty, false_type}

@@ -4,7 +4,8 @@ use Rattle.std.specs.List.{list_any, list_all}
 use Rattle.std.specs.Ordering.{is_eq}
 use Rattle.policy_names.specs.Uid.{text_cmp, uid_eq}
 use Rattle.schema_core.specs.Schema.{ActionData, SchemaData, action_at}
-use Rattle.policy_typing.specs.Environment.{type_below, is_action_within}
+use Rattle.schema_core.specs.Schema.{type_below}
+use Rattle.policy_typing.specs.Environment.{is_action_within}
 use Rattle.policy_links.specs.declared.constraint.EntityReference.{EntityReference}
 use Rattle.policy_links.specs.declared.constraint.EntityReference.TheVariants.{EUID, Slot}
 use Rattle.policy_links.specs.declared.constraint.PrincipalOrResourceConstraint.{PrincipalOrResourceConstraint}

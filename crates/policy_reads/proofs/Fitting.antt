@@ -284,10 +284,10 @@ all_fit d schema [] h = tt
 all_fit d schema (e ∷ es) h = (entity_fits d schema e h.0, all_fit d schema es h.1)
 
 pub root_fits : (d : SchemaData) (g : EnvData) (q : Request) (s : Store) → KeepsTypes d g q s → (r : Root) → Fits d (root_type d g r) (root_value q r)
-root_fits d g q s h (an_id u) = literal_fits d h.schema u
+root_fits d g q s h (an_id u) = literal_fits d h.valid u
 root_fits d (declared_action e) q s h (variable Principal) = ids_fit d (e.environment.principal ∷ []) (principal_of q) refl (h.entries Principal)
 root_fits d (declared_action e) q s h (variable Resource) = ids_fit d (e.environment.resource ∷ []) (resource_of q) refl (h.entries Resource)
-root_fits d (declared_action e) q s h (variable Action) = λ k. literal_fits d h.schema e.environment.action k ∙ ap (λ n. type_along d (entity (n ∷ [])) k) (sym (same_type d h.schema (action_of q) e.environment.action (h.entries Action)))
+root_fits d (declared_action e) q s h (variable Action) = λ k. literal_fits d h.valid e.environment.action k ∙ ap (λ n. type_along d (entity (n ∷ [])) k) (sym (same_type d h.valid (action_of q) e.environment.action (h.entries Action)))
 root_fits d (declared_action e) q s h (variable Context) = member_fits d (context_type_in (declared_action e)) (variable_value Context q) h.closed (h.entries Context)
 root_fits d undeclared_action q s h (variable v) = absurd (here h.closed)
   where

@@ -35,17 +35,17 @@ AreOf o (field k v fs) = IsOf o v × AreOf o fs
 
 -- an entity has no attributes but those that its type declares, each of its type, and tags of the type of tags; of a type
 -- that is not declared it has neither
-pub record HasTypes (d : SchemaData) (e : StoredEntity) : Type 0 where
-  pub attributes : Typed ClosedAttributes (or_none (declared_attributes d e.uid.entity_type)) e.attrs
-  pub tags : AreOf (declared_tags d e.uid.entity_type) e.tags
+pub record HasTypes (schema : SchemaData) (e : StoredEntity) : Type 0 where
+  pub attributes : Typed ClosedAttributes (or_none (declared_attributes schema e.uid.entity_type)) e.attrs
+  pub tags : AreOf (declared_tags schema e.uid.entity_type) e.tags
 
 -- what is read of a request and a store is of the types that the schema has for it in an environment; what is required plays
 -- no part
-pub record KeepsTypes (d : SchemaData) (g : EnvData) (q : Request) (s : Store) : Type 0 where
-  pub schema : IsSchema d
-  pub closed : IsTrue (is_held (context_type_in g))
-  pub entries : (v : Var) → IsOf (root_type d g (variable v)) (variable_value v q)
-  pub entities : AllByRecursion (HasTypes d) s
+pub record KeepsTypes (schema : SchemaData) (env : EnvData) (q : Request) (s : Store) : Type 0 where
+  pub valid : IsSchema schema
+  pub closed : IsTrue (is_held (context_type_in env))
+  pub entries : (v : Var) → IsOf (root_type schema env (variable v)) (variable_value v q)
+  pub entities : AllByRecursion (HasTypes schema) s
 
 module _ (q : Request) (s : Store) {A B : Type 0} where
   -- t is e wherever e is evaluated on the store; where it is not, t may have anything, such as the literal true
@@ -87,7 +87,7 @@ IsDecided (Error e) = Unit {0}
 
 -- the store restricted to what typed conditions read on the request, in an environment
 abbrev pub restricted : {B : Type 0} → SchemaData → EnvData → List (Tree B) → Request → Store → Store
-restricted d g ts q s = restrict (declared_reads d g ts) (declared_demands d g ts) q s
+restricted schema env ts q s = restrict (declared_reads schema env ts) (declared_demands schema env ts) q s
 
 -- a has some of what b has: of its entities, each with some of its ancestors, attributes and tags, and of the fields of records there; all else is equal
 abbrev pub IsPartOf : Store → Store → Type 0
@@ -101,7 +101,7 @@ IsTypedOn q s c = Prunes q s c.0 c.1 × IsDecided (eval c.0 q s)
 -- outcome that it has on the whole one
 abbrev pub ReadsCover : Type 0 → Type 0 → Type 0
 ReadsCover A B =
-    (d : SchemaData) (g : EnvData) (q : Request) (whole : Store) → KeepsTypes d g q whole →
+    (schema : SchemaData) (env : EnvData) (q : Request) (whole : Store) → KeepsTypes schema env q whole →
     (cs : List (Tree A × Tree B)) → AllByRecursion (IsTypedOn q whole) cs →
-    (s : Store) → IsPartOf (restricted d g (map (λ c. c.1) cs) q whole) s → IsPartOf s whole →
+    (s : Store) → IsPartOf (restricted schema env (map (λ c. c.1) cs) q whole) s → IsPartOf s whole →
     map (λ c. eval c.0 q s) cs ≡ map (λ c. eval c.0 q whole) cs

@@ -8,11 +8,11 @@ use Rattle.policy_typing.specs.Environment.{type_of_variable}
 use Rattle.policy_typing.specs.Rules.{tag_type, attribute_of}
 use Rattle.policy_reads.specs.Paths.{Root, variable, an_id, Step, along, any_tag, Chain, AccessPath}
 
-module _ (d : SchemaData) where
+module _ (schema : SchemaData) where
   -- the type one step on: of the attribute that is declared, and of the tags
   abbrev pub type_along : Ty → Step → Option Ty
-  type_along t (along n) = option_map (λ a. a.attr_type) (attribute_of d t n)
-  type_along t any_tag = tag_type d t
+  type_along t (along n) = option_map (λ a. a.attr_type) (attribute_of schema t n)
+  type_along t any_tag = tag_type schema t
 
   -- the same, where there is a type
   abbrev pub step_on : Option Ty → Step → Option Ty
@@ -31,22 +31,22 @@ module _ (d : SchemaData) where
   declared_steps o [] = []
   declared_steps o (n ∷ ns) = if is_some (step_on o n) then n ∷ declared_steps (step_on o n) ns else []
 
-module _ (d : SchemaData) (g : EnvData) where
+module _ (schema : SchemaData) (env : EnvData) where
   -- the type of a root in an environment
   abbrev pub root_type : Root → Option Ty
-  root_type (variable v) = type_of_variable d g v
-  root_type (an_id u) = literal_type d u
+  root_type (variable v) = type_of_variable schema env v
+  root_type (an_id u) = literal_type schema u
 
   -- the type of what a path leads to
   abbrev pub path_type : AccessPath → Option Ty
-  path_type p = types_along d (root_type p.root) p.steps
+  path_type p = types_along schema (root_type p.root) p.steps
 
   -- whether each step of a path is declared, and the path as far as they are
   abbrev pub is_declared_path : AccessPath → Bool
-  is_declared_path p = is_declared d (root_type p.root) p.steps
+  is_declared_path p = is_declared schema (root_type p.root) p.steps
 
   abbrev pub declared_part : AccessPath → AccessPath
-  declared_part p = record { root = p.root; steps = declared_steps d (root_type p.root) p.steps }
+  declared_part p = record { root = p.root; steps = declared_steps schema (root_type p.root) p.steps }
 
 -- all chains of fields below a type, through records alone
 abbrev mutual

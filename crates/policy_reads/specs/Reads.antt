@@ -49,10 +49,10 @@ module _ {A : Type 0} where
 abbrev pub with_step : List AccessPath → List AccessPath
 with_step ps = filter has_step ps
 
-module _ (d : SchemaData) (g : EnvData) where
+module _ (schema : SchemaData) (env : EnvData) where
   -- all chains of fields below a path, through records
   abbrev pub all_below : AccessPath → List AccessPath
-  all_below p = map (λ c. beyond p (steps_of c)) (option_map_or chains (path_type d g p) [])
+  all_below p = map (λ c. beyond p (steps_of c)) (option_map_or chains (path_type schema env p) [])
 
   -- all that the values of a shape hold, through records
   abbrev pub wholly : Shape → List AccessPath
@@ -149,13 +149,13 @@ module _ {A : Type 0} where
   demands_of [] = []
   demands_of (t ∷ ts) = demands t ++ demands_of ts
 
-module _ (d : SchemaData) (g : EnvData) where
+module _ (schema : SchemaData) (env : EnvData) where
   -- what conditions read and demand: no step that the schema does not declare, and nothing behind one
   abbrev pub declared_reads : {A : Type 0} → List (Tree A) → List AccessPath
-  declared_reads ts = map (declared_part d g) (reads_of d g ts)
+  declared_reads ts = map (declared_part schema env) (reads_of schema env ts)
 
   abbrev pub are_declared : Demand → Bool
-  are_declared e = is_declared_path d g e.0 && is_declared_path d g e.1
+  are_declared e = is_declared_path schema env e.0 && is_declared_path schema env e.1
 
   abbrev pub declared_demands : {A : Type 0} → List (Tree A) → List Demand
   declared_demands ts = filter are_declared (demands_of ts)

@@ -49,5 +49,5 @@ module _ {A : Type 0} where
 -- conditions without tag operations keep no tags
 abbrev pub KeepsNoTags : Type 0 → Type 0
 KeepsNoTags A =
-    (d : SchemaData) (g : EnvData) (ts : List (Tree A)) → list_any has_tags ts ≡ false →
-    (q : Request) (s : Store) (x : EntityUID) (c : Chain) → kept_tag (declared_reads d g ts) q s x c ≡ false
+    (schema : SchemaData) (env : EnvData) (ts : List (Tree A)) → list_any has_tags ts ≡ false →
+    (q : Request) (s : Store) (x : EntityUID) (c : Chain) → kept_tag (declared_reads schema env ts) q s x c ≡ false

@@ -10,3 +10,4 @@ pub mod Pending
 pub mod SubtypeLaws
 pub mod Ties
 pub mod UnionLaws
+mod Examples

@@ -1,12 +1,14 @@
 //! Least upper bounds.
 
-ghost use Rattle.std.specs.Prelude.{◌≡◌, ◌++◌, IfOk, OnOk, ◌&&◌, MatchResult, Ok};
+ghost use Rattle.std.specs.Prelude.{◌≡◌, ◌++◌, IfOk, OnOk, ◌&&◌, MatchResult, Ok, Err, cond};
 ghost use Rattle.std.specs.BTreeMap.{keys};
 ghost use Rattle.std.specs.Ordering.{is_eq};
 ghost use Rattle.policy_names.specs.Uid.{text_cmp};
 ghost use Rattle.policy_values.specs.Maps.{IsNext};
-ghost use Rattle.schema_types.specs.Ty.{record_of};
-ghost use Rattle.schema_types.specs.TyView.{kind_of, attrs_of};
+ghost use Rattle.schema_types.specs.declared.kinds.LubHelp.TheVariants.{None as Other};
+ghost use Rattle.schema_types.specs.declared.ty.TypeKind.TheVariants.{Set};
+ghost use Rattle.schema_types.specs.Ty.{record_of, action, extension};
+ghost use Rattle.schema_types.specs.TyView.{kind_of, ty_of, attrs_of};
 ghost use Rattle.policy_types.specs.declared.mode.SubtypeMode.TheVariants.{Strict, Permissive};
 ghost use Rattle.policy_types.specs.Join.{result_map, text_eq, texts_eq, bool_eq, either_open, same_keys, wide_open, is_record, is_entity, apart, join_bool, join_primitive, join_apart, join_entities, join_actions, join_records, join_first, join, join_attrs, shared, join_rest, join_all, IsLubError};
 ghost use Rattle.policy_types.specs.JoinSteps.{kept_entry};
@@ -111,38 +113,49 @@ fn join(
         (TypeKind::Primitive { primitive_type: p }, TypeKind::False) => Ok(join_bool(*p)),
         (TypeKind::Primitive { primitive_type: p }, TypeKind::Primitive { primitive_type: q }) =>
             Ok(join_primitive(*p, *q)),
-        (TypeKind::Set { element_type: None }, TypeKind::Set { .. }) => Ok(Ok(Type::any_set())),
-        (
-            TypeKind::Set {
-                element_type: Some(_),
-            },
-            TypeKind::Set { element_type: None },
-        ) => Ok(Ok(Type::any_set())),
-        (
-            TypeKind::Set {
-                element_type: Some(x),
-            },
-            TypeKind::Set {
-                element_type: Some(y),
-            },
-        ) => match join(alloc, x, y, mode)? {
-            Ok(element) => Ok(Ok(Type::set(alloc, element)?)),
-            Err(help) => Ok(Err(help)),
-        },
+        (TypeKind::Set { element_type: x }, TypeKind::Set { element_type: y }) => {
+            join_sets(alloc, x, y, mode)
+        }
         (TypeKind::EntityOrRecord(x), TypeKind::EntityOrRecord(y)) => {
             join_kinds(alloc, a, b, x, y, mode)
         }
         (TypeKind::ExtensionType { name: x }, TypeKind::ExtensionType { name: y }) => {
-            if name_eq(x, y) {
-                Ok(Ok(Type::extension(x.try_clone()?)))
-            } else {
-                Ok(Err(LubHelp::None))
-            }
+            join_extensions(x, y)
         }
         _ => Ok(Err(apart(a, b))),
     }
 }
 
+// Sets, by their elements.
+#[cycle(join)]
+fn join_sets(
+    alloc: Global,
+    x: &Option<Box<Type>>,
+    y: &Option<Box<Type>>,
+    mode: SubtypeMode,
+) -> Result<Result<Type, LubHelp>, AllocError>
+    ensures { IfOk result (λ r. r ≡ join mode (ty_of (Set x.now)) (ty_of (Set y.now))) }
+{
+    match (x, y) {
+        (Some(x), Some(y)) => match join(alloc, x, y, mode)? {
+            Ok(element) => Ok(Ok(Type::set(alloc, element)?)),
+            Err(help) => Ok(Err(help)),
+        },
+        _ => Ok(Ok(Type::any_set())),
+    }
+}
+
+fn join_extensions(x: &Name, y: &Name) -> Result<Result<Type, LubHelp>, AllocError>
+    ensures { IfOk result (λ r. r ≡ cond (text_eq x.now y.now) (Ok (extension x.now)) (Err Other)) }
+{
+    if name_eq(x, y) {
+        Ok(Ok(Type::extension(x.try_clone()?)))
+    } else {
+        Ok(Err(LubHelp::None))
+    }
+}
+
+// Entities and records, by their kinds.
 #[cycle(join)]
 fn join_kinds(
     alloc: Global,
@@ -188,22 +201,35 @@ fn join_kinds(
         (
             EntityRecordKind::ActionEntity { name: m, attrs: r },
             EntityRecordKind::ActionEntity { name: n, attrs: s },
-        ) => {
-            if !entity_type_eq(m, n) {
-                return Ok(join_apart(mode));
-            }
-            if !same_keys(r, s) {
-                return Ok(Err(LubHelp::RecordWidth));
-            }
-            match join_attributes(alloc, r, s)? {
-                Ok(attrs) => {
-                    let name = m.try_clone()?;
-                    Ok(Ok(Type::action_entity(name, attrs)))
-                }
-                Err(help) => Ok(Err(help)),
-            }
-        }
+        ) => join_actions(alloc, m, r, n, s, mode),
         _ => Ok(Err(apart(a, b))),
+    }
+}
+
+// Actions of one type have the strict join of their attributes.
+#[cycle(join)]
+fn join_actions(
+    alloc: Global,
+    m: &EntityType,
+    a: &Attributes,
+    n: &EntityType,
+    b: &Attributes,
+    mode: SubtypeMode,
+) -> Result<Result<Type, LubHelp>, AllocError>
+    ensures { IfOk result (λ r. r ≡ join mode (action m.now a.now) (action n.now b.now)) }
+{
+    if !entity_type_eq(m, n) {
+        return Ok(join_apart(mode));
+    }
+    if !same_keys(a, b) {
+        return Ok(Err(LubHelp::RecordWidth));
+    }
+    match join_attributes(alloc, a, b)? {
+        Ok(attrs) => {
+            let name = m.try_clone()?;
+            Ok(Ok(Type::action_entity(name, attrs)))
+        }
+        Err(help) => Ok(Err(help)),
     }
 }
 

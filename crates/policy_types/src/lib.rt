@@ -9,8 +9,6 @@ pub mod laws;
 mod member;
 mod mode;
 mod subtype;
-#[cfg(test)]
-mod tests;
 mod type_relations;
 
 pub use attributes::{all_attributes, all_known_attrs, lookup_attribute_type, may_have_attr};

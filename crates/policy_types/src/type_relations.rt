@@ -1,10 +1,10 @@
 //! The relations as methods of types.
 
-ghost use Rattle.std.specs.Prelude.{◌≡◌, ◌↔◌, IfOk, IsTrue, MatchResult, Ok};
+ghost use Rattle.std.specs.Prelude.{◌≡◌, ◌↔◌, IfOk, IsTrue, MatchResult, Ok, map};
 ghost use Rattle.schema_types.specs.Ty.{Ty, keys_in};
 ghost use Rattle.schema_types.specs.Attrs.{attr_at};
 ghost use Rattle.policy_types.specs.Subtype.{Subtype};
-ghost use Rattle.policy_types.specs.Join.{join, IsLubError};
+ghost use Rattle.policy_types.specs.Join.{join, join_all, IsLubError};
 ghost use Rattle.policy_types.specs.Attributes.{attrs_in, may_have, AreDisjoint};
 ghost use Rattle.policy_types.specs.Consistent.{consistent};
 ghost use Rattle.policy_types.specs.Member.{Member};
@@ -16,7 +16,7 @@ use schema_types::{AttributeType, DeclaredAttributes, SchemaType, Type};
 use std::alloc::{AllocError, Global};
 
 /// How types relate to each other, to values and to attributes.
-pub trait TypeRelations {
+pub trait TypeRelations: Sized {
     ghost tree: { Self → Ty };
 
     /// Whether a value of this type may stand where the other is expected.
@@ -31,6 +31,14 @@ pub trait TypeRelations {
         mode: SubtypeMode,
     ) -> Result<Type, LubError>
         ensures { MatchResult result (λ t. join mode (tree self.now) (tree other.now) ≡ Ok t) (λ e. IsLubError (join mode (tree self.now) (tree other.now)) e) };
+
+    /// The join of a list of types, from the type of no value on, or why there is none.
+    fn reduce_to_least_upper_bound(
+        alloc: Global,
+        types: &[Self],
+        mode: SubtypeMode,
+    ) -> Result<Type, LubError>
+        ensures { MatchResult result (λ t. join_all mode (map tree types.now) ≡ Ok t) (λ e. IsLubError (join_all mode (map tree types.now)) e) };
 
     /// Whether it is sure that no value is of both types.
     fn are_types_disjoint(&self, other: &Self) -> bool
@@ -83,6 +91,14 @@ impl TypeRelations for Type {
         mode: SubtypeMode,
     ) -> Result<Type, LubError> {
         crate::least_upper_bound(alloc, self, other, mode)
+    }
+
+    fn reduce_to_least_upper_bound(
+        alloc: Global,
+        types: &[Type],
+        mode: SubtypeMode,
+    ) -> Result<Type, LubError> {
+        crate::reduce_to_least_upper_bound(alloc, types, mode)
     }
 
     fn are_types_disjoint(&self, other: &Type) -> bool {

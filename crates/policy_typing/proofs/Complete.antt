@@ -2,7 +2,7 @@
 use Rattle.std.proofs.Common.{◌≡◌, Bool, true, false, ◌||◌, refl}
 use Rattle.policy_expressions.specs.Slots.{has_slot, some_has_slot, some_named_has_slot}
 use Rattle.policy_expressions.specs.Tree.{Tree, lit, var, slot, ite, conj, disj, unary, binary, attr, has, like, is_type, call, set, rec, Trees, no_trees, tree, Named, no_named, named}
-use Rattle.policy_typing.specs.Keys.{IsFresh, HasKeysOnce, HaveKeysOnce, AreKeysOnce}
+use Rattle.policy_expressions.specs.Keys.{IsFresh, HasKeysOnce, HaveKeysOnce, AreKeysOnce}
 
 or_both : (a b : Bool) → (a || b) ≡ false → (a ≡ false) × (b ≡ false)
 or_both true b h = cc

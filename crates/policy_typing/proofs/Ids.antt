@@ -10,7 +10,7 @@ use Rattle.policy_names.specs.declared.entity_uid.EntityUID.{EntityUID}
 use Rattle.policy_names.specs.Uid.{uid_cmp, exact_uid, uid_eq}
 use Rattle.policy_values.specs.Value.{Val, truth, entity as id}
 use Rattle.policy_values.specs.ValueOrder.{val_cmp}
-use Rattle.schema_types.specs.NameLaws.{equal_of}
+use Rattle.policy_names.proofs.Ties.{equal_of}
 use Rattle.schema_types.specs.Names.{has_name}
 use Rattle.schema_types.specs.Ty.{Ty, true_type, false_type, any_entity, entity, action}
 use Rattle.policy_types.specs.Join.{text_eq, is_entity}
@@ -21,7 +21,7 @@ use Rattle.policy_core.specs.Eval.{with_value}
 use Rattle.policy_core.specs.Operators.{is_value}
 use Rattle.policy_typing.specs.Signatures.{bool_type}
 use Rattle.policy_typing.specs.Environment.{truth_type}
-use Rattle.policy_typing.specs.Rules.{bool_if, strict_join, are_disjoint, same_known, equal_type, is_one_of, is_type}
+use Rattle.policy_typing.specs.Rules.{bool_if, strict_join, are_disjoint, are_one, equal_type, is_one_of, is_type}
 use Rattle.policy_typing.specs.Sound.{IsOfType}
 use Rattle.policy_typing.proofs.Kept.{same_text}
 use Rattle.policy_typing.proofs.Operators.{then_of, two, two_of, id_member, bool_when, and_both}
@@ -99,14 +99,14 @@ IsKnownAs o x = o ≡ Value (id x)
 pub equal_of_type : (x y : Option EntityUID) (t u : Ty) (o p : Outcome) → IsOfType t o → IsOfType u p → IfSome x (IsKnownAs o) → IfSome y (IsKnownAs p) → IfSome (equal_type x y t u) (λ w. IsOfType w (two o p equality))
 equal_of_type x y t u o p h i a b = by (are_disjoint t u) refl
   where
-    known : (x y : Option EntityUID) → IfSome x (IsKnownAs o) → IfSome y (IsKnownAs p) → IfSome (option_map_or (λ b. Some (truth_type b)) (same_known x y) (bool_if (is_some (strict_join t u)))) (λ w. IsOfType w (two o p equality))
+    known : (x y : Option EntityUID) → IfSome x (IsKnownAs o) → IfSome y (IsKnownAs p) → IfSome (option_map_or (λ b. Some (truth_type b)) (are_one x y) (bool_if (is_some (strict_join t u)))) (λ w. IsOfType w (two o p equality))
     known (Some k) (Some l) c d =
         subst (λ o. IsOfType (truth_type (uid_eq k l)) (two o p equality)) (sym c)
         (subst (λ p. IsOfType (truth_type (uid_eq k l)) (two (Value (id k)) p equality)) (sym d) (truth_member (uid_eq k l)))
     known None y c d = bool_when (is_some (strict_join t u)) (λ w. IsOfType w (two o p equality)) (λ _. equal_bool t u o p h i)
     known (Some k) None c d = bool_when (is_some (strict_join t u)) (λ w. IsOfType w (two o p equality)) (λ _. equal_bool t u o p h i)
 
-    by : (c : Bool) → are_disjoint t u ≡ c → IfSome (if c then Some false_type else option_map_or (λ b. Some (truth_type b)) (same_known x y) (bool_if (is_some (strict_join t u)))) (λ w. IsOfType w (two o p equality))
+    by : (c : Bool) → are_disjoint t u ≡ c → IfSome (if c then Some false_type else option_map_or (λ b. Some (truth_type b)) (are_one x y) (bool_if (is_some (strict_join t u)))) (λ w. IsOfType w (two o p equality))
     by true e =
         let r = disjoint_entities t u e in
         two_of t u false_type o p equality h i (λ v w m n.

@@ -91,7 +91,7 @@ kept_contains (set_of t) u = kept_test (is_some (rule.strict_join t u))
 kept_contains t u = tt
 
 kept_equal : (x y : Option EntityUID) (t u : Ty) → IfSome (rule.equal_type x y t u) IsKept
-kept_equal x y t u = by (rule.are_disjoint t u) (rule.same_known x y)
+kept_equal x y t u = by (rule.are_disjoint t u) (rule.are_one x y)
   where
     by : (b : Bool) (k : Option Bool) → IfSome (if b then Some false_type else option_map_or (λ c. Some (truth_type c)) k (rule.bool_if (is_some (rule.strict_join t u)))) IsKept
     by true k = tt

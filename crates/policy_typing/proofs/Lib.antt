@@ -1,5 +1,5 @@
 mod Basics
-mod Booleans
+pub mod Booleans
 mod Fields
 mod Kept
 mod Operators
@@ -16,5 +16,5 @@ mod SameKnown
 mod Complete
 mod Tests
 pub mod Soundness
-mod Condition
+pub mod Condition
 mod Examples

@@ -35,7 +35,7 @@ use Rattle.policy_typing.specs.Conforms.{RequestConforms, StoreConforms, IsOf, A
 use Rattle.policy_typing.specs.Environment.{type_of_literal, type_of_variable, known_id}
 use Rattle.policy_typing.specs.Rules as rule
 use Rattle.policy_typing.specs.Signatures.{call_type}
-use Rattle.policy_typing.specs.Keys.{IsFresh}
+use Rattle.policy_expressions.specs.Keys.{IsFresh}
 use Rattle.policy_typing.specs.Sound.{IsOfType, Keeps, Fulfils, TypingIsSound}
 use Rattle.policy_typing.proofs.Complete.{IsComplete, AreComplete, AreCompleteNamed, complete}
 use Rattle.policy_typing.specs.Typing.{Typed, Typing, typing, at, unreached, attribute_known, tag_known, if_typing, and_caps, and_typing, or_caps, or_typing, binary_caps, has_caps, types_in, trees_in, record_type, named_in, types, types_all, types_named}

@@ -13,7 +13,7 @@ use Rattle.capabilities.specs.Bare.{Plain}
 use Rattle.policy_typing.specs.Conforms.{RequestConforms, StoreConforms, IsOf}
 use Rattle.policy_typing.specs.Operands.{is_boolean}
 use Rattle.policy_typing.specs.Signatures.{bool_type}
-use Rattle.policy_typing.specs.Keys.{HasKeysOnce}
+use Rattle.policy_expressions.specs.Keys.{HasKeysOnce}
 use Rattle.policy_typing.specs.Sound.{IsOfType, IsTruth}
 use Rattle.policy_typing.specs.Typing.{Typing, types}
 

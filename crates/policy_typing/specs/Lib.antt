@@ -1,7 +1,6 @@
 pub mod Conditions
 pub mod Conforms
 pub mod Environment
-pub mod Keys
 pub mod Known
 pub mod Operands
 pub mod Rules

@@ -98,15 +98,15 @@ abbrev pub are_disjoint : Ty → Ty → Bool
 are_disjoint t u = are_apart (names_of t) (names_of u)
 
 -- whether two ids that are known are one
-abbrev pub same_known : Option EntityUID → Option EntityUID → Option Bool
-same_known (Some x) (Some y) = Some (uid_eq x y)
-same_known x y = None
+abbrev pub are_one : Option EntityUID → Option EntityUID → Option Bool
+are_one (Some x) (Some y) = Some (uid_eq x y)
+are_one x y = None
 
 -- `==`: false of disjoint types, and known of two ids that are known; of all others the types must have a join
 abbrev pub equal_type : Option EntityUID → Option EntityUID → Ty → Ty → Option Ty
 equal_type x y t u =
     if are_disjoint t u then Some false_type else
-    option_map_or (λ b. Some (truth_type b)) (same_known x y) (bool_if (is_some (strict_join t u)))
+    option_map_or (λ b. Some (truth_type b)) (are_one x y) (bool_if (is_some (strict_join t u)))
 
 -- `contains` of a set and what may be an element
 abbrev pub contains_type : Ty → Ty → Option Ty

@@ -1,5 +1,5 @@
 -- Typing is sound.
-use Rattle.std.specs.Prelude.{◌≡◌, ⊤, true, false, List, IfSome}
+use Rattle.std.specs.Prelude.{◌≡◌, true, false, List, IfSome}
 use Rattle.policy_values.specs.Value.{truth}
 use Rattle.policy_store.specs.declared.request.Request.{Request}
 use Rattle.policy_store.specs.Store.{Store}
@@ -8,8 +8,7 @@ use Rattle.schema_core.specs.Schema.{SchemaData}
 use Rattle.schema_core.specs.Faults.{IsSchema}
 use Rattle.schema_core.specs.EnvData.{EnvData, LinkedEnvironment, declared_action}
 use Rattle.policy_types.specs.Member.{Member}
-use Rattle.policy_core.specs.declared.outcome.EvalError.{EvalError}
-use Rattle.policy_core.specs.declared.outcome.EvalError.TheVariants.{MissingEntity, IntegerOverflow, ExtensionOverflow}
+use Rattle.policy_core.specs.Allowed.{IsAllowedError}
 use Rattle.policy_core.specs.declared.outcome.Outcome.{Outcome}
 use Rattle.policy_core.specs.declared.outcome.Outcome.TheVariants.{Value, Error}
 use Rattle.policy_expressions.specs.Tree.{mark_of}
@@ -18,16 +17,9 @@ use Rattle.policy_expressions.specs.Slots.{has_slot}
 use Rattle.capabilities.specs.Bare.{Plain}
 use Rattle.capabilities.specs.Capability.{Capability}
 use Rattle.capabilities.specs.Holds.{AllHold}
-use Rattle.policy_typing.specs.Keys.{HasKeysOnce}
+use Rattle.policy_expressions.specs.Keys.{HasKeysOnce}
 use Rattle.policy_typing.specs.Conforms.{RequestConforms, StoreConforms, IsOf}
 use Rattle.policy_typing.specs.Typing.{Typing, at, types}
-
--- errors that an expression with a type may end with: of an entity that is not in the store, and of numbers that are too large
-abbrev pub IsAllowedError : EvalError → Type 0
-IsAllowedError (MissingEntity u) = ⊤
-IsAllowedError IntegerOverflow = ⊤
-IsAllowedError ExtensionOverflow = ⊤
-IsAllowedError e = ⊥
 
 -- a member of the type, or an allowed error
 abbrev pub IsOfType : Ty → Outcome → Type 0

@@ -172,7 +172,7 @@ impl Value {
         }
     }
 
-    /// An equal value with memory of its own.
+    /// An equal value.
     pub fn try_clone(&self, alloc: Global) -> Result<Value, AllocError>
         ensures { IfOk result (λ v. v ≡ self.now) }
     {
@@ -395,7 +395,7 @@ fn copy_of_all(alloc: Global, items: &Vec<Value>) -> Result<Vec<Value>, AllocErr
     Ok(copies)
 }
 
-/// An equal map of fields with memory of its own.
+/// An equal map of fields.
 #[cycle(copy)]
 pub fn try_clone_fields(
     alloc: Global,

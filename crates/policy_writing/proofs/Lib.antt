@@ -1,3 +1,3 @@
-pub mod Floats
-pub mod Steps
-pub mod ReadBack
+mod Floats
+mod ReadBack
+mod Steps

@@ -1,3 +1,3 @@
+pub mod ReadBack
 pub mod SliceJson
 pub mod ValueJson
-pub mod ReadBack

@@ -1,9 +1,19 @@
 //! What the calls that read and write JSON do together.
 
-ghost use Rattle.policy_writing.specs.ReadBack.{IsReadBack};
+ghost use Rattle.std.specs.Prelude.{◌≡◌, IfOk, Some};
 
-/// What `write_value` writes of a value, `read_value` reads as that value.
-#[tactic(auto, using(crate::proofs::ReadBack::read_back))]
-pub fn written_values_are_read_back()
-    ensures { IsReadBack }
-{}
+use crate::write_value;
+use policy_documents::read_value;
+use policy_values::Value;
+use std::alloc::{AllocError, Global};
+
+/// What is written of a value is read as that value.
+pub fn written_values_are_read_back(
+    alloc: Global,
+    value: &Value,
+) -> Result<Option<Value>, AllocError>
+    ensures { IfOk result (λ read. read ≡ Some value.now) }
+{
+    let json = write_value(alloc, value)?;
+    read_value(alloc, &json)
+}

@@ -1,16 +1,4 @@
-pub mod Actions
-pub mod Entries
-pub mod Filled
-pub mod Firsts
 pub mod Found
-pub mod Held
-pub mod InListing
-pub mod Kept
-pub mod Lists
-pub mod Lowest
-pub mod Mapped
-pub mod Members
-pub mod Queries
-pub mod Rules
-pub mod Shown
+mod Held
 pub mod OneSchema
+mod Queries

@@ -1,6 +1,6 @@
 -- Declarations give one schema.
 use Rattle.std.proofs.Common.{◌≡◌, ℕ, Bool, true, false, List, [], ◌∷◌, Option, Some, None, cond, ap, sym, ◌∙◌, refl, subst}
-use Rattle.std.specs.Prelude.{is_some, IsTrue}
+use Rattle.std.specs.Prelude.{is_some}
 use Rattle.std.specs.Option.{option_map, option_map_or}
 use Rattle.std.specs.Ordering.{is_eq}
 use Rattle.std.specs.declared.cmp.Ordering.{Ordering}
@@ -10,22 +10,17 @@ use Rattle.std.specs.List.Sorted.{IsStrictlySortedBy}
 use Rattle.std.specs.Cmp.Lexicographic.{nat_list_cmp_total}
 use Rattle.std.proofs.lemmas.List.Elements.{recursion_from_All}
 use Rattle.std.proofs.lemmas.Map.Lookups.{exact_bytes}
+use Rattle.std.specs.Cmp.{both_ways}
 use Rattle.hierarchy.specs.Keyed.{has_key, value_at}
 use Rattle.hierarchy.specs.Reaches.{has}
 use Rattle.hierarchy.proofs.SameSorted.{same_sorted, same_values}
 use Rattle.policy_names.specs.declared.entity_uid.EntityUID.{EntityUID}
 use Rattle.policy_names.specs.Uid.{text_cmp, uid_cmp, uid_cmp_total, exact_uid}
-use Rattle.schema_core.specs.Schema.{TypeData, ActionData, SchemaData, type_at, action_at}
-use Rattle.schema_core.specs.Outline.{Outline, outline_of, HasDescendants}
-use Rattle.schema_core.specs.Faults.{IsSchema, HasSets}
-use Rattle.schema_core.specs.Entries.{Declarations}
-use Rattle.schema_core.specs.Declarations.{IsSchemaOf, declared_outline}
-
-same_bool : (a b : Bool) → (IsTrue a → IsTrue b) → (IsTrue b → IsTrue a) → a ≡ b
-same_bool true true h k = refl
-same_bool false false h k = refl
-same_bool true false h k = sym (h refl)
-same_bool false true h k = k refl
+use Rattle.schema_declarations.specs.Schema.{TypeData, ActionData, SchemaData, type_at, action_at}
+use Rattle.schema_declarations.specs.Outline.{Outline, outline_of, HasDescendants}
+use Rattle.schema_declarations.specs.Faults.{IsSchema, HasSets}
+use Rattle.schema_declarations.specs.Entries.{Declarations}
+use Rattle.schema_declarations.specs.Declarations.{IsSchemaOf, declared_outline}
 
 one_value : {W : Type 0} (v w : W) → Some v ≡ Some w → v ≡ w
 one_value v w h = cc
@@ -57,10 +52,10 @@ same_uids = same_sorted uid_cmp uid_cmp_total exact_uid
 
 module _ (d : Outline) (s t : SchemaData) (is_s : IsSchema s) (is_t : IsSchema t) (of_s : HasDescendants d (outline_of s)) (of_t : HasDescendants d (outline_of t)) where
   types_listed : (x y : List ℕ) → (outline_of s).type_lists x y ≡ (outline_of t).type_lists x y
-  types_listed x y = same_bool ((outline_of s).type_lists x y) ((outline_of t).type_lists x y) (λ h. (of_t.types x y).1 ((of_s.types x y).0 h)) (λ h. (of_s.types x y).1 ((of_t.types x y).0 h))
+  types_listed x y = both_ways ((outline_of s).type_lists x y) ((outline_of t).type_lists x y) (λ h. (of_t.types x y).1 ((of_s.types x y).0 h)) (λ h. (of_s.types x y).1 ((of_t.types x y).0 h))
 
   actions_listed : (u v : EntityUID) → (outline_of s).action_lists u v ≡ (outline_of t).action_lists u v
-  actions_listed u v = same_bool ((outline_of s).action_lists u v) ((outline_of t).action_lists u v) (λ h. (of_t.actions u v).1 ((of_s.actions u v).0 h)) (λ h. (of_s.actions u v).1 ((of_t.actions u v).0 h))
+  actions_listed u v = both_ways ((outline_of s).action_lists u v) ((outline_of t).action_lists u v) (λ h. (of_t.actions u v).1 ((of_s.actions u v).0 h)) (λ h. (of_s.actions u v).1 ((of_t.actions u v).0 h))
 
   type_same : (x : List ℕ) (o p : Option TypeData) → type_at s x ≡ o → type_at t x ≡ p → is_some o ≡ is_some p → o ≡ p
   type_same x None None e f some = refl

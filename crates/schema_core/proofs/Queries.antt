@@ -1,11 +1,10 @@
 -- What the queries collect.
-use Rattle.std.proofs.Common.{◌≡◌, ℕ, zero, suc, ◌+◌, ◌<◌, Bool, true, false, ◌||◌, ◌&&◌, ◌↔◌, ◌⊎◌, inl, inr, cond, List, [], ◌∷◌, ◌++◌, length, map, take, get_or, Some, None, Contains, is_some, IsTrue, refl, sym, ◌∙◌, ap, arith}
+use Rattle.std.proofs.Common.{◌≡◌, ℕ, zero, suc, ◌+◌, ◌<◌, Bool, true, false, ◌||◌, ◌&&◌, ◌↔◌, ◌⊎◌, inl, inr, cond, List, [], ◌∷◌, ◌++◌, length, map, take, get_or, Some, None, Contains, is_some, refl, sym, ◌∙◌, ap, arith}
 use Rattle.std.specs.List.{AllByRecursion, find, list_any, list_all}
 use Rattle.std.specs.List.Sorted.{IsStrictlySortedBy}
 use Rattle.std.specs.Option.{option_map_or, IsSomeAnd}
 use Rattle.std.specs.Ordering.{is_eq}
-use Rattle.std.specs.declared.cmp.Ordering.{Ordering}
-use Rattle.std.specs.Cmp.{IsTotalOrder, tied_itself, both_ways}
+use Rattle.std.specs.Cmp.{tied_itself}
 use Rattle.std.specs.Cmp.Lexicographic.{nat_list_cmp_total}
 use Rattle.std.specs.declared.cmp.Ordering.TheVariants.{Less}
 use Rattle.std.proofs.lemmas.Bool.{or_cases, or_left, or_right, and_parts, false≢true}
@@ -13,12 +12,13 @@ use Rattle.std.proofs.lemmas.Cmp.{eq_by_cmp_equiv}
 use Rattle.std.proofs.lemmas.List.{take_more}
 use Rattle.std.proofs.lemmas.List.Folds.{list_any-append}
 use Rattle.std.proofs.lemmas.Map.Keys.{sorted_head, sorted_tail}
-use Rattle.std.proofs.lemmas.Map.Lookups.{CmpEqualImpliesEq, exact_bytes}
-use Rattle.std.proofs.lemmas.Map.Views.{tells_apart, Contains-from_any, list_any-from_Contains}
+use Rattle.std.proofs.lemmas.Map.Lookups.{exact_bytes}
+use Rattle.std.proofs.lemmas.Map.Views.{tells_apart}
 use Rattle.hierarchy.specs.Reaches.{has}
 use Rattle.policy_names.specs.declared.entity_uid.EntityUID.{EntityUID}
 use Rattle.policy_names.specs.Uid.{text_cmp, uid_cmp, uid_cmp_total, exact_uid}
-use Rattle.schema_core.specs.Schema.{TypeData, ActionData, SchemaData, is_action_named, type_at, action_at, IsDeclaredAction, HasTypeDescendant, HasActionDescendant}
+use Rattle.schema_declarations.proofs.SameKeys.{has-Contains}
+use Rattle.schema_declarations.specs.Schema.{TypeData, ActionData, SchemaData, is_action_named, type_at, action_at, IsDeclaredAction, HasTypeDescendant, HasActionDescendant}
 
 -- the set has the actions whose descendants have u
 pub record AreAncestors (u : EntityUID) (actions : List ActionData) (set : List EntityUID) : Type 0 where
@@ -38,20 +38,6 @@ pub record AreActionsIn (s : SchemaData) (uids set : List EntityUID) : Type 0 wh
 -- whether y is a descendant of x
 abbrev pub type_has : SchemaData → List ℕ → List ℕ → Bool
 type_has s x y = option_map_or (λ (t : TypeData). has text_cmp t.descendants y) (type_at s x) false
-
-module _ {K : Type 0} {cmp : K → K → Ordering} (o : IsTotalOrder cmp) (exact : CmpEqualImpliesEq cmp) where
-  pub has-Contains : (ks : List K) (q : K) → (has cmp ks q ≡ true) ↔ Contains ks q
-  has-Contains ks q = (Contains-from_any (tells_apart exact) q ks, list_any-from_Contains (eq_by_cmp_equiv o) q ks)
-
-  -- lists that have the same keys
-  pub same_members : (ks ls : List K) → ((q : K) → has cmp ks q ≡ has cmp ls q) → (q : K) → Contains ks q ↔ Contains ls q
-  same_members ks ls same q = (
-    λ h. (has-Contains ls q).0 (sym (same q) ∙ (has-Contains ks q).1 h),
-    λ h. (has-Contains ks q).0 (same q ∙ (has-Contains ls q).1 h),
-  )
-
-  pub has_answer : (r : Bool) (ks : List K) (q : K) → (IsTrue r ↔ Contains ks q) → has cmp ks q ≡ r
-  has_answer r ks q h = both_ways _ _ (λ is. h.1 ((has-Contains ks q).0 is)) (λ is. (has-Contains ks q).1 (h.0 is))
 
 -- the test and the fact
 type_has-is : (s : SchemaData) (x y : List ℕ) → (type_has s x y ≡ true) ↔ HasTypeDescendant s x y

@@ -4,7 +4,7 @@ use Rattle.policy_names.specs.declared.entity_uid.EntityUID.{EntityUID}
 use Rattle.policy_store.specs.declared.request.RequestType.{RequestType}
 use Rattle.schema_types.specs.declared.kinds.OpenTag.TheVariants.{OpenAttributes, ClosedAttributes}
 use Rattle.schema_types.specs.Ty.{Ty, record_of, any_entity, entity, action, Attrs, no_attrs}
-use Rattle.schema_core.specs.Schema.{TypeData, ActionData, SchemaData, type_at, action_at}
+use Rattle.schema_declarations.specs.Schema.{TypeData, ActionData, SchemaData, type_at, action_at}
 use Rattle.schema_core.specs.Environments.{Environment, environments_of}
 
 -- an environment, with the attributes of the context, and the types of what stands for the slots

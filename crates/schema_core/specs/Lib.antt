@@ -1,4 +1,3 @@
-pub mod Arranged
 pub mod Declarations
 pub mod Entries
 pub mod EnvData
@@ -6,12 +5,9 @@ pub mod Environments
 pub mod FaultText
 pub mod Faults
 pub mod Inside
-pub mod KindCode
-pub mod Kinds
 pub mod KindView
+pub mod Kinds
 pub mod Laws
-pub mod Listing
-pub mod Lowest
 pub mod Outline
 pub mod RequestEnvs
 pub mod Schema

@@ -7,9 +7,10 @@ ghost use Rattle.schema_types.specs.Ty.{entity};
 ghost use Rattle.schema_core.specs.EnvData.{principal_in, action_in, resource_in, request_type_in, principal_type_in, action_type_in, resource_type_in, context_type_in, principal_slot_in, resource_slot_in, unlinked, unlinked_of};
 ghost use Rattle.schema_core.specs.RequestEnvs.{env_data_of};
 
-use crate::{ValidatorActionId, ValidatorSchema, euid_literal};
+use crate::{ValidatorSchema, euid_literal};
 use policy_names::{EntityType, EntityUID};
 use policy_store::RequestType;
+use schema_declarations::ValidatorActionId;
 use schema_types::{Attributes, OpenTag, Type};
 use std::alloc::{AllocError, Global};
 
@@ -170,7 +171,7 @@ pub fn add_environments<'a>(
 ) -> Result<(), AllocError>
     ensures { OnOk result (map env_data_of envs.new.items ≡ map env_data_of envs.old.items ++ unlinked_of action.now) }
 {
-    for principal in &action.principals {
+    for principal in action.applies_to_principals() {
         add_resources(envs, action, principal)?;
     }
     Ok(())
@@ -184,12 +185,12 @@ fn add_resources<'a>(
 ) -> Result<(), AllocError>
     ensures { OnOk result (map env_data_of envs.new.items ≡ map env_data_of envs.old.items ++ map (unlinked action.now) (environments_at action.now principal.now)) }
 {
-    for resource in &action.resources {
+    for resource in action.applies_to_resources() {
         envs.push(RequestEnv::DeclaredAction {
             principal,
-            action: &action.name,
+            action: action.name(),
             resource,
-            context: &action.context,
+            context: action.context(),
             principal_slot: None,
             resource_slot: None,
         })?;

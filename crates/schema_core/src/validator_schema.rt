@@ -1,13 +1,12 @@
 //! Schemas.
 
-use crate::arrange::{arranged_actions, arranged_types};
-use crate::checks::{check_names, check_types, least_listed_enum};
-use crate::listing::{Listing, declared, listed};
+use crate::RequestEnv;
 use crate::request_env::add_environments;
-use crate::sets::add_all;
-use crate::{RequestEnv, SchemaDeclarations, SchemaFault, ValidatorActionId, ValidatorEntityType};
-use hierarchy::{descendants_of, first_not_closed, first_own, least_repeated};
 use policy_names::{EntityType, EntityUID};
+use schema_declarations::{
+    SchemaDeclarations, SchemaFault, ValidatorActionId, ValidatorEntityType, add_all,
+    declared_parts, schema_parts,
+};
 use schema_types::{Attributes, DeclaredAttributes};
 use std::alloc::{AllocError, Global};
 use std::collections::BTreeSet;
@@ -21,13 +20,13 @@ pub struct ValidatorSchema {
 }
 
 impl Model for ValidatorSchema {
-    ghost use Rattle.schema_core.specs.Schema.{SchemaData, coded_schema};
+    ghost use Rattle.schema_declarations.specs.Schema.{SchemaData, coded_schema};
 
     ghost Value = { SchemaData };
 
     ghost coded = { coded_schema };
 
-    ghost use Rattle.schema_core.specs.Faults.{IsSchema};
+    ghost use Rattle.schema_declarations.specs.Faults.{IsSchema};
 
     ghost view = { λ s. record { entity_types = s.entity_types.items; action_ids = s.action_ids.items } };
 
@@ -39,11 +38,10 @@ ghost use Rattle.std.specs.Option.{option_copied};
 ghost use Rattle.std.specs.BTreeSet.{IsOrdered};
 ghost use Rattle.policy_names.specs.declared.entity_uid.EntityUID.{EntityUID};
 ghost use Rattle.policy_names.specs.Uid.{text_cmp, uid_cmp};
-ghost use Rattle.schema_core.specs.Schema.{SchemaData, type_at, action_at, IsKnownType, IsDeclaredAction, HasTypeDescendant, HasActionDescendant};
-ghost use Rattle.schema_core.specs.Outline.{outline_of, HasSoundNames, HasSoundTypes, IsClosed, HasDescendants};
-ghost use Rattle.schema_core.specs.Faults.{IsOnce, IsSchema, IsRefusedData};
-ghost use Rattle.schema_core.specs.Declarations.{IsSchemaOf, IsRefused};
-ghost use Rattle.schema_core.specs.Listing.{listed_outline, IsListing};
+ghost use Rattle.schema_declarations.specs.Schema.{SchemaData, type_at, action_at, IsKnownType, IsDeclaredAction, HasTypeDescendant, HasActionDescendant};
+ghost use Rattle.schema_declarations.specs.Outline.{outline_of};
+ghost use Rattle.schema_declarations.specs.Faults.{IsOnce, IsSchema, IsRefusedData};
+ghost use Rattle.schema_declarations.specs.Declarations.{IsSchemaOf, IsRefused};
 ghost use Rattle.schema_core.specs.EnvData.{unlinked_envs};
 ghost use Rattle.schema_core.specs.RequestEnvs.{env_data_of};
 
@@ -58,26 +56,13 @@ impl ValidatorSchema {
         ensures { let given : SchemaData = record { entity_types = entity_types.items; action_ids = action_ids.items } in
             MatchResult result (λ schema. IsSchema schema × (outline_of schema ≡ outline_of given)) (IsRefusedData given) }
     {
-        let ids = ids_of(alloc, &action_ids)?;
-        if let Some(uid) = least_repeated(alloc, &ids)? {
-            return Err(SchemaFault::DuplicateAction(uid));
+        match schema_parts(alloc, entity_types, action_ids) {
+            Ok((entity_types, action_ids)) => Ok(ValidatorSchema {
+                entity_types,
+                action_ids,
+            }),
+            Err(fault) => Err(fault),
         }
-        let listing = listed(alloc, entity_types, action_ids)?;
-        check_names(&listing)?;
-        if let Some(uid) = first_own(&listing.actions) {
-            return Err(SchemaFault::ActionCycle(uid.clone()?));
-        }
-        if let Some(name) = least_listed_enum(&listing) {
-            return Err(SchemaFault::EnumHasAncestor(name.clone()?));
-        }
-        if let Some(name) = first_not_closed(&listing.types) {
-            return Err(SchemaFault::NotClosed(name.clone()?));
-        }
-        if let Some(uid) = first_not_closed(&listing.actions) {
-            return Err(SchemaFault::ActionNotClosed(uid.clone()?));
-        }
-        check_types(&listing)?;
-        Ok(arranged(alloc, listing)?)
     }
 
     /// The schema that a document declares: descendants are all members, by one or more steps.
@@ -88,21 +73,13 @@ impl ValidatorSchema {
         requires { IsOnce (map (λ t. t.name) declarations.entity_types) }
         ensures { MatchResult result (IsSchemaOf declarations) (IsRefused declarations) }
     {
-        let ids = declared_ids(alloc, &declarations)?;
-        if let Some(uid) = least_repeated(alloc, &ids)? {
-            return Err(SchemaFault::DuplicateAction(uid));
+        match declared_parts(alloc, declarations) {
+            Ok((entity_types, action_ids)) => Ok(ValidatorSchema {
+                entity_types,
+                action_ids,
+            }),
+            Err(fault) => Err(fault),
         }
-        let listing = declared(alloc, declarations)?;
-        check_names(&listing)?;
-        let members = with_descendants(alloc, listing)?;
-        if let Some(uid) = first_own(&members.actions) {
-            return Err(SchemaFault::ActionCycle(uid.clone()?));
-        }
-        if let Some(name) = least_listed_enum(&members) {
-            return Err(SchemaFault::EnumHasAncestor(name.clone()?));
-        }
-        check_types(&members)?;
-        Ok(arranged(alloc, members)?)
     }
 
     /// The entity types, in the order of their names.
@@ -185,7 +162,7 @@ impl ValidatorSchema {
         ensures ascending { IfOk result (IsOrdered text_cmp) }
     {
         let mut types = match self.get_entity_type(&entity.entity_type) {
-            Some(entity_type) => entity_type.descendants.clone()?,
+            Some(entity_type) => entity_type.descendants().clone()?,
             None => BTreeSet::new(alloc),
         };
         types.insert(entity.entity_type.clone()?)?;
@@ -209,7 +186,7 @@ impl ValidatorSchema {
                 return Ok(None);
             };
             actions.insert(uid.clone()?)?;
-            add_all(&mut actions, &action.descendants)?;
+            add_all(&mut actions, action.descendants())?;
         }
         Ok(Some(actions))
     }
@@ -226,7 +203,7 @@ impl ValidatorSchema {
         let mut ancestors = BTreeSet::new(alloc);
         for action in &self.action_ids {
             if action.has_descendant(uid) {
-                ancestors.insert(action.name.clone()?)?;
+                ancestors.insert(action.name().clone()?)?;
             }
         }
         Ok(ancestors)
@@ -246,7 +223,7 @@ impl ValidatorSchema {
 }
 
 impl DeclaredAttributes for ValidatorSchema {
-    ghost use Rattle.schema_core.specs.Kinds.{attributes_in};
+    ghost use Rattle.schema_declarations.specs.Kinds.{attributes_in};
 
     ghost declared = { λ s x. option_map (λ t. attributes_in t.kind) (type_at s x) };
 
@@ -256,68 +233,4 @@ impl DeclaredAttributes for ValidatorSchema {
             None => None,
         }
     }
-}
-
-// The ids of the actions.
-fn ids_of(alloc: Global, action_ids: &[ValidatorActionId]) -> Result<Vec<EntityUID>, AllocError>
-    ensures { IfOk result (λ ids. ids.items ≡ map (λ a. a.name) action_ids.now) }
-{
-    let mut ids = Vec::new(alloc);
-    for action in action_ids {
-        ids.push(action.name.clone()?)?;
-    }
-    Ok(ids)
-}
-
-// The ids of the declared actions.
-fn declared_ids(
-    alloc: Global,
-    declarations: &SchemaDeclarations,
-) -> Result<Vec<EntityUID>, AllocError>
-    ensures { IfOk result (λ ids. ids.items ≡ map (λ a. a.id) declarations.now.actions) }
-{
-    let mut ids = Vec::new(alloc);
-    for action in &declarations.actions {
-        ids.push(action.id.clone()?)?;
-    }
-    Ok(ids)
-}
-
-// The listing with all members of a type or an action, by one or more steps.
-fn with_descendants(alloc: Global, listing: Listing) -> Result<Listing, AllocError>
-    requires names { HasSoundNames (listed_outline listing) }
-    requires listing { IsListing listing }
-    ensures descendants { IfOk result (λ members. HasDescendants (listed_outline listing) (listed_outline members)) }
-    ensures listing { IfOk result IsListing }
-{
-    let types = descendants_of(alloc, &listing.types)?;
-    let actions = descendants_of(alloc, &listing.actions)?;
-    let mut members = listing;
-    members.types = types;
-    members.actions = actions;
-    Ok(members)
-}
-
-// The schema of a listing that keeps its rules.
-fn arranged(alloc: Global, listing: Listing) -> Result<ValidatorSchema, AllocError>
-    requires names { HasSoundNames (listed_outline listing) }
-    requires closed { IsClosed (listed_outline listing) }
-    requires types { HasSoundTypes (listed_outline listing) }
-    requires listing { IsListing listing }
-    ensures { IfOk result (λ schema. IsSchema schema × (outline_of schema ≡ listed_outline listing)) }
-{
-    let Listing {
-        types,
-        kinds,
-        actions,
-        principals,
-        resources,
-        contexts,
-    } = listing;
-    let entity_types = arranged_types(alloc, kinds, &types)?;
-    let action_ids = arranged_actions(alloc, contexts, &actions, &principals, &resources)?;
-    Ok(ValidatorSchema {
-        entity_types,
-        action_ids,
-    })
 }

@@ -17,8 +17,8 @@ use Rattle.schema_core.specs.Entries.{TypeEntry, ActionEntry, Declarations}
 use Rattle.schema_core.specs.Inside.{some_inside, some_within, is_of_extension, is_known_extension, is_held, are_held, attrs_extend}
 use Rattle.schema_core.specs.Kinds.{standard, enumerated, is_enum, kind_extends, is_held_kind}
 use Rattle.schema_core.specs.Outline.{IsNamedExtension}
-use Rattle.schema_core.specs.declared.fault.SchemaFault.{SchemaFault}
-use Rattle.schema_core.specs.declared.fault.SchemaFault.TheVariants.{DuplicateAction, ActionTypeDeclared, EmptyEnum, NotAnAction, UndeclaredType, UndeclaredAction, ActionCycle, EnumHasAncestor, NotClosed, ActionNotClosed, BadType, BadContext, UnknownExtension, OutOfMemory}
+use Rattle.schema_declarations.specs.declared.fault.SchemaFault.{SchemaFault}
+use Rattle.schema_declarations.specs.declared.fault.SchemaFault.TheVariants.{DuplicateAction, ActionTypeDeclared, EmptyEnum, NotAnAction, UndeclaredType, UndeclaredAction, ActionCycle, EnumHasAncestor, NotClosed, ActionNotClosed, BadType, BadContext, UnknownExtension, OutOfMemory}
 use Rattle.serde_json.specs.Data as json
 use Rattle.serde_json.specs.Data.{Data, null, boolean, number, array, object, Items, no_items, item, Members, no_members, member}
 use Rattle.serde_json.specs.Find.{get, as_array, as_object}

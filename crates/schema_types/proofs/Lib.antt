@@ -1,5 +1,5 @@
-pub mod AttrSteps
-pub mod CoreSchemaSteps
-pub mod OrderLaws
-pub mod PlainSteps
-pub mod ShowSteps
+mod AttrSteps
+mod CoreSchemaSteps
+mod OrderLaws
+mod PlainSteps
+mod ShowSteps

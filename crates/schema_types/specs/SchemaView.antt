@@ -19,3 +19,14 @@ schema_ty_of (Extension n) = extension n
 abbrev pub schema_attrs_of : List (List ℕ × SchemaAttribute) → Attrs
 schema_attrs_of [] = no_attrs
 schema_attrs_of (e ∷ es) = attr e.0 e.1.attr_type e.1.is_required (schema_attrs_of es)
+
+-- the place of a kind in the order of types
+abbrev pub place_among : SchemaTypeKind → ℕ
+place_among Bool = 0
+place_among Long = 1
+place_among String = 2
+place_among EmptySet = 3
+place_among (Set t) = 4
+place_among (Record xs o) = 5
+place_among (Entity n) = 6
+place_among (Extension n) = 7

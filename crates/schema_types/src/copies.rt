@@ -10,7 +10,7 @@ use std::alloc::{AllocError, Global};
 use std::collections::BTreeMap;
 
 impl Type {
-    /// An equal type with memory of its own.
+    /// An equal type.
     pub fn try_clone(&self, alloc: Global) -> Result<Type, AllocError>
         ensures { IfOk result (λ t. t ≡ self.now) }
     {
@@ -19,7 +19,7 @@ impl Type {
 }
 
 impl TypeKind {
-    /// An equal kind with memory of its own.
+    /// An equal kind.
     pub fn try_clone(&self, alloc: Global) -> Result<TypeKind, AllocError>
         ensures { IfOk result (λ k. ty_of k ≡ ty_of self.now) }
     {
@@ -28,7 +28,7 @@ impl TypeKind {
 }
 
 impl EntityRecordKind {
-    /// An equal kind with memory of its own.
+    /// An equal kind.
     pub fn try_clone(&self, alloc: Global) -> Result<EntityRecordKind, AllocError>
         ensures { IfOk result (λ k. k ≡ self.now) }
     {
@@ -37,7 +37,7 @@ impl EntityRecordKind {
 }
 
 impl Attributes {
-    /// Equal attributes with memory of their own.
+    /// Equal attributes.
     pub fn try_clone(&self, alloc: Global) -> Result<Attributes, AllocError>
         ensures { IfOk result (λ a. a ≡ self.now) }
     {
@@ -46,7 +46,7 @@ impl Attributes {
 }
 
 impl AttributeType {
-    /// An equal attribute with memory of its own.
+    /// An equal attribute.
     pub fn try_clone(&self, alloc: Global) -> Result<AttributeType, AllocError>
         ensures { IfOk result (λ a. a ≡ self.now) }
     {

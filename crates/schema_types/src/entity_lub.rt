@@ -102,7 +102,7 @@ impl EntityLUB {
         Ok(EntityLUB { lub_elements })
     }
 
-    /// An equal union with memory of its own.
+    /// An equal union, which shares the characters.
     pub fn try_clone(&self) -> Result<EntityLUB, AllocError>
         ensures { IfOk result (λ l. l ≡ self.now) }
     {

@@ -11,6 +11,8 @@ mod kinds;
 mod kinds_compared;
 pub mod laws;
 mod order;
+mod schema_compared;
+mod schema_copies;
 mod schema_type;
 mod show;
 mod ty;

@@ -6,7 +6,7 @@ use Rattle.policy_expressions.specs.declared.kinds.Literal.TheVariants as litera
 use Rattle.policy_expressions.specs.declared.kinds.Var.TheVariants.{Principal, Context}
 use Rattle.policy_expressions.specs.declared.kinds.UnaryOp.TheVariants.{Not, IsEmpty}
 use Rattle.policy_expressions.specs.declared.kinds.BinaryOp.TheVariants.{Less, Add, GetTag}
-use Rattle.policy_expressions.specs.Functions.{function_of}
+use Rattle.policy_expressions.specs.Functions.{functions}
 use Rattle.policy_expressions.specs.Tree.{lit, var, ite, conj, unary, binary, attr, call, set, no_trees, tree, Mark}
 use Rattle.schema_types.specs.declared.kinds.LubHelp.TheVariants as hint
 use Rattle.schema_types.specs.declared.kinds.LubHelp.TheVariants.{RecordWidth}
@@ -91,7 +91,7 @@ module _ (schema : SchemaData) (env : EnvData) where
 
   -- decimal('a', 'a') == decimal('a', 'a')
   two_arguments : findings_of (walked schema env [] (call (codes "decimal") (tree (text 1) (tree (text 2) no_trees)) (mark 3))) ≡ found_at 3 (WrongNumberArguments 1 2) ∷ []
-  unfolding function_of
+  unfolding functions
   two_arguments = refl
 
 -- principal.getTag(1)

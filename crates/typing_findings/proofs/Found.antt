@@ -21,7 +21,7 @@ use Rattle.capabilities.specs.Bare.{Plain}
 use Rattle.policy_typing.specs.Signatures.{bool_type, long_type, datetime_type, duration_type, same_type}
 use Rattle.policy_typing.specs.Environment.{truth_type, known_id}
 use Rattle.policy_typing.specs.Rules as rule
-use Rattle.policy_typing.specs.Rules.{is_string, is_set, is_entity_set, bool_if, strict_join, same_known, are_disjoint, and_type, or_type, order_type, attribute_of, safe_type, tag_type}
+use Rattle.policy_typing.specs.Rules.{is_string, is_set, is_entity_set, bool_if, strict_join, are_one, are_disjoint, and_type, or_type, order_type, attribute_of, safe_type, tag_type}
 use Rattle.policy_typing.specs.Typing.{Typed, Typing}
 use Rattle.typing_findings.specs.declared.finding.LubContext.{LubContext}
 use Rattle.typing_findings.specs.declared.finding.LubContext.TheVariants as context
@@ -202,7 +202,7 @@ module _ (schema : SchemaData) where
 
   pub binary_gives : (env : EnvData) (o : BinaryOp) (known : Bool) (x y : Plain) (l r m : Option Loc) (t u : Ty) → Fits (left_of o) t → Fits (right_of o) u →
       Found (rule.binary_type schema env o known x y t u) (binary_found schema o known y (rule.binary_type schema env o known x y t u) l r m (Some t) (Some u))
-  binary_gives env Eq known x y l r m t u h k = equal_gives (are_disjoint t u) (same_known (known_id env x) (known_id env y)) context.Equality m (t ∷ u ∷ []) (join Strict t u)
+  binary_gives env Eq known x y l r m t u h k = equal_gives (are_disjoint t u) (are_one (known_id env x) (known_id env y)) context.Equality m (t ∷ u ∷ []) (join Strict t u)
   binary_gives env Less known x y l r m t u h k = found_if_none (order_type t u) (order_wrong l r t u) (order_full l r t u)
   binary_gives env LessEq known x y l r m t u h k = found_if_none (order_type t u) (order_wrong l r t u) (order_full l r t u)
   binary_gives env Add known x y l r m t u h k = sum_gives t u [] h k

@@ -18,7 +18,7 @@ use Rattle.capabilities.specs.Capability.{Capability}
 use Rattle.policy_typing.specs.Signatures.{bool_type, long_type, call_type, signature_of}
 use Rattle.policy_typing.specs.Environment.{truth_type, known_id}
 use Rattle.policy_typing.specs.Rules as rule
-use Rattle.policy_typing.specs.Rules.{same_known, attribute_of}
+use Rattle.policy_typing.specs.Rules.{are_one, attribute_of}
 use Rattle.policy_typing.specs.Typing.{Typed, Typing, typing, at, unreached, if_typing, and_typing, or_typing, binary_caps, has_caps, types_in, trees_in, record_type, named_in}
 use Rattle.typing_findings.specs.declared.finding.LubContext.TheVariants as context
 use Rattle.typing_findings.specs.Finding.{Finding, UndefinedFunction}
@@ -110,7 +110,7 @@ module _ (schema : SchemaData) where
     -- an operator of two operands, both of which are walked, by whether the tag that they name is known to be there; where it has no
     -- type it lends Bool, but arithmetic a long, `==` what is known of the ids, `hasTag` what its left operand's type gives, and `getTag` nothing
     abbrev pub binary_lent : BinaryOp → Plain → Plain → Option Ty → Option Ty
-    binary_lent Eq x y t = Some (option_map_or truth_type (same_known (known_id env x) (known_id env y)) bool_type)
+    binary_lent Eq x y t = Some (option_map_or truth_type (are_one (known_id env x) (known_id env y)) bool_type)
     binary_lent Add x y t = Some long_type
     binary_lent Sub x y t = Some long_type
     binary_lent Mul x y t = Some long_type

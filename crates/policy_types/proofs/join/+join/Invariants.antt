@@ -1,7 +1,8 @@
 use Rattle.std.proofs.Common.{◌≡◌, ◌+◌, ◌*◌, ◌≤◌, ◌++◌, length}
 use Rattle.std.specs.Map.{keys_of}
 use Rattle.schema_types.specs.Ty.{size_of, size_of_attrs}
-use Rattle.schema_types.specs.TyView.{kind_of, attrs_of}
+use Rattle.schema_types.specs.declared.ty.TypeKind.TheVariants.{Set}
+use Rattle.schema_types.specs.TyView.{kind_of, ty_of, attrs_of}
 use Rattle.policy_types.specs.Join.{result_map, join_attrs, shared}
 use Rattle.policy_types.proofs.JoinSteps.{in_front}
 use Rattle.policy_types.proofs.Pending.{pending}
@@ -13,6 +14,12 @@ decreases-join l = 4 * size_of l.a.now + 1
 
 abbrev pub decreases-join_kinds : goal.decreases-join_kinds
 decreases-join_kinds l = 4 * size_of (kind_of l.x.now)
+
+abbrev pub decreases-join_sets : goal.decreases-join_sets
+decreases-join_sets l = 4 * size_of (ty_of (Set l.x.now))
+
+abbrev pub decreases-join_actions : goal.decreases-join_actions
+decreases-join_actions l = 4 * size_of_attrs l.a.now + 3
 
 abbrev pub decreases-join_records : goal.decreases-join_records
 decreases-join_records l = 4 * size_of_attrs l.a.now + 3

@@ -3,8 +3,9 @@ use Rattle.std.specs.Ordering.{is_eq}
 use Rattle.std.proofs.lemmas.List.{take_all}
 use Rattle.hierarchy.specs.Reaches.{has}
 use Rattle.policy_names.specs.Uid.{uid_cmp, uid_cmp_total, exact_uid, copied_uid}
-use Rattle.schema_core.specs.Schema.{ActionData, SchemaData}
-use Rattle.schema_core.proofs.Queries.{ancestors_more, ancestors_all, has_answer, added, not_added}
+use Rattle.schema_declarations.specs.Schema.{SchemaData}
+use Rattle.schema_declarations.proofs.SameKeys.{has_answer}
+use Rattle.schema_core.proofs.Queries.{ancestors_more, ancestors_all, added, not_added}
 use Rattle.schema_core.proofs.validator_schema.ValidatorSchema.action_ancestors.Goals as goal
 use Rattle.schema_core.proofs.validator_schema.ValidatorSchema.action_ancestors.Goals.{then-has_descendant+in_ok-clone+in_ok-insert, else-has_descendant}
 
@@ -18,7 +19,7 @@ loop-action-preserved c =
     let answer : has uid_cmp x.descendants c.args.uid.now ≡ c.has_descendant.result = has_answer uid_cmp_total exact_uid c.has_descendant.result x.descendants c.args.uid.now c.has_descendant.ensures in
     elim c.if-has_descendant.branch [
       | then-has_descendant+in_ok-clone+in_ok-insert w ↦
-          let same = copied_uid c.action.inside.name w.in_ok-clone.field-0 w.in_ok-clone.ensures.cases ∙ ap (λ (a : ActionData). a.name) c.action.view_is in
+          let same = copied_uid w.name.result.now w.in_ok-clone.field-0 w.in_ok-clone.ensures.cases ∙ w.name.ensures in
           let there = answer ∙ w.if-has_descendant.true in
           rw w.ancestors-is (ancestors_more c.args.uid.now xs c.loop-action.action-index x c.loop-action.ancestors.keys w.insert.new.self.keys lt item c.loop-action.invariant w.in_ok-insert.ensures.ordered
           (λ q. added (has uid_cmp w.insert.new.self.keys q) (has uid_cmp c.loop-action.ancestors.keys q) (is_eq (uid_cmp x.name q)) (has uid_cmp x.descendants c.args.uid.now) there (rw same at (w.in_ok-insert.ensures.updates.0 q))))

@@ -1,6 +1,0 @@
-use Rattle.std.proofs.Common.{◌≡◌, ◌++◌, map}
-use Rattle.schema_core.specs.Arranged.{type_of}
-use Rattle.schema_core.proofs.arrange.arranged_types.Given as goal
-
-abbrev pub invariant-loop-name : goal.invariant-loop-name
-invariant-loop-name l = l.list.items ++ map (type_of l.types.entries) l.name-iterator ≡ map (type_of l.types.entries) l.fn.kinds.entries

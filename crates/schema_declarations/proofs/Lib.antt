@@ -1,0 +1,13 @@
+mod Actions
+mod Entries
+pub mod Filled
+mod Firsts
+mod InListing
+mod Kept
+pub mod Lists
+mod Lowest
+mod Mapped
+mod Members
+mod Rules
+pub mod SameKeys
+mod Shown

@@ -1,0 +1,13 @@
+pub mod Arranged
+pub mod Declarations
+pub mod Entries
+pub mod FaultText
+pub mod Faults
+pub mod Inside
+pub mod KindCode
+pub mod KindView
+pub mod Kinds
+pub mod Listing
+pub mod Lowest
+pub mod Outline
+pub mod Schema
