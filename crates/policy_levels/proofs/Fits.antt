@@ -38,12 +38,11 @@ IsNoId (Value (entity u)) = ⊥
 IsNoId o = Unit {0}
 
 -- the typed expression is the expression wherever that is evaluated on the store; a branch that is evaluated is reached, and what
--- is not typed as an entity is no id. A slot stands for any literal.
+-- is not typed as an entity is no id.
 module _ (q : Request) (s : Store) {A : Type 0} where
   abbrev mutual
     pub Fits : Tree A → Typed → Type 0
     Fits (lit l a) (lit m b) = l ≡ m
-    Fits (lit l a) (slot i b) = Unit {0}
     Fits (var v a) (var w b) = v ≡ w
     Fits (slot i a) (slot j b) = Unit {0}
     Fits (ite x y z a) (ite x2 y2 z2 b) =

@@ -188,7 +188,6 @@ module _ (q : Request) (s : Store) where
       mutual
         pub levelled : (e : Tree A) (t : Typed) (ns : List (List ℕ)) → Fits q s e t → Levelled q s (level g t ns) ns (eval e q s)
         levelled (lit l a) (lit m b) ns f = subst (λ m. Levelled q s (literal_level g m) ns (Value (literal_value l))) f (literal_levelled l ns)
-        levelled (lit l a) (slot i b) ns f = tt
         levelled (var v a) (var w b) ns f = variable_levelled v ns
         levelled (slot i a) (slot j b) ns f = tt
         levelled (ite x y z a) (ite x2 y2 z2 b) ns f =

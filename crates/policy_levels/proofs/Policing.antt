@@ -9,15 +9,17 @@ use Rattle.policy_store.specs.Request.{principal_of, action_of, resource_of}
 use Rattle.policy_store.specs.Store.{Store}
 use Rattle.policy_core.specs.Eval.{eval}
 use Rattle.schema_core.specs.EnvData.{EnvData, declared_action, unlinked}
-use Rattle.schema_core.specs.Environments.{Environment, environment}
-use Rattle.schema_core.specs.Schema.{ActionData, SchemaData, action_at}
+use Rattle.schema_core.specs.Environments.{environment}
+use Rattle.schema_core.specs.Schema.{ActionData}
 use Rattle.capabilities.specs.Bare.{Plain}
 use Rattle.policy_typing.specs.Operands.{is_boolean}
-use Rattle.policy_typing.specs.Typing.{Typed, Typing, types}
+use Rattle.policy_typing.specs.Typing.{Typing, types}
 use Rattle.policy_links.specs.Accepted.{IsTyped}
-use Rattle.policy_links.specs.Condition.{Written, condition_of, own_condition, asks_slot}
-use Rattle.policy_links.specs.Laws.{LooksPastSlots, IsFilled, FilledKeeps, FollowsTyping, if_slot, own_slot, LinksFollowTemplates, LinksAreWrittenOut, LinksHaveKeysOnce}
-use Rattle.policy_links.specs.Linked.{linked_env, linked_envs}
+use Rattle.policy_set.specs.Data.{TemplateData}
+use Rattle.policy_set.specs.Condition.{condition_of, asks_slot}
+use Rattle.policy_set.specs.Links.{own_condition}
+use Rattle.policy_links.specs.Laws.{LooksPastSlots, FilledKeeps, FollowsTyping, if_slot, own_slot, LinksFollowTemplates, LinksAreWrittenOut, LinksHaveKeysOnce}
+use Rattle.policy_links.specs.Linked.{linked_env}
 use Rattle.policy_links.proofs.Own.{own_everywhere}
 use Rattle.policy_links.proofs.Statics.{env_for, for_request, condition_plain, condition_once}
 use Rattle.policy_levels.specs.Cut.{cut}
@@ -58,7 +60,7 @@ link_levels levels follows written once keeps schema ok t plain body accepted n 
     (levels schema ok (env_for a q) q conforms of s stored n (own_condition w t) (written t plain w fills).plain (once t plain body w fills)))
 
 -- of a policy without slots nothing stands for them
-unlinked_here : (P : EnvData → Type 0) (t : Written) → asks_slot t.principal ≡ false → asks_slot t.resource ≡ false → (a : ActionData) (p r : List ℕ) →
+unlinked_here : (P : EnvData → Type 0) (t : TemplateData) → asks_slot t.principal ≡ false → asks_slot t.resource ≡ false → (a : ActionData) (p r : List ℕ) →
     P (linked_env a (environment p a.name r) (own_slot t.principal p) (own_slot t.resource r)) → P (unlinked a (environment p a.name r))
 unlinked_here P t no_principal no_resource a p r = subst P (λ i. linked_env a (environment p a.name r) (if_slot (no_principal i) p) (if_slot (no_resource i) r))
 

@@ -119,7 +119,6 @@ module _ (q : Request) (s : Store) (n : ℕ) where
     mutual
       pub same : (e : Tree A) (t : Typed) → Fits q s e t → passes g n t ≡ true → eval e q there ≡ eval e q s
       same (lit l a) (lit m b) f p = refl
-      same (lit l a) (slot i b) f p = refl
       same (var v a) (var w b) f p = refl
       same (slot i a) (slot j b) f p = refl
       same (ite x y z a) (ite x2 y2 z2 b) f p =

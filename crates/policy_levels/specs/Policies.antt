@@ -13,7 +13,9 @@ use Rattle.policy_typing.specs.Conforms.{RequestConforms, StoreConforms}
 use Rattle.policy_expressions.specs.Keys.{HasKeysOnce}
 use Rattle.policy_typing.specs.Typing.{types}
 use Rattle.policy_links.specs.Accepted.{IsAcceptedTemplate, IsAcceptedLink}
-use Rattle.policy_links.specs.Condition.{Written, condition_of, own_condition, asks_slot, HasPlainBody, Fills}
+use Rattle.policy_set.specs.Data.{TemplateData}
+use Rattle.policy_set.specs.Condition.{condition_of, asks_slot}
+use Rattle.policy_set.specs.Links.{own_condition, HasPlainBody, Fills}
 use Rattle.policy_links.specs.Linked.{linked_envs}
 use Rattle.policy_levels.specs.Cut.{cut}
 use Rattle.policy_levels.specs.Levels.{passes}
@@ -24,19 +26,19 @@ module _ (schema : SchemaData) (n : ℕ) where
   PassesIn e env = IfSome (types schema env [] e) (λ r. passes (action_in env) n r.tree ≡ true)
 
   -- a template, or a policy without slots, passes at the level in each of its environments
-  abbrev pub PassesAt : Written → Type 0
+  abbrev pub PassesAt : TemplateData → Type 0
   PassesAt t = AllByRecursion (PassesIn (condition_of t)) (linked_envs schema t)
 
 -- where an accepted template passes at a level, an accepted link of it has, on the store cut at that level, the outcome that it has on the whole store
 abbrev pub LinkLevelsAreSound : Type 0
 LinkLevelsAreSound =
-    (schema : SchemaData) → IsSchema schema → (t : Written) → HasPlainBody t → HasKeysOnce t.body → IsAcceptedTemplate schema t → (n : ℕ) → PassesAt schema n t →
+    (schema : SchemaData) → IsSchema schema → (t : TemplateData) → HasPlainBody t → HasKeysOnce t.body → IsAcceptedTemplate schema t → (n : ℕ) → PassesAt schema n t →
     (w : SlotValues) → Fills w t → IsAcceptedLink schema w t →
     (q : Request) → RequestConforms schema q → (s : Store) → StoreConforms schema s → eval (own_condition w t) q (cut n q s) ≡ eval (own_condition w t) q s
 
 -- so has an accepted policy without slots that passes
 abbrev pub StaticLevelsAreSound : Type 0
 StaticLevelsAreSound =
-    (schema : SchemaData) → IsSchema schema → (t : Written) → HasPlainBody t → HasKeysOnce t.body → asks_slot t.principal ≡ false → asks_slot t.resource ≡ false → IsAcceptedTemplate schema t →
+    (schema : SchemaData) → IsSchema schema → (t : TemplateData) → HasPlainBody t → HasKeysOnce t.body → asks_slot t.principal ≡ false → asks_slot t.resource ≡ false → IsAcceptedTemplate schema t →
     (n : ℕ) → PassesAt schema n t →
     (q : Request) → RequestConforms schema q → (s : Store) → StoreConforms schema s → eval (condition_of t) q (cut n q s) ≡ eval (condition_of t) q s

@@ -16,11 +16,13 @@ use Rattle.schema_core.specs.EnvData.{id_type, literal_type}
 use Rattle.schema_core.specs.Faults.{IsSchema}
 use Rattle.schema_core.specs.Schema.{TypeData, ActionData, SchemaData, type_at, action_at}
 use Rattle.schema_core.specs.Schema.{type_below}
-use Rattle.policy_links.specs.declared.constraint.EntityReference.TheVariants.{Slot}
-use Rattle.policy_links.specs.declared.constraint.PrincipalOrResourceConstraint.{PrincipalOrResourceConstraint}
-use Rattle.policy_links.specs.declared.constraint.PrincipalOrResourceConstraint.TheVariants.{Eq, In, IsIn}
-use Rattle.policy_links.specs.Condition.{Written, linked, linked_of, asks_slot}
-use Rattle.policy_links.specs.Scope.{type_meets, action_meets, types_meet, is_applicable}
+use Rattle.policy_set.specs.declared.constraint.EntityReference.TheVariants.{Slot}
+use Rattle.policy_set.specs.declared.constraint.PrincipalOrResourceConstraint.{PrincipalOrResourceConstraint}
+use Rattle.policy_set.specs.declared.constraint.PrincipalOrResourceConstraint.TheVariants.{Eq, In, IsIn}
+use Rattle.policy_set.specs.Data.{TemplateData}
+use Rattle.policy_set.specs.Condition.{asks_slot}
+use Rattle.policy_set.specs.Links.{linked, linked_of}
+use Rattle.policy_scope.specs.Scope.{type_meets, action_meets, types_meet, is_applicable}
 use Rattle.schema_core.proofs.Found.{found_here}
 use Rattle.policy_links.proofs.Parts.{same_text, IsOfEntities}
 
@@ -42,7 +44,7 @@ found_name f (n ∷ ns) h = by (f n) refl (found_name f ns) h
         last false b q = q
 
 -- the same of both slots
-abbrev pub AreOfEntities : SchemaData → Written → SlotValues → Type 0
+abbrev pub AreOfEntities : SchemaData → TemplateData → SlotValues → Type 0
 AreOfEntities schema t w = (asks_slot t.principal ≡ true → IsOfEntities schema w.principal) × (asks_slot t.resource ≡ true → IsOfEntities schema w.resource)
 
 module _ (schema : SchemaData) (ok : IsSchema schema) where
@@ -102,7 +104,7 @@ module _ (schema : SchemaData) (ok : IsSchema schema) where
       let r = found_name (type_meets schema (linked (Some u) c)) ns h in
       literal_declared u (met_declared c u r.0 s (d r.0 r.2) r.1)
 
-  pub of_entities : (t : Written) (w : SlotValues) → is_applicable schema (linked_of w t) ≡ true → AreOfEntities schema t w
+  pub of_entities : (t : TemplateData) (w : SlotValues) → is_applicable schema (linked_of w t) ≡ true → AreOfEntities schema t w
   of_entities t w h =
       let f = Any-from_list_any (λ a. action_meets schema t.action a && types_meet schema (linked_of w t) a) schema.action_ids h in
       let a = f.1 in

@@ -14,14 +14,17 @@ use Rattle.schema_core.specs.Schema.{TypeData, ActionData, SchemaData}
 use Rattle.capabilities.specs.Bare.{Plain}
 use Rattle.policy_typing.specs.Signatures.{bool_type}
 use Rattle.policy_typing.specs.Typing.{types}
-use Rattle.policy_links.specs.declared.constraint.EntityReference.TheVariants.{Slot}
-use Rattle.policy_links.specs.declared.constraint.PrincipalOrResourceConstraint.{PrincipalOrResourceConstraint}
-use Rattle.policy_links.specs.declared.constraint.PrincipalOrResourceConstraint.TheVariants.{Any, Eq, In, Is, IsIn}
-use Rattle.policy_links.specs.declared.constraint.ActionConstraint.TheVariants as action
-use Rattle.policy_links.specs.Condition.{Written, unmarked, anything, condition_of, own_condition, linked_of}
+use Rattle.policy_set.specs.declared.constraint.EntityReference.TheVariants.{Slot}
+use Rattle.policy_set.specs.declared.constraint.Effect.TheVariants.{Permit}
+use Rattle.policy_set.specs.declared.constraint.PrincipalOrResourceConstraint.{PrincipalOrResourceConstraint}
+use Rattle.policy_set.specs.declared.constraint.PrincipalOrResourceConstraint.TheVariants.{Any, Eq, In, Is, IsIn}
+use Rattle.policy_set.specs.declared.constraint.ActionConstraint.TheVariants as action
+use Rattle.policy_set.specs.Data.{TemplateData}
+use Rattle.policy_set.specs.Condition.{unmarked, anything, condition_of}
+use Rattle.policy_set.specs.Links.{own_condition, linked_of}
 use Rattle.policy_links.specs.Linked.{types_around, linked_env, linked_envs}
-use Rattle.policy_links.specs.Names.{is_known_type}
-use Rattle.policy_links.specs.Scope.{is_applicable}
+use Rattle.policy_scope.specs.Names.{is_known_type}
+use Rattle.policy_scope.specs.Scope.{is_applicable}
 
 abbrev id : List ℕ → List ℕ → EntityUID
 id t e = record { entity_type = t; eid = e }
@@ -40,8 +43,8 @@ photos = record { entity_types = standard_type (codes "Group") (codes "User" ∷
 abbrev rings : SchemaData
 rings = record { entity_types = standard_type (codes "Team") (codes "Team" ∷ codes "User" ∷ []) ∷ standard_type (codes "User") (codes "Team" ∷ codes "User" ∷ []) ∷ []; action_ids = [] }
 
-abbrev asking : PrincipalOrResourceConstraint → Plain → Written
-asking c body = record { principal = c; action = action.Any; resource = Any; body = body }
+abbrev asking : PrincipalOrResourceConstraint → Plain → TemplateData
+asking c body = record { id = []; effect = Permit; principal = c; action = action.Any; resource = Any; body = body }
 
 abbrev given : EntityUID → SlotValues
 given u = record { principal = Some u; resource = None }
@@ -64,10 +67,10 @@ slot-types-in-ring : types_around rings (codes "User") ≡ codes "Team" ∷ code
 slot-types-in-ring = refl
 
 -- types of conditions: in the linked environment with this type for the slot, and of a link
-abbrev template_type : Written → List ℕ → Option Ty
+abbrev template_type : TemplateData → List ℕ → Option Ty
 template_type t n = option_map (λ x. x.type) (types photos (linked_env view (environment (codes "User") view.name (codes "Photo")) (Some n) None) [] (condition_of t))
 
-abbrev link_type : Written → EntityUID → Option Ty
+abbrev link_type : TemplateData → EntityUID → Option Ty
 link_type t u = option_map (λ x. x.type) (types photos (unlinked view (environment (codes "User") view.name (codes "Photo"))) [] (own_condition (given u) t))
 
 template-in : template_type (asking (In Slot) anything) (codes "Group") ≡ Some bool_type

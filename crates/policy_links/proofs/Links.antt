@@ -13,11 +13,13 @@ use Rattle.schema_core.specs.Environments.{Environment, environments_of}
 use Rattle.schema_core.specs.Schema.{ActionData, SchemaData}
 use Rattle.policy_typing.specs.Operands.{is_boolean}
 use Rattle.policy_typing.specs.Typing.{Typing, types}
-use Rattle.policy_links.specs.declared.constraint.EntityReference.TheVariants.{EUID, Slot}
-use Rattle.policy_links.specs.declared.constraint.PrincipalOrResourceConstraint.{PrincipalOrResourceConstraint}
-use Rattle.policy_links.specs.declared.constraint.PrincipalOrResourceConstraint.TheVariants.{Any, Eq, In, Is, IsIn}
+use Rattle.policy_set.specs.declared.constraint.EntityReference.TheVariants.{EUID, Slot}
+use Rattle.policy_set.specs.declared.constraint.PrincipalOrResourceConstraint.{PrincipalOrResourceConstraint}
+use Rattle.policy_set.specs.declared.constraint.PrincipalOrResourceConstraint.TheVariants.{Any, Eq, In, Is, IsIn}
 use Rattle.policy_links.specs.Accepted.{IsTyped}
-use Rattle.policy_links.specs.Condition.{Written, unmarked, scope_part, action_part, condition_of, own_condition, linked, linked_of, HasPlainBody}
+use Rattle.policy_set.specs.Data.{TemplateData}
+use Rattle.policy_set.specs.Condition.{unmarked, scope_part, action_part, condition_of}
+use Rattle.policy_set.specs.Links.{own_condition, linked, linked_of, HasPlainBody}
 use Rattle.policy_links.specs.Laws.{IsSameOrFalse, FollowsTyping, own_slot, LinksFollowTemplates, LinksAreTyped}
 use Rattle.policy_links.specs.Linked.{linked_env, types_above, types_around, slot_types, linked_envs_with, linked_envs_at, linked_envs_of}
 use Rattle.policy_links.proofs.Declared.{AreOfEntities, of_entities}
@@ -26,7 +28,7 @@ use Rattle.policy_links.proofs.Parts.{same_text, part_filled, action_plain, acti
 use Rattle.policy_links.proofs.Slots.{kept}
 
 -- a link's condition is that of its own scope
-pub condition_filled : (w : SlotValues) (t : Written) → HasPlainBody t → own_condition w t ≡ condition_of (linked_of w t)
+pub condition_filled : (w : SlotValues) (t : TemplateData) → HasPlainBody t → own_condition w t ≡ condition_of (linked_of w t)
 condition_filled w t h = λ i. conj (conj (conj (part_filled w Principal t.principal i) (action_filled w t.action i) unmarked) (part_filled w Resource t.resource i) unmarked) (kept w t.body h i) unmarked
 
 pub links_follow : LinksFollowTemplates
@@ -119,7 +121,7 @@ module _ (schema : SchemaData) where
   own_among P (IsIn m (EUID u)) n h = h.0
 
   -- of the environments that an environment of the schema gives, the one with the types of the variables
-  pub own_env : (P : EnvData → Type 0) (t : Written) (a : ActionData) (e : Environment) → AllByRecursion P (linked_envs_at schema t a e) →
+  pub own_env : (P : EnvData → Type 0) (t : TemplateData) (a : ActionData) (e : Environment) → AllByRecursion P (linked_envs_at schema t a e) →
       P (linked_env a e (own_slot t.principal e.principal) (own_slot t.resource e.resource))
   own_env P t a e h =
       own_among (λ r. P (linked_env a e (own_slot t.principal e.principal) r)) t.resource e.resource

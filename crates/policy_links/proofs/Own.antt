@@ -5,15 +5,15 @@ use Rattle.hierarchy.specs.Reaches.{has}
 use Rattle.policy_names.specs.declared.entity_uid.EntityUID.{EntityUID}
 use Rattle.policy_names.specs.Uid.{text_cmp}
 use Rattle.schema_core.specs.EnvData.{EnvData}
-use Rattle.schema_core.specs.Environments.{Environment, environment, environments_of}
+use Rattle.schema_core.specs.Environments.{environment, environments_of}
 use Rattle.schema_core.specs.Schema.{SchemaData, action_at}
-use Rattle.policy_links.specs.Condition.{Written}
+use Rattle.policy_set.specs.Data.{TemplateData}
 use Rattle.policy_links.specs.Laws.{own_slot}
 use Rattle.policy_links.specs.Linked.{linked_env, linked_envs, linked_envs_at, linked_envs_of}
 use Rattle.policy_links.proofs.Links.{all_more, from_each, own_env}
 use Rattle.policy_links.proofs.Statics.{everywhere}
 
-pub own_everywhere : (schema : SchemaData) (P : EnvData → Type 0) (t : Written) → AllByRecursion P (linked_envs schema t) → (u : EntityUID) →
+pub own_everywhere : (schema : SchemaData) (P : EnvData → Type 0) (t : TemplateData) → AllByRecursion P (linked_envs schema t) → (u : EntityUID) →
     IfSome (action_at schema u) (λ a. (p r : List ℕ) → IsTrue (has text_cmp a.principals p) → IsTrue (has text_cmp a.resources r) → P (linked_env a (environment p a.name r) (own_slot t.principal p) (own_slot t.resource r)))
 own_everywhere schema P t h u =
     everywhere schema (λ a e. P (linked_env a e (own_slot t.principal e.principal) (own_slot t.resource e.resource)))

@@ -26,12 +26,13 @@ use Rattle.policy_typing.specs.Environment.{is_type_within}
 use Rattle.policy_typing.specs.Rules.{bool_if, strict_join, is_entity_set, equal_type, possible, type_in}
 use Rattle.policy_typing.specs.Signatures.{bool_type}
 use Rattle.policy_typing.specs.Typing.{Typing, typing, at, types}
-use Rattle.policy_links.specs.declared.constraint.EntityReference.TheVariants.{EUID, Slot}
-use Rattle.policy_links.specs.declared.constraint.PrincipalOrResourceConstraint.{PrincipalOrResourceConstraint}
-use Rattle.policy_links.specs.declared.constraint.PrincipalOrResourceConstraint.TheVariants.{Any, Eq, In, Is, IsIn as IsWithin}
-use Rattle.policy_links.specs.declared.constraint.ActionConstraint.{ActionConstraint}
-use Rattle.policy_links.specs.declared.constraint.ActionConstraint.TheVariants as action
-use Rattle.policy_links.specs.Condition.{unmarked, anything, variable_of, referred, compared, of_type, scope_part, literals, action_part, with_id, linked, asks_slot}
+use Rattle.policy_set.specs.declared.constraint.EntityReference.TheVariants.{EUID, Slot}
+use Rattle.policy_set.specs.declared.constraint.PrincipalOrResourceConstraint.{PrincipalOrResourceConstraint}
+use Rattle.policy_set.specs.declared.constraint.PrincipalOrResourceConstraint.TheVariants.{Any, Eq, In, Is, IsIn as IsWithin}
+use Rattle.policy_set.specs.declared.constraint.ActionConstraint.{ActionConstraint}
+use Rattle.policy_set.specs.declared.constraint.ActionConstraint.TheVariants as action
+use Rattle.policy_set.specs.Condition.{unmarked, anything, variable_of, referred, compared, of_type, scope_part, literals, action_part, asks_slot}
+use Rattle.policy_set.specs.Links.{with_id, linked}
 use Rattle.policy_links.specs.Laws.{with_id as slot_filled, FollowsTyping, own_slot}
 use Rattle.policy_links.specs.Linked.{linked_env}
 use Rattle.policy_links.proofs.Follow.{equal_follows, FollowsType, type_follows, Follows, conj_follows}

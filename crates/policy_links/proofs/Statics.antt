@@ -14,7 +14,7 @@ use Rattle.policy_core.specs.Eval.{eval}
 use Rattle.policy_expressions.specs.Slots.{has_slot}
 use Rattle.policy_expressions.specs.Tree.{depth_of}
 use Rattle.policy_names.proofs.Ties.{equal_of}
-use Rattle.schema_core.specs.EnvData.{EnvData, LinkedEnvironment, declared_action, unlinked, unlinked_of}
+use Rattle.schema_core.specs.EnvData.{LinkedEnvironment, declared_action, unlinked, unlinked_of}
 use Rattle.schema_core.specs.Environments.{Environment, environment, environments_of, environments_at}
 use Rattle.schema_core.specs.Schema.{ActionData, SchemaData, is_action_named, action_at}
 use Rattle.policy_typing.specs.Conforms.{RequestConforms, Applies, IsOf}
@@ -22,14 +22,16 @@ use Rattle.policy_typing.specs.Conditions.{IsCondition, ConditionsAreSound}
 use Rattle.policy_typing.specs.Operands.{is_boolean}
 use Rattle.policy_expressions.specs.Keys.{HasKeysOnce, HaveKeysOnce}
 use Rattle.policy_typing.specs.Typing.{Typing, unreached, types}
-use Rattle.policy_links.specs.declared.constraint.EntityReference.TheVariants.{EUID, Slot}
-use Rattle.policy_links.specs.declared.constraint.PrincipalOrResourceConstraint.{PrincipalOrResourceConstraint}
-use Rattle.policy_links.specs.declared.constraint.PrincipalOrResourceConstraint.TheVariants.{Any, Eq, In, Is, IsIn}
-use Rattle.policy_links.specs.declared.constraint.ActionConstraint.{ActionConstraint}
-use Rattle.policy_links.specs.declared.constraint.ActionConstraint.TheVariants as action
+use Rattle.policy_set.specs.declared.constraint.EntityReference.TheVariants.{EUID, Slot}
+use Rattle.policy_set.specs.declared.constraint.PrincipalOrResourceConstraint.{PrincipalOrResourceConstraint}
+use Rattle.policy_set.specs.declared.constraint.PrincipalOrResourceConstraint.TheVariants.{Any, Eq, In, Is, IsIn}
+use Rattle.policy_set.specs.declared.constraint.ActionConstraint.{ActionConstraint}
+use Rattle.policy_set.specs.declared.constraint.ActionConstraint.TheVariants as action
 use Rattle.policy_links.specs.Accepted.{IsTyped, IsTypedIn}
 use Rattle.capabilities.specs.Bare.{Plain}
-use Rattle.policy_links.specs.Condition.{Written, scope_part, literals, action_part, condition_of, own_condition, linked, linked_of, asks_slot, HasPlainBody}
+use Rattle.policy_set.specs.Data.{TemplateData}
+use Rattle.policy_set.specs.Condition.{scope_part, literals, action_part, condition_of, asks_slot}
+use Rattle.policy_set.specs.Links.{own_condition, linked, linked_of, HasPlainBody}
 use Rattle.policy_links.specs.Laws.{StaticsAreUnlinked, StaticsAreTyped, StaticsAreSound, TypedEverywhere, LinksAreTyped, LinksHaveKeysOnce, LinksAreSound, TypedAreSound, LinksAreWrittenOut, same, with_id, both, left, FilledKeeps}
 use Rattle.policy_links.specs.Linked.{linked_env, slot_types, linked_envs_at, linked_envs_of}
 use Rattle.policy_links.proofs.Declared.{and_both}
@@ -110,7 +112,7 @@ action_once action.Any = tt
 action_once (action.Eq u) = (tt, tt)
 action_once (action.In us) = (tt, literals_once us.items)
 
-pub condition_once : (t : Written) → HasKeysOnce t.body → HasKeysOnce (condition_of t)
+pub condition_once : (t : TemplateData) → HasKeysOnce t.body → HasKeysOnce (condition_of t)
 condition_once t body = (((plain_once Principal t.principal, action_once t.action), plain_once Resource t.resource), body)
 
 pub links_once : LinksHaveKeysOnce
@@ -218,7 +220,7 @@ no_slots i (Eq Slot) h = cc
 no_slots i (In Slot) h = cc
 no_slots i (IsIn n Slot) h = cc
 
-pub condition_plain : (t : Written) → HasPlainBody t → asks_slot t.principal ≡ false → asks_slot t.resource ≡ false → has_slot (condition_of t) ≡ false
+pub condition_plain : (t : TemplateData) → HasPlainBody t → asks_slot t.principal ≡ false → asks_slot t.resource ≡ false → has_slot (condition_of t) ≡ false
 condition_plain t plain no_principal no_resource = λ i. ((no_slots Principal t.principal no_principal i || action_plain t.action i) || no_slots Resource t.resource no_resource i) || plain i
 
 pub statics_sound : StaticsAreTyped → TypedAreSound → StaticsAreSound

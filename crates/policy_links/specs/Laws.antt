@@ -1,5 +1,6 @@
 -- Links are typed, since their templates are.
 use Rattle.std.specs.Prelude.{◌≡◌, ◌⊎◌, ◌&&◌, ℕ, Bool, true, false, List, [], Option, Some, None, IfSome, IsSomeAnd, IsTrue}
+use Rattle.std.specs.List.{AllByRecursion}
 use Rattle.policy_names.specs.declared.entity_uid.EntityUID.{EntityUID}
 use Rattle.policy_expressions.specs.declared.kinds.BinaryOp.{BinaryOp}
 use Rattle.policy_expressions.specs.declared.kinds.Literal.TheVariants as literal
@@ -24,20 +25,24 @@ use Rattle.schema_core.specs.Schema.{ActionData, SchemaData, action_at}
 use Rattle.capabilities.specs.Bare.{Plain}
 use Rattle.capabilities.specs.Capability.{Capability}
 use Rattle.policy_typing.specs.Typing.{Typed, Typing, unreached, types}
-use Rattle.policy_links.specs.declared.constraint.PrincipalOrResourceConstraint.{PrincipalOrResourceConstraint}
-use Rattle.policy_links.specs.Condition.{Written, condition_of, own_condition, linked_of, asks_slot, HasPlainBody, Fills}
+use Rattle.policy_set.specs.declared.constraint.PrincipalOrResourceConstraint.{PrincipalOrResourceConstraint}
+use Rattle.policy_set.specs.Data.{TemplateData}
+use Rattle.policy_set.specs.Condition.{condition_of, asks_slot}
+use Rattle.policy_set.specs.Links.{own_condition, linked_of, HasPlainBody, Fills}
+use Rattle.typing_findings.specs.Check.{checked, TellsWhy}
+use Rattle.typing_findings.specs.Names.{has_known_names}
 use Rattle.policy_links.specs.Linked.{linked_env, linked_envs}
-use Rattle.policy_links.specs.Scope.{is_applicable}
+use Rattle.policy_scope.specs.Scope.{is_applicable}
 use Rattle.policy_links.specs.Accepted.{IsTyped, IsTypedIn, IsAcceptedTemplate, IsAcceptedLink}
 
 -- a link's condition is the condition of its own scope and the template's body; it has no slot, and is as deep as the template's
-pub record IsWrittenOut (w : SlotValues) (t : Written) : Type 0 where
+pub record IsWrittenOut (w : SlotValues) (t : TemplateData) : Type 0 where
   pub own : own_condition w t ≡ condition_of (linked_of w t)
   pub plain : has_slot (own_condition w t) ≡ false
   pub depth : depth_of (own_condition w t) ≡ depth_of (condition_of t)
 
 abbrev pub LinksAreWrittenOut : Type 0
-LinksAreWrittenOut = (t : Written) → HasPlainBody t → (w : SlotValues) → Fills w t → IsWrittenOut w t
+LinksAreWrittenOut = (t : TemplateData) → HasPlainBody t → (w : SlotValues) → Fills w t → IsWrittenOut w t
 
 -- what stands for slots does not matter to an expression without slots
 abbrev pub SlotsAreNotRead : Type 0
@@ -85,23 +90,23 @@ own_slot c n = if_slot (asks_slot c) n
 -- in every environment a link's condition is typed False, or as its template's is where an entity of the variable's type stands for each slot
 abbrev pub LinksFollowTemplates : Type 0
 LinksFollowTemplates =
-    (schema : SchemaData) → IsSchema schema → (t : Written) → HasPlainBody t → (w : SlotValues) → Fills w t → IsTrue (is_applicable schema (linked_of w t)) → (a : ActionData) (e : Environment) →
+    (schema : SchemaData) → IsSchema schema → (t : TemplateData) → HasPlainBody t → (w : SlotValues) → Fills w t → IsTrue (is_applicable schema (linked_of w t)) → (a : ActionData) (e : Environment) →
     FollowsTyping (types schema (linked_env a e (own_slot t.principal e.principal) (own_slot t.resource e.resource)) [] (condition_of t)) (types schema (unlinked a e) [] (own_condition w t))
 
 -- the condition of an accepted link of an accepted template has a type in every environment of the schema
 abbrev pub LinksAreTyped : Type 0
 LinksAreTyped =
-    (schema : SchemaData) → IsSchema schema → (t : Written) → HasPlainBody t → IsAcceptedTemplate schema t → (w : SlotValues) → Fills w t → IsAcceptedLink schema w t →
+    (schema : SchemaData) → IsSchema schema → (t : TemplateData) → HasPlainBody t → IsAcceptedTemplate schema t → (w : SlotValues) → Fills w t → IsAcceptedLink schema w t →
     IsTypedIn schema (own_condition w t) (unlinked_envs schema)
 
 -- a policy without slots is looked at in the environments of the schema
 abbrev pub StaticsAreUnlinked : Type 0
-StaticsAreUnlinked = (schema : SchemaData) (t : Written) → asks_slot t.principal ≡ false → asks_slot t.resource ≡ false → linked_envs schema t ≡ unlinked_envs schema
+StaticsAreUnlinked = (schema : SchemaData) (t : TemplateData) → asks_slot t.principal ≡ false → asks_slot t.resource ≡ false → linked_envs schema t ≡ unlinked_envs schema
 
 -- an accepted policy without slots has a type in every environment of the schema
 abbrev pub StaticsAreTyped : Type 0
 StaticsAreTyped =
-    (schema : SchemaData) (t : Written) → asks_slot t.principal ≡ false → asks_slot t.resource ≡ false → IsAcceptedTemplate schema t →
+    (schema : SchemaData) (t : TemplateData) → asks_slot t.principal ≡ false → asks_slot t.resource ≡ false → IsAcceptedTemplate schema t →
     IsTypedIn schema (condition_of t) (unlinked_envs schema)
 
 -- what has a type in every environment of the schema has one in that of each action with a principal type and a resource type that it applies to
@@ -112,7 +117,7 @@ TypedEverywhere =
 
 -- each record of a link's condition has each of its keys once
 abbrev pub LinksHaveKeysOnce : Type 0
-LinksHaveKeysOnce = (t : Written) → HasPlainBody t → HasKeysOnce t.body → (w : SlotValues) → Fills w t → HasKeysOnce (own_condition w t)
+LinksHaveKeysOnce = (t : TemplateData) → HasPlainBody t → HasKeysOnce t.body → (w : SlotValues) → Fills w t → HasKeysOnce (own_condition w t)
 
 -- in the environment of the request the condition has a type, and keeps what typing promises of conditions
 abbrev pub IsConditionFor : SchemaData → Plain → Request → Store → Type 0
@@ -129,11 +134,15 @@ TypedAreSound =
 -- so has that of an accepted link
 abbrev pub LinksAreSound : Type 0
 LinksAreSound =
-    (schema : SchemaData) → IsSchema schema → (t : Written) → HasPlainBody t → HasKeysOnce t.body → IsAcceptedTemplate schema t → (w : SlotValues) → Fills w t → IsAcceptedLink schema w t →
+    (schema : SchemaData) → IsSchema schema → (t : TemplateData) → HasPlainBody t → HasKeysOnce t.body → IsAcceptedTemplate schema t → (w : SlotValues) → Fills w t → IsAcceptedLink schema w t →
     (q : Request) → RequestConforms schema q → (s : Store) → StoreConforms schema s → IsConditionFor schema (own_condition w t) q s
 
 -- and that of an accepted policy without slots
 abbrev pub StaticsAreSound : Type 0
 StaticsAreSound =
-    (schema : SchemaData) → IsSchema schema → (t : Written) → HasPlainBody t → HasKeysOnce t.body → asks_slot t.principal ≡ false → asks_slot t.resource ≡ false → IsAcceptedTemplate schema t →
+    (schema : SchemaData) → IsSchema schema → (t : TemplateData) → HasPlainBody t → HasKeysOnce t.body → asks_slot t.principal ≡ false → asks_slot t.resource ≡ false → IsAcceptedTemplate schema t →
     (q : Request) → RequestConforms schema q → (s : Store) → StoreConforms schema s → IsConditionFor schema (condition_of t) q s
+
+-- where each name of a template is known, a check that fails in one of its environments tells why
+abbrev pub RefusalsAreTold : Type 0
+RefusalsAreTold = (schema : SchemaData) (t : TemplateData) → IsTrue (has_known_names schema (condition_of t)) → AllByRecursion (λ env. TellsWhy (checked schema env (condition_of t))) (linked_envs schema t)

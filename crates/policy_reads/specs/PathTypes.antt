@@ -1,5 +1,5 @@
 -- The types that a schema has for what paths lead to.
-use Rattle.std.specs.Prelude.{ℕ, Bool, true, ◌&&◌, List, [], ◌∷◌, ◌++◌, map, Option, Some, None, is_some, if◌then◌else◌}
+use Rattle.std.specs.Prelude.{Bool, true, ◌&&◌, List, [], ◌∷◌, ◌++◌, map, Option, is_some, if◌then◌else◌}
 use Rattle.std.specs.Option.{option_map, option_and_then}
 use Rattle.schema_types.specs.Ty.{Ty, record_of, Attrs, no_attrs, attr}
 use Rattle.schema_core.specs.EnvData.{EnvData, literal_type}

@@ -9,7 +9,6 @@ use Rattle.schema_types.specs.Required.{required_attrs}
 use Rattle.schema_types.specs.Ty.{Ty, true_type, false_type, primitive, record_of}
 use Rattle.schema_core.specs.EnvData.{EnvData}
 use Rattle.schema_core.specs.Schema.{SchemaData}
-use Rattle.policy_expressions.specs.declared.kinds.BinaryOp.{BinaryOp}
 use Rattle.policy_expressions.specs.Functions.{function_of}
 use Rattle.policy_expressions.specs.Tree.{lit, var, slot, ite, conj, disj, unary, binary, attr, has, like, is_type, call, set, rec, Trees, no_trees, tree, Named, no_named, named, Mark, named_of}
 use Rattle.capabilities.specs.Bare.{Plain}

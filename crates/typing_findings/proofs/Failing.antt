@@ -24,7 +24,8 @@ use Rattle.policy_typing.specs.Typing.{Typed, Typing, typing, types_in}
 use Rattle.typing_findings.specs.declared.finding.LubContext.TheVariants as context
 use Rattle.typing_findings.specs.Finding.{Finding}
 use Rattle.typing_findings.specs.Access.{attribute_access}
-use Rattle.typing_findings.specs.Expected.{a_boolean, a_string, an_entity, an_owner, no_help, like_help, test_help, contents_help, is_boolean, of_unary, left_of, right_of}
+use Rattle.policy_typing.specs.Operands.{is_boolean}
+use Rattle.typing_findings.specs.Expected.{a_boolean, a_string, an_entity, an_owner, no_help, like_help, test_help, contents_help, of_unary, left_of, right_of}
 use Rattle.typing_findings.specs.Walked.{Walked, Success, Fail, tree_of, lends, trees_walked, has_typing, lent_by, lent_by_all, expect, expect_if, ended, findings_of_all}
 use Rattle.typing_findings.specs.Own.{incompatible, set_found}
 use Rattle.typing_findings.specs.Operators.{place, unless_false, unless_true, unary_fitting, unary_walked, like_fitting, like_walked, is_fitting, is_walked, has_fitting, has_walked, attr_found, attr_fitting, attr_walked, binary_fitting, binary_walked, and_sides, and_walked, or_sides, or_walked, if_parts, if_walked, set_typing, set_walked, Fields, parts_of, lent_fields, record_typing, record_walked}

@@ -14,7 +14,8 @@ use Rattle.policy_typing.specs.Typing.{Typed, attribute_known, tag_known}
 use Rattle.typing_findings.specs.Walked.{Walked, Success, Fail, typing_of, findings_of}
 use Rattle.typing_findings.specs.Operators.{place, leaf_walked, parts_of}
 use Rattle.typing_findings.specs.Walk.{walked, walked_all, walked_named}
-use Rattle.typing_findings.specs.Laws.{HasKnownNames, HaveKnownNames, FieldsHaveKnownNames, IsTold, FailureIsTold}
+use Rattle.typing_findings.specs.Laws.{IsTold, FailureIsTold}
+use Rattle.typing_findings.proofs.KnownNames.{HasKnownNames, HaveKnownNames, FieldsHaveKnownNames, names_known}
 use Rattle.typing_findings.proofs.Found.{HasFinding}
 use Rattle.typing_findings.proofs.Failing.{unary_told, like_told, is_told, has_told, attr_told, binary_told, and_is_told, or_is_told, if_is_told, HaveFindings, set_told, record_told}
 use Rattle.typing_findings.proofs.Calls.{AreWalked, call_told}
@@ -69,4 +70,4 @@ told_of (Fail t []) h = absurd h
 told_of (Fail t (f ∷ fs)) h = tt
 
 pub failure_told : FailureIsTold
-failure_told schema env known cs e h = subst (λ t. IsTold t (findings_of (walked schema env cs e))) (exact schema env cs e) (told_of (walked schema env cs e) (found schema env known cs e h))
+failure_told schema env known cs e h = subst (λ t. IsTold t (findings_of (walked schema env cs e))) (exact schema env cs e) (told_of (walked schema env cs e) (found schema env known cs e (names_known schema e h)))

@@ -26,7 +26,8 @@ use Rattle.policy_typing.specs.Typing.{Typed, Typing}
 use Rattle.typing_findings.specs.declared.finding.LubContext.{LubContext}
 use Rattle.typing_findings.specs.declared.finding.LubContext.TheVariants as context
 use Rattle.typing_findings.specs.Finding.{Finding, AttributeAccess}
-use Rattle.typing_findings.specs.Expected.{Expected, is_boolean, is_long, is_typed_set, has_attributes, of_unary, left_of, right_of}
+use Rattle.policy_typing.specs.Operands.{is_boolean, is_long}
+use Rattle.typing_findings.specs.Expected.{Expected, is_typed_set, has_attributes, of_unary, left_of, right_of}
 use Rattle.typing_findings.specs.Walked.{Walked, Success, Fail, untyped, unexpected, expect_lent, expect, expect_if, ended}
 use Rattle.typing_findings.specs.Own.{if_none, incompatible, is_comparable, wrong, order_wrong, contains_found, tag_found, binary_found, attribute_found}
 use Rattle.typing_findings.specs.Operators.{place}

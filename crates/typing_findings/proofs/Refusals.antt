@@ -14,7 +14,8 @@ use Rattle.capabilities.specs.Bare.{Plain}
 use Rattle.policy_typing.specs.Signatures.{bool_type}
 use Rattle.policy_typing.specs.Rules as rule
 use Rattle.policy_typing.specs.Rules.{is_string, is_set, is_entity_set, bool_if, sum_type, and_type, or_type, contains_type}
-use Rattle.typing_findings.specs.Expected.{Expected, is_boolean, is_long, is_typed_set, has_attributes, of_unary, left_of, right_of}
+use Rattle.policy_typing.specs.Operands.{is_boolean, is_long}
+use Rattle.typing_findings.specs.Expected.{Expected, is_typed_set, has_attributes, of_unary, left_of, right_of}
 use Rattle.typing_findings.proofs.Steps.{IfFalse, if_false}
 
 -- a type that a test gives or refuses

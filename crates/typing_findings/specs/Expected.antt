@@ -1,14 +1,14 @@
 -- What operands have to be.
 use Rattle.std.specs.Prelude.{Bool, true, false, ◌||◌, List, [], ◌∷◌, Option, Some, None, if◌then◌else◌}
-use Rattle.schema_types.specs.declared.kinds.Primitive.TheVariants.{Bool as BoolType, Long}
 use Rattle.schema_types.specs.declared.kinds.OpenTag.TheVariants.{OpenAttributes}
-use Rattle.schema_types.specs.Ty.{Ty, true_type, false_type, primitive, any_set, set_of, record_of, any_entity, no_attrs}
+use Rattle.schema_types.specs.Ty.{Ty, any_set, set_of, record_of, any_entity, no_attrs}
 use Rattle.policy_types.specs.Join.{is_entity, is_record}
 use Rattle.policy_expressions.specs.declared.kinds.UnaryOp.{UnaryOp}
 use Rattle.policy_expressions.specs.declared.kinds.UnaryOp.TheVariants.{Not, Neg, IsEmpty}
 use Rattle.policy_expressions.specs.declared.kinds.BinaryOp.{BinaryOp}
 use Rattle.policy_expressions.specs.declared.kinds.BinaryOp.TheVariants.{Eq, Less, LessEq, Add, Sub, Mul, In, Contains, ContainsAll, ContainsAny, GetTag, HasTag}
 use Rattle.policy_typing.specs.Signatures.{bool_type, long_type, string_type, same_type}
+use Rattle.policy_typing.specs.Operands.{is_boolean, is_long}
 use Rattle.policy_typing.specs.Rules.{is_string, is_set, is_entity_set}
 use Rattle.typing_findings.specs.declared.finding.UnexpectedTypeHelp.{UnexpectedTypeHelp}
 use Rattle.typing_findings.specs.declared.finding.UnexpectedTypeHelp.TheVariants.{TryUsingLike, TryUsingContains, TryUsingSingleContains, TryUsingHas, TryUsingIs, TryUsingIn, TryUsingEqEmptyString, TypeTestNotSupported, ConcatenationNotSupported, SetOperationsNotSupported}
@@ -21,17 +21,6 @@ pub record Expected : Type 0 where
 
 abbrev pub expected : List Ty → (Ty → Bool) → (Ty → Option UnexpectedTypeHelp) → Expected
 expected ts fits help = record { types = ts; fits = fits; help = help }
-
--- true, false or not known
-abbrev pub is_boolean : Ty → Bool
-is_boolean true_type = true
-is_boolean false_type = true
-is_boolean (primitive BoolType) = true
-is_boolean t = false
-
-abbrev pub is_long : Ty → Bool
-is_long (primitive Long) = true
-is_long t = false
 
 -- a set whose elements have a type
 abbrev pub is_typed_set : Ty → Bool
