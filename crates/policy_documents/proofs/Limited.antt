@@ -1,5 +1,5 @@
 -- Policies that are read keep the limits.
-use Rattle.std.proofs.Common.{◌≡◌, ℕ, ◌<◌, ◌≤◌, length, ◌&&◌, ◌||◌, Bool, true, false, Option, Some, None, option_map, Ok, Err, arith, refl, sym}
+use Rattle.std.proofs.Common.{◌≡◌, ℕ, ◌<◌, ◌≤◌, length, ◌&&◌, ◌||◌, Bool, true, false, Option, Some, None, option_map, Ok, Err, arith, refl, sym, ap, ◌∙◌}
 use Rattle.std.specs.Prelude.{nat_lt, option_and_then, if◌then◌else◌}
 use Rattle.std.proofs.lemmas.Bool.Decides.{nat_tests}
 use Rattle.policy_expressions.specs.Tree.{Tree, lit, var, conj, disj, unary, binary, depth_of}
@@ -18,11 +18,12 @@ use Rattle.policy_expressions.specs.Plain.{Plain}
 use Rattle.policy_set.specs.Condition.{asks_slot, has_scope_slot, scope_part, action_part, condition_of}
 use Rattle.policy_set.specs.PolicySet.{PolicySetData}
 use Rattle.policy_set.proofs.Depths.{by_body}
+use Rattle.serde_json.specs.Data.{Data}
 use Rattle.expr_documents.specs.Reads.{bounded}
 use Rattle.expr_documents.specs.declared.nesting.Bounded.TheVariants.{Within, Nested}
 use Rattle.policy_documents.specs.Limits.{is_id_operand, is_over_ids}
-use Rattle.policy_documents.specs.Policies.{added_entry, added_template, and_then, template_read}
-use Rattle.policy_documents.specs.Policy.{is_too_deep, policy_keeps_limits, policy_of_parts, policy_with_body, read_of, read_with}
+use Rattle.policy_documents.specs.Policies.{added_entry, added_policy, added_template, and_then, template_read}
+use Rattle.policy_documents.specs.Policy.{is_too_deep, policy_keeps_limits, policy_of, policy_of_parts, policy_with_body, read_of, read_with}
 use Rattle.policy_documents.specs.declared.place.Place.TheVariants as place
 use Rattle.policy_documents.specs.declared.policy.PolicyParts.{PolicyParts}
 use Rattle.policy_documents.specs.declared.policy.PolicyRead.{PolicyRead}
@@ -156,6 +157,12 @@ added_by set t false true = refl
 added_by set t false false = refl
 
 -- what was read is added as the policy is
-pub added_read : (set : PolicySetData) (o : Option TemplateData) → and_then (template_read (length set.policies) (option_and_then read_of o)) (added_template set) ≡ added_entry set o
+added_read : (set : PolicySetData) (o : Option TemplateData) → and_then (template_read (length set.policies) (option_and_then read_of o)) (added_template set) ≡ added_entry set o
 added_read set None = refl
 added_read set (Some t) = added_by set t (is_too_deep t) (policy_keeps_limits t)
+
+-- the set with a policy that was read at its index
+pub added_next : (set : PolicySetData) (d : Data) (i : ℕ) (r : Option PolicyRead) (t : TemplateData) → i ≡ length set.policies → r ≡ option_and_then read_of (policy_of d) → template_read i r ≡ Ok t → added_policy set d ≡ added_template set t
+unfolding added_policy
+added_next set d i r t e h k =
+    sym (added_read set (policy_of d)) ∙ ap (λ x. and_then x (added_template set)) (ap (λ j. template_read j (option_and_then read_of (policy_of d))) (sym e) ∙ ap (template_read i) (sym h) ∙ k)

@@ -38,7 +38,7 @@ fn add_template(policies: &mut PolicySet, template: Template) -> Result<(), Docu
 }
 
 /// Adds the policy that the value is.
-#[tactic(auto, unfolding(crate::specs::Policies::added_policy), using(crate::proofs::Limited::added_read, crate::proofs::Limited::at_asks_none))]
+#[tactic(auto, unfolding(crate::specs::Policies::added_policy))]
 fn add_policy(alloc: Global, policies: &mut PolicySet, value: &Value) -> Result<(), DocumentFault>
     ensures { ComesTo (λ _. policies.new) result (added_policy policies.old (view value.now)) }
 {

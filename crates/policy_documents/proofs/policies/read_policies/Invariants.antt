@@ -1,8 +1,8 @@
 use Rattle.std.proofs.Common.{◌≡◌, [], drop}
 use Rattle.serde_json.specs.View.{items_view}
-use Rattle.policy_documents.specs.Policies.{policies_of}
+use Rattle.policy_documents.specs.Policies.{no_policies, policies_of}
 use Rattle.policy_documents.proofs.policies.read_policies.Given as goal
 
 -- with the policies so far, what is left gives all
 abbrev pub invariant-loop-item : goal.invariant-loop-item
-invariant-loop-item l = policies_of l.policies (items_view (drop l.item-index l.items)) ≡ policies_of [] (items_view l.items)
+invariant-loop-item l = policies_of l.policies (items_view (drop l.item-index l.items)) ≡ policies_of no_policies (items_view l.items)
