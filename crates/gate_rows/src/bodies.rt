@@ -30,7 +30,9 @@ const DEPTHS: &str = r#"# a condition is one deeper than its body: at most 200 i
 # a fault of the form comes before the depth, wherever it stands
 [{"when":{"all":[ 400 null]}}] => form
 [{"when":{"all":[ 400 true]}},{"where":true}] => form
-[{"when":{"any":[{"all":[ 400 true]},{"not":1}]}}] => form
+[{"when":{"any":[{"all":[ 400 true]},{"not":null}]}}] => form
+# what goes past the limits is told where it is built
+[{"when":{"any":[{"all":[ 400 true]},{"not":1}]}}] => nested
 [{"when":{"all":[ 400 true]}}],"more":1 => form
 # one item is the item itself
 [{"when":{"all":[{"any":[ 0 true]}]}}] => allowed"#;

@@ -156,7 +156,8 @@ duration "18446744073709551616ms"
 duration "99999999999999999999d""#;
 
 // Expressions over ip ranges, each with its value.
-const RANGES: &str = r#"{"call":["isInRange",{"call":["ip","10.0.0.1/8"]},{"call":["ip","10.0.0.0/7"]}]} => true
+const RANGES: &str =
+    r#"{"call":["isInRange",{"call":["ip","10.0.0.1/8"]},{"call":["ip","10.0.0.0/7"]}]} => true
 {"call":["isInRange",{"call":["ip","10.0.0.0/7"]},{"call":["ip","10.0.0.1/8"]}]} => false
 {"call":["isInRange",{"call":["ip","11.255.255.255"]},{"call":["ip","10.0.0.0/7"]}]} => true
 {"call":["isInRange",{"call":["ip","12.0.0.0"]},{"call":["ip","10.0.0.0/7"]}]} => false
@@ -260,7 +261,11 @@ fn texts_are_read_and_written(rt: HostRuntime) -> Result<(), Fail> {
         assert_eq!(rt; called(rt.alloc(), call)?.as_str(), due.as_str(), "{line}");
     }
     for line in NO_TEXTS.lines() {
-        assert_eq!(rt; called(rt.alloc(), line)?.as_str(), "ExtensionText", "{line}");
+        assert_eq!(rt;
+            called(rt.alloc(), line)?.as_str(),
+            "ExtensionText",
+            "{line}"
+        );
     }
     Ok(())
 }
