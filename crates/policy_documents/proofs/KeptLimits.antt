@@ -9,7 +9,7 @@ use Rattle.hierarchy.specs.Keyed.{with_value}
 use Rattle.serde_json.specs.Data.{Data, Items, no_items, item}
 use Rattle.policy_names.specs.Uid.{text_cmp}
 use Rattle.policy_set.specs.Data.{PolicyData, TemplateData}
-use Rattle.policy_set.specs.Condition.{static_of}
+use Rattle.policy_set.specs.Condition.{condition_of, static_of}
 use Rattle.policy_set.specs.PolicySet.{PolicySetData, policy_at, with_policy}
 use Rattle.policy_documents.specs.Policy.{is_too_deep, policy_keeps_limits, policy_of}
 use Rattle.policy_documents.specs.Policies.{no_policies, policies_of, added_policy, added_entry, added_template, and_then}
@@ -17,10 +17,11 @@ use Rattle.schema_core.specs.Schema.{SchemaData}
 use Rattle.schema_core.specs.Faults.{IsSchema}
 use Rattle.schema_core.specs.Entries.{Declarations}
 use Rattle.policy_documents.specs.Laws.{KeepLimits, IsOverIds, DocumentsKeepLimits}
-use Rattle.policy_documents.specs.Limits.{limited_schema_of}
+use Rattle.policy_documents.specs.Limits.{is_over_ids, has_no_places, limited_schema_of}
 use Rattle.policy_documents.specs.Reading.{IsRead, IsSchemaFrom, document}
 use Rattle.policy_documents.specs.declared.document.Document.{Document}
 use Rattle.policy_documents.specs.declared.place.Place.{Place}
+use Rattle.policy_documents.proofs.Limited.{both_true}
 
 with_over : (p : PolicyData) (qs : List PolicyData) → IsOverIds p → KeepLimits qs → KeepLimits (with_value text_cmp (λ q. q.id) p qs)
 with_over p [] h all = (h, tt)
@@ -40,7 +41,7 @@ added_over set t false p h all = with_over (static_of t) set.policies h all
 
 template_over : (set : PolicySetData) (t : TemplateData) (b c : Bool) (p r : Place) → policy_keeps_limits t ≡ c → KeepLimits set.policies → OkOver (and_then (if b then Err p else (if c then Ok t else Err r)) (added_template set))
 template_over set t true c p r h all = tt
-template_over set t false true p r h all = added_over set t (is_some (policy_at set t.id)) _ h all
+template_over set t false true p r h all = added_over set t (is_some (policy_at set t.id)) _ (both_true (is_over_ids (condition_of t)) (has_no_places (condition_of t)) h).0 all
 template_over set t false false p r h all = tt
 
 entry_over : (set : PolicySetData) (o : Option TemplateData) → KeepLimits set.policies → OkOver (added_entry set o)

@@ -21,7 +21,7 @@ use Rattle.policy_set.proofs.Depths.{by_body}
 use Rattle.serde_json.specs.Data.{Data}
 use Rattle.expr_documents.specs.Reads.{bounded}
 use Rattle.expr_documents.specs.declared.nesting.Bounded.TheVariants.{Within, Nested}
-use Rattle.policy_documents.specs.Limits.{is_id_operand, is_over_ids}
+use Rattle.policy_documents.specs.Limits.{is_id_operand, is_over_ids, has_no_places}
 use Rattle.policy_documents.specs.Policies.{added_entry, added_policy, added_template, and_then, template_read}
 use Rattle.policy_documents.specs.Policy.{is_too_deep, policy_keeps_limits, policy_of, policy_of_parts, policy_with_body, read_of, read_with}
 use Rattle.policy_documents.specs.declared.place.Place.TheVariants as place
@@ -29,7 +29,7 @@ use Rattle.policy_documents.specs.declared.policy.PolicyParts.{PolicyParts}
 use Rattle.policy_documents.specs.declared.policy.PolicyRead.{PolicyRead}
 use Rattle.policy_documents.specs.declared.policy.PolicyRead.TheVariants as policy
 
-both_true : (a b : Bool) → (a && b) ≡ true → (a ≡ true) × (b ≡ true)
+pub both_true : (a b : Bool) → (a && b) ≡ true → (a ≡ true) × (b ≡ true)
 both_true true b h = (refl, h)
 both_true false b h = absurd (cc)
 
@@ -81,7 +81,8 @@ part_asks_none i (scope.IsIn n Slot) h = absurd (cc)
 -- a policy that keeps the limits has no slot in its scope
 kept_asks_none : (t : TemplateData) → policy_keeps_limits t ≡ true → has_scope_slot t ≡ false
 kept_asks_none t h =
-    let whole = both_true _ (is_over_ids t.body) h in
+    let limits = both_true (is_over_ids (condition_of t)) (has_no_places (condition_of t)) h in
+    let whole = both_true _ (is_over_ids t.body) limits.0 in
     let scope = both_true _ (is_over_ids (scope_part side.Resource t.resource)) whole.0 in
     let first = both_true (is_over_ids (scope_part side.Principal t.principal)) (is_over_ids (action_part t.action)) scope.0 in
     neither (asks_slot t.principal) (asks_slot t.resource) (part_asks_none side.Principal t.principal first.0) (part_asks_none side.Resource t.resource scope.1)
@@ -112,7 +113,8 @@ is_built t h = grind (arith, nat_tests)
 
 past_by : (t : TemplateData) (b : Bool) → policy_keeps_limits t ≡ b → has_slot t.body ≡ true → b ≡ false
 past_by t true k h =
-    let whole = both_true _ (is_over_ids t.body) k in
+    let limits = both_true (is_over_ids (condition_of t)) (has_no_places (condition_of t)) k in
+    let whole = both_true _ (is_over_ids t.body) limits.0 in
     absurd (cc (h, has_no_slot t.body whole.1))
 past_by t false k h = refl
 

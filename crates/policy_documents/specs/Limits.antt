@@ -1,13 +1,13 @@
 -- The limits of documents. The types of the schema have no attributes, tags and listed ids, and its actions no contexts;
--- conditions of policies are over ids.
-use Rattle.std.specs.Prelude.{ℕ, List, [], ◌∷◌, Bool, true, false, ◌&&◌, if◌then◌else◌, Option, None, option_and_then, codes}
+-- conditions of policies are over ids, and no places stand in them.
+use Rattle.std.specs.Prelude.{ℕ, List, [], ◌∷◌, Bool, true, false, not, ◌&&◌, if◌then◌else◌, Option, None, is_some, option_and_then, codes}
 use Rattle.std.specs.Option.{option_map_or}
 use Rattle.schema_core.specs.Entries.{Declarations}
 use Rattle.schema_documents.specs.Schema.{schema_of}
 use Rattle.serde_json.specs.Data.{Data, Items, no_items, item, Members, no_members, member}
 use Rattle.serde_json.specs.Find.{get, as_array, as_object}
 use Rattle.json_parts.specs.Json.{has_only}
-use Rattle.policy_expressions.specs.Tree.{Tree, lit, var, conj, disj, unary, binary}
+use Rattle.policy_expressions.specs.Tree.{Tree, Mark, lit, var, conj, disj, unary, binary}
 use Rattle.policy_expressions.specs.declared.kinds.Literal.TheVariants as literal
 use Rattle.policy_expressions.specs.declared.kinds.Var.TheVariants.{Context}
 use Rattle.policy_expressions.specs.declared.kinds.UnaryOp.TheVariants.{Not}
@@ -52,3 +52,18 @@ module _ {A : Type 0} where
   is_over_ids (binary Eq x y a) = is_id_operand x && is_id_operand y
   is_over_ids (binary In x y a) = is_id_operand x && is_id_operand y
   is_over_ids e = false
+
+module _ {T : Type 0} where
+  -- no place stands at the mark
+  abbrev pub is_unplaced : Mark T → Bool
+  is_unplaced a = not (is_some a.loc)
+
+  -- no place stands in the condition; asked of conditions over ids
+  abbrev pub has_no_places : Tree (Mark T) → Bool
+  has_no_places (lit l a) = is_unplaced a
+  has_no_places (var v a) = is_unplaced a
+  has_no_places (conj x y a) = is_unplaced a && (has_no_places x && has_no_places y)
+  has_no_places (disj x y a) = is_unplaced a && (has_no_places x && has_no_places y)
+  has_no_places (unary o x a) = is_unplaced a && has_no_places x
+  has_no_places (binary o x y a) = is_unplaced a && (has_no_places x && has_no_places y)
+  has_no_places e = false

@@ -1,5 +1,5 @@
 -- A policy in JSON.
-use Rattle.std.specs.Prelude.{ℕ, List, [], ◌∷◌, Bool, nat_lt, if◌then◌else◌, Option, Some, None, option_map, option_and_then, codes}
+use Rattle.std.specs.Prelude.{ℕ, List, [], ◌∷◌, Bool, ◌&&◌, nat_lt, if◌then◌else◌, Option, Some, None, option_map, option_and_then, codes}
 use Rattle.std.specs.Str.{bytes_eq}
 use Rattle.policy_names.specs.declared.entity_uid.EntityUID.{EntityUID}
 use Rattle.serde_json.specs.Data.{Data, Members}
@@ -20,7 +20,7 @@ use Rattle.policy_set.specs.Data.{TemplateData}
 use Rattle.policy_expressions.specs.Plain.{Plain}
 use Rattle.policy_set.specs.Condition.{condition_of}
 use Rattle.policy_documents.specs.Body.{body_of}
-use Rattle.policy_documents.specs.Limits.{is_over_ids}
+use Rattle.policy_documents.specs.Limits.{is_over_ids, has_no_places}
 use Rattle.policy_documents.specs.declared.policy.PolicyParts.{PolicyParts}
 use Rattle.policy_documents.specs.declared.policy.PolicyRead.{PolicyRead}
 use Rattle.policy_documents.specs.declared.policy.PolicyRead.TheVariants.{Policy, Nested}
@@ -87,9 +87,9 @@ policy_of d = do
 abbrev pub is_too_deep : TemplateData → Bool
 is_too_deep t = nat_lt 400 (depth_of (condition_of t))
 
--- the condition is over ids, so that no slot stands in it
+-- the condition is over ids, so that no slot stands in it, and no place does
 abbrev pub policy_keeps_limits : TemplateData → Bool
-policy_keeps_limits t = is_over_ids (condition_of t)
+policy_keeps_limits t = is_over_ids (condition_of t) && has_no_places (condition_of t)
 
 -- the policy, unless its condition is nested deeper than 400; none, where it goes past the limits
 abbrev pub read_of : TemplateData → Option PolicyRead

@@ -1,7 +1,7 @@
 //! The limits of policies.
 
 ghost use Rattle.std.specs.Prelude.{◌≡◌};
-ghost use Rattle.policy_documents.specs.Limits.{is_id_operand, is_over_ids};
+ghost use Rattle.policy_documents.specs.Limits.{is_id_operand, is_over_ids, has_no_places};
 
 use policy_expressions::{BinaryOp, Expr, ExprKind, Literal, UnaryOp, Var};
 
@@ -27,6 +27,21 @@ fn is_id_operand<T>(operand: &Expr<T>) -> bool
     match operand.kind() {
         ExprKind::Lit(Literal::EntityUID(_)) => true,
         ExprKind::Var(Var::Principal | Var::Action | Var::Resource) => true,
+        _ => false,
+    }
+}
+
+/// Whether no place stands at an expression, nor inside. It is asked of conditions over ids; of other expressions it is false.
+pub(crate) fn has_no_places<T>(condition: &Expr<T>) -> bool
+    ensures { result ≡ has_no_places condition.now }
+{
+    let unplaced = condition.source_loc().is_none();
+    match condition.kind() {
+        ExprKind::Lit(_) | ExprKind::Var(_) => unplaced,
+        ExprKind::And(x, y) | ExprKind::Or(x, y) | ExprKind::BinaryApp(_, x, y) => {
+            unplaced && (has_no_places(x) && has_no_places(y))
+        }
+        ExprKind::UnaryApp(_, x) => unplaced && has_no_places(x),
         _ => false,
     }
 }

@@ -8,7 +8,7 @@ ghost use Rattle.serde_json.specs.Find.{get};
 ghost use Rattle.json_parts.specs.Names.{uid_of};
 
 use crate::body::read_body;
-use crate::limits::is_over_ids;
+use crate::limits::{has_no_places, is_over_ids};
 use expr_documents::Bounded;
 use json_parts::{has_only, only_member, read_uid};
 use policy_expressions::Expr;
@@ -218,7 +218,7 @@ const MOST_BODY_DEPTH: u32 = 400;
 fn within_limits(template: Template) -> Option<PolicyRead>
     ensures { result ≡ (if policy_keeps_limits template then Some (PolicyRead.Policy template) else None) }
 {
-    if is_over_ids(template.condition()) {
+    if is_over_ids(template.condition()) && has_no_places(template.condition()) {
         Some(PolicyRead::Policy(template))
     } else {
         drop(template);
