@@ -57,6 +57,8 @@ null
 [{"when":{"not":[true]}}]
 [{"when":{"none":[true]}}]
 [{"when":{"var":"principal"}}]
+[{"when":{"at":[0,4],"of":true}}]
+[{"when":{"==":[{"var":"principal"},{"at":[0,4],"of":{"id":["User","a"]}}]}}]
 [{"when":{"id":["User","a"]}}]
 [{"when":{"==":[{"var":"principal"}]}}]
 [{"when":{"==":[{"var":"principal"},{"var":"principal"},{"var":"principal"}]}}]
