@@ -1,0 +1,4 @@
+pub mod ByName
+pub mod OneText
+pub mod Table
+pub mod Words
