@@ -3,8 +3,6 @@
 
 pub mod laws;
 mod slices;
-#[cfg(test)]
-mod tests;
 mod values;
 
 pub use slices::{slice_text, write_entity};

@@ -7,8 +7,8 @@ ghost use Rattle.policy_writing.specs.ValueJson.{uid_data};
 ghost use Rattle.policy_writing.specs.SliceJson.{entity_data, decision_text, failure_data, slice_data, slice_text};
 
 use crate::values::{write_fields, write_pair, write_uid};
-use policy_core::{Entities, Entity, EntityUID, Text};
 use authorizer::{Decision, PolicyFailure, Response};
+use policy_core::{Entities, Entity, EntityUID, Text};
 use serde_json::{Map, Value as Json, put};
 use std::alloc::{AllocError, Global};
 use std::collections::BTreeSet;
