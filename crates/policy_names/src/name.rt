@@ -1,6 +1,6 @@
 //! Names of types and functions.
 
-ghost use Rattle.std.specs.Prelude.{◌≡◌, ◌↔◌, IfOk, IfSome, IsSome};
+ghost use Rattle.std.specs.Prelude.{◌≡◌, ◌↔◌, IfOk, IfSome, IsSome, IsTrue};
 ghost use Rattle.policy_names.specs.Name.{IsName};
 
 use crate::Text;
@@ -29,12 +29,19 @@ impl Model for Name {
 }
 
 impl Name {
+    /// Whether the text spells a name.
+    pub fn is_name(text: &str) -> bool
+        ensures { IsTrue result ↔ IsName text.now }
+    {
+        is_name(text.as_bytes())
+    }
+
     /// The name that the text spells; none exactly where it spells none.
     pub fn parse(alloc: Global, text: &str) -> Result<Option<Name>, AllocError>
         ensures found { IfOk result (λ o. IsSome o ↔ IsName text.now) }
         ensures value { IfOk result (λ o. IfSome o (λ n. n ≡ text.now)) }
     {
-        if !is_name(text.as_bytes()) {
+        if !Name::is_name(text) {
             return Ok(None);
         }
         let text = Text::from_str(alloc, text)?;
