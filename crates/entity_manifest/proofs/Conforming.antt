@@ -8,12 +8,11 @@ use Rattle.policy_names.specs.Basename.{is_action_type}
 use Rattle.policy_store.specs.declared.request.Request.{Request}
 use Rattle.policy_store.specs.Request.{IsWhole, known}
 use Rattle.policy_store.specs.Store.{StoredEntity, Store}
-use Rattle.schema_core.specs.Schema.{SchemaData, type_at, action_at}
+use Rattle.schema_core.specs.Schema.{SchemaData, type_at, action_at, type_below, action_below}
 use Rattle.schema_core.specs.Faults.{IsSchema}
 use Rattle.policy_validate.specs.declared.request_error.RequestValidationError.{RequestValidationError}
 use Rattle.policy_validate.specs.declared.store_rule.StoreRule.TheVariants.{TypeNotDeclared, AttributeNotDeclared, TagsNotAllowed, AncestorNotAllowed, ActionNotDeclared, ActionHasAttributes, ActionHasTags, ActionAncestorsDiffer}
 use Rattle.policy_validate.specs.Conformance.{unless, principal_fault, resource_fault, RequestConforms, first_key, may_be_in, is_not_allowed, is_action_in, has_all_ancestors, has_its_ancestors, action_entity_fault, typed_entity_fault, entity_fault, StoreConforms}
-use Rattle.truth_types.specs.Typing.{type_below, action_below}
 use Rattle.truth_types.specs.Sound.{IsOf, allows, KeepsHierarchy}
 use Rattle.entity_manifest.specs.Cover.{env_of}
 

@@ -22,7 +22,7 @@ use Rattle.schema_core.specs.EnvData.{EnvData, unlinked, literal_type}
 use Rattle.schema_core.specs.Environments.{Environment}
 use Rattle.schema_core.specs.Schema.{ActionData, SchemaData}
 use Rattle.policy_expressions.specs.Plain.{Plain}
-use Rattle.policy_typing.specs.Environment.{is_type_within}
+use Rattle.schema_core.specs.Within.{is_type_within}
 use Rattle.policy_typing.specs.Rules.{bool_if, strict_join, is_entity_set, equal_type, possible, type_in}
 use Rattle.policy_typing.specs.Signatures.{bool_type}
 use Rattle.policy_typing.specs.Typing.{Typing, typing, at, types}

@@ -33,7 +33,8 @@ use Rattle.policy_expressions.specs.Functions.{function_of}
 use Rattle.policy_expressions.specs.Tree.{lit, var, slot, ite, conj, disj, unary, binary, attr as get, has, like, is_type, call, set, rec, Trees, no_trees, tree, Named, no_named, named, Mark}
 use Rattle.policy_expressions.specs.Plain.{Plain}
 use Rattle.capabilities.specs.Capability.{Capability, has_cap, common}
-use Rattle.policy_typing.specs.Environment.{truth_type, type_of_literal, type_of_variable, slot_entity, type_of_slot, declared_attributes, is_type_within, known_id, listed_ids}
+use Rattle.schema_core.specs.Within.{is_type_within}
+use Rattle.policy_typing.specs.Environment.{truth_type, type_of_literal, type_of_variable, slot_entity, type_of_slot, declared_attributes, known_id, listed_ids}
 use Rattle.policy_typing.specs.Rules as rule
 use Rattle.policy_typing.specs.Signatures.{bool_type, long_type, datetime_type, duration_type, same_type, signature_of, has_count, has_literals, has_readable, same_types, call_type}
 use Rattle.policy_typing.specs.Typing.{Typed, Typing, typing, at, unreached, attribute_known, tag_known, if_typing, and_caps, and_typing, or_caps, or_typing, binary_caps, has_caps, types_in, trees_in, record_type, named_in, types, types_all, types_named}

@@ -28,7 +28,8 @@ use Rattle.policy_expressions.specs.Tree.{lit, var, set, Trees, no_trees, tree, 
 use Rattle.policy_expressions.specs.Plain.{Plain}
 use Rattle.policy_typing.specs.Conforms.{IsAllowedAncestor, StoreConforms, RequestConforms, IsOf, IdConforms, is_listed_in}
 use Rattle.schema_core.specs.Schema.{type_below, action_below}
-use Rattle.policy_typing.specs.Environment.{is_type_within, is_action_within, known_id, known_ids, listed_ids}
+use Rattle.schema_core.specs.Within.{is_type_within, is_action_within}
+use Rattle.policy_typing.specs.Environment.{known_id, known_ids, listed_ids}
 use Rattle.policy_typing.specs.Rules.{possible, is_entity_set, type_in, action_among, entity_among, id_in, in_listed, in_type}
 use Rattle.policy_typing.specs.Signatures.{bool_type}
 use Rattle.policy_typing.specs.Sound.{IsOfType}

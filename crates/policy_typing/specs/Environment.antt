@@ -1,9 +1,7 @@
 -- What an environment says of the parts of expressions that hold no expression.
-use Rattle.std.specs.Prelude.{ℕ, Bool, true, false, ◌||◌, List, [], ◌∷◌, Option, Some, None, option_map}
+use Rattle.std.specs.Prelude.{ℕ, Bool, true, false, List, [], ◌∷◌, Option, Some, None, option_map}
 use Rattle.std.specs.Option.{option_and_then}
-use Rattle.std.specs.Ordering.{is_eq}
 use Rattle.policy_names.specs.declared.entity_uid.EntityUID.{EntityUID}
-use Rattle.policy_names.specs.Uid.{text_cmp, uid_eq}
 use Rattle.policy_expressions.specs.declared.kinds.Literal.{Literal}
 use Rattle.policy_expressions.specs.declared.kinds.Literal.TheVariants as literal
 use Rattle.policy_expressions.specs.declared.kinds.Var.{Var}
@@ -13,7 +11,7 @@ use Rattle.policy_expressions.specs.declared.kinds.SlotId.TheVariants as slot
 use Rattle.policy_expressions.specs.Tree.{Tree, lit, var, set, Trees, no_trees, tree}
 use Rattle.schema_types.specs.Ty.{Ty, true_type, false_type, any_entity, entity, Attrs}
 use Rattle.schema_core.specs.Kinds.{attributes_in, tags_in}
-use Rattle.schema_core.specs.Schema.{SchemaData, type_at, type_below, action_below}
+use Rattle.schema_core.specs.Schema.{SchemaData, type_at}
 use Rattle.schema_core.specs.EnvData.{EnvData, action_in, principal_type_in, action_type_in, resource_type_in, context_type_in, principal_slot_in, resource_slot_in, literal_type}
 use Rattle.policy_typing.specs.Signatures.{long_type, string_type}
 
@@ -43,14 +41,6 @@ module _ (schema : SchemaData) where
 
   abbrev pub declared_tags : List ℕ → Option Ty
   declared_tags name = option_and_then (λ t. tags_in t.kind) (type_at schema name)
-
-  -- the type is the other, or among its descendants
-  abbrev pub is_type_within : List ℕ → List ℕ → Bool
-  is_type_within name above = is_eq (text_cmp name above) || type_below schema name above
-
-  -- the action is the other, or among its descendants
-  abbrev pub is_action_within : EntityUID → EntityUID → Bool
-  is_action_within uid above = uid_eq uid above || action_below schema uid above
 
 -- what stands for a slot is of the type that the link gives it, or of any entity type
 abbrev pub slot_entity : Option (List ℕ) → Ty

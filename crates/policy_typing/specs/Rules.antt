@@ -23,7 +23,8 @@ use Rattle.policy_expressions.specs.declared.kinds.BinaryOp.TheVariants.{Eq, Les
 use Rattle.policy_names.specs.Uid.{uid_eq}
 use Rattle.policy_expressions.specs.Tree.{Tree, var}
 use Rattle.policy_typing.specs.Signatures.{bool_type, long_type, datetime_type, duration_type, same_type}
-use Rattle.policy_typing.specs.Environment.{truth_type, declared_attributes, declared_tags, is_type_within, is_action_within, known_id, listed_ids}
+use Rattle.schema_core.specs.Within.{is_type_within, is_action_within}
+use Rattle.policy_typing.specs.Environment.{truth_type, declared_attributes, declared_tags, known_id, listed_ids}
 
 -- the strict join, where there is one
 abbrev pub strict_join : Ty → Ty → Option Ty

@@ -11,3 +11,4 @@ pub mod Laws
 pub mod Outline
 pub mod RequestEnvs
 pub mod Schema
+pub mod Within

@@ -14,7 +14,7 @@ use Rattle.policy_store.specs.declared.request.Request.{Request}
 use Rattle.policy_store.specs.Request.{principal_of, action_of, resource_of}
 use Rattle.policy_store.specs.Store.{Store, entity_at}
 use Rattle.policy_values.specs.Value.{truth, entity}
-use Rattle.schema_core.specs.Schema.{SchemaData}
+use Rattle.schema_core.specs.Schema.{SchemaData, type_below, action_below}
 use Rattle.schema_core.specs.Environments.{Environment}
 use Rattle.policy_expressions.specs.declared.kinds.Literal.TheVariants as literal
 use Rattle.policy_expressions.specs.declared.kinds.Var.TheVariants.{Principal, Action, Resource}
@@ -26,7 +26,7 @@ use Rattle.policy_core.specs.Eval.{eval, choose}
 use Rattle.policy_core.specs.Operators.{within, above}
 use Rattle.truth_types.specs.declared.truth_type.TruthType.{TruthType}
 use Rattle.truth_types.specs.declared.truth_type.TruthType.TheVariants as typed
-use Rattle.truth_types.specs.Typing.{not_type, and_type, or_type, known, type_below, action_below, known_id, known_type, equal_ids, equal_types, id_in, in_id, truth_type}
+use Rattle.truth_types.specs.Typing.{not_type, and_type, or_type, known, known_id, known_type, equal_ids, equal_types, id_in, in_id, truth_type}
 use Rattle.truth_types.specs.Sound.{IsTerm, IsIdentity, IsOf, allows, KeepsHierarchy, TypingIsSound}
 
 -- what a type says of the value

@@ -7,7 +7,7 @@ use Rattle.policy_store.specs.declared.request.Request.{Request}
 use Rattle.policy_store.specs.Request.{principal_of, action_of, resource_of}
 use Rattle.policy_store.specs.Store.{Store}
 use Rattle.policy_values.specs.Value.{truth}
-use Rattle.schema_core.specs.Schema.{SchemaData}
+use Rattle.schema_core.specs.Schema.{SchemaData, type_below, action_below}
 use Rattle.schema_core.specs.Environments.{Environment}
 use Rattle.policy_expressions.specs.declared.kinds.Literal.TheVariants as literal
 use Rattle.policy_expressions.specs.declared.kinds.Var.TheVariants.{Context}
@@ -17,7 +17,7 @@ use Rattle.policy_core.specs.declared.outcome.Outcome.TheVariants.{Value}
 use Rattle.policy_expressions.specs.Tree.{Tree, lit, var, conj, disj, unary, binary, Mark}
 use Rattle.policy_core.specs.Eval.{eval}
 use Rattle.truth_types.specs.declared.truth_type.TruthType.TheVariants as typed
-use Rattle.truth_types.specs.Typing.{type_below, action_below, truth_type}
+use Rattle.truth_types.specs.Typing.{truth_type}
 
 module _ {A : Type 0} where
   -- an operand that is an id: a literal, or the variable principal, action or resource

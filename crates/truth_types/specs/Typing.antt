@@ -1,12 +1,10 @@
 -- The type of a condition in an environment.
-use Rattle.std.specs.Prelude.{ℕ, Bool, false, ◌||◌, List, Option, Some, None, if◌then◌else◌}
-use Rattle.std.specs.Option.{option_map_or}
+use Rattle.std.specs.Prelude.{ℕ, Bool, ◌||◌, List, Option, Some, None, if◌then◌else◌}
 use Rattle.std.specs.Ordering.{is_eq}
-use Rattle.hierarchy.specs.Reaches.{has}
 use Rattle.policy_names.specs.declared.entity_uid.EntityUID.{EntityUID}
 use Rattle.policy_names.specs.Basename.{is_action_type}
-use Rattle.policy_names.specs.Uid.{text_cmp, uid_cmp, uid_eq}
-use Rattle.schema_core.specs.Schema.{SchemaData, type_at, action_at}
+use Rattle.policy_names.specs.Uid.{text_cmp, uid_eq}
+use Rattle.schema_core.specs.Schema.{SchemaData, type_below, action_below}
 use Rattle.schema_core.specs.Environments.{Environment}
 use Rattle.policy_expressions.specs.declared.kinds.Literal.TheVariants as literal
 use Rattle.policy_expressions.specs.declared.kinds.Var.TheVariants.{Principal, Action, Resource}
@@ -43,14 +41,6 @@ known b = if b then typed.True else typed.False
 -- false where the test says that it cannot be true
 abbrev pub possible : Bool → TruthType
 possible b = if b then typed.Bool else typed.False
-
--- the type is among the descendants of the other
-abbrev pub type_below : SchemaData → List ℕ → List ℕ → Bool
-type_below d ty above = option_map_or (λ t. has text_cmp t.descendants ty) (type_at d above) false
-
--- the action is among the descendants of the other
-abbrev pub action_below : SchemaData → EntityUID → EntityUID → Bool
-action_below d action above = option_map_or (λ a. has uid_cmp a.descendants action) (action_at d above) false
 
 module _ {A : Type 0} where
   -- the id that an operand has on every request of the environment: a literal's, and for the variable action the environment's action

@@ -3,6 +3,7 @@
 ghost use Rattle.std.specs.Prelude.{◌≡◌};
 ghost use Rattle.std.specs.Option.{option_copied};
 ghost use Rattle.schema_core.specs.RequestEnvs.{environment_of};
+ghost use Rattle.schema_core.specs.Schema.{type_below, action_below};
 ghost use Rattle.std.specs.Ordering.{is_eq};
 ghost use Rattle.policy_names.specs.Uid.{text_cmp, uid_eq};
 ghost use Rattle.truth_types.specs.Typing as typing;
@@ -122,7 +123,7 @@ fn same_type(x: &EntityType, y: &EntityType) -> bool
 
 // Whether the type is among the descendants of the other.
 fn is_type_below(schema: &ValidatorSchema, name: &EntityType, above: &EntityType) -> bool
-    ensures { result ≡ typing.type_below schema.now name.now above.now }
+    ensures { result ≡ type_below schema.now name.now above.now }
 {
     match schema.get_entity_type(above) {
         Some(declared) => declared.descendants().contains(name),
@@ -132,7 +133,7 @@ fn is_type_below(schema: &ValidatorSchema, name: &EntityType, above: &EntityType
 
 // Whether the action is among the descendants of the other.
 fn is_action_below(schema: &ValidatorSchema, uid: &EntityUID, above: &EntityUID) -> bool
-    ensures { result ≡ typing.action_below schema.now uid.now above.now }
+    ensures { result ≡ action_below schema.now uid.now above.now }
 {
     match schema.get_action_id(above) {
         Some(declared) => declared.descendants().contains(uid),
