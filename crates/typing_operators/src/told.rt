@@ -148,11 +148,11 @@ pub fn skipped<'a>(alloc: Global) -> Told<'a>
 /// An operand that has to fit.
 pub fn expect<'a>(
     alloc: Global,
-    x: Expected,
+    x: Expected<'_>,
     loc: Option<Loc>,
     v: Told<'a>,
 ) -> Result<Told<'a>, AllocError>
-    ensures { IfOk result (λ r. walked_of r ≡ definition.expect (expected_of x) loc (walked_of v.entry)) }
+    ensures { IfOk result (λ r. walked_of r ≡ definition.expect (expected_of x.entry) loc (walked_of v.entry)) }
 {
     match v {
         Told::Success(a) => {
@@ -173,11 +173,11 @@ pub fn expect<'a>(
 /// An operand that has to fit, where something is expected.
 pub(crate) fn expect_if<'a>(
     alloc: Global,
-    x: Option<Expected>,
+    x: Option<Expected<'_>>,
     loc: Option<Loc>,
     v: Told<'a>,
 ) -> Result<Told<'a>, AllocError>
-    ensures { IfOk result (λ r. walked_of r ≡ definition.expect_if (option_map expected_of x) loc (walked_of v.entry)) }
+    ensures { IfOk result (λ r. walked_of r ≡ definition.expect_if (option_map expected_of x.entry) loc (walked_of v.entry)) }
 {
     match x {
         Some(x) => expect(alloc, x, loc, v),
@@ -187,12 +187,12 @@ pub(crate) fn expect_if<'a>(
 
 fn expect_lent<'a>(
     alloc: Global,
-    x: Expected,
+    x: Expected<'_>,
     loc: Option<Loc>,
     tree: Expr<Option<Type>>,
     found: Vec<Finding>,
 ) -> Result<Told<'a>, AllocError>
-    ensures { IfOk result (λ r. walked_of r ≡ definition.expect_lent (expected_of x) loc (mark_of tree).note tree (findings_from found.items)) }
+    ensures { IfOk result (λ r. walked_of r ≡ definition.expect_lent (expected_of x.entry) loc (mark_of tree).note tree (findings_from found.items)) }
 {
     match tree.data() {
         None => Ok(Told::Fail(tree, found)),

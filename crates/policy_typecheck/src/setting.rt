@@ -1,0 +1,56 @@
+//! Where conditions are typed.
+
+ghost use Rattle.std.specs.Prelude.{◌≡◌};
+ghost use Rattle.std.specs.Option.{option_map};
+ghost use Rattle.policy_expressions.specs.Functions.{function_of};
+ghost use Rattle.policy_typecheck.specs.Known.{KnowsFunctions};
+
+use extension_types::ExtensionSchemas;
+use policy_names::Name;
+use schema_core::{RequestEnv, ValidatorSchema};
+use std::alloc::Global;
+use std::marker::Model;
+use typing_rules::{CalledFunction, called_function};
+
+/// Extensions in which every extension function is found.
+pub(crate) struct Extensions<'a> {
+    schemas: &'a ExtensionSchemas<'a>,
+}
+
+impl<'a> Model for Extensions<'a> {
+    ghost use Rattle.extension_types.specs.Types.{Extensions, coded_extensions};
+
+    ghost Value = { Extensions };
+
+    ghost coded = { coded_extensions };
+
+    ghost view = { λ e. e.schemas.now };
+
+    ghost use Rattle.policy_typecheck.specs.Known.{KnowsFunctions};
+
+    ghost invariant = { λ e. KnowsFunctions e.schemas.now };
+}
+
+impl<'a> Extensions<'a> {
+    pub(crate) fn new(schemas: &'a ExtensionSchemas<'a>) -> Extensions<'a>
+        requires { KnowsFunctions schemas.now }
+        ensures { result ≡ schemas.now }
+    {
+        Extensions { schemas }
+    }
+
+    /// The function of a name.
+    pub(crate) fn called(&self, name: &Name) -> Option<CalledFunction<'a>>
+        ensures { option_map (λ c. c.function) result ≡ function_of name.now }
+    {
+        called_function(self.schemas, name)
+    }
+}
+
+/// The schema, the environment and the extensions under which an expression is typed.
+pub(crate) struct Setting<'a> {
+    pub(crate) alloc: Global,
+    pub(crate) schema: &'a ValidatorSchema,
+    pub(crate) env: &'a RequestEnv<'a>,
+    pub(crate) extensions: &'a Extensions<'a>,
+}

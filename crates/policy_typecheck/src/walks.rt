@@ -1,0 +1,364 @@
+//! The walk.
+
+ghost use Rattle.std.specs.Prelude.{◌≡◌, ◌++◌, IfOk, map};
+ghost use Rattle.schema_core.specs.RequestEnvs.{env_data_of};
+ghost use Rattle.policy_expressions.specs.Tree.{attr, binary, call, conj, disj, has, is_type, ite, like, named_of, rec, set, trees_of, unary};
+ghost use Rattle.typing_findings.specs.Expected.{a_boolean};
+ghost use Rattle.typing_findings.specs.Walk.{walked, walked_all, walked_named};
+ghost use Rattle.typing_findings.specs.Walked.{expect};
+ghost use Rattle.typing_findings.specs.Operators.{place, reached_after, reached_besides};
+ghost use Rattle.typing_operators.specs.Told.{all_of, field_of, mark, walked_of};
+
+use crate::known::{knows_attribute, knows_tag};
+use crate::setting::Setting;
+use capabilities::CapabilitySet;
+use policy_expressions::{BinaryOp, BuildError, Expr, ExprKind, Loc, Pattern, UnaryOp};
+use policy_names::{EntityType, Name, Text};
+use schema_types::TypeKind;
+use std::collections::BTreeMap;
+use typing_operators::{
+    Told, and_sides, attr_told, binary_told, call_told, expect, has_told, if_parts, is_told,
+    like_told, literal_told, or_sides, record_told, set_told, skipped, slot_told, unary_told,
+    undefined_told, variable_told,
+};
+use typing_rules::Expected;
+
+// The walk through an expression: its typing, or what is found. Each kind has a function of its own, which keeps proofs short.
+#[cycle(walk)]
+pub(crate) fn walk<'a>(
+    at: &Setting<'a>,
+    caps: &CapabilitySet<'a>,
+    e: &'a Expr<()>,
+) -> Result<Told<'a>, BuildError>
+    ensures { IfOk result (λ r. walked_of r ≡ walked at.now.schema.now (env_data_of at.now.env.now) caps.now e.now) }
+{
+    let loc = e.source_loc();
+    match e.kind() {
+        ExprKind::Lit(l) => literal_told(at.alloc, at.schema, l, loc),
+        ExprKind::Var(v) => variable_told(at.alloc, at.schema, at.env, *v, loc),
+        ExprKind::Slot(id) => slot_told(at.alloc, at.env, *id, loc),
+        ExprKind::If(x, y, z) => walk_if(at, caps, x, y, z, loc),
+        ExprKind::And(x, y) => walk_and(at, caps, x, y, loc),
+        ExprKind::Or(x, y) => walk_or(at, caps, x, y, loc),
+        ExprKind::UnaryApp(op, x) => walk_unary(at, caps, *op, x, loc),
+        ExprKind::BinaryApp(op, x, y) => walk_binary(at, caps, *op, x, y, loc),
+        ExprKind::GetAttr(x, n) => walk_attr(at, caps, x, n, loc),
+        ExprKind::HasAttr(x, n) => walk_has(at, caps, x, n, loc),
+        ExprKind::Like(x, p) => walk_like(at, caps, x, p, loc),
+        ExprKind::Is(x, n) => walk_is(at, caps, x, n, loc),
+        ExprKind::ExtensionFunctionApp(f, xs) => walk_call(at, caps, f, xs, loc),
+        ExprKind::Set(xs) => walk_set(at, caps, xs, loc),
+        ExprKind::Record(fields) => walk_record(at, caps, fields, loc),
+    }
+}
+
+#[cycle(walk)]
+fn walk_if<'a>(
+    at: &Setting<'a>,
+    caps: &CapabilitySet<'a>,
+    x: &'a Expr<()>,
+    y: &'a Expr<()>,
+    z: &'a Expr<()>,
+    loc: Option<Loc>,
+) -> Result<Told<'a>, BuildError>
+    ensures { IfOk result (λ r. walked_of r ≡ walked at.now.schema.now (env_data_of at.now.env.now) caps.now (ite x.now y.now z.now (mark loc))) }
+{
+    let u = walk_boolean(at, caps, x)?;
+    let v = walk_after(at, caps, &u, y)?;
+    let w = walk_besides(at, caps, &u, z)?;
+    if_parts(at.alloc, loc, u, v, w)
+}
+
+#[cycle(walk)]
+fn walk_and<'a>(
+    at: &Setting<'a>,
+    caps: &CapabilitySet<'a>,
+    x: &'a Expr<()>,
+    y: &'a Expr<()>,
+    loc: Option<Loc>,
+) -> Result<Told<'a>, BuildError>
+    ensures { IfOk result (λ r. walked_of r ≡ walked at.now.schema.now (env_data_of at.now.env.now) caps.now (conj x.now y.now (mark loc))) }
+{
+    let v = walk_boolean(at, caps, x)?;
+    let w = walk_right_of_and(at, caps, &v, y)?;
+    and_sides(at.alloc, loc, v, w)
+}
+
+#[cycle(walk)]
+fn walk_or<'a>(
+    at: &Setting<'a>,
+    caps: &CapabilitySet<'a>,
+    x: &'a Expr<()>,
+    y: &'a Expr<()>,
+    loc: Option<Loc>,
+) -> Result<Told<'a>, BuildError>
+    ensures { IfOk result (λ r. walked_of r ≡ walked at.now.schema.now (env_data_of at.now.env.now) caps.now (disj x.now y.now (mark loc))) }
+{
+    let v = walk_boolean(at, caps, x)?;
+    let w = walk_right_of_or(at, caps, &v, y)?;
+    or_sides(at.alloc, loc, v, w)
+}
+
+// A test, or a side of `&&` or `||`.
+#[cycle(walk)]
+fn walk_boolean<'a>(
+    at: &Setting<'a>,
+    caps: &CapabilitySet<'a>,
+    y: &'a Expr<()>,
+) -> Result<Told<'a>, BuildError>
+    ensures { IfOk result (λ r. walked_of r ≡ expect a_boolean (place y.now) (walked at.now.schema.now (env_data_of at.now.env.now) caps.now y.now)) }
+{
+    let w = walk(at, caps, y)?;
+    let w = expect(at.alloc, Expected::Boolean, y.source_loc(), w)?;
+    Ok(w)
+}
+
+// The branch behind a test that has to be true: with what it makes known, unless it failed.
+#[cycle(walk)]
+fn walk_after<'a>(
+    at: &Setting<'a>,
+    caps: &CapabilitySet<'a>,
+    v: &Told<'a>,
+    y: &'a Expr<()>,
+) -> Result<Told<'a>, BuildError>
+    ensures { IfOk result (λ r. walked_of r ≡ reached_after (walked_of v.now) (λ ds. walked at.now.schema.now (env_data_of at.now.env.now) (caps.now ++ ds) y.now) (walked at.now.schema.now (env_data_of at.now.env.now) caps.now y.now)) }
+{
+    match v {
+        Told::Success(a) => match a.of.kind() {
+            TypeKind::False => Ok(skipped(at.alloc)),
+            _ => {
+                let inner = caps.union(&a.caps)?;
+                walk(at, &inner, y)
+            }
+        },
+        Told::Fail(_, _) => walk(at, caps, y),
+    }
+}
+
+// The branch behind a test that has to be false.
+#[cycle(walk)]
+fn walk_besides<'a>(
+    at: &Setting<'a>,
+    caps: &CapabilitySet<'a>,
+    v: &Told<'a>,
+    z: &'a Expr<()>,
+) -> Result<Told<'a>, BuildError>
+    ensures { IfOk result (λ r. walked_of r ≡ reached_besides (walked_of v.now) (walked at.now.schema.now (env_data_of at.now.env.now) caps.now z.now)) }
+{
+    match v {
+        Told::Success(a) => match a.of.kind() {
+            TypeKind::True => Ok(skipped(at.alloc)),
+            _ => walk(at, caps, z),
+        },
+        Told::Fail(_, _) => walk(at, caps, z),
+    }
+}
+
+// The right side of `&&`.
+#[cycle(walk)]
+fn walk_right_of_and<'a>(
+    at: &Setting<'a>,
+    caps: &CapabilitySet<'a>,
+    v: &Told<'a>,
+    y: &'a Expr<()>,
+) -> Result<Told<'a>, BuildError>
+    ensures { IfOk result (λ r. walked_of r ≡ reached_after (walked_of v.now) (λ ds. expect a_boolean (place y.now) (walked at.now.schema.now (env_data_of at.now.env.now) (caps.now ++ ds) y.now)) (expect a_boolean (place y.now) (walked at.now.schema.now (env_data_of at.now.env.now) caps.now y.now))) }
+{
+    match v {
+        Told::Success(a) => match a.of.kind() {
+            TypeKind::False => Ok(skipped(at.alloc)),
+            _ => {
+                let inner = caps.union(&a.caps)?;
+                walk_boolean(at, &inner, y)
+            }
+        },
+        Told::Fail(_, _) => walk_boolean(at, caps, y),
+    }
+}
+
+// The right side of `||`.
+#[cycle(walk)]
+fn walk_right_of_or<'a>(
+    at: &Setting<'a>,
+    caps: &CapabilitySet<'a>,
+    v: &Told<'a>,
+    y: &'a Expr<()>,
+) -> Result<Told<'a>, BuildError>
+    ensures { IfOk result (λ r. walked_of r ≡ reached_besides (walked_of v.now) (expect a_boolean (place y.now) (walked at.now.schema.now (env_data_of at.now.env.now) caps.now y.now))) }
+{
+    match v {
+        Told::Success(a) => match a.of.kind() {
+            TypeKind::True => Ok(skipped(at.alloc)),
+            _ => walk_boolean(at, caps, y),
+        },
+        Told::Fail(_, _) => walk_boolean(at, caps, y),
+    }
+}
+
+#[cycle(walk)]
+fn walk_unary<'a>(
+    at: &Setting<'a>,
+    caps: &CapabilitySet<'a>,
+    op: UnaryOp,
+    x: &'a Expr<()>,
+    loc: Option<Loc>,
+) -> Result<Told<'a>, BuildError>
+    ensures { IfOk result (λ r. walked_of r ≡ walked at.now.schema.now (env_data_of at.now.env.now) caps.now (unary op x.now (mark loc))) }
+{
+    let v = walk(at, caps, x)?;
+    unary_told(at.alloc, op, loc, x.source_loc(), v)
+}
+
+#[cycle(walk)]
+fn walk_binary<'a>(
+    at: &Setting<'a>,
+    caps: &CapabilitySet<'a>,
+    op: BinaryOp,
+    x: &'a Expr<()>,
+    y: &'a Expr<()>,
+    loc: Option<Loc>,
+) -> Result<Told<'a>, BuildError>
+    ensures { IfOk result (λ r. walked_of r ≡ walked at.now.schema.now (env_data_of at.now.env.now) caps.now (binary op x.now y.now (mark loc))) }
+{
+    let v = walk(at, caps, x)?;
+    let w = walk(at, caps, y)?;
+    let known = knows_tag(caps, op, x, y);
+    binary_told(at.alloc, at.schema, at.env, op, known, x, y, loc, v, w)
+}
+
+#[cycle(walk)]
+fn walk_attr<'a>(
+    at: &Setting<'a>,
+    caps: &CapabilitySet<'a>,
+    x: &'a Expr<()>,
+    n: &'a Text,
+    loc: Option<Loc>,
+) -> Result<Told<'a>, BuildError>
+    ensures { IfOk result (λ r. walked_of r ≡ walked at.now.schema.now (env_data_of at.now.env.now) caps.now (attr x.now n.now (mark loc))) }
+{
+    let v = walk(at, caps, x)?;
+    let known = knows_attribute(caps, x, n)?;
+    attr_told(at.alloc, at.schema, at.env, known, n, loc, x.source_loc(), v)
+}
+
+#[cycle(walk)]
+fn walk_has<'a>(
+    at: &Setting<'a>,
+    caps: &CapabilitySet<'a>,
+    x: &'a Expr<()>,
+    n: &'a Text,
+    loc: Option<Loc>,
+) -> Result<Told<'a>, BuildError>
+    ensures { IfOk result (λ r. walked_of r ≡ walked at.now.schema.now (env_data_of at.now.env.now) caps.now (has x.now n.now (mark loc))) }
+{
+    let v = walk(at, caps, x)?;
+    let known = knows_attribute(caps, x, n)?;
+    has_told(at.alloc, at.schema, known, x, n, loc, v)
+}
+
+#[cycle(walk)]
+fn walk_like<'a>(
+    at: &Setting<'a>,
+    caps: &CapabilitySet<'a>,
+    x: &'a Expr<()>,
+    p: &'a Pattern,
+    loc: Option<Loc>,
+) -> Result<Told<'a>, BuildError>
+    ensures { IfOk result (λ r. walked_of r ≡ walked at.now.schema.now (env_data_of at.now.env.now) caps.now (like x.now p.now (mark loc))) }
+{
+    let v = walk(at, caps, x)?;
+    like_told(at.alloc, p, loc, x.source_loc(), v)
+}
+
+#[cycle(walk)]
+fn walk_is<'a>(
+    at: &Setting<'a>,
+    caps: &CapabilitySet<'a>,
+    x: &'a Expr<()>,
+    n: &'a EntityType,
+    loc: Option<Loc>,
+) -> Result<Told<'a>, BuildError>
+    ensures { IfOk result (λ r. walked_of r ≡ walked at.now.schema.now (env_data_of at.now.env.now) caps.now (is_type x.now n.now (mark loc))) }
+{
+    let v = walk(at, caps, x)?;
+    is_told(at.alloc, n, loc, x.source_loc(), v)
+}
+
+#[cycle(walk)]
+fn walk_call<'a>(
+    at: &Setting<'a>,
+    caps: &CapabilitySet<'a>,
+    f: &'a Name,
+    xs: &'a Vec<Expr<()>>,
+    loc: Option<Loc>,
+) -> Result<Told<'a>, BuildError>
+    ensures { IfOk result (λ r. walked_of r ≡ walked at.now.schema.now (env_data_of at.now.env.now) caps.now (call f.now (trees_of xs.now.items) (mark loc))) }
+{
+    match at.extensions.called(f) {
+        Some(g) => {
+            let ws = walk_all(at, caps, xs)?;
+            call_told(at.alloc, f, g, xs, loc, ws)
+        }
+        None => undefined_told(at.alloc, f, loc),
+    }
+}
+
+#[cycle(walk)]
+fn walk_set<'a>(
+    at: &Setting<'a>,
+    caps: &CapabilitySet<'a>,
+    xs: &'a Vec<Expr<()>>,
+    loc: Option<Loc>,
+) -> Result<Told<'a>, BuildError>
+    ensures { IfOk result (λ r. walked_of r ≡ walked at.now.schema.now (env_data_of at.now.env.now) caps.now (set (trees_of xs.now.items) (mark loc))) }
+{
+    let ws = walk_all(at, caps, xs)?;
+    set_told(at.alloc, loc, ws)
+}
+
+#[cycle(walk)]
+fn walk_record<'a>(
+    at: &Setting<'a>,
+    caps: &CapabilitySet<'a>,
+    fields: &'a BTreeMap<Text, Expr<()>>,
+    loc: Option<Loc>,
+) -> Result<Told<'a>, BuildError>
+    ensures { IfOk result (λ r. walked_of r ≡ walked at.now.schema.now (env_data_of at.now.env.now) caps.now (rec (named_of fields.now.entries) (mark loc))) }
+{
+    let ws = walk_named(at, caps, fields)?;
+    record_told(at.alloc, loc, ws)
+}
+
+// Operands, one after another.
+#[cycle(walk)]
+fn walk_all<'a>(
+    at: &Setting<'a>,
+    caps: &CapabilitySet<'a>,
+    xs: &'a Vec<Expr<()>>,
+) -> Result<Vec<Told<'a>>, BuildError>
+    ensures { IfOk result (λ r. all_of r.items ≡ walked_all at.now.schema.now (env_data_of at.now.env.now) caps.now (trees_of xs.now.items)) }
+{
+    let mut all = Vec::new(at.alloc);
+    for x in xs {
+        let v = walk(at, caps, x)?;
+        all.push(v)?;
+    }
+    Ok(all)
+}
+
+// Fields, by ascending keys.
+#[cycle(walk)]
+fn walk_named<'a>(
+    at: &Setting<'a>,
+    caps: &CapabilitySet<'a>,
+    fields: &'a BTreeMap<Text, Expr<()>>,
+) -> Result<Vec<(Text, Told<'a>)>, BuildError>
+    ensures { IfOk result (λ r. map field_of r.items ≡ walked_named at.now.schema.now (env_data_of at.now.env.now) caps.now (named_of fields.now.entries)) }
+{
+    let mut all = Vec::new(at.alloc);
+    for (name, x) in fields.iter() {
+        let v = walk(at, caps, x)?;
+        all.push((name.try_clone()?, v))?;
+    }
+    Ok(all)
+}
