@@ -1,6 +1,13 @@
 //! The typechecker: a walk through a condition that gives its type or tells what it found.
 #![tactic(auto)]
 
+mod conditions;
+mod errors;
 mod known;
+mod policy_check;
 mod setting;
+mod typechecker;
 mod walks;
+
+pub use policy_check::PolicyCheck;
+pub use typechecker::Typechecker;

@@ -1,0 +1,90 @@
+use Rattle.std.proofs.Common.{◌≡◌, IfOk, sym, ap, ◌∙◌, subst}
+use Rattle.schema_core.specs.RequestEnvs.{env_data_of}
+use Rattle.policy_expressions.specs.Tree.{mark_of, ite, conj, disj, unary, binary, attr, has, like, is_type, call, set, rec, trees_of, named_of}
+use Rattle.policy_expressions.specs.TreeView.{tree_of}
+use Rattle.typing_findings.specs.Walk.{walked}
+use Rattle.typing_findings.specs.Operators.{attr_walked, has_walked, binary_walked}
+use Rattle.typing_operators.specs.Told.{mark, walked_of}
+use Rattle.policy_typecheck.proofs.walks.+walk.Goals as goal
+
+pub walk-returns-in-If : goal.walk-returns-in-If
+walk-returns-in-If g t c =
+    let s = ap (λ k. tree_of k (mark_of c.args.e.now)) (sym c.in-If.is) ∙ c.kind.ensures in
+    let q = (λ i. ite (c.deref.ensures i) (c.deref-in-If.ensures i) (c.deref-in-If-2.ensures i) (mark (c.source_loc-loc.ensures i))) ∙ s in
+    subst (λ x. IfOk c.walk_if.result (λ r. walked_of r ≡ walked c.args.at.now.schema.now (env_data_of c.args.at.now.env.now) c.args.caps.now x)) q c.walk_if.ensures
+
+pub walk-returns-in-And : goal.walk-returns-in-And
+walk-returns-in-And g t c =
+    let s = ap (λ k. tree_of k (mark_of c.args.e.now)) (sym c.in-And.is) ∙ c.kind.ensures in
+    let q = (λ i. conj (c.deref-in-And.ensures i) (c.deref-in-And-2.ensures i) (mark (c.source_loc-loc.ensures i))) ∙ s in
+    subst (λ x. IfOk c.walk_and.result (λ r. walked_of r ≡ walked c.args.at.now.schema.now (env_data_of c.args.at.now.env.now) c.args.caps.now x)) q c.walk_and.ensures
+
+pub walk-returns-in-Or : goal.walk-returns-in-Or
+walk-returns-in-Or g t c =
+    let s = ap (λ k. tree_of k (mark_of c.args.e.now)) (sym c.in-Or.is) ∙ c.kind.ensures in
+    let q = (λ i. disj (c.deref-in-Or.ensures i) (c.deref-in-Or-2.ensures i) (mark (c.source_loc-loc.ensures i))) ∙ s in
+    subst (λ x. IfOk c.walk_or.result (λ r. walked_of r ≡ walked c.args.at.now.schema.now (env_data_of c.args.at.now.env.now) c.args.caps.now x)) q c.walk_or.ensures
+
+pub walk-returns-in-UnaryApp : goal.walk-returns-in-UnaryApp
+walk-returns-in-UnaryApp g t c =
+    let s = ap (λ k. tree_of k (mark_of c.args.e.now)) (sym c.in-UnaryApp.is) ∙ c.kind.ensures in
+    let q = (λ i. unary c.in-UnaryApp.op (c.deref-in-UnaryApp.ensures i) (mark (c.source_loc-loc.ensures i))) ∙ s in
+    subst (λ x. IfOk c.walk_unary.result (λ r. walked_of r ≡ walked c.args.at.now.schema.now (env_data_of c.args.at.now.env.now) c.args.caps.now x)) q c.walk_unary.ensures
+
+pub walk-returns-in-BinaryApp : goal.walk-returns-in-BinaryApp
+walk-returns-in-BinaryApp g t c =
+    let s = ap (λ k. tree_of k (mark_of c.args.e.now)) (sym c.in-BinaryApp.is) ∙ c.kind.ensures in
+    let q = (λ i. binary c.in-BinaryApp.op (c.deref-in-BinaryApp.ensures i) (c.deref-in-BinaryApp-2.ensures i) (mark (c.source_loc-loc.ensures i))) ∙ s in
+    subst (λ x. IfOk c.walk_binary.result (λ r. walked_of r ≡ walked c.args.at.now.schema.now (env_data_of c.args.at.now.env.now) c.args.caps.now x)) q c.walk_binary.ensures
+
+pub walk-returns-in-GetAttr : goal.walk-returns-in-GetAttr
+walk-returns-in-GetAttr g t c =
+    let s = ap (λ k. tree_of k (mark_of c.args.e.now)) (sym c.in-GetAttr.is) ∙ c.kind.ensures in
+    let q = (λ i. attr (c.deref-in-GetAttr.ensures i) c.in-GetAttr.n (mark (c.source_loc-loc.ensures i))) ∙ s in
+    subst (λ x. IfOk c.walk_attr.result (λ r. walked_of r ≡ walked c.args.at.now.schema.now (env_data_of c.args.at.now.env.now) c.args.caps.now x)) q c.walk_attr.ensures
+
+pub walk-returns-in-HasAttr : goal.walk-returns-in-HasAttr
+walk-returns-in-HasAttr g t c =
+    let s = ap (λ k. tree_of k (mark_of c.args.e.now)) (sym c.in-HasAttr.is) ∙ c.kind.ensures in
+    let q = (λ i. has (c.deref-in-HasAttr.ensures i) c.in-HasAttr.n (mark (c.source_loc-loc.ensures i))) ∙ s in
+    subst (λ x. IfOk c.walk_has.result (λ r. walked_of r ≡ walked c.args.at.now.schema.now (env_data_of c.args.at.now.env.now) c.args.caps.now x)) q c.walk_has.ensures
+
+pub walk-returns-in-Like : goal.walk-returns-in-Like
+walk-returns-in-Like g t c =
+    let s = ap (λ k. tree_of k (mark_of c.args.e.now)) (sym c.in-Like.is) ∙ c.kind.ensures in
+    let q = (λ i. like (c.deref-in-Like.ensures i) c.in-Like.p (mark (c.source_loc-loc.ensures i))) ∙ s in
+    subst (λ x. IfOk c.walk_like.result (λ r. walked_of r ≡ walked c.args.at.now.schema.now (env_data_of c.args.at.now.env.now) c.args.caps.now x)) q c.walk_like.ensures
+
+pub walk-returns-in-Is : goal.walk-returns-in-Is
+walk-returns-in-Is g t c =
+    let s = ap (λ k. tree_of k (mark_of c.args.e.now)) (sym c.in-Is.is) ∙ c.kind.ensures in
+    let q = (λ i. is_type (c.deref-in-Is.ensures i) c.in-Is.n (mark (c.source_loc-loc.ensures i))) ∙ s in
+    subst (λ x. IfOk c.walk_is.result (λ r. walked_of r ≡ walked c.args.at.now.schema.now (env_data_of c.args.at.now.env.now) c.args.caps.now x)) q c.walk_is.ensures
+
+pub walk-returns-in-ExtensionFunctionApp : goal.walk-returns-in-ExtensionFunctionApp
+walk-returns-in-ExtensionFunctionApp g t c =
+    let s = ap (λ k. tree_of k (mark_of c.args.e.now)) (sym c.in-ExtensionFunctionApp.is) ∙ c.kind.ensures in
+    let q = (λ i. call c.in-ExtensionFunctionApp.f (trees_of c.in-ExtensionFunctionApp.xs.items) (mark (c.source_loc-loc.ensures i))) ∙ s in
+    subst (λ x. IfOk c.walk_call.result (λ r. walked_of r ≡ walked c.args.at.now.schema.now (env_data_of c.args.at.now.env.now) c.args.caps.now x)) q c.walk_call.ensures
+
+pub walk-returns-in-Set : goal.walk-returns-in-Set
+walk-returns-in-Set g t c =
+    let s = ap (λ k. tree_of k (mark_of c.args.e.now)) (sym c.in-Set.is) ∙ c.kind.ensures in
+    let q = (λ i. set (trees_of c.in-Set.xs.items) (mark (c.source_loc-loc.ensures i))) ∙ s in
+    subst (λ x. IfOk c.walk_set.result (λ r. walked_of r ≡ walked c.args.at.now.schema.now (env_data_of c.args.at.now.env.now) c.args.caps.now x)) q c.walk_set.ensures
+
+pub walk-returns-in-Record : goal.walk-returns-in-Record
+walk-returns-in-Record g t c =
+    let s = ap (λ k. tree_of k (mark_of c.args.e.now)) (sym c.in-Record.is) ∙ c.kind.ensures in
+    let q = (λ i. rec (named_of c.in-Record.fields.entries) (mark (c.source_loc-loc.ensures i))) ∙ s in
+    subst (λ x. IfOk c.walk_record.result (λ r. walked_of r ≡ walked c.args.at.now.schema.now (env_data_of c.args.at.now.env.now) c.args.caps.now x)) q c.walk_record.ensures
+
+pub walk_attr-returns : goal.walk_attr-returns
+walk_attr-returns g t c =
+    subst (λ w. IfOk c.attr_told.result (λ r. walked_of r ≡ w))
+    (λ i. attr_walked c.args.at.now.schema.now (env_data_of c.args.at.now.env.now) (c.in_ok-known.ensures i) c.args.n.now (mark c.args.loc) (c.source_loc.ensures i) (c.in_ok-v.ensures i)) c.attr_told.ensures
+
+pub walk_has-returns : goal.walk_has-returns
+walk_has-returns g t c =
+    subst (λ w. IfOk c.has_told.result (λ r. walked_of r ≡ w))
+    (λ i. has_walked c.args.at.now.schema.now (c.in_ok-known.ensures i) c.args.x.now c.args.n.now (mark c.args.loc) (c.in_ok-v.ensures i)) c.has_told.ensures

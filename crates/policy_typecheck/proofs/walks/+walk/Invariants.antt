@@ -1,0 +1,77 @@
+use Rattle.std.proofs.Common.{◌≡◌, ◌≤◌, ◌+◌, ◌*◌, ◌++◌, drop, map, max}
+use Rattle.schema_core.specs.RequestEnvs.{env_data_of}
+use Rattle.policy_expressions.specs.Tree.{depth_of, deepest, deepest_named, trees_of, named_of}
+use Rattle.typing_findings.specs.Walk.{walked_all, walked_named}
+use Rattle.typing_operators.specs.Told.{all_of, field_of}
+use Rattle.policy_typecheck.proofs.walks.+walk.Given as goal
+
+abbrev pub decreases-walk : goal.decreases-walk
+decreases-walk g l = 4 * depth_of l.e.now
+
+abbrev pub decreases-walk_if : goal.decreases-walk_if
+decreases-walk_if g l = 4 * max (depth_of l.x.now) (max (depth_of l.y.now) (depth_of l.z.now)) + 3
+
+abbrev pub decreases-walk_and : goal.decreases-walk_and
+decreases-walk_and g l = 4 * max (depth_of l.x.now) (depth_of l.y.now) + 3
+
+abbrev pub decreases-walk_or : goal.decreases-walk_or
+decreases-walk_or g l = 4 * max (depth_of l.x.now) (depth_of l.y.now) + 3
+
+abbrev pub decreases-walk_boolean : goal.decreases-walk_boolean
+decreases-walk_boolean g l = 4 * depth_of l.y.now + 1
+
+abbrev pub decreases-walk_after : goal.decreases-walk_after
+decreases-walk_after g l = 4 * depth_of l.y.now + 1
+
+abbrev pub decreases-walk_besides : goal.decreases-walk_besides
+decreases-walk_besides g l = 4 * depth_of l.z.now + 1
+
+abbrev pub decreases-walk_right_of_and : goal.decreases-walk_right_of_and
+decreases-walk_right_of_and g l = 4 * depth_of l.y.now + 2
+
+abbrev pub decreases-walk_right_of_or : goal.decreases-walk_right_of_or
+decreases-walk_right_of_or g l = 4 * depth_of l.y.now + 2
+
+abbrev pub decreases-walk_unary : goal.decreases-walk_unary
+decreases-walk_unary g l = 4 * depth_of l.x.now + 1
+
+abbrev pub decreases-walk_binary : goal.decreases-walk_binary
+decreases-walk_binary g l = 4 * max (depth_of l.x.now) (depth_of l.y.now) + 1
+
+abbrev pub decreases-walk_attr : goal.decreases-walk_attr
+decreases-walk_attr g l = 4 * depth_of l.x.now + 1
+
+abbrev pub decreases-walk_has : goal.decreases-walk_has
+decreases-walk_has g l = 4 * depth_of l.x.now + 1
+
+abbrev pub decreases-walk_like : goal.decreases-walk_like
+decreases-walk_like g l = 4 * depth_of l.x.now + 1
+
+abbrev pub decreases-walk_is : goal.decreases-walk_is
+decreases-walk_is g l = 4 * depth_of l.x.now + 1
+
+abbrev pub decreases-walk_call : goal.decreases-walk_call
+decreases-walk_call g l = 4 * deepest (trees_of l.xs.now.items) + 2
+
+abbrev pub decreases-walk_set : goal.decreases-walk_set
+decreases-walk_set g l = 4 * deepest (trees_of l.xs.now.items) + 2
+
+abbrev pub decreases-walk_record : goal.decreases-walk_record
+decreases-walk_record g l = 4 * deepest_named (named_of l.fields.now.entries) + 2
+
+abbrev pub decreases-walk_all : goal.decreases-walk_all
+decreases-walk_all g l = 4 * deepest (trees_of l.xs.now.items) + 1
+
+abbrev pub decreases-walk_named : goal.decreases-walk_named
+decreases-walk_named g l = 4 * deepest_named (named_of l.fields.now.entries) + 1
+
+-- what is walked so far, and what is left
+abbrev pub invariant-walk_all-loop-x : goal.invariant-walk_all-loop-x
+invariant-walk_all-loop-x g l =
+    all_of l.all.items ++ walked_all l.at.schema.now (env_data_of l.at.env.now) l.caps (trees_of (drop l.x-index l.xs.items)) ≡ walked_all l.at.schema.now (env_data_of l.at.env.now) l.caps (trees_of l.xs.items)
+
+abbrev pub invariant-walk_named-loop-name : goal.invariant-walk_named-loop-name
+invariant-walk_named-loop-name g l = record {
+  so_far : map field_of l.all.items ++ walked_named l.at.schema.now (env_data_of l.at.env.now) l.caps (named_of l.name-iterator) ≡ walked_named l.at.schema.now (env_data_of l.at.env.now) l.caps (named_of l.fields.entries);
+  depth : deepest_named (named_of l.name-iterator) ≤ deepest_named (named_of l.fields.entries);
+}

@@ -1,0 +1,22 @@
+-- Lists that grow by what they do not hold.
+use Rattle.std.specs.Prelude.{Bool, List, [], ◌∷◌, ◌++◌, fold, if◌then◌else◌}
+use Rattle.std.specs.List.{list_any}
+use Rattle.findings.specs.declared.error.ValidationError.{ValidationError}
+use Rattle.findings.specs.declared.error.ValidationWarning.{ValidationWarning}
+use Rattle.findings.specs.contracts.error.ValidationErrorPartialEq.TheImpl as error
+use Rattle.findings.specs.contracts.error.ValidationWarningPartialEq.TheImpl as warning
+
+-- whether two are equal: in all that they say
+abbrev pub same_error : ValidationError → ValidationError → Bool
+same_error = error.ghosts.eq
+
+abbrev pub same_warning : ValidationWarning → ValidationWarning → Bool
+same_warning = warning.ghosts.eq
+
+-- one more, unless an equal one is there
+abbrev pub added : {T : Type 0} → (T → T → Bool) → List T → T → List T
+added eq xs x = if list_any (λ y. eq y x) xs then xs else xs ++ x ∷ []
+
+-- several, one after another
+abbrev pub all_added : {T : Type 0} → (T → T → Bool) → List T → List T → List T
+all_added eq xs ys = fold (added eq) xs ys

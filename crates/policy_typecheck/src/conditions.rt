@@ -1,0 +1,103 @@
+//! The check of a condition in an environment.
+
+ghost use Rattle.std.specs.Prelude.{◌≡◌, ◌∷◌, [], IfOk, nat_lt};
+ghost use Rattle.schema_core.specs.RequestEnvs.{env_data_of};
+ghost use Rattle.policy_expressions.specs.Tree.{depth_of};
+ghost use Rattle.typing_findings.specs.Check.{check_walked, checked, condition_walked};
+ghost use Rattle.typing_operators.specs.Told.{walked_of};
+ghost use Rattle.policy_typecheck.specs.Answer.{Tells, too_deep};
+
+use crate::PolicyCheck;
+use crate::errors::errors_of;
+use crate::setting::Setting;
+use crate::walks::walk;
+use capabilities::CapabilitySet;
+use findings::{TooDeep, ValidationError};
+use policy_expressions::{BuildError, Expr};
+use policy_names::Text;
+use schema_types::{Primitive, Type, TypeKind};
+use std::alloc::{AllocError, Global};
+use typing_operators::{Told, Typing, expect};
+use typing_rules::Expected;
+
+// What is deeper is not typed.
+const MAX_TYPED_DEPTH: u32 = 200;
+
+/// Whether a condition is too deep to be typed.
+pub(crate) fn is_too_deep(condition: &Expr<()>) -> bool
+    ensures { result ≡ nat_lt 200 (depth_of condition.now) }
+{
+    condition.depth() > MAX_TYPED_DEPTH
+}
+
+/// The check of the policy's condition.
+pub(crate) fn check_condition(
+    at: &Setting<'_>,
+    id: &Text,
+    condition: &Expr<()>,
+) -> Result<PolicyCheck, AllocError>
+    ensures { IfOk result (λ r. Tells id.now (checked at.now.schema.now (env_data_of at.now.env.now) condition.now) r) }
+{
+    if is_too_deep(condition) {
+        return Ok(PolicyCheck::Fail(only_too_deep(at.alloc, id)?));
+    }
+    match walk_condition(at, condition) {
+        Ok(told) => answer(at.alloc, id, told),
+        // An expression with types is no deeper than the expression itself, so that there is memory alone to want.
+        Err(_) => Err(AllocError),
+    }
+}
+
+/// That the policy's condition is too deep.
+pub(crate) fn only_too_deep(alloc: Global, id: &Text) -> Result<Vec<ValidationError>, AllocError>
+    ensures { IfOk result (λ es. es.items ≡ too_deep id.now ∷ []) }
+{
+    let error = ValidationError::TooDeep(TooDeep {
+        source_loc: None,
+        policy_id: id.try_clone()?,
+    });
+    let mut errors = Vec::new(alloc);
+    errors.push(error)?;
+    Ok(errors)
+}
+
+fn walk_condition<'a>(at: &Setting<'a>, e: &'a Expr<()>) -> Result<Told<'a>, BuildError>
+    ensures { IfOk result (λ r. walked_of r ≡ condition_walked at.now.schema.now (env_data_of at.now.env.now) e.now) }
+{
+    let caps = CapabilitySet::new(at.alloc);
+    let told = walk(at, &caps, e)?;
+    let told = expect(at.alloc, Expected::Boolean, e.source_loc(), told)?;
+    Ok(told)
+}
+
+fn answer(alloc: Global, id: &Text, told: Told<'_>) -> Result<PolicyCheck, AllocError>
+    ensures { IfOk result (λ r. Tells id.now (check_walked (walked_of told.entry)) r) }
+{
+    match told {
+        Told::Success(a) => match a.of.kind() {
+            TypeKind::True
+            | TypeKind::Primitive {
+                primitive_type: Primitive::Bool,
+            } => Ok(PolicyCheck::Success(tree_of(a))),
+            TypeKind::False => Ok(PolicyCheck::Irrelevant(tree_of(a))),
+            _ => {
+                drop(a);
+                Ok(PolicyCheck::Fail(Vec::new(alloc)))
+            }
+        },
+        Told::Fail(tree, found) => {
+            drop(tree);
+            Ok(PolicyCheck::Fail(errors_of(alloc, id, found)?))
+        }
+    }
+}
+
+// The typed expression. The rest is dropped by calls, which keeps proofs short.
+fn tree_of(a: Typing<'_>) -> Expr<Option<Type>>
+    ensures { result ≡ a.entry.tree }
+{
+    let Typing { of, caps, tree } = a;
+    drop(of);
+    drop(caps);
+    tree
+}

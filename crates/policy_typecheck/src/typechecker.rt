@@ -1,0 +1,135 @@
+//! The typechecker.
+
+ghost use Rattle.std.specs.Prelude.{◌≡◌, IfOk, map};
+ghost use Rattle.std.specs.List.{AllByRecursion};
+ghost use Rattle.schema_core.specs.EnvData.{unlinked_envs};
+ghost use Rattle.schema_core.specs.RequestEnvs.{env_data_of};
+ghost use Rattle.policy_set.specs.Condition.{condition_of};
+ghost use Rattle.policy_links.specs.Linked.{linked_envs};
+ghost use Rattle.typing_findings.specs.Check.{checked};
+ghost use Rattle.policy_typecheck.specs.Answer.{Tells, TellsIn};
+ghost use Rattle.policy_typecheck.specs.Known.{KnowsFunctions};
+
+use crate::PolicyCheck;
+use crate::conditions::check_condition;
+use crate::setting::{Extensions, Setting};
+use extension_types::ExtensionSchemas;
+use linked_environments::linked_request_envs;
+use policy_expressions::Expr;
+use policy_names::Text;
+use policy_set::{Policy, Template};
+use schema_core::{RequestEnv, ValidationMode, ValidatorSchema};
+use std::alloc::{AllocError, Global};
+use std::marker::Model;
+
+/// A typechecker for the policies of a schema.
+#[derive(Drop)]
+pub struct Typechecker<'a> {
+    schema: &'a ValidatorSchema,
+    extensions: Extensions<'a>,
+    mode: ValidationMode,
+}
+
+impl<'a> Model for Typechecker<'a> {
+    ghost use Rattle.schema_core.specs.Schema.{SchemaData, coded_schema};
+
+    ghost Value = { SchemaData };
+
+    ghost coded = { coded_schema };
+
+    ghost view = { λ t. t.schema.now };
+}
+
+impl<'a> Typechecker<'a> {
+    /// The typechecker for a schema, with all extensions.
+    pub fn new(
+        schema: &'a ValidatorSchema,
+        extensions: &'a ExtensionSchemas<'a>,
+        mode: ValidationMode,
+    ) -> Typechecker<'a>
+        requires { KnowsFunctions extensions.now }
+        ensures { result ≡ schema.now }
+    {
+        Typechecker {
+            schema,
+            extensions: Extensions::new(extensions),
+            mode,
+        }
+    }
+
+    /// The check of a template's condition in an environment: it succeeds where the condition has the type True or Bool,
+    /// is irrelevant where it has the type False, and fails elsewhere, with all that is found; a condition that is deeper
+    /// than 200 fails with `TooDeep` alone.
+    pub fn typecheck_by_single_request_env(
+        &self,
+        alloc: Global,
+        t: &Template,
+        env: &RequestEnv<'_>,
+    ) -> Result<PolicyCheck, AllocError>
+        ensures { IfOk result (λ r. Tells t.now.id (checked self.now (env_data_of env.now) (condition_of t.now)) r) }
+    {
+        self.check_in(alloc, env, t.id(), t.condition())
+    }
+
+    /// The checks of a template's condition in its environments, one after another.
+    pub fn typecheck_by_request_env(
+        &self,
+        alloc: Global,
+        t: &Template,
+    ) -> Result<Vec<(RequestEnv<'a>, PolicyCheck)>, AllocError>
+        ensures environments { IfOk result (λ r. map (λ c. env_data_of c.0) r.items ≡ linked_envs self.now t.now) }
+        ensures checks { IfOk result (λ r. AllByRecursion (TellsIn self.now t.now.id (condition_of t.now)) r.items) }
+    {
+        let envs = linked_request_envs(alloc, self.schema, t)?;
+        self.check_in_each(alloc, envs, t.id(), t.condition())
+    }
+
+    /// The checks of a policy's own condition in the environments of the schema, one after another.
+    pub fn typecheck_linked(
+        &self,
+        alloc: Global,
+        p: &Policy,
+    ) -> Result<Vec<(RequestEnv<'a>, PolicyCheck)>, AllocError>
+        ensures environments { IfOk result (λ r. map (λ c. env_data_of c.0) r.items ≡ unlinked_envs self.now) }
+        ensures checks { IfOk result (λ r. AllByRecursion (TellsIn self.now p.now.id p.now.condition) r.items) }
+    {
+        let envs = self.schema.unlinked_request_envs(alloc)?;
+        self.check_in_each(alloc, envs, p.id(), p.condition())
+    }
+
+    fn check_in_each(
+        &self,
+        alloc: Global,
+        envs: Vec<RequestEnv<'a>>,
+        id: &Text,
+        condition: &Expr<()>,
+    ) -> Result<Vec<(RequestEnv<'a>, PolicyCheck)>, AllocError>
+        ensures environments { IfOk result (λ r. map (λ c. env_data_of c.0) r.items ≡ map env_data_of envs.items) }
+        ensures checks { IfOk result (λ r. AllByRecursion (TellsIn self.now id.now condition.now) r.items) }
+    {
+        let mut checks = Vec::new(alloc);
+        for env in envs {
+            let check = self.check_in(alloc, &env, id, condition)?;
+            checks.push((env, check))?;
+        }
+        Ok(checks)
+    }
+
+    fn check_in(
+        &self,
+        alloc: Global,
+        env: &RequestEnv<'_>,
+        id: &Text,
+        condition: &Expr<()>,
+    ) -> Result<PolicyCheck, AllocError>
+        ensures { IfOk result (λ r. Tells id.now (checked self.now (env_data_of env.now) condition.now) r) }
+    {
+        let setting = Setting {
+            alloc,
+            schema: self.schema,
+            env,
+            extensions: &self.extensions,
+        };
+        check_condition(&setting, id, condition)
+    }
+}
