@@ -23,10 +23,10 @@ use Rattle.policy_expressions.specs.Tree.{Tree, lit, Trees}
 use Rattle.policy_typing.specs.Signatures.{long_type, datetime_type, duration_type, same_type, signature_of, count_of, only_text, has_count, has_literals, has_readable}
 use Rattle.policy_typing.specs.Environment.{declared_attributes}
 use Rattle.policy_typing.specs.Rules.{order_type, tag_type, safe_type}
-use Rattle.typing_findings.specs.declared.finding.LubContext.{LubContext}
-use Rattle.typing_findings.specs.declared.finding.LubContext.TheVariants as context
-use Rattle.typing_findings.specs.Finding.{Finding, Kind, AttributeAccess, UnexpectedType, IncompatibleTypes, UnsafeAttributeAccess, UnsafeOptionalAttributeAccess, UnsafeTagAccess, NoTagsAllowed, WrongNumberArguments, FunctionArgumentValidation, EmptySetForbidden, NonLitExtConstructor}
-use Rattle.typing_findings.specs.Texts.{string_text}
+use Rattle.findings.specs.declared.helps.LubContext.{LubContext}
+use Rattle.findings.specs.declared.helps.LubContext.TheVariants as context
+use Rattle.findings.specs.Finding.{Finding, Kind, AttributeAccess, UnexpectedType, IncompatibleTypes, UnsafeAttributeAccess, UnsafeOptionalAttributeAccess, UnsafeTagAccess, NoTagsAllowed, WrongNumberArguments, FunctionArgumentValidation, EmptySetForbidden, NonLitExtConstructor}
+use Rattle.findings.specs.Texts.{string_text}
 use Rattle.typing_findings.specs.Walked.{one}
 
 -- what is found where there is no type
