@@ -1,0 +1,32 @@
+//! The operators of the typechecker: what each comes to, by what its operands come to.
+#![tactic(auto)]
+
+mod and;
+mod attr;
+mod binary;
+mod call;
+mod conditional;
+mod has;
+mod is;
+mod leaf;
+mod like;
+mod or;
+mod record;
+mod set;
+mod told;
+mod unary;
+
+pub use and::and_sides;
+pub use attr::attr_told;
+pub use binary::binary_told;
+pub use call::{call_told, undefined_told};
+pub use conditional::if_parts;
+pub use has::has_told;
+pub use is::is_told;
+pub use leaf::{literal_told, slot_told, variable_told};
+pub use like::like_told;
+pub use or::or_sides;
+pub use record::record_told;
+pub use set::set_told;
+pub use told::{Told, Typing, expect, skipped};
+pub use unary::unary_told;
