@@ -12,7 +12,7 @@ use Rattle.policy_expressions.specs.Tree.{lit, var, slot, ite, conj, disj, unary
 use Rattle.policy_expressions.specs.Plain.{Plain}
 use Rattle.capabilities.specs.Capability.{Capability, has_cap}
 use Rattle.policy_typing.specs.Typing.{Typed, Typing, attribute_known, tag_known, types_in}
-use Rattle.typing_findings.specs.Finding.{Finding}
+use Rattle.findings.specs.Finding.{Finding}
 use Rattle.typing_findings.specs.Expected.{Expected, a_string, an_entity, an_owner, no_help, like_help, test_help, contents_help, of_unary, left_of, right_of}
 use Rattle.typing_findings.specs.Walked.{Walked, Success, Fail, typing_of, findings_of, has_typing, lent_by_all, expect, expect_if, one_walked, findings_of_all}
 use Rattle.typing_findings.specs.Own.{set_found}

@@ -22,7 +22,7 @@ use Rattle.policy_expressions.specs.declared.kinds.BinaryOp.{BinaryOp}
 use Rattle.policy_expressions.specs.declared.kinds.BinaryOp.TheVariants.{Eq, Less, LessEq, Add, Sub, Mul, In, Contains, ContainsAll, ContainsAny, GetTag, HasTag}
 use Rattle.policy_typing.specs.Signatures.{bool_type, long_type, string_type, same_type, signature_of}
 use Rattle.policy_typing.specs.Rules.{order_type, bool_if}
-use Rattle.typing_findings.specs.declared.finding.UnexpectedTypeHelp.{UnexpectedTypeHelp}
+use Rattle.findings.specs.declared.helps.UnexpectedTypeHelp.{UnexpectedTypeHelp}
 use Rattle.typing_findings.specs.Expected.{Expected, a_boolean, a_long, a_string, a_set, a_typed_set, an_entity, entities, an_owner, an_argument, of_unary, left_of, right_of, no_help, empty_help, sum_help, product_help, in_help, contains_help, single_help}
 use Rattle.typing_findings.specs.Own.{is_comparable}
 use Rattle.typing_findings.specs.Truth.{IsVoid, NoneAbove}

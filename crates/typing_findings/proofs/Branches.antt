@@ -7,7 +7,7 @@ use Rattle.policy_expressions.specs.declared.kinds.Loc.{Loc}
 use Rattle.policy_expressions.specs.Tree.{Mark}
 use Rattle.capabilities.specs.Capability.{Capability}
 use Rattle.policy_typing.specs.Typing.{Typed, if_typing}
-use Rattle.typing_findings.specs.Finding.{Finding}
+use Rattle.findings.specs.Finding.{Finding}
 use Rattle.typing_findings.specs.Expected.{a_boolean}
 use Rattle.typing_findings.specs.Walked.{Walked, Success, Fail, typing_of, has_typing, lent_by, expect, ended}
 use Rattle.typing_findings.specs.Operators.{unless_false, unless_true, if_walked}

@@ -10,7 +10,7 @@ use Rattle.policy_expressions.specs.declared.functions.ExtensionFunction.{Extens
 use Rattle.policy_expressions.specs.Tree.{call, Trees, no_trees, tree, Mark}
 use Rattle.policy_typing.specs.Signatures.{same_type, same_types, signature_of, count_of, only_text, is_readable, has_count, has_literals, has_readable, call_type}
 use Rattle.policy_typing.specs.Typing.{Typed, Typing, types_in}
-use Rattle.typing_findings.specs.Finding.{Finding}
+use Rattle.findings.specs.Finding.{Finding}
 use Rattle.typing_findings.specs.Expected.{an_argument}
 use Rattle.typing_findings.specs.Walked.{Walked, Success, Fail, has_typing, lent_by_all, lends, trees_walked, ended, findings_of_all}
 use Rattle.typing_findings.specs.Own.{if_not, text_found, call_found}

@@ -5,7 +5,7 @@ use Rattle.policy_expressions.specs.declared.kinds.Loc.{Loc}
 use Rattle.policy_expressions.specs.Tree.{mark_of}
 use Rattle.schema_types.specs.Ty.{Ty}
 use Rattle.policy_typing.specs.Typing.{Typed, Typing}
-use Rattle.typing_findings.specs.Finding.{Finding, UnexpectedType}
+use Rattle.findings.specs.Finding.{Finding, UnexpectedType}
 use Rattle.typing_findings.specs.Expected.{Expected}
 use Rattle.typing_findings.specs.Walked.{Walked, Success, Fail, findings_of, untyped, unexpected, expect_lent, expect, ended}
 use Rattle.typing_findings.specs.Own.{if_none, if_not}

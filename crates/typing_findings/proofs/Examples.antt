@@ -16,13 +16,13 @@ use Rattle.schema_core.specs.EnvData.{EnvData, LinkedEnvironment, declared_actio
 use Rattle.policy_expressions.specs.Plain.{Plain}
 use Rattle.policy_typing.specs.Signatures.{long_type, string_type, datetime_type, duration_type}
 use Rattle.policy_typing.specs.Typing.{Typed, typing, at, unreached}
-use Rattle.typing_findings.specs.declared.finding.UnexpectedTypeHelp.TheVariants.{ConcatenationNotSupported}
-use Rattle.typing_findings.specs.declared.finding.LubContext.TheVariants.{Conditional}
-use Rattle.typing_findings.specs.Finding.{Finding, Kind, UnexpectedType, IncompatibleTypes, UnsafeOptionalAttributeAccess, UnsafeTagAccess, WrongNumberArguments, EmptySetForbidden, of_entity, of_context, of_other}
-use Rattle.typing_findings.specs.Access.{attribute_access}
+use Rattle.findings.specs.declared.helps.UnexpectedTypeHelp.TheVariants.{ConcatenationNotSupported}
+use Rattle.findings.specs.declared.helps.LubContext.TheVariants.{Conditional}
+use Rattle.findings.specs.Finding.{Finding, Kind, UnexpectedType, IncompatibleTypes, UnsafeOptionalAttributeAccess, UnsafeTagAccess, WrongNumberArguments, EmptySetForbidden, of_entity, of_context, of_other}
+use Rattle.findings.specs.Access.{attribute_access}
 use Rattle.typing_findings.specs.Walked.{Success, findings_of}
 use Rattle.typing_findings.specs.Walk.{walked}
-use Rattle.typing_findings.specs.Texts.{message, help, access_text, guard_text}
+use Rattle.findings.specs.Texts.{message, help, access_text, guard_text}
 
 abbrev place : ℕ → Option Loc
 place n = Some (record { start = n; end = n })

@@ -21,9 +21,9 @@ use Rattle.capabilities.specs.Capability.{Capability}
 use Rattle.policy_typing.specs.Rules as rule
 use Rattle.policy_typing.specs.Rules.{attribute_of}
 use Rattle.policy_typing.specs.Typing.{Typed, Typing, typing, types_in}
-use Rattle.typing_findings.specs.declared.finding.LubContext.TheVariants as context
-use Rattle.typing_findings.specs.Finding.{Finding}
-use Rattle.typing_findings.specs.Access.{attribute_access}
+use Rattle.findings.specs.declared.helps.LubContext.TheVariants as context
+use Rattle.findings.specs.Finding.{Finding}
+use Rattle.findings.specs.Access.{attribute_access}
 use Rattle.policy_typing.specs.Operands.{is_boolean}
 use Rattle.typing_findings.specs.Expected.{a_boolean, a_string, an_entity, an_owner, no_help, like_help, test_help, contents_help, of_unary, left_of, right_of}
 use Rattle.typing_findings.specs.Walked.{Walked, Success, Fail, tree_of, lends, trees_walked, has_typing, lent_by, lent_by_all, expect, expect_if, ended, findings_of_all}

@@ -23,9 +23,9 @@ use Rattle.policy_typing.specs.Environment.{truth_type, known_id}
 use Rattle.policy_typing.specs.Rules as rule
 use Rattle.policy_typing.specs.Rules.{is_string, is_set, is_entity_set, bool_if, strict_join, are_one, are_disjoint, and_type, or_type, order_type, attribute_of, safe_type, tag_type}
 use Rattle.policy_typing.specs.Typing.{Typed, Typing}
-use Rattle.typing_findings.specs.declared.finding.LubContext.{LubContext}
-use Rattle.typing_findings.specs.declared.finding.LubContext.TheVariants as context
-use Rattle.typing_findings.specs.Finding.{Finding, AttributeAccess}
+use Rattle.findings.specs.declared.helps.LubContext.{LubContext}
+use Rattle.findings.specs.declared.helps.LubContext.TheVariants as context
+use Rattle.findings.specs.Finding.{Finding, AttributeAccess}
 use Rattle.policy_typing.specs.Operands.{is_boolean, is_long}
 use Rattle.typing_findings.specs.Expected.{Expected, is_typed_set, has_attributes, of_unary, left_of, right_of}
 use Rattle.typing_findings.specs.Walked.{Walked, Success, Fail, untyped, unexpected, expect_lent, expect, expect_if, ended}

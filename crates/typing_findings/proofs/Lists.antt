@@ -7,7 +7,7 @@ use Rattle.policy_expressions.specs.declared.functions.ExtensionFunction.{Extens
 use Rattle.policy_expressions.specs.Tree.{call, Trees, no_trees, tree, Mark}
 use Rattle.policy_typing.specs.Signatures.{same_type, same_types, signature_of, has_count, has_literals, has_readable}
 use Rattle.policy_typing.specs.Typing.{Typed, Typing, typing, at, types_in, trees_in}
-use Rattle.typing_findings.specs.Finding.{Finding}
+use Rattle.findings.specs.Finding.{Finding}
 use Rattle.typing_findings.specs.Expected.{an_argument}
 use Rattle.typing_findings.specs.Walked.{Walked, Success, Fail, typing_of, findings_of, has_typing, lent_by, expect, ended, all_some, lent_by_all, findings_of_all, all_walked}
 use Rattle.typing_findings.specs.Own.{call_found}

@@ -8,7 +8,7 @@ use Rattle.policy_expressions.specs.Tree.{conj, disj, Mark}
 use Rattle.capabilities.specs.Capability.{Capability}
 use Rattle.policy_typing.specs.Rules as rule
 use Rattle.policy_typing.specs.Typing.{Typed, Typing, typing, at, and_caps, or_caps, and_typing, or_typing, if_typing}
-use Rattle.typing_findings.specs.Finding.{Finding}
+use Rattle.findings.specs.Finding.{Finding}
 use Rattle.policy_typing.specs.Operands.{is_boolean}
 use Rattle.typing_findings.specs.Expected.{a_boolean}
 use Rattle.typing_findings.specs.Walked.{Walked, Success, Fail, typing_of, has_typing, lent_by, expect, ended}

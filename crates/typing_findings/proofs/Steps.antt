@@ -6,7 +6,7 @@ use Rattle.policy_expressions.specs.declared.kinds.Loc.{Loc}
 use Rattle.policy_expressions.specs.Tree.{mark_of}
 use Rattle.schema_types.specs.Ty.{Ty}
 use Rattle.policy_typing.specs.Typing.{Typed, Typing}
-use Rattle.typing_findings.specs.Finding.{Finding}
+use Rattle.findings.specs.Finding.{Finding}
 use Rattle.typing_findings.specs.Expected.{Expected}
 use Rattle.typing_findings.specs.Walked.{Walked, Success, Fail, typing_of, findings_of, has_typing, lent_by, untyped, unexpected, expect_lent, expect, ended, one_walked, both, two_walked}
 use Rattle.typing_findings.specs.Faults.{at_typed, at_both}

@@ -6,7 +6,7 @@ use Rattle.policy_expressions.specs.declared.kinds.Loc.{Loc}
 use Rattle.policy_expressions.specs.Tree.{Mark}
 use Rattle.capabilities.specs.Capability.{Capability}
 use Rattle.policy_typing.specs.Typing.{Typed, Typing, typing}
-use Rattle.typing_findings.specs.Finding.{Finding}
+use Rattle.findings.specs.Finding.{Finding}
 use Rattle.typing_findings.specs.Expected.{a_boolean}
 use Rattle.typing_findings.specs.Walked.{Walked, Success, Fail, typing_of, findings_of, has_typing, untyped, unexpected, expect}
 use Rattle.typing_findings.specs.Operators.{type_lent, skipped, reached_after, reached_besides, and_sides, and_walked, or_sides, or_walked, test_lent, branches_found, if_parts, if_walked}

@@ -15,9 +15,9 @@ use Rattle.policy_expressions.specs.Tree.{Trees, Mark}
 use Rattle.policy_expressions.specs.Plain.{Plain}
 use Rattle.policy_typing.specs.Signatures.{long_type, datetime_type, duration_type, same_type, only_text, is_readable, has_count, has_literals, has_readable}
 use Rattle.policy_typing.specs.Rules.{order_type, attribute_of, safe_type, tag_type}
-use Rattle.typing_findings.specs.declared.finding.LubContext.{LubContext}
-use Rattle.typing_findings.specs.declared.finding.LubContext.TheVariants as context
-use Rattle.typing_findings.specs.Finding.{Finding, Kind, AttributeAccess, UnexpectedType}
+use Rattle.findings.specs.declared.helps.LubContext.{LubContext}
+use Rattle.findings.specs.declared.helps.LubContext.TheVariants as context
+use Rattle.findings.specs.Finding.{Finding, Kind, AttributeAccess, UnexpectedType}
 use Rattle.typing_findings.specs.Own.{of_both, incompatible, no_join, contains_found, is_comparable, wrong, order_wrong, tag_found, binary_found, attribute_found, set_found, text_found, call_found}
 use Rattle.typing_findings.specs.Truth.{NoneAbove, IsSo, IsTrueAt}
 use Rattle.typing_findings.proofs.Each.{Each, each_both, each_if_none, each_if_not}

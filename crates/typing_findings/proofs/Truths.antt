@@ -18,9 +18,9 @@ use Rattle.capabilities.specs.Capability.{Capability, has_cap}
 use Rattle.policy_typing.specs.Signatures.{bool_type, signature_of}
 use Rattle.policy_typing.specs.Environment.{type_of_literal, type_of_variable}
 use Rattle.policy_typing.specs.Typing.{Typed, Typing, attribute_known, tag_known, and_typing, or_typing, types_in}
-use Rattle.typing_findings.specs.declared.finding.LubContext.TheVariants as context
-use Rattle.typing_findings.specs.Finding.{Finding, UnexpectedType, UndefinedFunction}
-use Rattle.typing_findings.specs.Access.{attribute_access}
+use Rattle.findings.specs.declared.helps.LubContext.TheVariants as context
+use Rattle.findings.specs.Finding.{Finding, UnexpectedType, UndefinedFunction}
+use Rattle.findings.specs.Access.{attribute_access}
 use Rattle.typing_findings.specs.Expected.{Expected, a_boolean, a_string, an_entity, an_owner, an_argument, no_help, like_help, test_help, contents_help, of_unary, left_of, right_of}
 use Rattle.typing_findings.specs.Walked.{Walked, Success, Fail, findings_of, tree_of, has_typing, lent_by, lent_by_all, lends, trees_walked, both, expect, expect_if, one_walked, two_walked, all_walked, findings_of_all}
 use Rattle.typing_findings.specs.Own.{no_join, set_found, call_found}

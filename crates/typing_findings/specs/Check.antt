@@ -7,7 +7,7 @@ use Rattle.schema_core.specs.EnvData.{EnvData, action_type_in}
 use Rattle.policy_expressions.specs.Tree.{depth_of}
 use Rattle.policy_expressions.specs.Plain.{Plain}
 use Rattle.policy_typing.specs.Typing.{Typed, Typing, types}
-use Rattle.typing_findings.specs.Finding.{Finding}
+use Rattle.findings.specs.Finding.{Finding}
 use Rattle.typing_findings.specs.Names.{has_known_names}
 use Rattle.typing_findings.specs.Expected.{a_boolean}
 use Rattle.typing_findings.specs.Walked as walk

@@ -10,8 +10,8 @@ use Rattle.policy_expressions.specs.declared.kinds.BinaryOp.TheVariants.{Eq, Les
 use Rattle.policy_typing.specs.Signatures.{bool_type, long_type, string_type, same_type}
 use Rattle.policy_typing.specs.Operands.{is_boolean, is_long}
 use Rattle.policy_typing.specs.Rules.{is_string, is_set, is_entity_set}
-use Rattle.typing_findings.specs.declared.finding.UnexpectedTypeHelp.{UnexpectedTypeHelp}
-use Rattle.typing_findings.specs.declared.finding.UnexpectedTypeHelp.TheVariants.{TryUsingLike, TryUsingContains, TryUsingSingleContains, TryUsingHas, TryUsingIs, TryUsingIn, TryUsingEqEmptyString, TypeTestNotSupported, ConcatenationNotSupported, SetOperationsNotSupported}
+use Rattle.findings.specs.declared.helps.UnexpectedTypeHelp.{UnexpectedTypeHelp}
+use Rattle.findings.specs.declared.helps.UnexpectedTypeHelp.TheVariants.{TryUsingLike, TryUsingContains, TryUsingSingleContains, TryUsingHas, TryUsingIs, TryUsingIn, TryUsingEqEmptyString, TypeTestNotSupported, ConcatenationNotSupported, SetOperationsNotSupported}
 
 -- the types that are named to the reader, the test that an operand's type has to pass, and what may help where it fails
 pub record Expected : Type 0 where

@@ -12,7 +12,7 @@ use Rattle.policy_expressions.specs.Tree.{lit, var, slot, ite, conj, disj, unary
 use Rattle.policy_expressions.specs.Plain.{Plain}
 use Rattle.capabilities.specs.Capability.{Capability, has_cap}
 use Rattle.policy_typing.specs.Typing.{Typing, attribute_known, tag_known, types, types_all}
-use Rattle.typing_findings.specs.Finding.{Finding, UndefinedFunction}
+use Rattle.findings.specs.Finding.{Finding, UndefinedFunction}
 use Rattle.typing_findings.specs.Expected.{a_boolean}
 use Rattle.typing_findings.specs.Walked.{Success, findings_of, one, unexpected, expect}
 use Rattle.typing_findings.specs.Own.{call_found}

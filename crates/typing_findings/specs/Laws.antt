@@ -5,7 +5,7 @@ use Rattle.schema_core.specs.EnvData.{EnvData, action_type_in}
 use Rattle.policy_expressions.specs.Plain.{Plain}
 use Rattle.capabilities.specs.Capability.{Capability}
 use Rattle.policy_typing.specs.Typing.{Typing, types}
-use Rattle.typing_findings.specs.Finding.{Finding}
+use Rattle.findings.specs.Finding.{Finding}
 use Rattle.typing_findings.specs.Names.{has_known_names}
 use Rattle.typing_findings.specs.Walked.{Walked, typing_of, findings_of}
 use Rattle.typing_findings.specs.Walk.{walked}

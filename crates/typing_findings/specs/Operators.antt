@@ -20,9 +20,9 @@ use Rattle.policy_typing.specs.Environment.{truth_type, known_id}
 use Rattle.policy_typing.specs.Rules as rule
 use Rattle.policy_typing.specs.Rules.{are_one, attribute_of}
 use Rattle.policy_typing.specs.Typing.{Typed, Typing, typing, at, unreached, if_typing, and_typing, or_typing, binary_caps, has_caps, types_in, trees_in, record_type, named_in}
-use Rattle.typing_findings.specs.declared.finding.LubContext.TheVariants as context
-use Rattle.typing_findings.specs.Finding.{Finding, UndefinedFunction}
-use Rattle.typing_findings.specs.Access.{attribute_access}
+use Rattle.findings.specs.declared.helps.LubContext.TheVariants as context
+use Rattle.findings.specs.Finding.{Finding, UndefinedFunction}
+use Rattle.findings.specs.Access.{attribute_access}
 use Rattle.typing_findings.specs.Expected.{a_boolean, a_string, an_entity, an_owner, an_argument, no_help, like_help, test_help, contents_help, of_unary, left_of, right_of}
 use Rattle.typing_findings.specs.Walked.{Walked, Success, Fail, findings_of, tree_of, has_typing, lent_by, lends, one, expect, expect_if, ended, one_walked, two_walked, lent_by_all, trees_walked, findings_of_all, all_walked}
 use Rattle.typing_findings.specs.Own.{of_both, no_join, binary_found, attribute_found, set_found, call_found}

@@ -18,7 +18,7 @@ use Rattle.capabilities.specs.Capability.{Capability}
 use Rattle.policy_typing.specs.Signatures.{is_readable}
 use Rattle.policy_typing.specs.Environment.{declared_attributes}
 use Rattle.policy_typing.specs.Rules.{attribute_of, tag_type}
-use Rattle.typing_findings.specs.Finding.{Finding, Kind, UnexpectedType, IncompatibleTypes, UnsafeAttributeAccess, UnsafeOptionalAttributeAccess, UnsafeTagAccess, NoTagsAllowed, UndefinedFunction, WrongNumberArguments, FunctionArgumentValidation, EmptySetForbidden, NonLitExtConstructor}
+use Rattle.findings.specs.Finding.{Finding, Kind, UnexpectedType, IncompatibleTypes, UnsafeAttributeAccess, UnsafeOptionalAttributeAccess, UnsafeTagAccess, NoTagsAllowed, UndefinedFunction, WrongNumberArguments, FunctionArgumentValidation, EmptySetForbidden, NonLitExtConstructor}
 use Rattle.typing_findings.specs.Walked.{findings_of}
 use Rattle.typing_findings.specs.Own.{ascending, unreadable}
 use Rattle.typing_findings.specs.Walk.{walked}

@@ -6,7 +6,7 @@ use Rattle.policy_expressions.specs.declared.kinds.Loc.{Loc}
 use Rattle.policy_expressions.specs.Tree.{Trees, Mark, mark_of, with_mark, trees_of}
 use Rattle.schema_types.specs.Ty.{Ty}
 use Rattle.policy_typing.specs.Typing.{Typed, Typing, typing}
-use Rattle.typing_findings.specs.Finding.{Finding, Kind, UnexpectedType}
+use Rattle.findings.specs.Finding.{Finding, Kind, UnexpectedType}
 use Rattle.typing_findings.specs.Expected.{Expected}
 
 pub data Walked : Type 0 where

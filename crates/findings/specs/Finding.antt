@@ -4,8 +4,8 @@ use Rattle.policy_names.specs.declared.entity_uid.EntityUID.{EntityUID}
 use Rattle.policy_expressions.specs.declared.kinds.Loc.{Loc}
 use Rattle.schema_types.specs.Ty.{Ty}
 use Rattle.schema_types.specs.declared.kinds.LubHelp.{LubHelp}
-use Rattle.typing_findings.specs.declared.finding.UnexpectedTypeHelp.{UnexpectedTypeHelp}
-use Rattle.typing_findings.specs.declared.finding.LubContext.{LubContext}
+use Rattle.findings.specs.declared.helps.UnexpectedTypeHelp.{UnexpectedTypeHelp}
+use Rattle.findings.specs.declared.helps.LubContext.{LubContext}
 
 -- attributes, from the left: of an entity of one of these types, of the context of an action, of anything else
 pub data AttributeAccess : Type 0 where

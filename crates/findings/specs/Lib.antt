@@ -1,0 +1,6 @@
+pub mod Access
+pub mod Errors
+pub mod Finding
+pub mod NonEmpty
+pub mod Seen
+pub mod Texts
