@@ -11,6 +11,7 @@ mod is;
 mod leaf;
 mod like;
 mod or;
+mod parts;
 mod record;
 mod set;
 mod told;
