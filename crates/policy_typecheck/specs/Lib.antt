@@ -1,3 +1,6 @@
+pub mod Added
 pub mod Answer
 pub mod Asked
+pub mod Checks
 pub mod Known
+pub mod Policies

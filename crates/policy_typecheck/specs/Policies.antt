@@ -10,7 +10,7 @@ use Rattle.findings.specs.declared.error.ValidationError.{ValidationError}
 use Rattle.findings.specs.declared.error.ValidationWarning.{ValidationWarning}
 use Rattle.findings.specs.declared.error.ValidationWarning.TheVariants as warning
 use Rattle.typing_findings.specs.Check.{Check, Success, Irrelevant, Fail, TooDeep, checked}
-use Rattle.policy_typecheck.specs.Added.{added, same_warning}
+use Rattle.policy_typecheck.specs.Added.{added, all_added, same_error, same_warning}
 use Rattle.policy_typecheck.specs.Answer.{AreFindings, too_deep}
 
 -- the errors of a check
@@ -47,8 +47,13 @@ module _ (schema : SchemaData) (t : TemplateData) where
   abbrev pub checks_of : List Check
   checks_of = map (λ env. checked schema env (condition_of t)) (linked_envs schema t)
 
+  -- the errors of a condition that is too deep, and of another
   abbrev pub IsRefused : List ValidationError → Type 0
   IsRefused es = if is_too_deep then es ≡ too_deep t.id ∷ [] else RefusesAll t.id checks_of es
+
+  -- they are told behind what was told before, each once
+  abbrev pub IsTold : List ValidationError → List ValidationError → Type 0
+  IsTold before after = (es : List ValidationError) × IsRefused es × (after ≡ all_added same_error before es)
 
   -- accepted: not too deep, and each check passes
   abbrev pub is_accepted : Bool
@@ -58,5 +63,6 @@ module _ (schema : SchemaData) (t : TemplateData) where
   abbrev pub is_impossible : Bool
   is_impossible = not is_too_deep && list_all is_irrelevant checks_of
 
+  -- the warning is told behind those before, once
   abbrev pub warned : List ValidationWarning → List ValidationWarning
   warned before = if is_impossible then added same_warning before (impossible t.id) else before

@@ -13,7 +13,9 @@ use findings::{
     UnsafeOptionalAttributeAccess, UnsafeTagAccess, ValidationError, WrongNumberArguments,
 };
 use policy_names::Text;
+use schema_types::Type;
 use std::alloc::{AllocError, Global};
+use std::collections::BTreeSet;
 use typing_rules::{Finding, FindingKind};
 
 /// The findings as errors of the policy.
@@ -56,6 +58,7 @@ fn error_of(
             })
         }
         FindingKind::IncompatibleTypes(types, hint, context) => {
+            let types = listed(alloc, types)?;
             ValidationError::IncompatibleTypes(IncompatibleTypes {
                 source_loc,
                 policy_id,
@@ -125,4 +128,15 @@ fn error_of(
             })
         }
     })
+}
+
+// The types, ascending.
+fn listed(alloc: Global, types: BTreeSet<Type>) -> Result<Vec<Type>, AllocError>
+    ensures { IfOk result (λ r. r.items ≡ types.keys) }
+{
+    let mut list = Vec::new(alloc);
+    for t in types {
+        list.push(t)?;
+    }
+    Ok(list)
 }

@@ -1,9 +1,11 @@
 //! The typechecker: a walk through a condition that gives its type or tells what it found.
 #![tactic(auto)]
 
+mod added;
 mod conditions;
 mod errors;
 mod known;
+mod policies;
 mod policy_check;
 mod setting;
 mod typechecker;

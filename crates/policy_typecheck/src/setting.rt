@@ -13,6 +13,7 @@ use std::marker::Model;
 use typing_rules::{CalledFunction, called_function};
 
 /// Extensions in which every extension function is found.
+#[derive(Drop)]
 pub(crate) struct Extensions<'a> {
     schemas: &'a ExtensionSchemas<'a>,
 }
@@ -48,6 +49,7 @@ impl<'a> Extensions<'a> {
 }
 
 /// The schema, the environment and the extensions under which an expression is typed.
+#[derive(Drop)]
 pub(crate) struct Setting<'a> {
     pub(crate) alloc: Global,
     pub(crate) schema: &'a ValidatorSchema,

@@ -1,6 +1,6 @@
 //! The typechecker.
 
-ghost use Rattle.std.specs.Prelude.{◌≡◌, IfOk, map};
+ghost use Rattle.std.specs.Prelude.{◌≡◌, IfOk, OnOk, map};
 ghost use Rattle.std.specs.List.{AllByRecursion};
 ghost use Rattle.schema_core.specs.EnvData.{unlinked_envs};
 ghost use Rattle.schema_core.specs.RequestEnvs.{env_data_of};
@@ -9,11 +9,15 @@ ghost use Rattle.policy_links.specs.Linked.{linked_envs};
 ghost use Rattle.typing_findings.specs.Check.{checked};
 ghost use Rattle.policy_typecheck.specs.Answer.{Tells, TellsIn};
 ghost use Rattle.policy_typecheck.specs.Known.{KnowsFunctions};
+ghost use Rattle.policy_typecheck.specs.Policies.{IsTold, is_accepted, warned};
 
 use crate::PolicyCheck;
-use crate::conditions::check_condition;
+use crate::added::add_errors;
+use crate::conditions::{check_condition, is_too_deep, only_too_deep};
+use crate::policies::{add_all_errors, all_false, all_passed, warn_impossible};
 use crate::setting::{Extensions, Setting};
 use extension_types::ExtensionSchemas;
+use findings::{ValidationError, ValidationWarning};
 use linked_environments::linked_request_envs;
 use policy_expressions::Expr;
 use policy_names::Text;
@@ -69,6 +73,33 @@ impl<'a> Typechecker<'a> {
         ensures { IfOk result (λ r. Tells t.now.id (checked self.now (env_data_of env.now) (condition_of t.now)) r) }
     {
         self.check_in(alloc, env, t.id(), t.condition())
+    }
+
+    /// Types the condition of a template in its environments, and says whether it is accepted: whether it is not too deep,
+    /// and fails in none of them. What is found is added behind the errors, environment by environment; a condition that is
+    /// not too deep, and is false in each environment, is warned of. What a list holds already is not added again.
+    pub fn typecheck_policy(
+        &self,
+        alloc: Global,
+        t: &Template,
+        errors: &mut Vec<ValidationError>,
+        warnings: &mut Vec<ValidationWarning>,
+    ) -> Result<bool, AllocError>
+        ensures accepted { IfOk result (λ b. b ≡ is_accepted self.now t.now) }
+        ensures errors { OnOk result (IsTold self.now t.now errors.old.items errors.new.items) }
+        ensures warnings { OnOk result (warnings.new.items ≡ warned self.now t.now warnings.old.items) }
+    {
+        if is_too_deep(t.condition()) {
+            add_errors(errors, only_too_deep(alloc, t.id())?)?;
+            return Ok(false);
+        }
+        let checks = self.typecheck_by_request_env(alloc, t)?;
+        let accepted = all_passed(&checks);
+        if all_false(&checks) {
+            warn_impossible(warnings, t.id())?;
+        }
+        add_all_errors(errors, checks)?;
+        Ok(accepted)
     }
 
     /// The checks of a template's condition in its environments, one after another.

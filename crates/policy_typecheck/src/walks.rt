@@ -14,7 +14,9 @@ use crate::setting::Setting;
 use capabilities::CapabilitySet;
 use policy_expressions::{BinaryOp, BuildError, Expr, ExprKind, Loc, Pattern, UnaryOp};
 use policy_names::{EntityType, Name, Text};
+use policy_values::push_entry;
 use schema_types::TypeKind;
+use std::alloc::AllocError;
 use std::collections::BTreeMap;
 use typing_operators::{
     Told, and_sides, attr_told, binary_told, call_told, expect, has_told, if_parts, is_told,
@@ -341,7 +343,7 @@ fn walk_all<'a>(
     let mut all = Vec::new(at.alloc);
     for x in xs {
         let v = walk(at, caps, x)?;
-        all.push(v)?;
+        all.push(v).map_err(AllocError::from)?;
     }
     Ok(all)
 }
@@ -352,13 +354,14 @@ fn walk_named<'a>(
     at: &Setting<'a>,
     caps: &CapabilitySet<'a>,
     fields: &'a BTreeMap<Text, Expr<()>>,
-) -> Result<Vec<(Text, Told<'a>)>, BuildError>
-    ensures { IfOk result (λ r. map field_of r.items ≡ walked_named at.now.schema.now (env_data_of at.now.env.now) caps.now (named_of fields.now.entries)) }
+) -> Result<BTreeMap<Text, Told<'a>>, BuildError>
+    ensures { IfOk result (λ r. map field_of r.entries ≡ walked_named at.now.schema.now (env_data_of at.now.env.now) caps.now (named_of fields.now.entries)) }
 {
-    let mut all = Vec::new(at.alloc);
+    let mut all = BTreeMap::new(at.alloc);
     for (name, x) in fields.iter() {
         let v = walk(at, caps, x)?;
-        all.push((name.try_clone()?, v))?;
+        let name = name.try_clone()?;
+        push_entry(&mut all, name, v)?;
     }
     Ok(all)
 }
