@@ -1,3 +1,4 @@
 pub mod Asks
 pub mod Lists
 pub mod Policies
+pub mod WalkSteps

@@ -333,6 +333,7 @@ fn walk_record<'a>(
 
 // Operands, one after another.
 #[cycle(walk)]
+#[tactic(auto, using(policy_expressions::proofs::TreeSteps::depth_in))]
 fn walk_all<'a>(
     at: &Setting<'a>,
     caps: &CapabilitySet<'a>,
@@ -357,11 +358,11 @@ fn walk_named<'a>(
 ) -> Result<BTreeMap<Text, Told<'a>>, BuildError>
     ensures { IfOk result (λ r. map field_of r.entries ≡ walked_named at.now.schema.now (env_data_of at.now.env.now) caps.now (named_of fields.now.entries)) }
 {
-    let mut all = BTreeMap::new(at.alloc);
-    for (name, x) in fields.iter() {
-        let v = walk(at, caps, x)?;
+    let mut values = BTreeMap::new(at.alloc);
+    for (name, item) in fields.iter() {
+        let value = walk(at, caps, item)?;
         let name = name.try_clone()?;
-        push_entry(&mut all, name, v)?;
+        push_entry(&mut values, name, value)?;
     }
-    Ok(all)
+    Ok(values)
 }

@@ -1,10 +1,19 @@
-use Rattle.std.proofs.Common.{◌≡◌, IfOk, sym, ap, ◌∙◌, subst}
+use Rattle.std.proofs.Common.{◌≡◌, IfOk, [], ◌∷◌, ◌++◌, sym, ap, ◌∙◌, subst}
+use Rattle.std.specs.List.Sorted.{IsStrictlySortedBy}
+use Rattle.std.specs.Map.{keys_of}
+use Rattle.policy_names.specs.Uid.{text_cmp}
+use Rattle.policy_values.specs.Maps.{IsNext}
+use Rattle.policy_values.proofs.MapSteps.{next-seam}
+use Rattle.capabilities.specs.Capability.{has_cap}
+use Rattle.policy_typing.specs.Typing.{tag_known}
 use Rattle.schema_core.specs.RequestEnvs.{env_data_of}
 use Rattle.policy_expressions.specs.Tree.{mark_of, ite, conj, disj, unary, binary, attr, has, like, is_type, call, set, rec, trees_of, named_of}
 use Rattle.policy_expressions.specs.TreeView.{tree_of}
 use Rattle.typing_findings.specs.Walk.{walked}
 use Rattle.typing_findings.specs.Operators.{attr_walked, has_walked, binary_walked}
 use Rattle.typing_operators.specs.Told.{mark, walked_of}
+use Rattle.policy_typecheck.proofs.Asks.{asks_tag}
+use Rattle.policy_typecheck.proofs.WalkSteps.{so_far_more, keys_more, depth_more}
 use Rattle.policy_typecheck.proofs.walks.+walk.Goals as goal
 
 pub walk-returns-in-If : goal.walk-returns-in-If
@@ -88,3 +97,39 @@ pub walk_has-returns : goal.walk_has-returns
 walk_has-returns g t c =
     subst (λ w. IfOk c.has_told.result (λ r. walked_of r ≡ w))
     (λ i. has_walked c.args.at.now.schema.now (c.in_ok-known.ensures i) c.args.x.now c.args.n.now (mark c.args.loc) (c.in_ok-v.ensures i)) c.has_told.ensures
+
+pub walk_binary-returns : goal.walk_binary-returns
+walk_binary-returns g t c =
+    let s = c.args.at.now.schema.now in
+    let e = env_data_of c.args.at.now.env.now in
+    let x = c.args.x.now in
+    let y = c.args.y.now in
+    let m = mark c.args.loc in
+    let known = has_cap c.args.caps.now (tag_known x y) in
+    subst (λ w. IfOk c.binary_told.result (λ r. walked_of r ≡ w))
+    ((λ i. binary_walked s e c.args.op (c.knows_tag.ensures i) x y m (c.in_ok-v.ensures i) (c.in_ok-w.ensures i))
+    ∙ asks_tag s e c.args.op known x y m (walked s e c.args.caps.now x) (walked s e c.args.caps.now y))
+    c.binary_told.ensures
+
+pub walk_named-push_entry-requires : goal.walk_named-push_entry-requires
+walk_named-push_entry-requires g t c =
+    let done = keys_of c.loop-name.values.entries in
+    let keys = c.loop-name.invariant.keys ∙ ap (λ es. done ++ keys_of es) c.in-Some.ensures.steps in
+    let next = next-seam done c.in-Some.name.now (keys_of c.next.new.self) (subst (IsStrictlySortedBy text_cmp) keys c.iter-name-items.ensures.ordered) in
+    subst (λ k. IsNext k done) (sym c.in_ok-name.ensures) next
+
+pub walk_named-loop-name-preserved : goal.walk_named-loop-name-preserved
+walk_named-loop-name-preserved g t c =
+    let done = c.loop-name.values.entries in
+    let k = c.in-Some.name.now in
+    let x = c.in-Some.item.now in
+    let v = c.in_ok-value.value in
+    let is = c.in-Some.ensures.steps in
+    let pushed = c.in_ok-push_entry.ensures.added ∙ ap (λ l. done ++ (l, v) ∷ []) c.in_ok-name.ensures in
+    let s = c.args.at.now.schema.now in
+    let e = env_data_of c.args.at.now.env.now in
+    record {
+      so_far = so_far_more s e c.args.caps.now done _ k x v c.loop-name.name-iterator c.next.new.self is pushed _ c.in_ok-value.ensures c.loop-name.invariant.so_far;
+      keys = keys_more s e c.args.caps.now done _ k x v c.loop-name.name-iterator c.next.new.self is pushed _ c.loop-name.invariant.keys;
+      depth = depth_more s e c.args.caps.now done _ k x v c.loop-name.name-iterator c.next.new.self is pushed _ c.loop-name.invariant.depth;
+    }

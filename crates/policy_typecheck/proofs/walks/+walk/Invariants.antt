@@ -1,4 +1,5 @@
 use Rattle.std.proofs.Common.{◌≡◌, ◌≤◌, ◌+◌, ◌*◌, ◌++◌, drop, map, max}
+use Rattle.std.specs.Map.{keys_of}
 use Rattle.schema_core.specs.RequestEnvs.{env_data_of}
 use Rattle.policy_expressions.specs.Tree.{depth_of, deepest, deepest_named, trees_of, named_of}
 use Rattle.typing_findings.specs.Walk.{walked_all, walked_named}
@@ -72,6 +73,7 @@ invariant-walk_all-loop-x g l =
 
 abbrev pub invariant-walk_named-loop-name : goal.invariant-walk_named-loop-name
 invariant-walk_named-loop-name g l = record {
-  so_far : map field_of l.all.items ++ walked_named l.at.schema.now (env_data_of l.at.env.now) l.caps (named_of l.name-iterator) ≡ walked_named l.at.schema.now (env_data_of l.at.env.now) l.caps (named_of l.fields.entries);
+  so_far : map field_of l.values.entries ++ walked_named l.at.schema.now (env_data_of l.at.env.now) l.caps (named_of l.name-iterator) ≡ walked_named l.at.schema.now (env_data_of l.at.env.now) l.caps (named_of l.fields.entries);
+  keys : keys_of l.fields.entries ≡ keys_of l.values.entries ++ keys_of l.name-iterator;
   depth : deepest_named (named_of l.name-iterator) ≤ deepest_named (named_of l.fields.entries);
 }
