@@ -88,7 +88,7 @@ fn add_with_slot<'a>(
     principal_slot: Option<&'a EntityType>,
     resource_slots: &Vec<Option<&'a EntityType>>,
 ) -> Result<(), AllocError>
-    ensures { OnOk result (map env_data_of envs.new.items ≡ map env_data_of envs.old.items ++ map (linked_env action.now (environment principal.now action.now.name resource.now) (option_copied principal_slot)) (map option_copied resource_slots.now.items)) }
+    ensures { OnOk result (map env_data_of envs.new.items ≡ map env_data_of envs.old.items ++ map (linked_env action.now (environment principal.now action.now.name resource.now) (option_copied principal_slot.entry)) (map option_copied resource_slots.now.items)) }
 {
     for slot in resource_slots {
         envs.push(RequestEnv::DeclaredAction {

@@ -1,6 +1,6 @@
 //! The types of what may stand for a slot.
 
-ghost use Rattle.std.specs.Prelude.{◌≡◌, ◌++◌, map, IfOk};
+ghost use Rattle.std.specs.Prelude.{◌≡◌, ◌∷◌, [], Some, map, IfOk};
 ghost use Rattle.std.specs.Option.{option_copied};
 ghost use Rattle.hierarchy.specs.Reaches.{has};
 ghost use Rattle.policy_names.specs.Uid.{text_cmp};
@@ -42,7 +42,7 @@ fn one<'a>(
     alloc: Global,
     slot: Option<&'a EntityType>,
 ) -> Result<Vec<Option<&'a EntityType>>, AllocError>
-    ensures { IfOk result (λ r. r.items ≡ slot ∷ []) }
+    ensures { IfOk result (λ r. r.items ≡ slot.entry ∷ []) }
 {
     let mut slots = Vec::new(alloc);
     slots.push(slot)?;
