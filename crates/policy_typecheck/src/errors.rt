@@ -1,8 +1,8 @@
 //! Findings as errors of a policy.
 
-ghost use Rattle.std.specs.Prelude.{◌≡◌, IfOk};
+ghost use Rattle.std.specs.Prelude.{◌≡◌, IfOk, map};
+ghost use Rattle.findings.specs.Seen.{error_of};
 ghost use Rattle.typing_rules.specs.Found.{findings_from};
-ghost use Rattle.policy_typecheck.specs.Answer.{AreFindings};
 
 use findings::ValidationError;
 use policy_names::Text;
@@ -15,7 +15,7 @@ pub(crate) fn errors_of(
     id: &Text,
     found: Vec<Finding>,
 ) -> Result<Vec<ValidationError>, AllocError>
-    ensures { IfOk result (λ es. AreFindings id.now (findings_from found.items) es.items) }
+    ensures { IfOk result (λ es. es.items ≡ map (error_of id.now) (findings_from found.items)) }
 {
     let mut errors = Vec::new(alloc);
     for finding in found {

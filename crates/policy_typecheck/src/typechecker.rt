@@ -7,9 +7,10 @@ ghost use Rattle.schema_core.specs.RequestEnvs.{env_data_of};
 ghost use Rattle.policy_set.specs.Condition.{condition_of};
 ghost use Rattle.policy_links.specs.Linked.{linked_envs};
 ghost use Rattle.typing_findings.specs.Check.{checked};
+ghost use Rattle.policy_typecheck.specs.Added.{all_added, same_error};
 ghost use Rattle.policy_typecheck.specs.Answer.{Tells, TellsIn};
 ghost use Rattle.policy_typecheck.specs.Known.{KnowsFunctions};
-ghost use Rattle.policy_typecheck.specs.Policies.{IsTold, is_accepted, warned};
+ghost use Rattle.policy_typecheck.specs.Policies.{is_accepted, refusals, warned};
 
 use crate::PolicyCheck;
 use crate::added::add_errors;
@@ -86,7 +87,7 @@ impl<'a> Typechecker<'a> {
         warnings: &mut Vec<ValidationWarning>,
     ) -> Result<bool, AllocError>
         ensures accepted { IfOk result (λ b. b ≡ is_accepted self.now t.now) }
-        ensures errors { OnOk result (IsTold self.now t.now errors.old.items errors.new.items) }
+        ensures errors { OnOk result (errors.new.items ≡ all_added same_error errors.old.items (refusals self.now t.now)) }
         ensures warnings { OnOk result (warnings.new.items ≡ warned self.now t.now warnings.old.items) }
     {
         if is_too_deep(t.condition()) {
