@@ -55,14 +55,15 @@ fn is_false(check: &PolicyCheck) -> bool
 }
 
 /// Adds the errors of the checks, each once.
+#[tactic(auto, using(crate::proofs::Lists::added_append))]
 pub(crate) fn add_all_errors(
     errors: &mut Vec<ValidationError>,
     checks: Vec<(RequestEnv<'_>, PolicyCheck)>,
 ) -> Result<(), AllocError>
     ensures { OnOk result (errors.new.items ≡ all_added same_error errors.old.items (all_errors checks.items)) }
 {
-    for (_, check) in checks {
-        add_errors_of(errors, check)?;
+    for check in checks {
+        add_errors_of(errors, check.1)?;
     }
     Ok(())
 }
