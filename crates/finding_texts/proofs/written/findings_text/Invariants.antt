@@ -1,7 +1,7 @@
 use Rattle.std.proofs.Common.{◌≡◌, ◌++◌, drop, string_bytes}
 use Rattle.std.specs.Prelude.{flat_map}
-use Rattle.policy_scope.specs.Written.{error_text, warning_text}
-use Rattle.policy_scope.proofs.written.findings_text.Given as goal
+use Rattle.finding_texts.specs.Written.{error_text, warning_text}
+use Rattle.finding_texts.proofs.written.findings_text.Given as goal
 
 -- the text so far, and then that of the errors, of the warnings, which are left
 abbrev pub invariant-loop-error : goal.invariant-loop-error

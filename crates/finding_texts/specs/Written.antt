@@ -2,10 +2,10 @@
 use Rattle.std.specs.Prelude.{ℕ, List, [], ◌++◌, Option, Some, None, length, flat_map, codes}
 use Rattle.std.specs.Fmt.{decimal}
 use Rattle.policy_expressions.specs.declared.kinds.Loc.{Loc}
-use Rattle.policy_scope.specs.declared.finding.ValidationError.{ValidationError}
-use Rattle.policy_scope.specs.declared.finding.ValidationWarning.{ValidationWarning}
-use Rattle.policy_scope.specs.Findings.{Findings}
-use Rattle.policy_scope.specs.Texts.{error_kind, error_message, error_help, error_place, warning_kind, warning_message, warning_place}
+use Rattle.findings.specs.declared.error.ValidationError.{ValidationError}
+use Rattle.findings.specs.declared.error.ValidationWarning.{ValidationWarning}
+use Rattle.finding_texts.specs.Findings.{Findings}
+use Rattle.findings.specs.Errors.{error_kind, error_message, error_help, error_place, warning_kind, warning_message, warning_place}
 
 -- where it was found, if that is known
 abbrev pub place_text : Option Loc → List ℕ

@@ -1,7 +1,7 @@
 //! Findings as they are written.
 
 ghost use Rattle.std.specs.Prelude.{◌≡◌, ◌++◌, IfOk, OnOk, string_bytes, codes};
-ghost use Rattle.policy_scope.specs.Written.{place_text, help_line, finding_text, count_line, findings_text};
+ghost use Rattle.finding_texts.specs.Written.{place_text, help_line, finding_text, count_line, findings_text};
 
 use crate::{Diagnostic, ValidationResult};
 use policy_expressions::Loc;

@@ -2,7 +2,7 @@
 
 ghost use Rattle.std.specs.Prelude.{◌≡◌, ◌↔◌, [], IsTrue};
 
-use crate::{ValidationError, ValidationWarning};
+use findings::{ValidationError, ValidationWarning};
 use std::marker::Model;
 
 /// All findings on a set of policies: the errors, for which policies are refused, and the warnings.
@@ -13,7 +13,7 @@ pub struct ValidationResult {
 }
 
 impl Model for ValidationResult {
-    ghost use Rattle.policy_scope.specs.Findings.{Findings};
+    ghost use Rattle.finding_texts.specs.Findings.{Findings};
 
     ghost Value = { Findings };
 
