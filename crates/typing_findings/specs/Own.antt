@@ -16,12 +16,12 @@ use Rattle.policy_expressions.specs.declared.kinds.Loc.{Loc}
 use Rattle.policy_expressions.specs.declared.kinds.Literal.TheVariants as literal
 use Rattle.policy_expressions.specs.declared.kinds.BinaryOp.{BinaryOp}
 use Rattle.policy_expressions.specs.declared.kinds.BinaryOp.TheVariants.{Eq, Less, LessEq, Contains, ContainsAll, ContainsAny, GetTag}
-use Rattle.policy_expressions.specs.declared.functions.UnaryFunction.TheVariants as unary
 use Rattle.policy_expressions.specs.declared.functions.ExtensionFunction.{ExtensionFunction}
-use Rattle.policy_expressions.specs.declared.functions.ExtensionFunction.TheVariants.{Unary}
 use Rattle.policy_expressions.specs.Tree.{Tree, lit, Trees}
 use Rattle.policy_typing.specs.Signatures.{long_type, datetime_type, duration_type, same_type, signature_of, count_of, only_text, has_count, has_literals, has_readable}
 use Rattle.policy_typing.specs.Environment.{declared_attributes}
+use Rattle.extension_types.specs.Arguments.{message}
+use Rattle.extension_types.specs.Table.{check_of}
 use Rattle.policy_typing.specs.Rules.{order_type, tag_type, safe_type}
 use Rattle.findings.specs.declared.helps.LubContext.{LubContext}
 use Rattle.findings.specs.declared.helps.LubContext.TheVariants as context
@@ -124,16 +124,9 @@ abbrev pub set_found : Option Loc → List Ty → List Finding
 set_found l [] = one EmptySetForbidden l
 set_found l (t ∷ ts) = incompatible context.Set l (t ∷ ts) (join_all Strict (t ∷ ts))
 
--- what a constructor reads
-abbrev pub reading : ExtensionFunction → List ℕ
-reading (Unary unary.Decimal) = codes "a decimal value"
-reading (Unary unary.Ip) = codes "IP address"
-reading (Unary unary.Datetime) = codes "a datetime value"
-reading (Unary unary.Duration) = codes "a duration value"
-reading f = []
-
+-- what is said of a text that its constructor can't read
 abbrev pub unreadable : ExtensionFunction → List ℕ → Kind
-unreadable f text = FunctionArgumentValidation (codes "Failed to parse as " ++ (reading f ++ (codes ": `" ++ (string_text text ++ codes "`"))))
+unreadable f text = FunctionArgumentValidation (option_map_or (λ check. message check text) (check_of f) [])
 
 -- a text that its constructor can't read
 abbrev pub text_found : ExtensionFunction → Option Loc → Option (List ℕ) → List Finding

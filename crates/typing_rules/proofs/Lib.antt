@@ -1,0 +1,3 @@
+pub mod Apart
+pub mod Calls
+pub mod Tags

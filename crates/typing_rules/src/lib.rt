@@ -1,0 +1,32 @@
+//! The rules of typing over types, and what is found of an operator itself.
+#![tactic(auto)]
+
+mod attributes;
+mod booleans;
+mod calls;
+mod compared;
+mod environment;
+mod expected;
+mod finding;
+mod joins;
+mod membership;
+mod operators;
+mod order;
+mod own;
+mod sets;
+mod shapes;
+mod tags;
+
+pub use attributes::{attribute_of, has_type, is_type, optional_found, undeclared_found};
+pub use booleans::{and_type, like_type, or_type, possible, unary_type};
+pub use calls::{
+    CalledFunction, argument_types, call_found, call_type, called_function, result_type,
+};
+pub use compared::are_one;
+pub use environment::{known_id, listed_ids, literal_type, slot_type, truth_type, variable_type};
+pub use expected::{Expected, fits, left_of, of_unary, right_of, unexpected};
+pub use finding::{Finding, FindingKind, joined, one, undefined_found};
+pub use joins::{joined_type, no_join, strict_join};
+pub use operators::{binary_lent, binary_type};
+pub use own::binary_own;
+pub use sets::{record_type, set_found, set_type};
