@@ -7,6 +7,7 @@ pub mod MemberLaws
 pub mod MemberSteps
 pub mod MergeSteps
 pub mod Pending
+pub mod PermissiveLaws
 pub mod SubtypeLaws
 pub mod Ties
 pub mod UnionLaws

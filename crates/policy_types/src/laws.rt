@@ -1,6 +1,6 @@
 //! Laws of the relations between types.
 
-ghost use Rattle.policy_types.specs.Laws.{SubtypeIsReflexive, SubtypeIsTransitive, JoinIsAbove, JoinIsGreater, MemberOfSubtype};
+ghost use Rattle.policy_types.specs.Laws.{SubtypeIsReflexive, SubtypeIsTransitive, JoinIsAbove, JoinIsGreater, PermissiveJoinIsGreater, MemberOfSubtype};
 
 /// Each type is a subtype of itself.
 pub fn subtype_is_reflexive()
@@ -20,6 +20,11 @@ pub fn join_is_above()
 /// Where one type is strictly below the other, the strict join is the greater.
 pub fn join_is_greater()
     ensures { JoinIsGreater }
+{}
+
+/// Where names and attributes ascend and one type is below the other, the permissive join is the greater.
+pub fn permissive_join_is_greater()
+    ensures { PermissiveJoinIsGreater }
 {}
 
 /// What a type has each type strictly above it has.
