@@ -37,7 +37,7 @@ error_message (error.TooDeep e) = too_deep_message e.policy_id
 abbrev pub error_help : ValidationError → Option (List ℕ)
 error_help (error.UnrecognizedEntityType e) = None
 error_help (error.UnrecognizedActionId e) = option_map hint_text e.hint
-error_help (error.InvalidEnumEntity e) = Some (enum_help e.err.choices.items)
+error_help (error.InvalidEnumEntity e) = Some (enum_help e.err.choices)
 error_help (error.InvalidActionApplication e) = in_help e.would_in_fix_principal e.would_in_fix_resource
 error_help (error.UnexpectedType e) = help e.policy_id (unexpected_type e)
 error_help (error.IncompatibleTypes e) = help e.policy_id (incompatible_types e)
