@@ -1,13 +1,12 @@
 //! Findings as the errors of a policy.
 
-ghost use Rattle.std.specs.Prelude.{◌≡◌, IfOk, Some};
-ghost use Rattle.findings.specs.Errors.{error_policy};
-ghost use Rattle.findings.specs.Seen as error;
+ghost use Rattle.std.specs.Prelude.{◌≡◌, IfOk};
+ghost use Rattle.findings.specs.Seen.{error_of};
 ghost use Rattle.typing_rules.specs.Found.{finding_of};
 
 use crate::finding::{Finding, FindingKind};
 use findings::{
-    EmptySetForbidden, FunctionArgumentValidation, IncompatibleTypes, NoTagsAllowed,
+    EmptySetForbidden, FunctionArgumentValidation, IncompatibleTypes, ListOf, NoTagsAllowed,
     NonLitExtConstructor, UndefinedFunction, UnexpectedType, UnsafeAttributeAccess,
     UnsafeOptionalAttributeAccess, UnsafeTagAccess, ValidationError, WrongNumberArguments,
 };
@@ -22,8 +21,7 @@ pub fn error_of(
     finding: Finding,
     policy_id: &Text,
 ) -> Result<ValidationError, AllocError>
-    ensures finding { IfOk result (λ e. error.finding_of e ≡ Some (finding_of finding)) }
-    ensures policy { IfOk result (λ e. error_policy e ≡ policy_id.now) }
+    ensures { IfOk result (λ e. e ≡ error_of policy_id.now (finding_of finding)) }
 {
     let policy_id = policy_id.try_clone()?;
     let Finding {
@@ -35,7 +33,7 @@ pub fn error_of(
             ValidationError::UnexpectedType(UnexpectedType {
                 source_loc,
                 policy_id,
-                expected,
+                expected: ListOf::new(expected),
                 actual,
                 help,
             })
@@ -44,7 +42,7 @@ pub fn error_of(
             ValidationError::IncompatibleTypes(IncompatibleTypes {
                 source_loc,
                 policy_id,
-                types: listed(alloc, types)?,
+                types: ListOf::new(listed(alloc, types)?),
                 hint,
                 context,
             })
