@@ -1,6 +1,8 @@
 //! Calls of extension functions.
 
 ghost use Rattle.std.specs.Prelude.{◌≡◌, ◌&&◌, ℕ, List, IfOk, Some, length, option_map};
+ghost use Rattle.std.specs.Coded.{Coded-set, coded_list};
+ghost use Rattle.schema_types.specs.TyCode.{coded_ty};
 ghost use Rattle.policy_expressions.specs.Functions.{function_of};
 ghost use Rattle.policy_expressions.specs.Tree.{trees_of};
 ghost use Rattle.policy_typing.specs.Signatures.{signature_of, is_constructor, are_literals, is_literal, same_types, has_count, has_literals, has_readable, only_text, count_of};
@@ -29,8 +31,8 @@ pub struct CalledFunction<'a> {
     pub function: ExtensionFunction,
     /// What it takes and gives.
     pub signature: &'a ExtensionFunctionType,
-    ghost takes: { signature.now.signature.arguments ≡ (signature_of function).arguments },
-    ghost gives: { signature.now.signature.result ≡ (signature_of function).result },
+    ghost takes: { signature.now.signature.arguments ≡ (signature_of function).arguments } by { Coded-set (coded_list coded_ty) signature.now.signature.arguments (signature_of function).arguments },
+    ghost gives: { signature.now.signature.result ≡ (signature_of function).result } by { Coded-set coded_ty signature.now.signature.result (signature_of function).result },
     ghost is_checked: { signature.now.check ≡ check_of function },
 }
 
