@@ -8,12 +8,12 @@ ghost use Rattle.findings.specs.Texts.{message, help, access_text, unexpected_me
 use crate::Diagnostic;
 use crate::pieces::{all_of, for_policy, if_one_type, lub_hint, separated, type_or_this};
 use findings::{
-    EmptySetForbidden, FunctionArgumentValidation, IncompatibleTypes, NoTagsAllowed,
-    NonLitExtConstructor, UndefinedFunction, UnexpectedType, UnsafeAttributeAccess,
+    AttributeAccess, EmptySetForbidden, FunctionArgumentValidation, IncompatibleTypes,
+    NoTagsAllowed, NonLitExtConstructor, UndefinedFunction, UnexpectedType, UnsafeAttributeAccess,
     UnsafeOptionalAttributeAccess, UnsafeTagAccess, WrongNumberArguments,
 };
 use policy_expressions::Loc;
-use policy_names::Text;
+use policy_names::{Name, Text};
 use std::alloc::{AllocError, Global};
 
 impl Diagnostic for UnexpectedType {
@@ -121,10 +121,7 @@ impl Diagnostic for UnsafeOptionalAttributeAccess {
     ghost place = { λ e. e.source_loc };
 
     fn message(&self, alloc: Global) -> Result<Text, AllocError> {
-        let access = &self.attribute_access;
-        let text = format!(in alloc;
-            "unable to guarantee safety of access to optional attribute {access}"
-        )?;
+        let text = unsafe_optional(alloc, &self.attribute_access)?;
         for_policy(alloc, &self.policy_id, text.as_str())
     }
 
@@ -140,6 +137,16 @@ impl Diagnostic for UnsafeOptionalAttributeAccess {
     fn location(&self) -> Option<Loc> {
         self.source_loc
     }
+}
+
+// Which attribute of what.
+fn unsafe_optional(alloc: Global, access: &AttributeAccess) -> Result<String, AllocError>
+    ensures { IfOk result (λ text. string_bytes text ≡ codes "unable to guarantee safety of access to optional attribute " ++ access_text access.now) }
+{
+    let text = format!(in alloc;
+        "unable to guarantee safety of access to optional attribute {access}"
+    )?;
+    Ok(text)
 }
 
 impl Diagnostic for UnsafeTagAccess {
@@ -174,7 +181,8 @@ fn unsafe_tag(alloc: Global, e: &UnsafeTagAccess) -> Result<String, AllocError>
 {
     let tag = &e.tag;
     let ty = if_one_type(alloc, &e.entity_ty)?;
-    let text = format!(in alloc; "unable to guarantee safety of access to tag `{tag}`{ty}")?;
+    let mut text = format!(in alloc; "unable to guarantee safety of access to tag `{tag}`")?;
+    text.push_str(ty.as_str())?;
     Ok(text)
 }
 
@@ -218,8 +226,7 @@ impl Diagnostic for UndefinedFunction {
     ghost place = { λ e. e.source_loc };
 
     fn message(&self, alloc: Global) -> Result<Text, AllocError> {
-        let name = &self.name;
-        let text = format!(in alloc; "undefined extension function: {name}")?;
+        let text = undefined(alloc, &self.name)?;
         for_policy(alloc, &self.policy_id, text.as_str())
     }
 
@@ -230,6 +237,14 @@ impl Diagnostic for UndefinedFunction {
     fn location(&self) -> Option<Loc> {
         self.source_loc
     }
+}
+
+// Which function there is not.
+fn undefined(alloc: Global, name: &Name) -> Result<String, AllocError>
+    ensures { IfOk result (λ text. string_bytes text ≡ codes "undefined extension function: " ++ name.now) }
+{
+    let text = format!(in alloc; "undefined extension function: {name}")?;
+    Ok(text)
 }
 
 impl Diagnostic for WrongNumberArguments {
@@ -240,11 +255,7 @@ impl Diagnostic for WrongNumberArguments {
     ghost place = { λ e. e.source_loc };
 
     fn message(&self, alloc: Global) -> Result<Text, AllocError> {
-        let expected = self.expected;
-        let actual = self.actual;
-        let text = format!(in alloc;
-            "wrong number of arguments in extension function application. Expected {expected}, got {actual}"
-        )?;
+        let text = counted(alloc, self.expected, self.actual)?;
         for_policy(alloc, &self.policy_id, text.as_str())
     }
 
@@ -257,6 +268,16 @@ impl Diagnostic for WrongNumberArguments {
     }
 }
 
+// How many arguments are expected, and how many there are.
+fn counted(alloc: Global, expected: usize, actual: usize) -> Result<String, AllocError>
+    ensures { IfOk result (λ text. string_bytes text ≡ count_message expected actual) }
+{
+    let text = format!(in alloc;
+        "wrong number of arguments in extension function application. Expected {expected}, got {actual}"
+    )?;
+    Ok(text)
+}
+
 impl Diagnostic for FunctionArgumentValidation {
     ghost message_text = { λ e. message e.policy_id (function_argument_validation e) };
 
@@ -265,8 +286,7 @@ impl Diagnostic for FunctionArgumentValidation {
     ghost place = { λ e. e.source_loc };
 
     fn message(&self, alloc: Global) -> Result<Text, AllocError> {
-        let msg = &self.msg;
-        let text = format!(in alloc; "error during extension function argument validation: {msg}")?;
+        let text = unreadable(alloc, &self.msg)?;
         for_policy(alloc, &self.policy_id, text.as_str())
     }
 
@@ -277,6 +297,14 @@ impl Diagnostic for FunctionArgumentValidation {
     fn location(&self) -> Option<Loc> {
         self.source_loc
     }
+}
+
+// What is said of an argument.
+fn unreadable(alloc: Global, msg: &Text) -> Result<String, AllocError>
+    ensures { IfOk result (λ text. string_bytes text ≡ codes "error during extension function argument validation: " ++ msg.now) }
+{
+    let text = format!(in alloc; "error during extension function argument validation: {msg}")?;
+    Ok(text)
 }
 
 impl Diagnostic for EmptySetForbidden {

@@ -13,9 +13,11 @@ pub struct ValidationResult {
 }
 
 impl Model for ValidationResult {
-    ghost use Rattle.finding_texts.specs.Findings.{Findings};
+    ghost use Rattle.finding_texts.specs.Findings.{Findings, coded_findings};
 
     ghost Value = { Findings };
+
+    ghost coded = { coded_findings };
 
     ghost view = { λ r. record { errors = r.validation_errors.items; warnings = r.validation_warnings.items } };
 }
