@@ -1,5 +1,6 @@
 -- What findings on names are made of: the name and its place.
-use Rattle.std.proofs.Common.{ℕ, List, [], Option}
+use Rattle.std.proofs.Common.{◌≡◌, ℕ, List, [], Option, Some, None, refl}
+use Rattle.std.specs.Prelude.{option_map}
 use Rattle.std.specs.Option.{option_map_or}
 use Rattle.std.specs.Borrow.{Bor}
 use Rattle.policy_expressions.specs.declared.kinds.Loc.{Loc}
@@ -8,7 +9,7 @@ use Rattle.schema_core.specs.Schema.{SchemaData}
 use Rattle.findings.specs.declared.rules.UnrecognizedEntityType.{UnrecognizedEntityType}
 use Rattle.findings.specs.declared.rules.UnrecognizedActionId.{UnrecognizedActionId}
 use Rattle.findings.specs.declared.rules.InvalidEnumEntity.{InvalidEnumEntity}
-use Rattle.policy_scope.specs.Names.{loc_cmp, entity_type_cmp, action_id_cmp, enum_cmp, action_id_hint, choices_without}
+use Rattle.policy_scope.specs.Names.{loc_cmp, entity_type_cmp, action_id_cmp, enum_cmp, action_id_hint, choices_without, enum_finding, an_id}
 use Rattle.policy_scope.proofs.Once.{order}
 use Rattle.policy_names.specs.Uid.{uid_cmp_total}
 use Rattle.std.specs.Cmp.{IsTotalOrder, on_total, then_total, nat_cmp_total}
@@ -36,3 +37,11 @@ action_made_total schema policy = then_total (on_total (λ k. k.0.now) uid_cmp_t
 
 pub enum_made_total : (schema : SchemaData) (policy : List ℕ) → IsTotalOrder (order enum_cmp (enum_made schema policy))
 enum_made_total schema policy = then_total (on_total (λ k. k.0.now) uid_cmp_total) (on_total (λ k. k.1) (options_total loc_total))
+
+-- what is found of an id that its type does not list
+pub enum_found : (schema : SchemaData) (policy : List ℕ) (k : Bor EntityUID × Option Loc) (choices : List (List ℕ)) → choices_without schema k.0.now ≡ Some choices → enum_finding schema policy (an_id k.0.now, k.1) ≡ Some (enum_made schema policy k)
+enum_found schema policy k choices h = by (choices_without schema k.0.now) h where
+  by : (o : Option (List (List ℕ))) → o ≡ Some choices →
+      option_map (λ cs. let e : InvalidEnumEntity = record { source_loc = k.1; policy_id = policy; err = record { uid = k.0.now; choices = cs } } in e) o ≡ Some (record { source_loc = k.1; policy_id = policy; err = record { uid = k.0.now; choices = option_map_or (λ cs. cs) o [] } })
+  by (Some cs) e = refl
+  by None e = cc

@@ -1,11 +1,8 @@
 -- The scope of a policy: some declared action has to meet it.
-use Rattle.std.specs.Prelude.{◌&&◌, ◌||◌, not, if◌then◌else◌, Bool, true, false, ℕ, List, [], ◌∷◌, None, is_some}
+use Rattle.std.specs.Prelude.{◌&&◌, not, if◌then◌else◌, Bool, true, false, ℕ, List, [], ◌∷◌, None, is_some}
 use Rattle.std.specs.List.{list_any, list_all}
-use Rattle.std.specs.Option.{option_map_or}
 use Rattle.std.specs.Ordering.{is_eq}
-use Rattle.hierarchy.specs.Reaches.{has}
-use Rattle.policy_names.specs.declared.entity_uid.EntityUID.{EntityUID}
-use Rattle.policy_names.specs.Uid.{text_cmp, uid_cmp, uid_eq}
+use Rattle.policy_names.specs.Uid.{text_cmp, uid_eq}
 use Rattle.policy_set.specs.Data.{TemplateData}
 use Rattle.policy_set.specs.declared.constraint.EntityReference.{EntityReference}
 use Rattle.policy_set.specs.declared.constraint.EntityReference.TheVariants.{EUID, Slot}

@@ -3,7 +3,10 @@
 
 ghost use Rattle.std.specs.Prelude.{◌≡◌, ◌++◌, IfOk, OnOk, map, option_copied};
 ghost use Rattle.policy_expressions.specs.Tree.{trees_of, named_of};
-ghost use Rattle.policy_scope.specs.Names.{type_of, names_in, names_in_all, names_in_named, is_known_type, is_known_action, entity_type_findings, action_id_findings, enum_findings, choices_without, choices_in, action_id_hint, occurs_in};
+ghost use Rattle.policy_scope.specs.Names.{type_of, names_in, names_in_all, names_in_named, is_known_type, is_known_action, entity_type_findings, action_id_findings, enum_findings, choices_without, others_listed, choices_in, action_id_hint, occurs_in};
+ghost use Rattle.std.specs.Ordering.{is_eq};
+ghost use Rattle.hierarchy.specs.Reaches.{has};
+ghost use Rattle.policy_names.specs.Uid.{text_cmp};
 ghost use Rattle.policy_set.specs.Condition.{condition_of};
 ghost use Rattle.schema_core.specs.KindView.{kind_of};
 ghost use Rattle.policy_scope.specs.Literals.{mentioned, pair_of};
@@ -17,6 +20,7 @@ use policy_names::{Eid, EntityType, EntityUID, Text};
 use policy_set::Template;
 use schema_core::{ValidatorEntityTypeKind, ValidatorSchema};
 use std::alloc::{AllocError, Global};
+use std::cmp::Ordering;
 use std::collections::{BTreeMap, BTreeSet};
 
 /// The types that literals and `is` tests of the template name, in its scope and in its body, and that are neither
@@ -188,11 +192,31 @@ fn choices_without<'a>(schema: &'a ValidatorSchema, uid: &EntityUID) -> Option<&
 {
     let ty = schema.get_entity_type(uid.entity_type())?;
     let choices = choices_in(ty.kind())?;
-    if choices.contains(&uid.eid) {
+    others_listed(uid, choices)
+}
+
+// The ids, where this one is not among them.
+fn others_listed<'a>(uid: &EntityUID, choices: &'a [Eid]) -> Option<&'a [Eid]>
+    ensures { option_copied result ≡ others_listed uid.now choices.now }
+{
+    if are_listing(choices, &uid.eid) {
         None
     } else {
         Some(choices)
     }
+}
+
+// Whether the id is among them.
+fn are_listing(choices: &[Eid], eid: &Eid) -> bool
+    ensures { result ≡ has text_cmp choices.now eid.now }
+{
+    choices.iter().any(|other| same_eid(eid, other))
+}
+
+fn same_eid(one: &Eid, other: &Eid) -> bool
+    ensures { result ≡ is_eq (text_cmp one.now other.now) }
+{
+    one.cmp(other) == Ordering::Equal
 }
 
 // The ids that a type lists, where it is enumerated.
