@@ -1,7 +1,6 @@
 -- Errors and warnings: of which policy, of which kind, where, and what each says.
-use Rattle.std.specs.Prelude.{ℕ, List, Option, Some, None, option_map, map, codes}
+use Rattle.std.specs.Prelude.{ℕ, List, Option, Some, None, option_map, codes}
 use Rattle.policy_expressions.specs.declared.kinds.Loc.{Loc}
-use Rattle.policy_names.specs.declared.entity_uid.EntityUID.{EntityUID}
 use Rattle.findings.specs.Finding as plain
 use Rattle.findings.specs.Texts.{message, help, kind_text, entity_type_message, action_id_message, action_hint_text, enum_message, enum_help, application_message, in_help, violation_message, too_deep_message, impossible_message}
 use Rattle.findings.specs.Seen.{unexpected_type, incompatible_types, unsafe_attribute_access, unsafe_optional_attribute_access, unsafe_tag_access, no_tags_allowed, undefined_function, wrong_number_arguments, function_argument_validation}
@@ -37,7 +36,7 @@ error_message (error.TooDeep e) = too_deep_message e.policy_id
 abbrev pub error_help : ValidationError → Option (List ℕ)
 error_help (error.UnrecognizedEntityType e) = None
 error_help (error.UnrecognizedActionId e) = option_map hint_text e.hint
-error_help (error.InvalidEnumEntity e) = Some (enum_help e.err.choices.items)
+error_help (error.InvalidEnumEntity e) = Some (enum_help e.err.choices)
 error_help (error.InvalidActionApplication e) = in_help e.would_in_fix_principal e.would_in_fix_resource
 error_help (error.UnexpectedType e) = help e.policy_id (unexpected_type e)
 error_help (error.IncompatibleTypes e) = help e.policy_id (incompatible_types e)

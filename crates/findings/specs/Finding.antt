@@ -1,17 +1,11 @@
 -- Findings, as plain data: why an expression has no type, and where.
 use Rattle.std.specs.Prelude.{ℕ, Bool, List, Option}
-use Rattle.policy_names.specs.declared.entity_uid.EntityUID.{EntityUID}
 use Rattle.policy_expressions.specs.declared.kinds.Loc.{Loc}
 use Rattle.schema_types.specs.Ty.{Ty}
 use Rattle.schema_types.specs.declared.kinds.LubHelp.{LubHelp}
+use Rattle.findings.specs.declared.access.AttributeAccess.{AttributeAccess}
 use Rattle.findings.specs.declared.helps.UnexpectedTypeHelp.{UnexpectedTypeHelp}
 use Rattle.findings.specs.declared.helps.LubContext.{LubContext}
-
--- attributes, from the left: of an entity of one of these types, of the context of an action, of anything else
-pub data AttributeAccess : Type 0 where
-  of_entity : List (List ℕ) → List (List ℕ) → AttributeAccess
-  of_context : EntityUID → List (List ℕ) → AttributeAccess
-  of_other : List (List ℕ) → AttributeAccess
 
 -- what is wrong
 pub data Kind : Type 0 where

@@ -1,10 +1,8 @@
--- Findings in code, as plain data.
-use Rattle.std.specs.Prelude.{ℕ, List, Option, Some, None}
+-- Findings on expressions as errors of a policy, and back.
+use Rattle.std.specs.Prelude.{ℕ, List, Option}
 use Rattle.policy_expressions.specs.declared.kinds.Loc.{Loc}
 use Rattle.findings.specs.Finding as plain
 use Rattle.findings.specs.Finding.{Kind, Finding}
-use Rattle.findings.specs.declared.access.AttributeAccess.{AttributeAccess}
-use Rattle.findings.specs.declared.access.AttributeAccess.TheVariants.{EntityLUB, Context, Other}
 use Rattle.findings.specs.declared.typing.UnexpectedType.{UnexpectedType}
 use Rattle.findings.specs.declared.typing.IncompatibleTypes.{IncompatibleTypes}
 use Rattle.findings.specs.declared.typing.UnsafeAttributeAccess.{UnsafeAttributeAccess}
@@ -17,23 +15,18 @@ use Rattle.findings.specs.declared.typing.FunctionArgumentValidation.{FunctionAr
 use Rattle.findings.specs.declared.error.ValidationError.{ValidationError}
 use Rattle.findings.specs.declared.error.ValidationError.TheVariants as error
 
-abbrev pub access_from : AttributeAccess → plain.AttributeAccess
-access_from (EntityLUB types names) = plain.of_entity types names.items
-access_from (Context action names) = plain.of_context action names.items
-access_from (Other names) = plain.of_other names.items
-
--- what each finding on an expression says
+-- what each error says
 abbrev pub unexpected_type : UnexpectedType → Kind
-unexpected_type e = plain.UnexpectedType e.expected.items e.actual e.help
+unexpected_type e = plain.UnexpectedType e.expected e.actual e.help
 
 abbrev pub incompatible_types : IncompatibleTypes → Kind
-incompatible_types e = plain.IncompatibleTypes e.types.items e.hint e.context
+incompatible_types e = plain.IncompatibleTypes e.types e.hint e.context
 
 abbrev pub unsafe_attribute_access : UnsafeAttributeAccess → Kind
-unsafe_attribute_access e = plain.UnsafeAttributeAccess (access_from e.attribute_access) e.may_exist
+unsafe_attribute_access e = plain.UnsafeAttributeAccess e.attribute_access e.may_exist
 
 abbrev pub unsafe_optional_attribute_access : UnsafeOptionalAttributeAccess → Kind
-unsafe_optional_attribute_access e = plain.UnsafeOptionalAttributeAccess (access_from e.attribute_access)
+unsafe_optional_attribute_access e = plain.UnsafeOptionalAttributeAccess e.attribute_access
 
 abbrev pub unsafe_tag_access : UnsafeTagAccess → Kind
 unsafe_tag_access e = plain.UnsafeTagAccess e.entity_ty e.tag
@@ -50,21 +43,20 @@ wrong_number_arguments e = plain.WrongNumberArguments e.expected e.actual
 abbrev pub function_argument_validation : FunctionArgumentValidation → Kind
 function_argument_validation e = plain.FunctionArgumentValidation e.msg
 
--- a finding of this kind at this place
-abbrev pub found : Kind → Option Loc → Option Finding
-found kind loc = Some (record { kind = kind; loc = loc })
+-- the error of a policy at a place that says this
+abbrev pub error_at : List ℕ → Option Loc → Kind → ValidationError
+error_at policy loc (plain.UnexpectedType expected actual help) = error.UnexpectedType (record { source_loc = loc; policy_id = policy; expected = expected; actual = actual; help = help })
+error_at policy loc (plain.IncompatibleTypes types hint context) = error.IncompatibleTypes (record { source_loc = loc; policy_id = policy; types = types; hint = hint; context = context })
+error_at policy loc (plain.UnsafeAttributeAccess reached may_exist) = error.UnsafeAttributeAccess (record { source_loc = loc; policy_id = policy; attribute_access = reached; may_exist = may_exist })
+error_at policy loc (plain.UnsafeOptionalAttributeAccess reached) = error.UnsafeOptionalAttributeAccess (record { source_loc = loc; policy_id = policy; attribute_access = reached })
+error_at policy loc (plain.UnsafeTagAccess types tag) = error.UnsafeTagAccess (record { source_loc = loc; policy_id = policy; entity_ty = types; tag = tag })
+error_at policy loc (plain.NoTagsAllowed type) = error.NoTagsAllowed (record { source_loc = loc; policy_id = policy; entity_ty = type })
+error_at policy loc (plain.UndefinedFunction name) = error.UndefinedFunction (record { source_loc = loc; policy_id = policy; name = name })
+error_at policy loc (plain.WrongNumberArguments expected actual) = error.WrongNumberArguments (record { source_loc = loc; policy_id = policy; expected = expected; actual = actual })
+error_at policy loc (plain.FunctionArgumentValidation text) = error.FunctionArgumentValidation (record { source_loc = loc; policy_id = policy; msg = text })
+error_at policy loc plain.EmptySetForbidden = error.EmptySetForbidden (record { source_loc = loc; policy_id = policy })
+error_at policy loc plain.NonLitExtConstructor = error.NonLitExtConstructor (record { source_loc = loc; policy_id = policy })
 
--- the finding on an expression; none, where it is another error
-abbrev pub finding_of : ValidationError → Option Finding
-finding_of (error.UnexpectedType e) = found (unexpected_type e) e.source_loc
-finding_of (error.IncompatibleTypes e) = found (incompatible_types e) e.source_loc
-finding_of (error.UnsafeAttributeAccess e) = found (unsafe_attribute_access e) e.source_loc
-finding_of (error.UnsafeOptionalAttributeAccess e) = found (unsafe_optional_attribute_access e) e.source_loc
-finding_of (error.UnsafeTagAccess e) = found (unsafe_tag_access e) e.source_loc
-finding_of (error.NoTagsAllowed e) = found (no_tags_allowed e) e.source_loc
-finding_of (error.UndefinedFunction e) = found (undefined_function e) e.source_loc
-finding_of (error.WrongNumberArguments e) = found (wrong_number_arguments e) e.source_loc
-finding_of (error.FunctionArgumentValidation e) = found (function_argument_validation e) e.source_loc
-finding_of (error.EmptySetForbidden e) = found plain.EmptySetForbidden e.source_loc
-finding_of (error.NonLitExtConstructor e) = found plain.NonLitExtConstructor e.source_loc
-finding_of e = None
+-- the finding as an error of the policy
+abbrev pub error_of : List ℕ → Finding → ValidationError
+error_of policy found = error_at policy found.loc found.kind

@@ -3,26 +3,25 @@
 ghost use Rattle.std.specs.Prelude.{◌≡◌, ◌++◌, ◌∷◌, IfOk, OnOk, Some, option_copied, string_bytes, codes};
 ghost use Rattle.schema_core.specs.RequestEnvs.{env_data_of};
 ghost use Rattle.findings.specs.Access.{types_noted, variable_access, access_of, attribute_access};
-ghost use Rattle.findings.specs.Seen.{access_from};
-ghost use Rattle.findings.specs.Texts.{path_text, entity_types_text, access_text, guard_of, guard_text};
+ghost use Rattle.findings.specs.Texts.{guard_of, guard_text};
 
+use crate::ListOf;
 use policy_expressions::{Expr, ExprKind, Var};
 use policy_names::{EntityUID, Text};
 use schema_core::RequestEnv;
 use schema_types::{EntityLUB, EntityRecordKind, Type, TypeKind};
 use std::alloc::{AllocError, Global};
-use std::fmt;
 use std::fmt::Write;
 
 /// Attributes, from the left, and of what they are.
 #[derive(Debug, Drop, PartialEq, Eq, Hash)]
 pub enum AttributeAccess {
     /// Of an entity of one of these types.
-    EntityLUB(EntityLUB, Vec<Text>),
+    EntityLUB(EntityLUB, ListOf<Text>),
     /// Of the context of this action.
-    Context(EntityUID, Vec<Text>),
+    Context(EntityUID, ListOf<Text>),
     /// Of anything else.
-    Other(Vec<Text>),
+    Other(ListOf<Text>),
 }
 
 impl AttributeAccess {
@@ -35,7 +34,7 @@ impl AttributeAccess {
         expr: &Expr<Option<Type>>,
         attr: Text,
     ) -> Result<AttributeAccess, AllocError>
-        ensures { IfOk result (λ access. access_from access ≡ attribute_access (env_data_of req_env.now) expr.now attr) }
+        ensures { IfOk result (λ access. access ≡ attribute_access (env_data_of req_env.now) expr.now attr) }
     {
         let mut attrs = Vec::new(alloc);
         attrs.push(attr)?;
@@ -44,7 +43,7 @@ impl AttributeAccess {
 
     /// The test that would make the access safe.
     pub fn suggested_has_guard(&self, alloc: Global) -> Result<Text, AllocError>
-        ensures { IfOk result (λ guard. guard ≡ guard_text (access_from self.now)) }
+        ensures { IfOk result (λ guard. guard ≡ guard_text self.now) }
     {
         match self {
             AttributeAccess::EntityLUB(_, attrs) => guard_of(alloc, "e", attrs),
@@ -60,17 +59,17 @@ fn access_of(
     target: &Expr<Option<Type>>,
     attrs: Vec<Text>,
 ) -> Result<AttributeAccess, AllocError>
-    ensures { IfOk result (λ access. access_from access ≡ access_of (env_data_of env.now) target.now attrs.items) }
+    ensures { IfOk result (λ access. access ≡ access_of (env_data_of env.now) target.now attrs.items) }
 {
     match noted_types(target.data()) {
-        Some(types) => Ok(AttributeAccess::EntityLUB(types.try_clone()?, attrs)),
+        Some(types) => Ok(AttributeAccess::EntityLUB(types.try_clone()?, ListOf::new(attrs))),
         None => match target.kind() {
             ExprKind::GetAttr(x, attr) => {
                 let more = in_front(attrs, attr)?;
                 access_of(env, x, more)
             }
             ExprKind::Var(v) => variable_access(env, *v, attrs),
-            _ => Ok(AttributeAccess::Other(attrs)),
+            _ => Ok(AttributeAccess::Other(ListOf::new(attrs))),
         },
     }
 }
@@ -97,14 +96,14 @@ fn variable_access(
     v: Var,
     attrs: Vec<Text>,
 ) -> Result<AttributeAccess, AllocError>
-    ensures { IfOk result (λ access. access_from access ≡ variable_access (env_data_of env.now) v attrs.items) }
+    ensures { IfOk result (λ access. access ≡ variable_access (env_data_of env.now) v attrs.items) }
 {
     match v {
         Var::Context => match env.action_entity_uid() {
-            Some(action) => Ok(AttributeAccess::Context(action.try_clone()?, attrs)),
-            None => Ok(AttributeAccess::Other(attrs)),
+            Some(action) => Ok(AttributeAccess::Context(action.try_clone()?, ListOf::new(attrs))),
+            None => Ok(AttributeAccess::Other(ListOf::new(attrs))),
         },
-        _ => Ok(AttributeAccess::Other(attrs)),
+        _ => Ok(AttributeAccess::Other(ListOf::new(attrs))),
     }
 }
 
@@ -118,11 +117,11 @@ fn in_front(mut attrs: Vec<Text>, attr: &Text) -> Result<Vec<Text>, AllocError>
 }
 
 // The test for the last attribute of an expression; for some attribute, where there is none.
-fn guard_of(alloc: Global, start: &str, attrs: &Vec<Text>) -> Result<Text, AllocError>
-    ensures { IfOk result (λ guard. guard ≡ guard_of start.now attrs.now.items) }
+fn guard_of(alloc: Global, start: &str, attrs: &ListOf<Text>) -> Result<Text, AllocError>
+    ensures { IfOk result (λ guard. guard ≡ guard_of start.now attrs.now) }
 {
     let mut text = String::from_str(alloc, start)?;
-    let mut rest = attrs.iter();
+    let mut rest = attrs.as_slice().iter();
     let Some(first) = rest.next() else {
         text.push_str(" has f")?;
         return Text::from_string(text);

@@ -5,6 +5,7 @@ mod access;
 mod error;
 mod helps;
 mod level;
+mod list_of;
 mod nonempty;
 mod rules;
 mod show;
@@ -14,6 +15,7 @@ pub use access::AttributeAccess;
 pub use error::{ValidationError, ValidationWarning};
 pub use helps::{LubContext, UnexpectedTypeHelp};
 pub use level::{EntityDerefLevel, EntityDerefLevelViolation, EntityDerefViolationKind};
+pub use list_of::ListOf;
 pub use nonempty::{NonEmpty, partition_nonempty};
 pub use rules::{
     ImpossiblePolicy, InvalidActionApplication, InvalidEnumEntity, InvalidEnumEntityError, TooDeep,

@@ -1,5 +1,6 @@
 //! Findings on the names, the scope and the whole of a policy.
 
+use crate::ListOf;
 use policy_expressions::Loc;
 use policy_names::{Eid, EntityType, EntityUID, Text};
 
@@ -51,7 +52,7 @@ pub struct InvalidEnumEntityError {
     /// The id.
     pub uid: EntityUID,
     /// The ids that its type lists, in the order in which they are declared.
-    pub choices: Vec<Eid>,
+    pub choices: ListOf<Eid>,
 }
 
 /// No declared action can meet the scope: none that meets its part for the action has a principal type and a resource

@@ -1,17 +1,19 @@
 //! How the parts of findings read.
 
 ghost use Rattle.std.specs.Prelude.{◌≡◌, ◌++◌, Some, codes};
+ghost use Rattle.std.specs.Fmt.{WritesOnOk};
+ghost use Rattle.std.specs.List.{join_by};
 ghost use Rattle.findings.specs.Errors as errors;
-ghost use Rattle.findings.specs.Seen.{access_from};
 ghost use Rattle.findings.specs.Texts.{help_text, context_text, violation_text, quoted, path_text, entity_types_text, access_text};
 
 use crate::{
-    AttributeAccess, EntityDerefViolationKind, LubContext, UnexpectedTypeHelp,
+    AttributeAccess, EntityDerefViolationKind, ListOf, LubContext, UnexpectedTypeHelp,
     UnrecognizedActionIdHelp,
 };
 use policy_names::{EntityType, Text};
 use schema_types::EntityLUB;
 use std::fmt;
+use std::fmt::Display;
 
 impl UnexpectedTypeHelp {
     /// What may help.
@@ -112,67 +114,100 @@ impl fmt::Display for EntityDerefViolationKind {
 }
 
 impl fmt::Display for AttributeAccess {
-    ghost output = { λ access. Some (access_text (access_from access)) };
+    ghost output = { λ access. Some (access_text access) };
 
     fn fmt<W: fmt::Write>(&self, f: &mut fmt::Formatter<W>) -> fmt::Result {
         match self {
             AttributeAccess::EntityLUB(types, attrs) => {
-                let path = Path(attrs);
-                let types = OnTypes(types);
-                write!(f, "`{path}`{types}")
+                show_path(attrs, f)?;
+                show_entity_types(types, f)
             }
             AttributeAccess::Context(action, attrs) => {
-                let path = Path(attrs);
-                write!(f, "`{path}` in context for {action}")
+                show_path(attrs, f)?;
+                f.write_str(" in context for ")?;
+                action.fmt(f)
             }
-            AttributeAccess::Other(attrs) => {
-                let path = Path(attrs);
-                write!(f, "`{path}`")
-            }
+            AttributeAccess::Other(attrs) => show_path(attrs, f),
         }
     }
 }
 
-// Attributes with a dot between two.
-#[derive(Clone, Copy)]
-struct Path<'a>(&'a Vec<Text>);
+// The attributes with a dot between two, in quotes.
+fn show_path<W: fmt::Write>(attrs: &ListOf<Text>, f: &mut fmt::Formatter<W>) -> fmt::Result
+    ensures { WritesOnOk W.write_str_gives f.old result (quoted (path_text attrs.now)) f.new }
+{
+    f.write_str("`")?;
+    show_attributes(attrs, f)?;
+    f.write_str("`")
+}
 
-impl fmt::Display for Path<'_> {
-    ghost output = { λ path. Some (path_text path.0.now.items) };
-
-    fn fmt<W: fmt::Write>(&self, f: &mut fmt::Formatter<W>) -> fmt::Result {
-        let mut rest = self.0.iter();
-        if let Some(first) = rest.next() {
-            write!(f, "{first}")?;
+fn show_attributes<W: fmt::Write>(attrs: &ListOf<Text>, f: &mut fmt::Formatter<W>) -> fmt::Result
+    ensures { WritesOnOk W.write_str_gives f.old result (path_text attrs.now) f.new }
+{
+    let mut rest = attrs.as_slice().iter();
+    match rest.next() {
+        None => Ok(()),
+        Some(first) => {
+            first.fmt(f)?;
             for attr in rest {
-                write!(f, ".{attr}")?;
+                show_further_attribute(attr, f)?;
             }
+            Ok(())
         }
-        Ok(())
     }
+}
+
+fn show_further_attribute<W: fmt::Write>(attr: &Text, f: &mut fmt::Formatter<W>) -> fmt::Result
+    ensures { WritesOnOk W.write_str_gives f.old result (codes "." ++ attr.now) f.new }
+{
+    f.write_str(".")?;
+    attr.fmt(f)
 }
 
 // Of which entity types something is.
-#[derive(Clone, Copy)]
-struct OnTypes<'a>(&'a EntityLUB);
-
-impl fmt::Display for OnTypes<'_> {
-    ghost output = { λ types. Some (entity_types_text types.0.now) };
-
-    fn fmt<W: fmt::Write>(&self, f: &mut fmt::Formatter<W>) -> fmt::Result {
-        match self.0.get_single_entity() {
-            Some(ty) => write!(f, " on entity type `{ty}`"),
-            None => {
-                f.write_str(" on entity types ")?;
-                let mut rest = self.0.iter();
-                if let Some(first) = rest.next() {
-                    write!(f, "`{first}`")?;
-                    for ty in rest {
-                        write!(f, ", `{ty}`")?;
-                    }
-                }
-                Ok(())
-            }
+fn show_entity_types<W: fmt::Write>(types: &EntityLUB, f: &mut fmt::Formatter<W>) -> fmt::Result
+    ensures { WritesOnOk W.write_str_gives f.old result (entity_types_text types.now) f.new }
+{
+    match types.get_single_entity() {
+        Some(ty) => {
+            f.write_str(" on entity type ")?;
+            show_type(ty, f)
+        }
+        None => {
+            f.write_str(" on entity types ")?;
+            show_types(types, f)
         }
     }
+}
+
+// The types in quotes, with a comma between two.
+fn show_types<W: fmt::Write>(types: &EntityLUB, f: &mut fmt::Formatter<W>) -> fmt::Result
+    ensures { WritesOnOk W.write_str_gives f.old result (join_by quoted (codes ", ") types.now) f.new }
+{
+    let mut rest = types.iter();
+    match rest.next() {
+        None => Ok(()),
+        Some(first) => {
+            show_type(first, f)?;
+            for ty in rest {
+                show_further_type(ty, f)?;
+            }
+            Ok(())
+        }
+    }
+}
+
+fn show_type<W: fmt::Write>(ty: &EntityType, f: &mut fmt::Formatter<W>) -> fmt::Result
+    ensures { WritesOnOk W.write_str_gives f.old result (quoted ty.now) f.new }
+{
+    f.write_str("`")?;
+    ty.fmt(f)?;
+    f.write_str("`")
+}
+
+fn show_further_type<W: fmt::Write>(ty: &EntityType, f: &mut fmt::Formatter<W>) -> fmt::Result
+    ensures { WritesOnOk W.write_str_gives f.old result (codes ", " ++ quoted ty.now) f.new }
+{
+    f.write_str(", ")?;
+    show_type(ty, f)
 }

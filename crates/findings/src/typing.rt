@@ -1,6 +1,6 @@
 //! Findings on an expression that has no type.
 
-use crate::{AttributeAccess, LubContext, UnexpectedTypeHelp};
+use crate::{AttributeAccess, ListOf, LubContext, UnexpectedTypeHelp};
 use policy_expressions::Loc;
 use policy_names::{EntityType, Name, Text};
 use schema_types::{EntityLUB, LubHelp, Type};
@@ -13,7 +13,7 @@ pub struct UnexpectedType {
     /// The id of the policy.
     pub policy_id: Text,
     /// The types that are expected.
-    pub expected: Vec<Type>,
+    pub expected: ListOf<Type>,
     /// The type of the operand.
     pub actual: Type,
     /// What may help.
@@ -28,7 +28,7 @@ pub struct IncompatibleTypes {
     /// The id of the policy.
     pub policy_id: Text,
     /// The types, ascending, each once.
-    pub types: Vec<Type>,
+    pub types: ListOf<Type>,
     /// Why they have none.
     pub hint: LubHelp,
     /// Where they have to be compatible.

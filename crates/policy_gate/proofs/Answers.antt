@@ -3,8 +3,8 @@ use Rattle.std.proofs.Common.{◌≡◌, ℕ, List, [], ◌∷◌, inl, inr, Opt
 use Rattle.serde_json.specs.Data.{Data}
 use Rattle.policy_names.specs.declared.entity_uid.EntityUID.{EntityUID}
 use Rattle.policy_documents.specs.declared.document.Document.{Document}
-use Rattle.policy_scope.specs.Findings.{Findings}
-use Rattle.policy_scope.specs.declared.finding.ValidationError.{ValidationError}
+use Rattle.finding_texts.specs.Findings.{Findings}
+use Rattle.findings.specs.declared.error.ValidationError.{ValidationError}
 use Rattle.policy_validate.specs.Accepted.{findings_of}
 use Rattle.policy_validate.specs.Conformance.{first_request_fault, first_store_fault}
 use Rattle.policy_validate.specs.declared.request_error.RequestValidationError.{RequestValidationError}

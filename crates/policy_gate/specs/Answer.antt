@@ -9,9 +9,9 @@ use Rattle.policy_documents.specs.PlaceText.{place_text}
 use Rattle.policy_documents.specs.Reading.{IsRead}
 use Rattle.policy_documents.specs.declared.document.Document.{Document}
 use Rattle.policy_documents.specs.declared.place.Place.{Place}
-use Rattle.policy_scope.specs.Findings.{Findings}
-use Rattle.policy_scope.specs.Written.{findings_text}
-use Rattle.policy_scope.specs.declared.finding.ValidationError.{ValidationError}
+use Rattle.finding_texts.specs.Findings.{Findings}
+use Rattle.finding_texts.specs.Written.{findings_text}
+use Rattle.findings.specs.declared.error.ValidationError.{ValidationError}
 use Rattle.policy_validate.specs.Accepted.{findings_of}
 use Rattle.policy_validate.specs.Conformance.{first_request_fault, first_store_fault}
 use Rattle.policy_validate.specs.Written.{request_text, entity_text}

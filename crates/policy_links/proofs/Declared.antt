@@ -71,18 +71,18 @@ module _ (schema : SchemaData) (ok : IsSchema schema) where
       by None k = cc
       by (Some t) k = refl
 
-  within_declared : (n m : List ℕ) → IsDeclaredName n → (is_eq (text_cmp m n) || type_below schema n m) ≡ true → IsDeclaredName m
-  within_declared n m d h = by (is_eq (text_cmp m n)) refl h
+  within_declared : (n m : List ℕ) → IsDeclaredName n → (is_eq (text_cmp n m) || type_below schema n m) ≡ true → IsDeclaredName m
+  within_declared n m d h = by (is_eq (text_cmp n m)) refl h
     where
-      by : (b : Bool) → is_eq (text_cmp m n) ≡ b → (b || type_below schema n m) ≡ true → IsDeclaredName m
-      by true e k = subst IsDeclaredName (sym (same_text m n e)) d
+      by : (b : Bool) → is_eq (text_cmp n m) ≡ b → (b || type_below schema n m) ≡ true → IsDeclaredName m
+      by true e k = subst IsDeclaredName (same_text n m e) d
       by false e k = below_declared n m k
 
   -- a declared type that meets the constraint with the id makes the id's type declared
   met_declared : (c : PrincipalOrResourceConstraint) (u : EntityUID) (n : List ℕ) → asks_slot c ≡ true → IsDeclaredName n → type_meets schema (linked (Some u) c) n ≡ true → IsDeclaredName u.entity_type
   met_declared (Eq Slot) u n s d h = subst IsDeclaredName (sym (same_text u.entity_type n h)) d
   met_declared (In Slot) u n s d h = within_declared n u.entity_type d h
-  met_declared (IsIn m Slot) u n s d h = within_declared n u.entity_type d (and_both (is_eq (text_cmp m n)) (is_eq (text_cmp u.entity_type n) || type_below schema n u.entity_type) h).1
+  met_declared (IsIn m Slot) u n s d h = within_declared n u.entity_type d (and_both (is_eq (text_cmp m n)) (is_eq (text_cmp n u.entity_type) || type_below schema n u.entity_type) h).1
   met_declared c u n s d h = absurd (cc)
 
   pub literal_declared : (u : EntityUID) → IsDeclaredName u.entity_type → literal_type schema u ≡ Some (entity (u.entity_type ∷ []))

@@ -1,7 +1,8 @@
--- The names in a condition: the types that it names and the actions of its literals, which have to be declared.
+-- The names in a condition: the types that it names and the actions of its literals, which have to be declared, and the ids of
+-- enumerated types, which have to be listed.
 use Rattle.std.specs.Prelude.{◌||◌, not, Bool, ℕ, List, [], ◌∷◌, ◌++◌, Option, Some, None, fold, find, option_map, is_some, codes, eqb, if◌then◌else◌}
 use Rattle.std.specs.List.{filter_map, starts_with}
-use Rattle.std.specs.Option.{option_cmp}
+use Rattle.std.specs.Option.{option_cmp, option_and_then}
 use Rattle.std.specs.Ordering.{nat_cmp, ordering_then}
 use Rattle.std.specs.declared.cmp.Ordering.{Ordering}
 use Rattle.hierarchy.specs.Reaches.{has}
@@ -12,12 +13,14 @@ use Rattle.policy_expressions.specs.declared.kinds.Loc.{Loc}
 use Rattle.policy_expressions.specs.declared.kinds.Literal.TheVariants as literal
 use Rattle.policy_expressions.specs.Tree.{Tree, lit, var, slot, ite, conj, disj, unary, binary, attr, like, is_type, call, set, rec, Trees, no_trees, tree, Named, no_named, named, Mark}
 use Rattle.policy_expressions.specs.Tree as core
-use Rattle.policy_set.specs.Data.{PolicyData}
+use Rattle.policy_expressions.specs.Plain.{Plain}
+use Rattle.schema_core.specs.Kinds.{Kind, standard, enumerated}
 use Rattle.schema_core.specs.Schema.{SchemaData, ActionData, type_at, action_at}
-use Rattle.policy_scope.specs.declared.finding.UnrecognizedEntityType.{UnrecognizedEntityType}
-use Rattle.policy_scope.specs.declared.finding.UnrecognizedActionId.{UnrecognizedActionId}
-use Rattle.policy_scope.specs.declared.finding.UnrecognizedActionIdHelp.{UnrecognizedActionIdHelp}
-use Rattle.policy_scope.specs.declared.finding.UnrecognizedActionIdHelp.TheVariants.{AvoidActionTypeInActionId}
+use Rattle.findings.specs.declared.rules.UnrecognizedEntityType.{UnrecognizedEntityType}
+use Rattle.findings.specs.declared.rules.UnrecognizedActionId.{UnrecognizedActionId}
+use Rattle.findings.specs.declared.rules.InvalidEnumEntity.{InvalidEnumEntity}
+use Rattle.findings.specs.declared.rules.UnrecognizedActionIdHelp.{UnrecognizedActionIdHelp}
+use Rattle.findings.specs.declared.rules.UnrecognizedActionIdHelp.TheVariants.{AvoidActionTypeInActionId}
 
 -- a name in a condition: the id of a literal, or the type that `is` tests for
 pub data Mentioned : Type 0 where
@@ -78,6 +81,9 @@ entity_type_cmp a b = ordering_then (text_cmp a.actual_entity_type b.actual_enti
 abbrev pub action_id_cmp : UnrecognizedActionId → UnrecognizedActionId → Ordering
 action_id_cmp a b = ordering_then (uid_cmp a.actual_action_id b.actual_action_id) (option_cmp loc_cmp a.source_loc b.source_loc)
 
+abbrev pub enum_cmp : InvalidEnumEntity → InvalidEnumEntity → Ordering
+enum_cmp a b = ordering_then (uid_cmp a.err.uid b.err.uid) (option_cmp loc_cmp a.source_loc b.source_loc)
+
 -- the type is declared, or is a type of actions
 abbrev pub is_known_type : SchemaData → List ℕ → Bool
 is_known_type schema ty = is_some (type_at schema ty) || is_action_type ty
@@ -86,9 +92,9 @@ is_known_type schema ty = is_some (type_at schema ty) || is_action_type ty
 abbrev pub entity_type_finding : SchemaData → List ℕ → Mentioned × Option Loc → Option UnrecognizedEntityType
 entity_type_finding schema policy m = if is_known_type schema (type_of m.0) then None else Some (record { source_loc = m.1; policy_id = policy; actual_entity_type = type_of m.0 })
 
--- all types that are not known
-abbrev pub entity_type_findings : SchemaData → PolicyData → List UnrecognizedEntityType
-entity_type_findings schema p = distinct entity_type_cmp (filter_map (entity_type_finding schema p.id) (names_in p.condition))
+-- all types that are not known, in a condition of the policy
+abbrev pub entity_type_findings : SchemaData → List ℕ → Plain → List UnrecognizedEntityType
+entity_type_findings schema policy condition = distinct entity_type_cmp (filter_map (entity_type_finding schema policy) (names_in condition))
 
 -- the text stands somewhere in the other
 abbrev pub occurs_in : List ℕ → List ℕ → Bool
@@ -118,6 +124,29 @@ action_id_finding schema policy m = of_name m.0 where
   of_name (an_id uid) = unknown_action schema policy uid m.1
   of_name (a_type ty) = None
 
--- all actions that are not declared
-abbrev pub action_id_findings : SchemaData → PolicyData → List UnrecognizedActionId
-action_id_findings schema p = distinct action_id_cmp (filter_map (action_id_finding schema p.id) (names_in p.condition))
+-- all actions that are not declared, in a condition of the policy
+abbrev pub action_id_findings : SchemaData → List ℕ → Plain → List UnrecognizedActionId
+action_id_findings schema policy condition = distinct action_id_cmp (filter_map (action_id_finding schema policy) (names_in condition))
+
+-- the ids that a type lists, where it is enumerated
+abbrev pub choices_in : Kind → Option (List (List ℕ))
+choices_in (enumerated ids) = Some ids
+choices_in (standard xs t) = None
+
+-- the ids that the id's type lists, where it does not list this one
+abbrev pub others_listed : EntityUID → List (List ℕ) → Option (List (List ℕ))
+others_listed uid choices = if has text_cmp choices uid.eid then None else Some choices
+
+abbrev pub choices_without : SchemaData → EntityUID → Option (List (List ℕ))
+choices_without schema uid = option_and_then (others_listed uid) (option_and_then (λ t. choices_in t.kind) (type_at schema uid.entity_type))
+
+-- what is found of a name: that its type does not list it; a type alone is none that is listed
+abbrev pub enum_finding : SchemaData → List ℕ → Mentioned × Option Loc → Option InvalidEnumEntity
+enum_finding schema policy m = of_name m.0 where
+  of_name : Mentioned → Option InvalidEnumEntity
+  of_name (an_id uid) = option_map (λ choices. record { source_loc = m.1; policy_id = policy; err = record { uid = uid; choices = choices } }) (choices_without schema uid)
+  of_name (a_type ty) = None
+
+-- all ids that their types do not list, in a condition of the policy
+abbrev pub enum_findings : SchemaData → List ℕ → Plain → List InvalidEnumEntity
+enum_findings schema policy condition = distinct enum_cmp (filter_map (enum_finding schema policy) (names_in condition))

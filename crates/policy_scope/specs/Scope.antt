@@ -1,11 +1,8 @@
 -- The scope of a policy: some declared action has to meet it.
-use Rattle.std.specs.Prelude.{◌&&◌, ◌||◌, not, if◌then◌else◌, Bool, true, false, ℕ, List, [], ◌∷◌, None, is_some}
+use Rattle.std.specs.Prelude.{◌&&◌, not, if◌then◌else◌, Bool, true, false, ℕ, List, [], ◌∷◌, None, is_some}
 use Rattle.std.specs.List.{list_any, list_all}
-use Rattle.std.specs.Option.{option_map_or}
 use Rattle.std.specs.Ordering.{is_eq}
-use Rattle.hierarchy.specs.Reaches.{has}
-use Rattle.policy_names.specs.declared.entity_uid.EntityUID.{EntityUID}
-use Rattle.policy_names.specs.Uid.{text_cmp, uid_cmp, uid_eq}
+use Rattle.policy_names.specs.Uid.{text_cmp, uid_eq}
 use Rattle.policy_set.specs.Data.{TemplateData}
 use Rattle.policy_set.specs.declared.constraint.EntityReference.{EntityReference}
 use Rattle.policy_set.specs.declared.constraint.EntityReference.TheVariants.{EUID, Slot}
@@ -13,10 +10,11 @@ use Rattle.policy_set.specs.declared.constraint.PrincipalOrResourceConstraint.{P
 use Rattle.policy_set.specs.declared.constraint.PrincipalOrResourceConstraint.TheVariants.{Any, Eq, In, Is, IsIn}
 use Rattle.policy_set.specs.declared.constraint.ActionConstraint.{ActionConstraint}
 use Rattle.policy_set.specs.declared.constraint.ActionConstraint.TheVariants as action
-use Rattle.schema_core.specs.Schema.{SchemaData, ActionData, type_at, action_at}
+use Rattle.schema_core.specs.Schema.{SchemaData, ActionData, action_at, type_below}
+use Rattle.schema_core.specs.Within.{is_type_within, is_action_within}
 use Rattle.policy_scope.specs.declared.scope.Side.{Side}
 use Rattle.policy_scope.specs.declared.scope.Side.TheVariants.{Principal, Resource}
-use Rattle.policy_scope.specs.declared.finding.InvalidActionApplication.{InvalidActionApplication}
+use Rattle.findings.specs.declared.rules.InvalidActionApplication.{InvalidActionApplication}
 
 -- `==` is met by the entity's type, and by every type where a slot stands
 abbrev pub equal_meets : EntityReference → List ℕ → Bool
@@ -24,17 +22,9 @@ equal_meets (EUID u) n = is_eq (text_cmp u.entity_type n)
 equal_meets Slot n = true
 
 module _ (schema : SchemaData) where
-  -- the type is among the descendants of the other
-  abbrev pub type_below : List ℕ → List ℕ → Bool
-  type_below name above = option_map_or (λ t. has text_cmp t.descendants name) (type_at schema above) false
-
-  -- the action is the other, or among its descendants
-  abbrev pub is_action_within : EntityUID → EntityUID → Bool
-  is_action_within uid above = uid_eq uid above || option_map_or (λ a. has uid_cmp a.descendants uid) (action_at schema above) false
-
   -- `in` is met by the entity's type and its descendants, and by every type where a slot stands
   abbrev pub in_meets : EntityReference → List ℕ → Bool
-  in_meets (EUID u) n = is_eq (text_cmp u.entity_type n) || type_below n u.entity_type
+  in_meets (EUID u) n = is_type_within schema n u.entity_type
   in_meets Slot n = true
 
   -- the type meets what the scope asks of the principal, or of the resource
@@ -50,15 +40,21 @@ module _ (schema : SchemaData) where
   abbrev pub action_meets : ActionConstraint → ActionData → Bool
   action_meets action.Any a = true
   action_meets (action.Eq u) a = uid_eq u a.name
-  action_meets (action.In us) a = list_all (λ u. is_some (action_at schema u)) us.items && list_any (is_action_within a.name) us.items
+  action_meets (action.In us) a = list_all (λ u. is_some (action_at schema u)) us.items && list_any (is_action_within schema a.name) us.items
 
-  -- the action has a principal type and a resource type that meet the scope
+  -- the action has a principal type and a resource type that meet these parts of a scope
+  abbrev pub are_met : PrincipalOrResourceConstraint → PrincipalOrResourceConstraint → ActionData → Bool
+  are_met p r a = list_any (type_meets p) a.principals && list_any (type_meets r) a.resources
+
   abbrev pub types_meet : TemplateData → ActionData → Bool
-  types_meet t a = list_any (type_meets t.principal) a.principals && list_any (type_meets t.resource) a.resources
+  types_meet t a = are_met t.principal t.resource a
 
-  -- some action meets the scope
+  -- some action meets the scope of these parts
+  abbrev pub some_action_meets : PrincipalOrResourceConstraint → ActionConstraint → PrincipalOrResourceConstraint → Bool
+  some_action_meets p c r = list_any (λ a. action_meets c a && are_met p r a) schema.action_ids
+
   abbrev pub is_applicable : TemplateData → Bool
-  is_applicable t = list_any (λ a. action_meets t.action a && types_meet t a) schema.action_ids
+  is_applicable t = some_action_meets t.principal t.action t.resource
 
 -- the types that an action applies to: of principals, or of resources
 abbrev pub types_for : Side → ActionData → List (List ℕ)
@@ -79,15 +75,18 @@ module _ (schema : SchemaData) (side : Side) (c : ActionConstraint) where
   in_would_fix (Eq (EUID u)) = only_descendants u.entity_type
   in_would_fix other = false
 
--- what is found of a scope that no action meets
-abbrev pub application_finding : SchemaData → TemplateData → InvalidActionApplication
-application_finding schema t = record {
+-- what is found of a scope of these parts that no action meets
+abbrev pub application_finding : SchemaData → List ℕ → PrincipalOrResourceConstraint → ActionConstraint → PrincipalOrResourceConstraint → InvalidActionApplication
+application_finding schema policy p c r = record {
   source_loc = None;
-  policy_id = t.id;
-  would_in_fix_principal = in_would_fix schema Principal t.action t.principal;
-  would_in_fix_resource = in_would_fix schema Resource t.action t.resource;
+  policy_id = policy;
+  would_in_fix_principal = in_would_fix schema Principal c p;
+  would_in_fix_resource = in_would_fix schema Resource c r;
 }
 
--- some action meets the scope
+-- some action has to meet the scope
+abbrev pub scope_findings : SchemaData → List ℕ → PrincipalOrResourceConstraint → ActionConstraint → PrincipalOrResourceConstraint → List InvalidActionApplication
+scope_findings schema policy p c r = if some_action_meets schema p c r then [] else application_finding schema policy p c r ∷ []
+
 abbrev pub application_findings : SchemaData → TemplateData → List InvalidActionApplication
-application_findings schema t = if is_applicable schema t then [] else application_finding schema t ∷ []
+application_findings schema t = scope_findings schema t.id t.principal t.action t.resource

@@ -1,20 +1,21 @@
-//! Findings on policies, how they read, and the rules on the names and the scope of a policy.
+//! The rules on the names and the scope of a policy, and what is found where they are broken.
 #![tactic(auto)]
 
-mod diagnostic;
-mod finding;
 mod names;
 mod scope;
-mod texts;
-mod validation_result;
-mod written;
 
-pub use diagnostic::Diagnostic;
-pub use finding::{
-    ImpossiblePolicy, InvalidActionApplication, TooDeep, UnrecognizedActionId,
-    UnrecognizedActionIdHelp, UnrecognizedEntityType, ValidationError, ValidationWarning,
+pub use finding_texts::{Diagnostic, ValidationResult, add_help, findings_text};
+pub use findings::{
+    AttributeAccess, EmptySetForbidden, EntityDerefLevel, EntityDerefLevelViolation,
+    EntityDerefViolationKind, FunctionArgumentValidation, ImpossiblePolicy, IncompatibleTypes,
+    InvalidActionApplication, InvalidEnumEntity, InvalidEnumEntityError, ListOf, LubContext,
+    NoTagsAllowed, NonEmpty, NonLitExtConstructor, TooDeep, UndefinedFunction, UnexpectedType,
+    UnexpectedTypeHelp, UnrecognizedActionId, UnrecognizedActionIdHelp, UnrecognizedEntityType,
+    UnsafeAttributeAccess, UnsafeOptionalAttributeAccess, UnsafeTagAccess, ValidationError,
+    ValidationWarning, WrongNumberArguments, partition_nonempty,
 };
-pub use names::{unrecognized_action_id_help, validate_action_ids, validate_entity_types};
-pub use scope::validate_template_action_application;
-pub use validation_result::ValidationResult;
-pub use written::{add_help, findings_text};
+pub use names::{
+    unknown_actions_in, unknown_types_in, unlisted_ids_in, unrecognized_action_id_help,
+    validate_action_ids, validate_entity_types, validate_enum_entity,
+};
+pub use scope::{validate_linked_action_application, validate_template_action_application};

@@ -1,29 +1,52 @@
-//! The names in a policy: the types that it names and the actions of its literals have to be declared.
+//! The names in a policy: the types that it names and the actions of its literals have to be declared, and the ids of
+//! enumerated types to be listed.
 
-ghost use Rattle.std.specs.Prelude.{◌≡◌, ◌++◌, IfOk, OnOk, map};
+ghost use Rattle.std.specs.Prelude.{◌≡◌, ◌++◌, IfOk, OnOk, map, option_copied};
 ghost use Rattle.policy_expressions.specs.Tree.{trees_of, named_of};
-ghost use Rattle.policy_scope.specs.Names.{type_of, names_in, names_in_all, names_in_named, is_known_type, is_known_action, entity_type_findings, action_id_findings, action_id_hint, occurs_in};
+ghost use Rattle.policy_scope.specs.Names.{type_of, names_in, names_in_all, names_in_named, is_known_type, is_known_action, entity_type_findings, action_id_findings, enum_findings, choices_without, others_listed, choices_in, action_id_hint, occurs_in};
+ghost use Rattle.std.specs.Ordering.{is_eq};
+ghost use Rattle.hierarchy.specs.Reaches.{has};
+ghost use Rattle.policy_names.specs.Uid.{text_cmp};
+ghost use Rattle.policy_set.specs.Condition.{condition_of};
+ghost use Rattle.schema_core.specs.KindView.{kind_of};
 ghost use Rattle.policy_scope.specs.Literals.{mentioned, pair_of};
 
-use crate::{UnrecognizedActionId, UnrecognizedActionIdHelp, UnrecognizedEntityType};
+use findings::{
+    InvalidEnumEntity, InvalidEnumEntityError, ListOf, UnrecognizedActionId,
+    UnrecognizedActionIdHelp, UnrecognizedEntityType,
+};
 use policy_expressions::{Expr, ExprKind, Literal, Loc};
-use policy_names::{EntityType, EntityUID, Text};
-use policy_set::Policy;
-use schema_core::ValidatorSchema;
+use policy_names::{Eid, EntityType, EntityUID, Text};
+use policy_set::Template;
+use schema_core::{ValidatorEntityTypeKind, ValidatorSchema};
 use std::alloc::{AllocError, Global};
+use std::cmp::Ordering;
 use std::collections::{BTreeMap, BTreeSet};
 
-/// The types that literals and `is` tests of the policy name, in its scope and in its body, and that are neither declared
-/// nor types of actions: each once at its place, in the order in which they stand.
+/// The types that literals and `is` tests of the template name, in its scope and in its body, and that are neither
+/// declared nor types of actions: each once at its place, in the order in which they stand.
 pub fn validate_entity_types(
     alloc: Global,
     schema: &ValidatorSchema,
-    policy: &Policy,
+    template: &Template,
 ) -> Result<Vec<UnrecognizedEntityType>, AllocError>
-    ensures { IfOk result (λ found. found.items ≡ entity_type_findings schema.now policy.now) }
+    ensures { IfOk result (λ found. found.items ≡ entity_type_findings schema.now template.now.id (condition_of template.now)) }
+{
+    unknown_types_in(alloc, schema, template.id(), template.condition())
+}
+
+/// The types that literals and `is` tests of a policy's condition name and that are neither declared nor types of
+/// actions: each once at its place, in the order in which they stand.
+pub fn unknown_types_in(
+    alloc: Global,
+    schema: &ValidatorSchema,
+    policy_id: &Text,
+    condition: &Expr<()>,
+) -> Result<Vec<UnrecognizedEntityType>, AllocError>
+    ensures { IfOk result (λ found. found.items ≡ entity_type_findings schema.now policy_id.now condition.now) }
 {
     let mut names = Vec::new(alloc);
-    add_names(policy.condition(), &mut names)?;
+    add_names(condition, &mut names)?;
     let mut seen = BTreeSet::new(alloc);
     let mut found = Vec::new(alloc);
     for (mention, loc) in names {
@@ -34,7 +57,7 @@ pub fn validate_entity_types(
         if seen.insert((ty, loc))? {
             found.push(UnrecognizedEntityType {
                 source_loc: loc,
-                policy_id: policy.id().try_clone()?,
+                policy_id: policy_id.try_clone()?,
                 actual_entity_type: ty.try_clone()?,
             })?;
         }
@@ -49,17 +72,30 @@ fn is_known_type(schema: &ValidatorSchema, ty: &EntityType) -> bool
     schema.is_known_entity_type(ty)
 }
 
-/// The actions that literals of the policy name, in its scope and in its body, and that are not declared: each once, in
-/// the order in which the literals stand.
+/// The actions that literals of the template name, in its scope and in its body, and that are not declared: each once at
+/// its place, in the order in which the literals stand.
 pub fn validate_action_ids(
     alloc: Global,
     schema: &ValidatorSchema,
-    policy: &Policy,
+    template: &Template,
 ) -> Result<Vec<UnrecognizedActionId>, AllocError>
-    ensures { IfOk result (λ found. found.items ≡ action_id_findings schema.now policy.now) }
+    ensures { IfOk result (λ found. found.items ≡ action_id_findings schema.now template.now.id (condition_of template.now)) }
+{
+    unknown_actions_in(alloc, schema, template.id(), template.condition())
+}
+
+/// The actions that literals of a policy's condition name and that are not declared: each once at its place, in the order
+/// in which the literals stand.
+pub fn unknown_actions_in(
+    alloc: Global,
+    schema: &ValidatorSchema,
+    policy_id: &Text,
+    condition: &Expr<()>,
+) -> Result<Vec<UnrecognizedActionId>, AllocError>
+    ensures { IfOk result (λ found. found.items ≡ action_id_findings schema.now policy_id.now condition.now) }
 {
     let mut names = Vec::new(alloc);
-    add_names(policy.condition(), &mut names)?;
+    add_names(condition, &mut names)?;
     let mut seen = BTreeSet::new(alloc);
     let mut found = Vec::new(alloc);
     for (mention, loc) in names {
@@ -72,7 +108,7 @@ pub fn validate_action_ids(
         if seen.insert((uid, loc))? {
             found.push(UnrecognizedActionId {
                 source_loc: loc,
-                policy_id: policy.id().try_clone()?,
+                policy_id: policy_id.try_clone()?,
                 actual_action_id: uid.try_clone()?,
                 hint: unrecognized_action_id_help(alloc, schema, uid)?,
             })?;
@@ -86,6 +122,111 @@ fn is_known_action(schema: &ValidatorSchema, uid: &EntityUID) -> bool
     ensures { result ≡ is_known_action schema.now uid.now }
 {
     !uid.is_action() || schema.get_action_id(uid).is_some()
+}
+
+/// The ids of enumerated types that literals of the template name, in its scope and in its body, and that their types do
+/// not list: each once at its place, in the order in which the literals stand.
+pub fn validate_enum_entity(
+    alloc: Global,
+    schema: &ValidatorSchema,
+    template: &Template,
+) -> Result<Vec<InvalidEnumEntity>, AllocError>
+    ensures { IfOk result (λ found. found.items ≡ enum_findings schema.now template.now.id (condition_of template.now)) }
+{
+    unlisted_ids_in(alloc, schema, template.id(), template.condition())
+}
+
+/// The ids of enumerated types that literals of a policy's condition name and that their types do not list: each once at
+/// its place, in the order in which the literals stand.
+pub fn unlisted_ids_in(
+    alloc: Global,
+    schema: &ValidatorSchema,
+    policy_id: &Text,
+    condition: &Expr<()>,
+) -> Result<Vec<InvalidEnumEntity>, AllocError>
+    ensures { IfOk result (λ found. found.items ≡ enum_findings schema.now policy_id.now condition.now) }
+{
+    let mut names = Vec::new(alloc);
+    add_names(condition, &mut names)?;
+    let mut seen = BTreeSet::new(alloc);
+    let mut found = Vec::new(alloc);
+    for (mention, loc) in names {
+        let Mention::Id(uid) = mention else {
+            continue;
+        };
+        let Some(choices) = choices_without(schema, uid) else {
+            continue;
+        };
+        if seen.insert((uid, loc))? {
+            found.push(InvalidEnumEntity {
+                source_loc: loc,
+                policy_id: policy_id.try_clone()?,
+                err: unlisted(alloc, uid, choices)?,
+            })?;
+        }
+    }
+    Ok(found)
+}
+
+// The id, and those that its type lists.
+fn unlisted(
+    alloc: Global,
+    uid: &EntityUID,
+    choices: &[Eid],
+) -> Result<InvalidEnumEntityError, AllocError>
+    ensures { IfOk result (λ e. e ≡ record { uid = uid.now; choices = choices.now }) }
+{
+    let mut listed = Vec::new(alloc);
+    for eid in choices {
+        listed.push(eid.try_clone()?)?;
+    }
+    Ok(InvalidEnumEntityError {
+        uid: uid.try_clone()?,
+        choices: ListOf::new(listed),
+    })
+}
+
+// The ids that the id's type lists, where it is enumerated and does not list this one.
+fn choices_without<'a>(schema: &'a ValidatorSchema, uid: &EntityUID) -> Option<&'a [Eid]>
+    ensures { option_copied result ≡ choices_without schema.now uid.now }
+{
+    let ty = schema.get_entity_type(uid.entity_type())?;
+    let choices = choices_in(ty.kind())?;
+    others_listed(uid, choices)
+}
+
+// The ids, where this one is not among them.
+fn others_listed<'a>(uid: &EntityUID, choices: &'a [Eid]) -> Option<&'a [Eid]>
+    ensures { option_copied result ≡ others_listed uid.now choices.now }
+{
+    if are_listing(choices, &uid.eid) {
+        None
+    } else {
+        Some(choices)
+    }
+}
+
+// Whether the id is among them.
+fn are_listing(choices: &[Eid], eid: &Eid) -> bool
+    ensures { result ≡ has text_cmp choices.now eid.now }
+{
+    choices.iter().any(|other| same_eid(eid, other))
+}
+
+fn same_eid(one: &Eid, other: &Eid) -> bool
+    ensures { result ≡ is_eq (text_cmp one.now other.now) }
+{
+    one.cmp(other) == Ordering::Equal
+}
+
+// The ids that a type lists, where it is enumerated.
+fn choices_in(kind: &ValidatorEntityTypeKind) -> Option<&[Eid]>
+    ensures { option_copied result ≡ choices_in (kind_of kind.now) }
+{
+    match kind {
+        ValidatorEntityTypeKind::Enum(ids) => Some(ids.as_slice()),
+        ValidatorEntityTypeKind::Standard { .. } => None,
+    }
 }
 
 /// What may have been meant by the id of an action that is not declared: the least declared action whose eid has in it

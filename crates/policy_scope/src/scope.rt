@@ -2,39 +2,78 @@
 
 ghost use Rattle.std.specs.Prelude.{◌≡◌, IfOk, is_some};
 ghost use Rattle.std.specs.List.{list_all, list_any};
-ghost use Rattle.schema_core.specs.Schema.{action_at};
 ghost use Rattle.std.specs.Ordering.{is_eq};
 ghost use Rattle.policy_names.specs.Uid.{text_cmp, uid_eq};
 ghost use Rattle.policy_set.specs.Condition.{written_of};
-ghost use Rattle.policy_scope.specs.Scope.{action_meets, type_below, is_action_within, equal_meets, in_meets, type_meets, types_meet, is_applicable, types_for, some_type, only_descendants, in_would_fix, application_findings};
+ghost use Rattle.schema_core.specs.Schema.{action_at, type_below};
+ghost use Rattle.schema_core.specs.Within.{is_action_within};
+ghost use Rattle.policy_scope.specs.Scope.{action_meets, equal_meets, in_meets, type_meets, are_met, some_action_meets, types_for, some_type, only_descendants, in_would_fix, scope_findings, application_findings};
 
-use crate::InvalidActionApplication;
-use policy_names::{EntityType, EntityUID};
-use policy_set::{ActionConstraint, EntityReference, Policy, PrincipalOrResourceConstraint};
+use findings::InvalidActionApplication;
+use policy_names::{EntityType, EntityUID, Text};
+use policy_set::{
+    ActionConstraint, EntityReference, Policy, PrincipalOrResourceConstraint, Template,
+};
 use schema_core::{ValidatorActionId, ValidatorSchema};
 use std::alloc::{AllocError, Global};
 use std::cmp::Ordering;
 use std::collections::BTreeSet;
 
-/// What is found of the policy's scope where no declared action meets it. An action meets a scope where it meets the
+/// What is found of the template's scope where no declared action meets it. An action meets a scope where it meets the
 /// part for the action and has a principal type and a resource type that meet the other two parts: each meets a part
 /// that asks for nothing and a slot, the named entity's own type `==`, that type and its descendants `in`, and the named
 /// type `is`. A list of actions is met by these and their descendants, where each is declared.
 pub fn validate_template_action_application(
     alloc: Global,
     schema: &ValidatorSchema,
+    template: &Template,
+) -> Result<Vec<InvalidActionApplication>, AllocError>
+    ensures { IfOk result (λ found. found.items ≡ application_findings schema.now template.now) }
+{
+    application(
+        alloc,
+        schema,
+        template.id(),
+        template.principal_constraint(),
+        template.action_constraint(),
+        template.resource_constraint(),
+    )
+}
+
+/// The same of a policy's own scope, which has the ids of a link in the places of slots.
+pub fn validate_linked_action_application(
+    alloc: Global,
+    schema: &ValidatorSchema,
     policy: &Policy,
 ) -> Result<Vec<InvalidActionApplication>, AllocError>
     ensures { IfOk result (λ found. found.items ≡ application_findings schema.now (written_of policy.now)) }
 {
+    application(
+        alloc,
+        schema,
+        policy.id(),
+        policy.principal_constraint(),
+        policy.action_constraint(),
+        policy.resource_constraint(),
+    )
+}
+
+// What is found of a scope of these parts.
+fn application(
+    alloc: Global,
+    schema: &ValidatorSchema,
+    policy_id: &Text,
+    principal: &PrincipalOrResourceConstraint,
+    action: &ActionConstraint,
+    resource: &PrincipalOrResourceConstraint,
+) -> Result<Vec<InvalidActionApplication>, AllocError>
+    ensures { IfOk result (λ found. found.items ≡ scope_findings schema.now policy_id.now principal.now action.now resource.now) }
+{
     let mut found = Vec::new(alloc);
-    if !is_applicable(schema, policy) {
-        let action = policy.action_constraint();
-        let principal = policy.principal_constraint();
-        let resource = policy.resource_constraint();
+    if !some_action_meets(schema, principal, action, resource) {
         found.push(InvalidActionApplication {
             source_loc: None,
-            policy_id: policy.id().try_clone()?,
+            policy_id: policy_id.try_clone()?,
             would_in_fix_principal: in_would_fix(schema, Side::Principal, action, principal),
             would_in_fix_resource: in_would_fix(schema, Side::Resource, action, resource),
         })?;
@@ -42,13 +81,18 @@ pub fn validate_template_action_application(
     Ok(found)
 }
 
-// Whether some declared action meets the scope.
-fn is_applicable(schema: &ValidatorSchema, policy: &Policy) -> bool
-    ensures { result ≡ is_applicable schema.now (written_of policy.now) }
+// Whether some declared action meets the scope of these parts.
+fn some_action_meets(
+    schema: &ValidatorSchema,
+    principal: &PrincipalOrResourceConstraint,
+    constraint: &ActionConstraint,
+    resource: &PrincipalOrResourceConstraint,
+) -> bool
+    ensures { result ≡ some_action_meets schema.now principal.now constraint.now resource.now }
 {
     for action in schema.action_ids() {
-        if action_meets(schema, policy.action_constraint(), action)
-            && types_meet(schema, policy, action)
+        if action_meets(schema, constraint, action)
+            && are_met(schema, principal, resource, action)
         {
             return true;
         }
@@ -108,18 +152,16 @@ fn is_action_within(schema: &ValidatorSchema, uid: &EntityUID, above: &EntityUID
 }
 
 // Whether the action has a principal type and a resource type that meet the other parts.
-fn types_meet(schema: &ValidatorSchema, policy: &Policy, action: &ValidatorActionId) -> bool
-    ensures { result ≡ types_meet schema.now (written_of policy.now) action.now }
+fn are_met(
+    schema: &ValidatorSchema,
+    principal: &PrincipalOrResourceConstraint,
+    resource: &PrincipalOrResourceConstraint,
+    action: &ValidatorActionId,
+) -> bool
+    ensures { result ≡ are_met schema.now principal.now resource.now action.now }
 {
-    some_meets(
-        schema,
-        policy.principal_constraint(),
-        action.applies_to_principals(),
-    ) && some_meets(
-        schema,
-        policy.resource_constraint(),
-        action.applies_to_resources(),
-    )
+    some_meets(schema, principal, action.applies_to_principals())
+        && some_meets(schema, resource, action.applies_to_resources())
 }
 
 // Whether some type of the set meets the part.
@@ -174,7 +216,7 @@ fn in_meets(schema: &ValidatorSchema, entity: &EntityReference, ty: &EntityType)
     match entity {
         EntityReference::EUID(uid) => {
             let own = uid.entity_type();
-            same_type(own, ty) || type_below(schema, ty, own)
+            same_type(ty, own) || type_below(schema, ty, own)
         }
         EntityReference::Slot => true,
     }

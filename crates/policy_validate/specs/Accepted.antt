@@ -5,11 +5,11 @@ use Rattle.policy_set.specs.Data.{PolicyData}
 use Rattle.policy_set.specs.Condition.{written_of}
 use Rattle.policy_set.specs.PolicySet.{PolicySetData}
 use Rattle.schema_core.specs.Schema.{SchemaData}
-use Rattle.policy_scope.specs.declared.finding.ValidationError.{ValidationError}
-use Rattle.policy_scope.specs.declared.finding.ValidationError.TheVariants.{UnrecognizedEntityType, UnrecognizedActionId, InvalidActionApplication, TooDeep}
-use Rattle.policy_scope.specs.declared.finding.ValidationWarning.{ValidationWarning}
-use Rattle.policy_scope.specs.declared.finding.ValidationWarning.TheVariants.{ImpossiblePolicy}
-use Rattle.policy_scope.specs.Findings.{Findings}
+use Rattle.findings.specs.declared.error.ValidationError.{ValidationError}
+use Rattle.findings.specs.declared.error.ValidationError.TheVariants.{UnrecognizedEntityType, UnrecognizedActionId, InvalidActionApplication, TooDeep}
+use Rattle.findings.specs.declared.error.ValidationWarning.{ValidationWarning}
+use Rattle.findings.specs.declared.error.ValidationWarning.TheVariants.{ImpossiblePolicy}
+use Rattle.finding_texts.specs.Findings.{Findings}
 use Rattle.policy_scope.specs.Names.{entity_type_findings, action_id_findings}
 use Rattle.policy_scope.specs.Scope.{application_findings}
 use Rattle.policy_validate.specs.Impossible.{is_impossible}
@@ -21,8 +21,8 @@ is_too_deep p = nat_lt 200 (depth_of p.condition)
 -- the errors of a policy: types of literals, actions of literals, its scope, its depth
 abbrev pub errors_of : SchemaData → PolicyData → List ValidationError
 errors_of schema p =
-    map UnrecognizedEntityType (entity_type_findings schema p)
-    ++ (map UnrecognizedActionId (action_id_findings schema p)
+    map UnrecognizedEntityType (entity_type_findings schema p.id p.condition)
+    ++ (map UnrecognizedActionId (action_id_findings schema p.id p.condition)
     ++ (map InvalidActionApplication (application_findings schema (written_of p))
     ++ (if is_too_deep p then TooDeep (record { source_loc = None; policy_id = p.id }) ∷ [] else [])))
 

@@ -2,7 +2,7 @@
 use Rattle.std.specs.Prelude.{ℕ, List, [], ◌∷◌, ◌++◌, Option, Some, None, codes}
 use Rattle.policy_names.specs.declared.entity_uid.EntityUID.{EntityUID}
 use Rattle.policy_names.specs.Show.{uid_text}
-use Rattle.policy_scope.specs.Written.{help_line}
+use Rattle.finding_texts.specs.Written.{help_line}
 use Rattle.policy_validate.specs.RuleText.{rule_text}
 use Rattle.policy_validate.specs.declared.store_rule.EntityDoesNotConform.{EntityDoesNotConform}
 use Rattle.policy_validate.specs.declared.request_error.RequestValidationError.{RequestValidationError}

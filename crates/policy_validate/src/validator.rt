@@ -1,7 +1,7 @@
 //! The validator.
 
 ghost use Rattle.std.specs.Prelude.{◌≡◌, ◌++◌, map, IfOk, OnOk};
-ghost use Rattle.policy_scope.specs.declared.finding.ValidationError.TheVariants as error;
+ghost use Rattle.findings.specs.declared.error.ValidationError.TheVariants as error;
 ghost use Rattle.policy_set.specs.Condition.{written_of};
 ghost use Rattle.policy_scope.specs.Names.{entity_type_findings, action_id_findings};
 ghost use Rattle.policy_scope.specs.Scope.{application_findings};
@@ -10,7 +10,7 @@ ghost use Rattle.policy_validate.specs.Accepted.{errors_of, warnings_of, is_too_
 use crate::impossible::is_impossible;
 use policy_scope::{
     ImpossiblePolicy, TooDeep, ValidationError, ValidationResult, ValidationWarning,
-    validate_action_ids, validate_entity_types, validate_template_action_application,
+    unknown_actions_in, unknown_types_in, validate_linked_action_application,
 };
 use policy_set::{Policy, PolicySet};
 use schema_core::ValidatorSchema;
@@ -119,9 +119,9 @@ fn add_entity_types(
     policy: &Policy,
     errors: &mut Vec<ValidationError>,
 ) -> Result<(), AllocError>
-    ensures { OnOk result (errors.new.items ≡ errors.old.items ++ map error.UnrecognizedEntityType (entity_type_findings schema.now policy.now)) }
+    ensures { OnOk result (errors.new.items ≡ errors.old.items ++ map error.UnrecognizedEntityType (entity_type_findings schema.now policy.now.id policy.now.condition)) }
 {
-    for finding in validate_entity_types(alloc, schema, policy)? {
+    for finding in unknown_types_in(alloc, schema, policy.id(), policy.condition())? {
         errors.push(ValidationError::UnrecognizedEntityType(finding))?;
     }
     Ok(())
@@ -133,9 +133,9 @@ fn add_action_ids(
     policy: &Policy,
     errors: &mut Vec<ValidationError>,
 ) -> Result<(), AllocError>
-    ensures { OnOk result (errors.new.items ≡ errors.old.items ++ map error.UnrecognizedActionId (action_id_findings schema.now policy.now)) }
+    ensures { OnOk result (errors.new.items ≡ errors.old.items ++ map error.UnrecognizedActionId (action_id_findings schema.now policy.now.id policy.now.condition)) }
 {
-    for finding in validate_action_ids(alloc, schema, policy)? {
+    for finding in unknown_actions_in(alloc, schema, policy.id(), policy.condition())? {
         errors.push(ValidationError::UnrecognizedActionId(finding))?;
     }
     Ok(())
@@ -149,7 +149,7 @@ fn add_applications(
 ) -> Result<(), AllocError>
     ensures { OnOk result (errors.new.items ≡ errors.old.items ++ map error.InvalidActionApplication (application_findings schema.now (written_of policy.now))) }
 {
-    for finding in validate_template_action_application(alloc, schema, policy)? {
+    for finding in validate_linked_action_application(alloc, schema, policy)? {
         errors.push(ValidationError::InvalidActionApplication(finding))?;
     }
     Ok(())

@@ -18,7 +18,8 @@ use Rattle.policy_typing.specs.Signatures.{long_type, string_type, datetime_type
 use Rattle.policy_typing.specs.Typing.{Typed, typing, at, unreached}
 use Rattle.findings.specs.declared.helps.UnexpectedTypeHelp.TheVariants.{ConcatenationNotSupported}
 use Rattle.findings.specs.declared.helps.LubContext.TheVariants.{Conditional}
-use Rattle.findings.specs.Finding.{Finding, Kind, UnexpectedType, IncompatibleTypes, UnsafeOptionalAttributeAccess, UnsafeTagAccess, WrongNumberArguments, EmptySetForbidden, of_entity, of_context, of_other}
+use Rattle.findings.specs.Finding.{Finding, Kind, UnexpectedType, IncompatibleTypes, UnsafeOptionalAttributeAccess, UnsafeTagAccess, WrongNumberArguments, EmptySetForbidden}
+use Rattle.findings.specs.declared.access.AttributeAccess.TheVariants as access
 use Rattle.findings.specs.Access.{attribute_access}
 use Rattle.typing_findings.specs.Walked.{Success, findings_of}
 use Rattle.typing_findings.specs.Walk.{walked}
@@ -112,10 +113,10 @@ incompatible_text = refl
 incompatible_help : help (codes "p0") (IncompatibleTypes (long_type ∷ string_type ∷ []) RecordWidth Conditional) ≡ Some (codes "for policy `p0`, both branches of a conditional must have compatible types. Compatible record types must have exactly the same attributes")
 incompatible_help = refl
 
-optional_text : message (codes "p0") (UnsafeOptionalAttributeAccess (of_entity (codes "User" ∷ []) (codes "a" ∷ []))) ≡ codes "for policy `p0`, unable to guarantee safety of access to optional attribute `a` on entity type `User`"
+optional_text : message (codes "p0") (UnsafeOptionalAttributeAccess (access.EntityLUB (codes "User" ∷ []) (codes "a" ∷ []))) ≡ codes "for policy `p0`, unable to guarantee safety of access to optional attribute `a` on entity type `User`"
 optional_text = refl
 
-optional_help : help (codes "p0") (UnsafeOptionalAttributeAccess (of_entity (codes "User" ∷ []) (codes "a" ∷ []))) ≡ Some (codes "try testing for the attribute's presence with `e has a && ..`")
+optional_help : help (codes "p0") (UnsafeOptionalAttributeAccess (access.EntityLUB (codes "User" ∷ []) (codes "a" ∷ []))) ≡ Some (codes "try testing for the attribute's presence with `e has a && ..`")
 optional_help = refl
 
 tag_help : help (codes "p0") (UnsafeTagAccess None (codes "\"t\"")) ≡ Some (codes "try testing for the tag's presence with `.hasTag(\"t\") && ..`")
@@ -131,23 +132,23 @@ view = record { entity_type = codes "Action"; eid = codes "action" }
 abbrev of_view : LinkedEnvironment → LinkedEnvironment
 of_view e = record { environment = record { principal = e.environment.principal; action = view; resource = e.environment.resource }; context = e.context; principal_slot = None; resource_slot = None }
 
-context_access : (e : LinkedEnvironment) → attribute_access (declared_action (of_view e)) (attr (var Context untyped) (codes "foo") untyped) (codes "bar") ≡ of_context view (codes "foo" ∷ codes "bar" ∷ [])
+context_access : (e : LinkedEnvironment) → attribute_access (declared_action (of_view e)) (attr (var Context untyped) (codes "foo") untyped) (codes "bar") ≡ access.Context view (codes "foo" ∷ codes "bar" ∷ [])
 context_access e = refl
 
-context_guard : guard_text (of_context view (codes "foo" ∷ codes "bar" ∷ [])) ≡ codes "context.foo has bar"
+context_guard : guard_text (access.Context view (codes "foo" ∷ codes "bar" ∷ [])) ≡ codes "context.foo has bar"
 context_guard = refl
 
-entity_access : (env : EnvData) → attribute_access env (attr (lit (literal.EntityUID view) (record { note = Some (entity (codes "User" ∷ [])); loc = None })) (codes "foo") untyped) (codes "bar") ≡ of_entity (codes "User" ∷ []) (codes "foo" ∷ codes "bar" ∷ [])
+entity_access : (env : EnvData) → attribute_access env (attr (lit (literal.EntityUID view) (record { note = Some (entity (codes "User" ∷ [])); loc = None })) (codes "foo") untyped) (codes "bar") ≡ access.EntityLUB (codes "User" ∷ []) (codes "foo" ∷ codes "bar" ∷ [])
 entity_access env = refl
 
-entity_text : access_text (of_entity (codes "User" ∷ []) (codes "foo" ∷ codes "bar" ∷ [])) ≡ codes "`foo.bar` on entity type `User`"
+entity_text : access_text (access.EntityLUB (codes "User" ∷ []) (codes "foo" ∷ codes "bar" ∷ [])) ≡ codes "`foo.bar` on entity type `User`"
 entity_text = refl
 
-entity_guard : guard_text (of_entity (codes "User" ∷ []) (codes "foo" ∷ codes "bar" ∷ [])) ≡ codes "e.foo has bar"
+entity_guard : guard_text (access.EntityLUB (codes "User" ∷ []) (codes "foo" ∷ codes "bar" ∷ [])) ≡ codes "e.foo has bar"
 entity_guard = refl
 
-two_types : access_text (of_entity (codes "A" ∷ codes "B" ∷ []) (codes "foo" ∷ [])) ≡ codes "`foo` on entity types `A`, `B`"
+two_types : access_text (access.EntityLUB (codes "A" ∷ codes "B" ∷ []) (codes "foo" ∷ [])) ≡ codes "`foo` on entity types `A`, `B`"
 two_types = refl
 
-other_access : (env : EnvData) (x y z : Typed) → attribute_access env (attr (ite x y z untyped) (codes "foo") untyped) (codes "bar") ≡ of_other (codes "foo" ∷ codes "bar" ∷ [])
+other_access : (env : EnvData) (x y z : Typed) → attribute_access env (attr (ite x y z untyped) (codes "foo") untyped) (codes "bar") ≡ access.Other (codes "foo" ∷ codes "bar" ∷ [])
 other_access env x y z = refl

@@ -25,7 +25,8 @@ use Rattle.policy_typing.specs.Rules.{is_string, is_set, is_entity_set, bool_if,
 use Rattle.policy_typing.specs.Typing.{Typed, Typing}
 use Rattle.findings.specs.declared.helps.LubContext.{LubContext}
 use Rattle.findings.specs.declared.helps.LubContext.TheVariants as context
-use Rattle.findings.specs.Finding.{Finding, AttributeAccess}
+use Rattle.findings.specs.declared.access.AttributeAccess.{AttributeAccess}
+use Rattle.findings.specs.Finding.{Finding}
 use Rattle.policy_typing.specs.Operands.{is_boolean, is_long}
 use Rattle.typing_findings.specs.Expected.{Expected, is_typed_set, has_attributes, of_unary, left_of, right_of}
 use Rattle.typing_findings.specs.Walked.{Walked, Success, Fail, untyped, unexpected, expect_lent, expect, expect_if, ended}

@@ -17,7 +17,8 @@ use Rattle.policy_typing.specs.Signatures.{long_type, datetime_type, duration_ty
 use Rattle.policy_typing.specs.Rules.{order_type, attribute_of, safe_type, tag_type}
 use Rattle.findings.specs.declared.helps.LubContext.{LubContext}
 use Rattle.findings.specs.declared.helps.LubContext.TheVariants as context
-use Rattle.findings.specs.Finding.{Finding, Kind, AttributeAccess, UnexpectedType}
+use Rattle.findings.specs.declared.access.AttributeAccess.{AttributeAccess}
+use Rattle.findings.specs.Finding.{Finding, Kind, UnexpectedType}
 use Rattle.typing_findings.specs.Own.{of_both, incompatible, no_join, contains_found, is_comparable, wrong, order_wrong, tag_found, binary_found, attribute_found, set_found, text_found, call_found}
 use Rattle.typing_findings.specs.Truth.{NoneAbove, IsSo, IsTrueAt}
 use Rattle.typing_findings.proofs.Each.{Each, each_both, each_if_none, each_if_not}

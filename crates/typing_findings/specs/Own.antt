@@ -25,7 +25,8 @@ use Rattle.extension_types.specs.Table.{check_of}
 use Rattle.policy_typing.specs.Rules.{order_type, tag_type, safe_type}
 use Rattle.findings.specs.declared.helps.LubContext.{LubContext}
 use Rattle.findings.specs.declared.helps.LubContext.TheVariants as context
-use Rattle.findings.specs.Finding.{Finding, Kind, AttributeAccess, UnexpectedType, IncompatibleTypes, UnsafeAttributeAccess, UnsafeOptionalAttributeAccess, UnsafeTagAccess, NoTagsAllowed, WrongNumberArguments, FunctionArgumentValidation, EmptySetForbidden, NonLitExtConstructor}
+use Rattle.findings.specs.declared.access.AttributeAccess.{AttributeAccess}
+use Rattle.findings.specs.Finding.{Finding, Kind, UnexpectedType, IncompatibleTypes, UnsafeAttributeAccess, UnsafeOptionalAttributeAccess, UnsafeTagAccess, NoTagsAllowed, WrongNumberArguments, FunctionArgumentValidation, EmptySetForbidden, NonLitExtConstructor}
 use Rattle.findings.specs.Texts.{string_text}
 use Rattle.typing_findings.specs.Walked.{one}
 

@@ -1,7 +1,6 @@
 -- Findings and what is expected, in code, as the definitions'.
 use Rattle.std.specs.Prelude.{List, map}
 use Rattle.findings.specs.Finding as definition
-use Rattle.findings.specs.Seen.{access_from}
 use Rattle.typing_findings.specs.Expected as definition_of
 use Rattle.typing_findings.specs.Expected.{a_boolean, a_long, a_string, a_set, a_typed_set, an_entity, entities, an_owner, an_argument, no_help, sum_help, product_help, like_help, empty_help, contains_help, single_help, test_help, in_help, contents_help}
 use Rattle.typing_rules.specs.declared.finding.FindingKind.{FindingKind}
@@ -13,8 +12,8 @@ use Rattle.typing_rules.specs.declared.expected.Expected.TheVariants as expected
 abbrev pub kind_of : FindingKind → definition.Kind
 kind_of (kind.UnexpectedType ts t h) = definition.UnexpectedType ts.items t h
 kind_of (kind.IncompatibleTypes ts why place) = definition.IncompatibleTypes ts.keys why place
-kind_of (kind.UnsafeAttributeAccess a b) = definition.UnsafeAttributeAccess (access_from a) b
-kind_of (kind.UnsafeOptionalAttributeAccess a) = definition.UnsafeOptionalAttributeAccess (access_from a)
+kind_of (kind.UnsafeAttributeAccess a b) = definition.UnsafeAttributeAccess a b
+kind_of (kind.UnsafeOptionalAttributeAccess a) = definition.UnsafeOptionalAttributeAccess a
 kind_of (kind.UnsafeTagAccess types tag) = definition.UnsafeTagAccess types tag
 kind_of (kind.NoTagsAllowed type) = definition.NoTagsAllowed type
 kind_of (kind.UndefinedFunction name) = definition.UndefinedFunction name

@@ -1,6 +1,6 @@
 use Rattle.std.proofs.Common.{◌≡◌}
 use Rattle.std.specs.List.{list_any}
-use Rattle.policy_scope.specs.Scope.{type_below}
+use Rattle.schema_core.specs.Schema.{type_below}
 use Rattle.policy_scope.proofs.scope.some_below.Given as goal
 
 -- those that are left decide

@@ -1,6 +1,7 @@
 use Rattle.std.proofs.Common.{◌≡◌, ◌&&◌, drop}
 use Rattle.std.specs.List.{list_any}
-use Rattle.policy_scope.specs.Scope.{action_meets, type_below, types_for}
+use Rattle.policy_scope.specs.Scope.{action_meets, types_for}
+use Rattle.schema_core.specs.Schema.{type_below}
 use Rattle.policy_scope.proofs.scope.some_type_below.Given as goal
 
 -- those that are left decide

@@ -1,6 +1,6 @@
 use Rattle.std.proofs.Common.{◌≡◌, ◌++◌, map}
 use Rattle.std.specs.Vec.Iter.{into_iter_items}
-use Rattle.policy_scope.specs.declared.finding.ValidationError.TheVariants.{InvalidActionApplication}
+use Rattle.findings.specs.declared.error.ValidationError.TheVariants.{InvalidActionApplication}
 use Rattle.policy_set.specs.Condition.{written_of}
 use Rattle.policy_scope.specs.Scope.{application_findings}
 use Rattle.policy_validate.proofs.validator.add_applications.Given as goal
