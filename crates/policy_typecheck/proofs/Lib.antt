@@ -1,4 +1,4 @@
+pub mod AllChecks
 pub mod Asks
 pub mod Lists
-pub mod Policies
 pub mod WalkSteps

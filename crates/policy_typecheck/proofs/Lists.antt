@@ -1,10 +1,9 @@
--- Lists that grow in loops.
-use Rattle.std.proofs.Common.{◌≡◌, ℕ, ◌≤◌, Bool, List, [], ◌∷◌, ◌++◌, map, max, fold, refl, sym, ap, ◌∙◌, append_assoc, arith}
-use Rattle.std.specs.Map.{keys_of}
-use Rattle.policy_expressions.specs.Tree.{Tree, named_of, deepest_named}
+-- Lists that grow by what they do not hold.
+use Rattle.std.proofs.Common.{◌≡◌, Bool, List, [], ◌∷◌, ◌++◌, refl}
 use Rattle.policy_typecheck.specs.Added.{added, all_added}
 
 module _ {T : Type 0} (eq : T → T → Bool) where
+  -- several, and then more
   pub added_append : (xs ys zs : List T) → all_added eq xs (ys ++ zs) ≡ all_added eq (all_added eq xs ys) zs
   added_append xs [] zs = refl
   added_append xs (y ∷ ys) zs = added_append (added eq xs y) ys zs

@@ -7,10 +7,7 @@ use findings::ValidationError;
 use std::alloc::AllocError;
 
 /// Adds an item, unless an equal one is there.
-pub(crate) fn add_once<T: PartialEq + Drop>(
-    items: &mut Vec<T>,
-    item: T,
-) -> Result<(), AllocError>
+pub(crate) fn add_once<T: PartialEq + Drop>(items: &mut Vec<T>, item: T) -> Result<(), AllocError>
     ensures { OnOk result (items.new.items ≡ added T.eq items.old.items item) }
 {
     if items.contains(&item) {

@@ -31,10 +31,10 @@ pub(crate) fn is_too_deep(condition: &Expr<()>) -> bool
 }
 
 /// The check of the policy's condition.
-pub(crate) fn check_condition(
-    at: &Setting<'_>,
+pub(crate) fn check_condition<'a>(
+    at: &Setting<'a>,
     id: &Text,
-    condition: &Expr<()>,
+    condition: &'a Expr<()>,
 ) -> Result<PolicyCheck, AllocError>
     ensures { IfOk result (λ r. Tells id.now (checked at.now.schema.now (env_data_of at.now.env.now) condition.now) r) }
 {

@@ -25,12 +25,7 @@ pub(crate) fn knows_attribute(
 }
 
 // Whether the tag is known to be there, where the operator asks: a search among all that is known takes time.
-pub(crate) fn knows_tag(
-    caps: &CapabilitySet<'_>,
-    op: BinaryOp,
-    x: &Expr<()>,
-    y: &Expr<()>,
-) -> bool
+pub(crate) fn knows_tag(caps: &CapabilitySet<'_>, op: BinaryOp, x: &Expr<()>, y: &Expr<()>) -> bool
     ensures { result ≡ asked op (has_cap caps.now (tag_known x.now y.now)) }
 {
     match op {

@@ -60,7 +60,7 @@ pub(crate) fn add_all_errors(
     errors: &mut Vec<ValidationError>,
     checks: Vec<(RequestEnv<'_>, PolicyCheck)>,
 ) -> Result<(), AllocError>
-    ensures { OnOk result (errors.new.items ≡ all_added same_error errors.old.items (all_errors checks.items)) }
+    ensures { OnOk result (errors.new.items ≡ all_added same_error errors.old.items (all_errors checks.entry.items)) }
 {
     for check in checks {
         add_errors_of(errors, check.1)?;
@@ -68,10 +68,7 @@ pub(crate) fn add_all_errors(
     Ok(())
 }
 
-fn add_errors_of(
-    errors: &mut Vec<ValidationError>,
-    check: PolicyCheck,
-) -> Result<(), AllocError>
+fn add_errors_of(errors: &mut Vec<ValidationError>, check: PolicyCheck) -> Result<(), AllocError>
     ensures { OnOk result (errors.new.items ≡ all_added same_error errors.old.items (errors_in check)) }
 {
     match check {

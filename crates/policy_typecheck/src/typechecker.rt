@@ -65,11 +65,11 @@ impl<'a> Typechecker<'a> {
     /// The check of a template's condition in an environment: it succeeds where the condition has the type True or Bool,
     /// is irrelevant where it has the type False, and fails elsewhere, with all that is found; a condition that is deeper
     /// than 200 fails with `TooDeep` alone.
-    pub fn typecheck_by_single_request_env(
-        &self,
+    pub fn typecheck_by_single_request_env<'b>(
+        &'b self,
         alloc: Global,
-        t: &Template,
-        env: &RequestEnv<'_>,
+        t: &'b Template,
+        env: &'b RequestEnv<'b>,
     ) -> Result<PolicyCheck, AllocError>
         ensures { IfOk result (λ r. Tells t.now.id (checked self.now (env_data_of env.now) (condition_of t.now)) r) }
     {
@@ -136,23 +136,23 @@ impl<'a> Typechecker<'a> {
         id: &Text,
         condition: &Expr<()>,
     ) -> Result<Vec<(RequestEnv<'a>, PolicyCheck)>, AllocError>
-        ensures environments { IfOk result (λ r. map (λ c. env_data_of c.0) r.items ≡ map env_data_of envs.items) }
+        ensures environments { IfOk result (λ r. map (λ c. env_data_of c.0) r.items ≡ map env_data_of envs.entry.items) }
         ensures checks { IfOk result (λ r. AllByRecursion (TellsIn self.now id.now condition.now) r.items) }
     {
         let mut checks = Vec::new(alloc);
         for env in envs {
-            let check = self.check_in(alloc, &env, id, condition)?;
+            let check = (&*self).check_in(alloc, &env, id, &*condition)?;
             checks.push((env, check))?;
         }
         Ok(checks)
     }
 
-    fn check_in(
-        &self,
+    fn check_in<'b>(
+        &'b self,
         alloc: Global,
-        env: &RequestEnv<'_>,
+        env: &'b RequestEnv<'b>,
         id: &Text,
-        condition: &Expr<()>,
+        condition: &'b Expr<()>,
     ) -> Result<PolicyCheck, AllocError>
         ensures { IfOk result (λ r. Tells id.now (checked self.now (env_data_of env.now) condition.now) r) }
     {

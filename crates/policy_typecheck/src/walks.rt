@@ -240,7 +240,16 @@ fn walk_attr<'a>(
 {
     let v = walk(at, caps, x)?;
     let known = knows_attribute(caps, x, n)?;
-    attr_told(at.alloc, at.schema, at.env, known, n, loc, x.source_loc(), v)
+    attr_told(
+        at.alloc,
+        at.schema,
+        at.env,
+        known,
+        n,
+        loc,
+        x.source_loc(),
+        v,
+    )
 }
 
 #[cycle(walk)]
