@@ -4,6 +4,7 @@ ghost use Rattle.std.specs.Prelude.{◌≡◌, ◌++◌, ◌&&◌, [], IfOk, Som
 ghost use Rattle.std.specs.Option.{option_and_then};
 ghost use Rattle.policy_expressions.specs.Tree.{conj};
 ghost use Rattle.policy_typing.specs.Signatures.{bool_type};
+
 ghost use Rattle.policy_typing.specs.Typing.{typing, at, and_caps, and_typing, unreached};
 ghost use Rattle.schema_types.specs.Ty.{false_type};
 ghost use Rattle.typing_findings.specs.Walked as failed;
@@ -105,15 +106,7 @@ fn and_typed<'a>(
     let found = joined(found, more)?;
     let note = own.try_clone(alloc)?;
     let tree = Expr::and(alloc, left, right, Some(note), loc)?;
-    Ok(ended_typed(
-        ok,
-        Typing {
-            of: own,
-            caps,
-            tree,
-        },
-        found,
-    ))
+    Ok(ended_typed(ok, Typing { of: own, caps, tree }, found))
 }
 
 fn and_false<'a>(

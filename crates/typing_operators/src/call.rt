@@ -26,7 +26,11 @@ use typing_rules::{
 };
 
 /// A call of an undefined function, whose arguments are not looked at. Errs where memory runs out.
-pub fn undefined_told<'a>(alloc: Global, f: &Name, loc: Option<Loc>) -> Result<Told<'a>, BuildError>
+pub fn undefined_told<'a>(
+    alloc: Global,
+    f: &Name,
+    loc: Option<Loc>,
+) -> Result<Told<'a>, BuildError>
     ensures { IfOk result (λ r. walked_of r ≡ failed.Fail (call f.now no_trees (lends None (mark loc))) (one (finding.UndefinedFunction f.now) loc)) }
 {
     let found = undefined_found(alloc, f, loc)?;

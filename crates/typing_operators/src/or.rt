@@ -110,15 +110,7 @@ fn or_typed<'a>(
     let found = joined(found, more)?;
     let note = own.try_clone(alloc)?;
     let tree = Expr::or(alloc, left, right, Some(note), loc)?;
-    Ok(ended_typed(
-        ok,
-        Typing {
-            of: own,
-            caps,
-            tree,
-        },
-        found,
-    ))
+    Ok(ended_typed(ok, Typing { of: own, caps, tree }, found))
 }
 
 // A true left side leaves the right one unreached.
