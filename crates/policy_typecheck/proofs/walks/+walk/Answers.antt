@@ -10,7 +10,7 @@ use Rattle.schema_core.specs.RequestEnvs.{env_data_of}
 use Rattle.policy_expressions.specs.Tree.{mark_of, ite, conj, disj, unary, binary, attr, has, like, is_type, call, set, rec, trees_of, named_of}
 use Rattle.policy_expressions.specs.TreeView.{tree_of}
 use Rattle.typing_findings.specs.Walk.{walked}
-use Rattle.typing_findings.specs.Operators.{attr_walked, has_walked, binary_walked}
+use Rattle.typing_findings.specs.Operators.{attr_walked, has_walked, binary_walked, unary_walked, like_walked, is_walked, set_walked, record_walked, if_parts, reached_after, reached_besides}
 use Rattle.typing_operators.specs.Told.{mark, walked_of}
 use Rattle.policy_typecheck.proofs.Asks.{asks_tag}
 use Rattle.policy_typecheck.proofs.WalkSteps.{so_far_more, keys_more, depth_more}
@@ -133,3 +133,32 @@ walk_named-loop-name-preserved g t c =
       keys = keys_more s e c.args.caps.now done _ k x v c.loop-name.name-iterator c.next.new.self is pushed _ c.loop-name.invariant.keys;
       depth = depth_more s e c.args.caps.now done _ k x v c.loop-name.name-iterator c.next.new.self is pushed _ c.loop-name.invariant.depth;
     }
+
+pub walk_if-returns : goal.walk_if-returns
+walk_if-returns g t c =
+    let s = c.args.at.now.schema.now in
+    let e = env_data_of c.args.at.now.env.now in
+    let cs = c.args.caps.now in
+    let v = c.in_ok-v.ensures ∙ (λ i. reached_after (c.in_ok-u.ensures i) (λ ds. walked s e (cs ++ ds) c.args.y.now) (walked s e cs c.args.y.now)) in
+    let w = c.in_ok-w.ensures ∙ (λ i. reached_besides (c.in_ok-u.ensures i) (walked s e cs c.args.z.now)) in
+    subst (λ r'. IfOk c.if_parts.result (λ r. walked_of r ≡ r')) (λ i. if_parts (mark c.args.loc) (c.in_ok-u.ensures i) (v i) (w i)) c.if_parts.ensures
+
+pub walk_unary-returns : goal.walk_unary-returns
+walk_unary-returns g t c =
+    subst (λ w. IfOk c.unary_told.result (λ r. walked_of r ≡ w)) (λ i. unary_walked c.args.op (mark c.args.loc) (c.source_loc.ensures i) (c.in_ok-v.ensures i)) c.unary_told.ensures
+
+pub walk_like-returns : goal.walk_like-returns
+walk_like-returns g t c =
+    subst (λ w. IfOk c.like_told.result (λ r. walked_of r ≡ w)) (λ i. like_walked c.args.p.now (mark c.args.loc) (c.source_loc.ensures i) (c.in_ok-v.ensures i)) c.like_told.ensures
+
+pub walk_is-returns : goal.walk_is-returns
+walk_is-returns g t c =
+    subst (λ w. IfOk c.is_told.result (λ r. walked_of r ≡ w)) (λ i. is_walked c.args.n.now (mark c.args.loc) (c.source_loc.ensures i) (c.in_ok-v.ensures i)) c.is_told.ensures
+
+pub walk_set-returns : goal.walk_set-returns
+walk_set-returns g t c =
+    subst (λ w. IfOk c.set_told.result (λ r. walked_of r ≡ w)) (λ i. set_walked (mark c.args.loc) (c.in_ok-ws.ensures i)) c.set_told.ensures
+
+pub walk_record-returns : goal.walk_record-returns
+walk_record-returns g t c =
+    subst (λ w. IfOk c.record_told.result (λ r. walked_of r ≡ w)) (λ i. record_walked (mark c.args.loc) (c.in_ok-ws.ensures i)) c.record_told.ensures
