@@ -25,7 +25,8 @@ use typing_operators::{
 };
 use typing_rules::Expected;
 
-// The walk through an expression: its typing, or what is found. Each kind has a function of its own, which keeps proofs short.
+// The walk through an expression: its typing, or what is found. Each kind has a function of its own, which keeps proofs short;
+// so does dropping by a call what was told of one part when the walk of the next fails.
 #[cycle(walk)]
 pub(crate) fn walk<'a>(
     at: &Setting<'a>,
@@ -66,9 +67,20 @@ fn walk_if<'a>(
     ensures { IfOk result (λ r. walked_of r ≡ walked at.now.schema.now (env_data_of at.now.env.now) caps.now (ite x.now y.now z.now (mark loc))) }
 {
     let u = walk_boolean(at, caps, x)?;
-    let v = walk_after(at, caps, &u, y)?;
-    let w = walk_besides(at, caps, &u, z)?;
-    if_parts(at.alloc, loc, u, v, w)
+    match walk_after(at, caps, &u, y) {
+        Ok(v) => match walk_besides(at, caps, &u, z) {
+            Ok(w) => if_parts(at.alloc, loc, u, v, w),
+            Err(error) => {
+                drop(u);
+                drop(v);
+                Err(error)
+            }
+        },
+        Err(error) => {
+            drop(u);
+            Err(error)
+        }
+    }
 }
 
 #[cycle(walk)]
@@ -82,8 +94,13 @@ fn walk_and<'a>(
     ensures { IfOk result (λ r. walked_of r ≡ walked at.now.schema.now (env_data_of at.now.env.now) caps.now (conj x.now y.now (mark loc))) }
 {
     let v = walk_boolean(at, caps, x)?;
-    let w = walk_right_of_and(at, caps, &v, y)?;
-    and_sides(at.alloc, loc, v, w)
+    match walk_right_of_and(at, caps, &v, y) {
+        Ok(w) => and_sides(at.alloc, loc, v, w),
+        Err(error) => {
+            drop(v);
+            Err(error)
+        }
+    }
 }
 
 #[cycle(walk)]
@@ -97,8 +114,13 @@ fn walk_or<'a>(
     ensures { IfOk result (λ r. walked_of r ≡ walked at.now.schema.now (env_data_of at.now.env.now) caps.now (disj x.now y.now (mark loc))) }
 {
     let v = walk_boolean(at, caps, x)?;
-    let w = walk_right_of_or(at, caps, &v, y)?;
-    or_sides(at.alloc, loc, v, w)
+    match walk_right_of_or(at, caps, &v, y) {
+        Ok(w) => or_sides(at.alloc, loc, v, w),
+        Err(error) => {
+            drop(v);
+            Err(error)
+        }
+    }
 }
 
 // A test, or a side of `&&` or `||`.
@@ -223,9 +245,14 @@ fn walk_binary<'a>(
     ensures { IfOk result (λ r. walked_of r ≡ walked at.now.schema.now (env_data_of at.now.env.now) caps.now (binary op x.now y.now (mark loc))) }
 {
     let v = walk(at, caps, x)?;
-    let w = walk(at, caps, y)?;
     let known = knows_tag(caps, op, x, y);
-    binary_told(at.alloc, at.schema, at.env, op, known, x, y, loc, v, w)
+    match walk(at, caps, y) {
+        Ok(w) => binary_told(at.alloc, at.schema, at.env, op, known, x, y, loc, v, w),
+        Err(error) => {
+            drop(v);
+            Err(error)
+        }
+    }
 }
 
 #[cycle(walk)]
@@ -238,8 +265,8 @@ fn walk_attr<'a>(
 ) -> Result<Told<'a>, BuildError>
     ensures { IfOk result (λ r. walked_of r ≡ walked at.now.schema.now (env_data_of at.now.env.now) caps.now (attr x.now n.now (mark loc))) }
 {
-    let v = walk(at, caps, x)?;
     let known = knows_attribute(caps, x, n)?;
+    let v = walk(at, caps, x)?;
     attr_told(
         at.alloc,
         at.schema,
@@ -262,8 +289,8 @@ fn walk_has<'a>(
 ) -> Result<Told<'a>, BuildError>
     ensures { IfOk result (λ r. walked_of r ≡ walked at.now.schema.now (env_data_of at.now.env.now) caps.now (has x.now n.now (mark loc))) }
 {
-    let v = walk(at, caps, x)?;
     let known = knows_attribute(caps, x, n)?;
+    let v = walk(at, caps, x)?;
     has_told(at.alloc, at.schema, known, x, n, loc, v)
 }
 
