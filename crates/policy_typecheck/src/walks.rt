@@ -396,8 +396,8 @@ fn walk_named<'a>(
 {
     let mut values = BTreeMap::new(at.alloc);
     for (name, item) in fields.iter() {
-        let value = walk(at, caps, item)?;
         let name = name.try_clone()?;
+        let value = walk(at, caps, item)?;
         push_entry(&mut values, name, value)?;
     }
     Ok(values)
