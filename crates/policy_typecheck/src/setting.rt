@@ -50,9 +50,9 @@ impl<'a> Extensions<'a> {
 
 /// The schema, the environment and the extensions under which an expression is typed.
 #[derive(Drop)]
-pub(crate) struct Setting<'a> {
+pub(crate) struct Setting<'a, 's, 'e> {
     pub(crate) alloc: Global,
-    pub(crate) schema: &'a ValidatorSchema,
+    pub(crate) schema: &'s ValidatorSchema,
     pub(crate) env: &'a RequestEnv<'a>,
-    pub(crate) extensions: &'a Extensions<'a>,
+    pub(crate) extensions: &'e Extensions<'s>,
 }

@@ -66,7 +66,7 @@ impl<'a> Typechecker<'a> {
     /// is irrelevant where it has the type False, and fails elsewhere, with all that is found; a condition that is deeper
     /// than 200 fails with `TooDeep` alone.
     pub fn typecheck_by_single_request_env<'b>(
-        &'b self,
+        &self,
         alloc: Global,
         t: &'b Template,
         env: &'b RequestEnv<'b>,
@@ -148,7 +148,7 @@ impl<'a> Typechecker<'a> {
     }
 
     fn check_in<'b>(
-        &'b self,
+        &self,
         alloc: Global,
         env: &'b RequestEnv<'b>,
         id: &Text,
