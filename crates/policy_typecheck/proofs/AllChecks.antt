@@ -1,16 +1,24 @@
 -- What the checks in all environments tell is what the definitions tell.
-use Rattle.std.proofs.Common.{◌≡◌, ℕ, Bool, true, false, ◌&&◌, List, [], ◌∷◌, ◌++◌, map, refl, sym, ap, ◌∙◌}
+use Rattle.std.proofs.Common.{◌≡◌, ℕ, Bool, true, false, not, ◌&&◌, if◌then◌else◌, nat_lt, List, [], ◌∷◌, ◌++◌, map, refl, sym, ap, ◌∙◌, append_assoc, subst}
+use Rattle.std.proofs.lemmas.List.{map-append}
 use Rattle.std.specs.List.{AllByRecursion, flat_map, list_all}
 use Rattle.schema_core.specs.Schema.{SchemaData}
 use Rattle.schema_core.specs.EnvData.{EnvData}
 use Rattle.schema_core.specs.RequestEnvs.{env_data_of}
+use Rattle.schema_core.specs.declared.request_env.RequestEnv.{RequestEnv}
 use Rattle.policy_expressions.specs.Plain.{Plain}
+use Rattle.policy_expressions.specs.Tree.{depth_of}
+use Rattle.policy_set.specs.Data.{TemplateData}
+use Rattle.policy_set.specs.Condition.{condition_of}
+use Rattle.policy_links.specs.Linked.{linked_envs}
+use Rattle.findings.specs.declared.error.ValidationWarning.{ValidationWarning}
 use Rattle.typing_findings.specs.Check.{Check, Success, Irrelevant, Fail, TooDeep, checked}
 use Rattle.policy_typecheck.specs.declared.policy_check.PolicyCheck.{PolicyCheck}
 use Rattle.policy_typecheck.specs.declared.policy_check.PolicyCheck.TheVariants as code
-use Rattle.policy_typecheck.specs.Answer.{Tells, TellsIn, errors_of}
+use Rattle.policy_typecheck.specs.Answer.{Tells, TellsIn, errors_of, too_deep}
 use Rattle.policy_typecheck.specs.Checks.{Checks, has_passed, is_false, errors_in, all_passed, all_false, all_errors}
-use Rattle.policy_typecheck.specs.Policies.{passes, is_irrelevant}
+use Rattle.policy_typecheck.specs.Added.{added, same_warning}
+use Rattle.policy_typecheck.specs.Policies.{passes, is_irrelevant, impossible, checks_of, refusals, is_accepted, warned}
 
 passed_same : (id : List ℕ) (c : Check) (r : PolicyCheck) → Tells id c r → has_passed r ≡ passes c
 passed_same id (Success t) (code.Success u) h = refl
@@ -54,9 +62,13 @@ errors_same id TooDeep (code.Success u) h = absurd h
 errors_same id TooDeep (code.Irrelevant u) h = absurd h
 errors_same id TooDeep (code.Fail es) h = h
 
+each_more : {A : Type 0} (P : A → Type 0) (rs : List A) (r : A) → AllByRecursion P rs → P r → AllByRecursion P (rs ++ r ∷ [])
+each_more P [] r hs h = (h, tt)
+each_more P (q ∷ rs) r hs h = (hs.0, each_more P rs r hs.1 h)
+
 module _ (schema : SchemaData) (id : List ℕ) (x : Plain) where
   -- the definitions' checks in the environments of those in code
-  checks : Checks → List Check
+  abbrev checks : Checks → List Check
   checks rs = map (λ env. checked schema env x) (map (λ r. env_data_of r.0) rs)
 
   all_passed_same : (rs : Checks) → AllByRecursion (TellsIn schema id x) rs → all_passed rs ≡ list_all passes (checks rs)
@@ -81,3 +93,29 @@ module _ (schema : SchemaData) (id : List ℕ) (x : Plain) where
 
     pub told_errors : all_errors rs ≡ flat_map (errors_of id) (map (λ env. checked schema env x) envs)
     told_errors = all_errors_same rs told ∙ ap (λ es. flat_map (errors_of id) (map (λ env. checked schema env x) es)) same
+
+  -- one check more, of an environment that was still to be checked
+  module _ (done new : Checks) (r : RequestEnv × PolicyCheck) (it rest : List RequestEnv) (is : it ≡ r.0 ∷ rest) (pushed : new ≡ done ++ r ∷ []) where
+    pub envs_more : (all : List EnvData) → map (λ c. env_data_of c.0) done ++ map env_data_of it ≡ all → map (λ c. env_data_of c.0) new ++ map env_data_of rest ≡ all
+    envs_more all h =
+        ap (λ cs. map (λ c. env_data_of c.0) cs ++ map env_data_of rest) pushed
+        ∙ ap (λ l. l ++ map env_data_of rest) (map-append (λ c. env_data_of c.0) done (r ∷ []))
+        ∙ append_assoc (map (λ c. env_data_of c.0) done) (env_data_of r.0 ∷ []) (map env_data_of rest)
+        ∙ ap (λ es. map (λ c. env_data_of c.0) done ++ map env_data_of es) (sym is)
+        ∙ h
+
+    pub told_more : AllByRecursion (TellsIn schema id x) done → TellsIn schema id x r → AllByRecursion (TellsIn schema id x) new
+    told_more hs h = subst (AllByRecursion (TellsIn schema id x)) (sym pushed) (each_more (TellsIn schema id x) done r hs h)
+
+-- a template whose condition is not too deep
+module _ (schema : SchemaData) (t : TemplateData) (rs : Checks) (same : map (λ r. env_data_of r.0) rs ≡ linked_envs schema t)
+    (told : AllByRecursion (TellsIn schema t.id (condition_of t)) rs) (flat : nat_lt 200 (depth_of (condition_of t)) ≡ false) where
+  pub accepted_told : all_passed rs ≡ is_accepted schema t
+  accepted_told = told_passed schema t.id (condition_of t) (linked_envs schema t) rs same told ∙ sym (ap (λ b. not b && list_all passes (checks_of schema t)) flat)
+
+  pub refusals_told : all_errors rs ≡ refusals schema t
+  refusals_told = told_errors schema t.id (condition_of t) (linked_envs schema t) rs same told ∙ sym (ap (λ b. if b then too_deep t.id ∷ [] else flat_map (errors_of t.id) (checks_of schema t)) flat)
+
+  pub warned_told : (before : List ValidationWarning) → (if all_false rs then added same_warning before (impossible t.id) else before) ≡ warned schema t before
+  warned_told before = ap (λ b. if b then added same_warning before (impossible t.id) else before)
+    (told_false schema t.id (condition_of t) (linked_envs schema t) rs same told ∙ sym (ap (λ b. not b && list_all is_irrelevant (checks_of schema t)) flat))

@@ -15,7 +15,7 @@ ghost use Rattle.policy_typecheck.specs.Policies.{is_accepted, refusals, warned}
 use crate::PolicyCheck;
 use crate::added::add_errors;
 use crate::conditions::{check_condition, is_too_deep, only_too_deep};
-use crate::policies::{add_all_errors, all_false, all_passed, warn_impossible};
+use crate::policies::tell_checks;
 use crate::setting::{Extensions, Setting};
 use extension_types::ExtensionSchemas;
 use findings::{ValidationError, ValidationWarning};
@@ -95,12 +95,7 @@ impl<'a> Typechecker<'a> {
             return Ok(false);
         }
         let checks = self.typecheck_by_request_env(alloc, t)?;
-        let accepted = all_passed(&checks);
-        if all_false(&checks) {
-            warn_impossible(warnings, t.id())?;
-        }
-        add_all_errors(errors, checks)?;
-        Ok(accepted)
+        tell_checks(checks, t.id(), errors, warnings)
     }
 
     /// The checks of a template's condition in its environments, one after another.
