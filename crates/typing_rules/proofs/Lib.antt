@@ -1,3 +1,3 @@
 pub mod Apart
-pub mod Calls
-pub mod Tags
+pub mod CallSteps
+pub mod TagSteps

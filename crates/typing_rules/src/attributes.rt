@@ -85,7 +85,7 @@ pub fn is_type(t: &Type, n: &EntityType) -> Option<Type>
 fn is_same(name: &EntityType, n: &EntityType) -> Type
     ensures { result ≡ rule.is_one_of (name.now ∷ []) n.now }
 {
-    if n.cmp(name) == Ordering::Equal {
+    if is_same_name(n, name) {
         Type::singleton_boolean(true)
     } else {
         Type::singleton_boolean(false)
@@ -108,11 +108,17 @@ fn are_all(lub: &EntityLUB, n: &EntityType) -> bool
     ensures { result ≡ list_all (text_eq n.now) lub.now }
 {
     for name in lub.iter() {
-        if n.cmp(name) != Ordering::Equal {
+        if !is_same_name(n, name) {
             return false;
         }
     }
     true
+}
+
+fn is_same_name(n: &EntityType, name: &EntityType) -> bool
+    ensures { result ≡ text_eq n.now name.now }
+{
+    n.cmp(name) == Ordering::Equal
 }
 
 /// What is found of an attribute that may be absent.

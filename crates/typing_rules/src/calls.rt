@@ -1,6 +1,8 @@
 //! Calls of extension functions.
 
-ghost use Rattle.std.specs.Prelude.{◌≡◌, ℕ, ◌==◌, List, IfOk, IfSome, Some, length, option_map};
+ghost use Rattle.std.specs.Prelude.{◌≡◌, ◌&&◌, ℕ, List, IfOk, Some, length, option_map};
+ghost use Rattle.std.specs.Coded.{Coded-set, coded_list};
+ghost use Rattle.schema_types.specs.TyCode.{coded_ty};
 ghost use Rattle.policy_expressions.specs.Functions.{function_of};
 ghost use Rattle.policy_expressions.specs.Tree.{trees_of};
 ghost use Rattle.policy_typing.specs.Signatures.{signature_of, is_constructor, are_literals, is_literal, same_types, has_count, has_literals, has_readable, only_text, count_of};
@@ -29,8 +31,9 @@ pub struct CalledFunction<'a> {
     pub function: ExtensionFunction,
     /// What it takes and gives.
     pub signature: &'a ExtensionFunctionType,
-    ghost is_signature: { signature.now.signature ≡ signature_of function },
-    ghost is_check: { signature.now.check ≡ check_of function },
+    ghost takes: { signature.now.signature.arguments ≡ (signature_of function).arguments } by { Coded-set (coded_list coded_ty) signature.now.signature.arguments (signature_of function).arguments },
+    ghost gives: { signature.now.signature.result ≡ (signature_of function).result } by { Coded-set coded_ty signature.now.signature.result (signature_of function).result },
+    ghost is_checked: { signature.now.check ≡ check_of function },
 }
 
 /// The function of a name.
@@ -98,7 +101,7 @@ fn is_formed(
     }
 }
 
-#[tactic(auto, using(crate::proofs::Calls::count_is_length))]
+#[tactic(auto, using(crate::proofs::CallSteps::count_is_length))]
 fn has_count(f: CalledFunction<'_>, arguments: &[Expr<()>]) -> bool
     ensures { result ≡ has_count f.entry.function (trees_of arguments.now) }
 {
@@ -146,7 +149,7 @@ fn is_literal(argument: &Expr<()>) -> bool
     }
 }
 
-#[tactic(auto, using(crate::proofs::Calls::readable_unless_refused))]
+#[tactic(auto, using(crate::proofs::CallSteps::readable_unless_refused))]
 fn has_readable(
     alloc: Global,
     f: CalledFunction<'_>,
@@ -195,7 +198,7 @@ pub fn call_found(
     joined(count, joined(text, literals)?)
 }
 
-#[tactic(auto, using(crate::proofs::Calls::count_is_length))]
+#[tactic(auto, using(crate::proofs::CallSteps::count_is_length))]
 fn count_found(
     alloc: Global,
     f: CalledFunction<'_>,
@@ -212,7 +215,7 @@ fn count_found(
     }
 }
 
-#[tactic(auto, using(crate::proofs::Calls::text_found_if_refused))]
+#[tactic(auto, using(crate::proofs::CallSteps::text_found_if_refused))]
 fn text_found(
     alloc: Global,
     f: CalledFunction<'_>,

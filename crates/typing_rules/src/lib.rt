@@ -6,6 +6,7 @@ mod booleans;
 mod calls;
 mod compared;
 mod environment;
+mod error;
 mod expected;
 mod finding;
 mod joins;
@@ -24,6 +25,7 @@ pub use calls::{
 };
 pub use compared::are_one;
 pub use environment::{known_id, listed_ids, literal_type, slot_type, truth_type, variable_type};
+pub use error::error_of;
 pub use expected::{Expected, fits, left_of, of_unary, right_of, unexpected};
 pub use finding::{Finding, FindingKind, joined, one, undefined_found};
 pub use joins::{joined_type, no_join, strict_join};

@@ -89,36 +89,24 @@ fn id_in(schema: &ValidatorSchema, uid: &EntityUID, ids: &[EntityUID]) -> Type
 fn is_type_within_any(schema: &ValidatorSchema, name: &EntityType, ids: &[EntityUID]) -> bool
     ensures { result ≡ list_any (λ u. within.is_type_within schema.now name.now u.entity_type) ids.now }
 {
-    for uid in ids {
-        if is_type_within(schema, name, uid.entity_type()) {
-            return true;
-        }
-    }
-    false
+    ids.iter()
+        .any(|uid| is_type_within(schema, name, uid.entity_type()))
 }
 
 // Whether the action is one of the actions among the ids, or among its descendants.
 fn action_among(schema: &ValidatorSchema, action: &EntityUID, ids: &[EntityUID]) -> bool
     ensures { result ≡ rule.action_among schema.now action.now ids.now }
 {
-    for uid in ids {
-        if uid.is_action() && is_action_within(schema, action, uid) {
-            return true;
-        }
-    }
-    false
+    ids.iter().any(|uid| uid.is_action() && is_action_within(schema, action, uid))
 }
 
 // Whether the entity's type is that of one of the ids that are no actions, or among its descendants.
 fn entity_among(schema: &ValidatorSchema, entity: &EntityUID, ids: &[EntityUID]) -> bool
     ensures { result ≡ rule.entity_among schema.now entity.now ids.now }
 {
-    for uid in ids {
-        if !uid.is_action() && is_type_within(schema, entity.entity_type(), uid.entity_type()) {
-            return true;
-        }
-    }
-    false
+    ids.iter().any(|uid| {
+        !uid.is_action() && is_type_within(schema, entity.entity_type(), uid.entity_type())
+    })
 }
 
 fn is_type_within(schema: &ValidatorSchema, name: &EntityType, above: &EntityType) -> bool

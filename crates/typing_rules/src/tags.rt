@@ -44,7 +44,7 @@ pub fn tag_type(
     }
 }
 
-#[tactic(auto, using(crate::proofs::Tags::tags_of_one))]
+#[tactic(auto, using(crate::proofs::TagSteps::tags_of_one))]
 fn tags_of_one(
     alloc: Global,
     schema: &ValidatorSchema,
