@@ -1,9 +1,10 @@
 //! The checks of names and scopes, over templates.
 
-use crate::findings::made::entity_type;
+use crate::findings::made::{entity_type, uid};
 use crate::findings::told;
-use policy_documents::{PolicyRead, parse_json, read_policy, read_schema};
+use policy_documents::{parse_json, read_schema};
 use policy_expressions::{Expr, Literal};
+use policy_gate::{Bounded, read_expr};
 use policy_names::Text;
 use policy_scope::{
     ValidationError, ValidationResult, validate_action_ids, validate_entity_types,
@@ -19,26 +20,30 @@ use std::test::Fail;
 const SCHEMA: &str =
     r#"{"entityTypes":{"Album":{},"Foo":{"enum":["foo","bar"]},"Group":{},"Photo":{"memberOf":["Album"]},"User":{"memberOf":["Group"]}},"actions":[{"id":["Action","Action::look"]},{"id":["Action","list"]},{"id":["Action","view"],"principals":["User"],"resources":["Photo"]}]}"#;
 
-// A part of a permit of the policy p0, and all that is found.
-const SCOPES: &str = r#""body":[] => errors 0, warnings 0|
-"principal":{"==":["Group","g"]} => error InvalidActionApplication: for policy `p0`, unable to find an applicable action given the policy scope constraints|  help: try replacing `==` with `in` in the principal clause|errors 1, warnings 0|
-"resource":{"==":["Album","a"]} => error InvalidActionApplication: for policy `p0`, unable to find an applicable action given the policy scope constraints|  help: try replacing `==` with `in` in the resource clause|errors 1, warnings 0|
-"principal":{"==":["Group","g"]},"resource":{"==":["Album","a"]} => error InvalidActionApplication: for policy `p0`, unable to find an applicable action given the policy scope constraints|  help: try replacing `==` with `in` in the principal clause and the resource clause|errors 1, warnings 0|
-"principal":{"==":["Group","g"]},"action":{"==":["Action","list"]} => error InvalidActionApplication: for policy `p0`, unable to find an applicable action given the policy scope constraints|errors 1, warnings 0|
-"principal":{"==":["User","u"]} => errors 0, warnings 0|
-"principal":{"in":["Group","g"]} => errors 0, warnings 0|
-"principal":{"in":["Album","a"]} => error InvalidActionApplication: for policy `p0`, unable to find an applicable action given the policy scope constraints|errors 1, warnings 0|
-"principal":{"is":"User"} => errors 0, warnings 0|
-"principal":{"is":"Group"} => error InvalidActionApplication: for policy `p0`, unable to find an applicable action given the policy scope constraints|errors 1, warnings 0|
-"principal":{"is":"User","in":["Group","g"]} => errors 0, warnings 0|
-"principal":{"is":"Photo","in":["Group","g"]} => error InvalidActionApplication: for policy `p0`, unable to find an applicable action given the policy scope constraints|errors 1, warnings 0|
-"action":{"==":["Action","view"]} => errors 0, warnings 0|
-"action":{"in":[["Action","list"],["Action","view"]]} => errors 0, warnings 0|
-"action":{"in":[]} => error InvalidActionApplication: for policy `p0`, unable to find an applicable action given the policy scope constraints|errors 1, warnings 0|
-"action":{"in":[["Action","view"],["Action","nope"]]} => error UnrecognizedActionId: for policy `p0`, unrecognized action `Action::"nope"`|error InvalidActionApplication: for policy `p0`, unable to find an applicable action given the policy scope constraints|errors 2, warnings 0|
-"action":{"==":["Action","look"]} => error UnrecognizedActionId: for policy `p0`, unrecognized action `Action::"look"`|  help: did you intend to include the type in action `Action::"Action::look"`?|error InvalidActionApplication: for policy `p0`, unable to find an applicable action given the policy scope constraints|errors 2, warnings 0|
-"resource":{"==":["Nope","x"]} => error UnrecognizedEntityType: for policy `p0`, unrecognized entity type `Nope`|error InvalidActionApplication: for policy `p0`, unable to find an applicable action given the policy scope constraints|errors 2, warnings 0|
-"principal":{"==":["Foo","baz"]} => error InvalidEnumEntity: for policy `p0`: entity `Foo::"baz"` is of an enumerated entity type, but `"baz"` is not declared as a valid eid|  help: valid entity eids: "foo", "bar"|error InvalidActionApplication: for policy `p0`, unable to find an applicable action given the policy scope constraints|errors 2, warnings 0|"#;
+// What the scope of the policy p0 asks of principal, action and resource, and all that is found.
+const SCOPES: &str = r#"-; -; - => errors 0, warnings 0|
+== Group g; -; - => error InvalidActionApplication: for policy `p0`, unable to find an applicable action given the policy scope constraints|  help: try replacing `==` with `in` in the principal clause|errors 1, warnings 0|
+-; -; == Album a => error InvalidActionApplication: for policy `p0`, unable to find an applicable action given the policy scope constraints|  help: try replacing `==` with `in` in the resource clause|errors 1, warnings 0|
+== Group g; -; == Album a => error InvalidActionApplication: for policy `p0`, unable to find an applicable action given the policy scope constraints|  help: try replacing `==` with `in` in the principal clause and the resource clause|errors 1, warnings 0|
+== Group g; == list; - => error InvalidActionApplication: for policy `p0`, unable to find an applicable action given the policy scope constraints|errors 1, warnings 0|
+== User u; -; - => errors 0, warnings 0|
+in Group g; -; - => errors 0, warnings 0|
+in Album a; -; - => error InvalidActionApplication: for policy `p0`, unable to find an applicable action given the policy scope constraints|errors 1, warnings 0|
+is User; -; - => errors 0, warnings 0|
+is Group; -; - => error InvalidActionApplication: for policy `p0`, unable to find an applicable action given the policy scope constraints|errors 1, warnings 0|
+is User in Group g; -; - => errors 0, warnings 0|
+is Photo in Group g; -; - => error InvalidActionApplication: for policy `p0`, unable to find an applicable action given the policy scope constraints|errors 1, warnings 0|
+== ?; -; - => errors 0, warnings 0|
+in ?; -; is Photo in ? => errors 0, warnings 0|
+-; -; is Album in ? => error InvalidActionApplication: for policy `p0`, unable to find an applicable action given the policy scope constraints|errors 1, warnings 0|
+-; == view; - => errors 0, warnings 0|
+-; in list view; - => errors 0, warnings 0|
+-; in list; - => error InvalidActionApplication: for policy `p0`, unable to find an applicable action given the policy scope constraints|errors 1, warnings 0|
+-; in view nope; - => error UnrecognizedActionId: for policy `p0`, unrecognized action `Action::"nope"`|error InvalidActionApplication: for policy `p0`, unable to find an applicable action given the policy scope constraints|errors 2, warnings 0|
+-; == look; - => error UnrecognizedActionId: for policy `p0`, unrecognized action `Action::"look"`|  help: did you intend to include the type in action `Action::"Action::look"`?|error InvalidActionApplication: for policy `p0`, unable to find an applicable action given the policy scope constraints|errors 2, warnings 0|
+-; -; == Nope x => error UnrecognizedEntityType: for policy `p0`, unrecognized entity type `Nope`|error InvalidActionApplication: for policy `p0`, unable to find an applicable action given the policy scope constraints|errors 2, warnings 0|
+is Nope; -; - => error UnrecognizedEntityType: for policy `p0`, unrecognized entity type `Nope`|error InvalidActionApplication: for policy `p0`, unable to find an applicable action given the policy scope constraints|errors 2, warnings 0|
+== Foo baz; -; - => error InvalidEnumEntity: for policy `p0`: entity `Foo::"baz"` is of an enumerated entity type, but `"baz"` is not declared as a valid eid|  help: valid entity eids: "foo", "bar"|error InvalidActionApplication: for policy `p0`, unable to find an applicable action given the policy scope constraints|errors 2, warnings 0|"#;
 
 // The same of a body.
 const BODIES: &str = r#"{"==":[{"id":["Foo","foo"]},{"id":["Foo","bar"]}]} => errors 0, warnings 0|
@@ -66,36 +71,80 @@ fn schema(alloc: Global) -> Result<ValidatorSchema, Fail> {
     }
 }
 
-fn template(alloc: Global, text: &str) -> Result<Template, Fail> {
-    let Some(json) = parse_json(alloc, text.as_bytes())? else {
-        return Err(Fail::new("the text is no JSON"));
-    };
-    let read = read_policy(alloc, &json);
-    drop(json);
-    match read? {
-        Some(PolicyRead::Policy(template)) => Ok(template),
-        _ => Err(Fail::new("the text is no policy")),
+// What is asked of the principal or of the resource.
+fn constraint(alloc: Global, text: &str) -> Result<PrincipalOrResourceConstraint, Fail> {
+    let (form, rest) = text.split_once(" ").unwrap_or((text, ""));
+    Ok(match form {
+        "==" => PrincipalOrResourceConstraint::Eq(reference(alloc, rest)?),
+        "in" => PrincipalOrResourceConstraint::In(reference(alloc, rest)?),
+        "is" => match rest.split_once(" in ") {
+            Some((ty, above)) => PrincipalOrResourceConstraint::IsIn(
+                entity_type(alloc, ty)?,
+                reference(alloc, above)?,
+            ),
+            None => PrincipalOrResourceConstraint::Is(entity_type(alloc, rest)?),
+        },
+        _ => PrincipalOrResourceConstraint::Any,
+    })
+}
+
+fn reference(alloc: Global, text: &str) -> Result<EntityReference, Fail> {
+    match text.split_once(" ") {
+        Some((ty, eid)) => Ok(EntityReference::EUID(uid(alloc, ty, eid)?)),
+        None => Ok(EntityReference::Slot),
     }
 }
 
-// A template whose principal meets the constraint.
-fn for_principal(
-    alloc: Global,
-    principal: PrincipalOrResourceConstraint,
-) -> Result<Template, Fail> {
+// What is asked of the action.
+fn action_constraint(alloc: Global, text: &str) -> Result<ActionConstraint, Fail> {
+    let (form, rest) = text.split_once(" ").unwrap_or((text, ""));
+    match form {
+        "==" => Ok(ActionConstraint::Eq(uid(alloc, "Action", rest)?)),
+        "in" => {
+            let mut uids = Vec::new(alloc);
+            for eid in rest.split(" ") {
+                uids.push(uid(alloc, "Action", eid)?)?;
+            }
+            Ok(ActionConstraint::In(uids))
+        }
+        _ => Ok(ActionConstraint::Any),
+    }
+}
+
+fn template_of(alloc: Global, scope: &str, body: Expr<()>) -> Result<Template, Fail> {
+    let (principal, rest) = scope.split_once("; ").unwrap_or((scope, ""));
+    let (action, resource) = rest.split_once("; ").unwrap_or((rest, ""));
     let template = Template::new(
         alloc,
         Text::from_str(alloc, "p0")?,
         Effect::Permit,
-        principal,
-        ActionConstraint::Any,
-        PrincipalOrResourceConstraint::Any,
-        Expr::lit(Literal::Bool(true), (), None),
+        constraint(alloc, principal)?,
+        action_constraint(alloc, action)?,
+        constraint(alloc, resource)?,
+        body,
     );
     match template {
         Ok(template) => Ok(template),
         Err(_) => Err(Fail::new("no template")),
     }
+}
+
+// A template with the body that a text says.
+fn with_body(alloc: Global, text: &str) -> Result<Template, Fail> {
+    let Some(json) = parse_json(alloc, text.as_bytes())? else {
+        return Err(Fail::new("the text is no JSON"));
+    };
+    let body = read_expr(alloc, &json);
+    drop(json);
+    match body? {
+        Some(Bounded::Within(body)) => template_of(alloc, "-; -; -", body),
+        _ => Err(Fail::new("the text is no expression")),
+    }
+}
+
+// A template with the scope that a text says.
+fn with_scope(alloc: Global, text: &str) -> Result<Template, Fail> {
+    template_of(alloc, text, Expr::lit(Literal::Bool(true), (), None))
 }
 
 // All that the four checks find, in their order.
@@ -130,14 +179,11 @@ fn failures(
     let mut failures = String::new(alloc);
     for line in table.lines() {
         let (part, wanted) = line.split_once(" => ").unwrap_or((line, ""));
-        let text = if in_body {
-            format!(in alloc;
-                "{{\"id\":\"p0\",\"effect\":\"permit\",\"body\":[{{\"when\":{part}}}]}}"
-            )?
+        let template = if in_body {
+            with_body(alloc, part)?
         } else {
-            format!(in alloc; "{{\"id\":\"p0\",\"effect\":\"permit\",{part}}}")?
+            with_scope(alloc, part)?
         };
-        let template = template(alloc, text.as_str())?;
         let found = found(alloc, schema, &template)?;
         drop(template);
         let told = told(alloc, &found)?;
@@ -146,28 +192,6 @@ fn failures(
         }
     }
     Ok(failures)
-}
-
-#[test]
-fn slots_are_met_by_every_type(rt: HostRuntime) -> Result<(), Fail> {
-    let alloc = rt.alloc();
-    let schema = schema(alloc)?;
-    let user = entity_type(alloc, "User")?;
-    let group = entity_type(alloc, "Group")?;
-    let mut counts = String::new(alloc);
-    for constraint in [
-        PrincipalOrResourceConstraint::Eq(EntityReference::Slot),
-        PrincipalOrResourceConstraint::In(EntityReference::Slot),
-        PrincipalOrResourceConstraint::IsIn(user, EntityReference::Slot),
-        PrincipalOrResourceConstraint::IsIn(group, EntityReference::Slot),
-    ] {
-        let template = for_principal(alloc, constraint)?;
-        let found = found(alloc, &schema, &template)?;
-        let count = found.validation_errors().len();
-        counts.push_str(format!(in alloc; "{count} ")?.as_str())?;
-    }
-    assert_eq!(rt; counts.as_str(), "0 0 0 1 ");
-    Ok(())
 }
 
 #[test]
