@@ -21,7 +21,7 @@ pub enum ExtensionInitializationError {
 
 /// Several functions have one name.
 #[derive(Debug, Drop, Error)]
-#[error("extension function `{name}` has more than one definition")]
+#[error("extension function `{name}` is defined multiple times")]
 pub struct FuncMultiplyDefinedError {
     /// The name.
     pub name: Name,

@@ -1,3 +1,4 @@
+mod AttributeSteps
 pub mod Apart
 pub mod CallSteps
 pub mod TagSteps

@@ -1,9 +1,9 @@
 //! The rules of attributes and of `is`, and what is found of `.`.
 
-ghost use Rattle.std.specs.Prelude.{◌≡◌, ◌∷◌, [], IfOk};
+ghost use Rattle.std.specs.Prelude.{◌≡◌, ◌∷◌, [], IfOk, IfSome, option_copied};
 ghost use Rattle.std.specs.List.{list_all};
 ghost use Rattle.schema_core.specs.RequestEnvs.{env_data_of};
-ghost use Rattle.policy_types.specs.Attributes.{may_have};
+ghost use Rattle.policy_types.specs.Attributes.{attrs_in, may_have, union_attrs};
 ghost use Rattle.policy_types.specs.Join.{text_eq};
 ghost use Rattle.policy_typing.specs.Environment.{declared_attributes};
 ghost use Rattle.policy_typing.specs.Rules as rule;
@@ -20,7 +20,9 @@ use policy_expressions::{Expr, Loc};
 use policy_names::{EntityType, Text};
 use policy_types::{lookup_attribute_type, may_have_attr};
 use schema_core::{RequestEnv, ValidatorSchema};
-use schema_types::{AttributeType, EntityLUB, EntityRecordKind, Type, TypeKind};
+use schema_types::{
+    AttributeType, Attributes, DeclaredAttributes, EntityLUB, EntityRecordKind, Type, TypeKind,
+};
 use std::alloc::{AllocError, Global};
 use std::cmp::Ordering;
 
@@ -33,7 +35,47 @@ pub fn attribute_of(
 ) -> Result<Option<AttributeType>, AllocError>
     ensures { IfOk result (λ o. o ≡ rule.attribute_of schema.now t.now n.now) }
 {
-    lookup_attribute_type(alloc, schema, t, n)
+    match own_attributes(schema, t) {
+        Some(attributes) => copied(alloc, attributes.get_attr(n)),
+        None => lookup_attribute_type(alloc, schema, t, n),
+    }
+}
+
+// All attributes of the type, where they stand in one place: others are put together from several types.
+fn own_attributes<'a>(schema: &'a ValidatorSchema, t: &'a Type) -> Option<&'a Attributes>
+    ensures { IfSome result (λ xs. xs.now ≡ attrs_in (declared_attributes schema.now) t.now) }
+{
+    match t.kind() {
+        TypeKind::EntityOrRecord(kind) => match kind {
+            EntityRecordKind::Record { attrs, .. } => Some(attrs),
+            EntityRecordKind::ActionEntity { attrs, .. } => Some(attrs),
+            EntityRecordKind::Entity(lub) => declared_alone(schema, lub),
+            EntityRecordKind::AnyEntity => None,
+        },
+        _ => None,
+    }
+}
+
+#[tactic(auto, using(crate::proofs::AttributeSteps::alone))]
+fn declared_alone<'a>(schema: &'a ValidatorSchema, lub: &EntityLUB) -> Option<&'a Attributes>
+    ensures { IfSome result (λ xs. xs.now ≡ union_attrs (declared_attributes schema.now) lub.now) }
+{
+    match lub.get_single_entity() {
+        Some(name) => schema.attributes_of(name),
+        None => None,
+    }
+}
+
+fn copied(
+    alloc: Global,
+    attribute: Option<&AttributeType>,
+) -> Result<Option<AttributeType>, AllocError>
+    ensures { IfOk result (λ o. o ≡ option_copied attribute.entry) }
+{
+    match attribute {
+        Some(attribute) => Ok(Some(attribute.try_clone(alloc)?)),
+        None => Ok(None),
+    }
 }
 
 /// The type of `has`, by whether the attribute is known to be there, and by the attribute that the operand's type declares.
