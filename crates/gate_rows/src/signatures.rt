@@ -151,7 +151,11 @@ fn function_that_is_defined_twice(rt: HostRuntime) -> Result<(), Fail> {
     twice.push(decimal::extension_schema(alloc)?)?;
     match ExtensionSchemas::specific_extension_schemas(alloc, twice.as_slice()) {
         Err(ExtensionInitializationError::FuncMultiplyDefined(error)) => {
-            assert_eq!(rt; error.name.as_str(), "decimal");
+            let told = format!(in alloc; "{error}")?;
+            assert_eq!(rt;
+                told.as_str(),
+                "extension function `decimal` is defined multiple times"
+            );
             Ok(())
         }
         _ => Err(Fail::new("it is not refused")),
