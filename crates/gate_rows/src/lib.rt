@@ -10,10 +10,6 @@ mod documents;
 #[cfg(test)]
 mod expressions;
 #[cfg(test)]
-mod findings;
-#[cfg(test)]
 mod runs;
 #[cfg(test)]
 mod schemas;
-#[cfg(test)]
-mod signatures;

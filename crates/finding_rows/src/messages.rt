@@ -1,10 +1,6 @@
 //! How findings read. The texts come from the rules in docs/FORMAT.md.
 
-mod accesses;
-mod checks;
-mod made;
-
-use made::made;
+use crate::made::made;
 use policy_names::Text;
 use policy_scope::{ImpossiblePolicy, ValidationResult, ValidationWarning, findings_text};
 use std::alloc::Global;
@@ -75,7 +71,7 @@ EmptySetForbidden => error EmptySetForbidden at 3..7: for policy `p0`, empty set
 NonLitExtConstructor => error NonLitExtConstructor at 3..7: for policy `p0`, extension constructors may not be called with non-literal expressions|  help: consider applying extension constructors inside attribute values when constructing entity or context data|"#;
 
 // How the findings are written, with a bar for each end of a line.
-fn told(alloc: Global, findings: &ValidationResult) -> Result<String, Fail> {
+pub(crate) fn told(alloc: Global, findings: &ValidationResult) -> Result<String, Fail> {
     let text = findings_text(alloc, findings)?;
     let told = text.as_str().replace(alloc, "\n", "|")?;
     drop(text);
@@ -83,7 +79,7 @@ fn told(alloc: Global, findings: &ValidationResult) -> Result<String, Fail> {
 }
 
 // How the error that the words say is written.
-fn told_error(alloc: Global, words: &str) -> Result<String, Fail> {
+pub(crate) fn told_error(alloc: Global, words: &str) -> Result<String, Fail> {
     let mut errors = Vec::new(alloc);
     errors.push(made(alloc, words)?)?;
     let findings = ValidationResult::new(errors, Vec::new(alloc));

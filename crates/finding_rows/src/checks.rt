@@ -1,10 +1,10 @@
 //! The checks of names and scopes, over templates.
 
-use crate::findings::made::{entity_type, uid};
-use crate::findings::told;
+use crate::made::{entity_type, uid};
+use crate::messages::told;
+use expr_documents::{Bounded, read_expr};
 use policy_documents::{parse_json, read_schema};
 use policy_expressions::{Expr, Literal};
-use policy_gate::{Bounded, read_expr};
 use policy_names::Text;
 use policy_scope::{
     ValidationError, ValidationResult, validate_action_ids, validate_entity_types,

@@ -1,6 +1,6 @@
 //! How attributes are reached, and results that are taken apart.
 
-use crate::findings::made::{entity_type, name, ty, uid};
+use crate::made::{entity_type, name, ty, uid};
 use policy_expressions::{BuildError, Expr, Literal, Var};
 use policy_names::Text;
 use policy_scope::{AttributeAccess, partition_nonempty};
