@@ -7,12 +7,11 @@ use Rattle.policy_expressions.specs.Plain.{Plain}
 use Rattle.policy_expressions.specs.Tree.{set, call, rec, Trees, no_trees, tree, trees_of, Named, named, named_of, Mark, mark_of}
 use Rattle.schema_types.specs.Ty.{Ty}
 use Rattle.policy_typing.specs.Signatures.{call_type, signature_of}
-use Rattle.policy_typing.specs.Rules.{set_type}
-use Rattle.policy_typing.specs.Typing.{Typed, Typing, typing, at, types_in, trees_in, named_in, record_type}
-use Rattle.typing_findings.specs.Finding.{Finding}
+use Rattle.policy_typing.specs.Typing.{Typing, typing, types_in, trees_in, named_in}
+use Rattle.findings.specs.Finding.{Finding}
 use Rattle.typing_findings.specs.Own.{set_found}
-use Rattle.typing_findings.specs.Walked.{Walked, Success, Fail, ended, lends, has_typing, lent_by, tree_of, findings_of, lent_by_all, trees_walked, findings_of_all}
-use Rattle.typing_findings.specs.Operators.{Fields, parts_of, lent_fields, type_lent, set_walked, record_walked, record_typing, call_fitting, arguments_fitting}
+use Rattle.typing_findings.specs.Walked.{Walked, Success, Fail, ended, lends, has_typing, lent_by_all, trees_walked, findings_of_all}
+use Rattle.typing_findings.specs.Operators.{Fields, parts_of, lent_fields, set_walked, record_walked, call_fitting, arguments_fitting}
 use Rattle.typing_operators.specs.Parts.{types_lent, fields_lent, trees_in_fields, argument_walked, set_by, set_in_parts, record_by, record_in_parts, call_by, call_in_parts}
 
 module _ {A B C : Type 0} where

@@ -11,7 +11,7 @@ use Rattle.policy_typing.specs.Signatures.{call_type, signature_of}
 use Rattle.policy_typing.specs.Rules.{set_type}
 use Rattle.policy_typing.specs.Typing.{Typed, Typing, typing, at}
 use Rattle.typing_findings.specs.Expected.{an_argument}
-use Rattle.typing_findings.specs.Finding.{Finding}
+use Rattle.findings.specs.Finding.{Finding}
 use Rattle.typing_findings.specs.Own.{set_found}
 use Rattle.typing_findings.specs.Walked.{Walked, ended, expect, lends, all_some, tree_of}
 use Rattle.typing_findings.specs.Operators.{Fields, place, type_lent}

@@ -1,5 +1,5 @@
 -- The right sides of the rules of `&&` and `||` where the left side leaves the right one reached.
-use Rattle.std.specs.Prelude.{List, Option, option_map}
+use Rattle.std.specs.Prelude.{Option, option_map}
 use Rattle.std.specs.Option.{option_and_then}
 use Rattle.policy_expressions.specs.Tree.{conj, disj, Mark}
 use Rattle.policy_typing.specs.Rules.{and_type, or_type}

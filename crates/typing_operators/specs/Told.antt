@@ -1,6 +1,5 @@
 -- What the walk answers in code, as the definitions' answer.
-use Rattle.std.specs.Prelude.{ℕ, Bool, List, Option, map, option_map}
-use Rattle.std.specs.Option.{option_and_then}
+use Rattle.std.specs.Prelude.{ℕ, List, Option, map, option_map}
 use Rattle.policy_expressions.specs.declared.kinds.Loc.{Loc}
 use Rattle.policy_expressions.specs.Tree.{Mark}
 use Rattle.schema_types.specs.Ty.{Ty}

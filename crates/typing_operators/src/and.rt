@@ -4,7 +4,6 @@ ghost use Rattle.std.specs.Prelude.{◌≡◌, ◌++◌, ◌&&◌, [], IfOk, Som
 ghost use Rattle.std.specs.Option.{option_and_then};
 ghost use Rattle.policy_expressions.specs.Tree.{conj};
 ghost use Rattle.policy_typing.specs.Signatures.{bool_type};
-
 ghost use Rattle.policy_typing.specs.Typing.{typing, at, and_caps, and_typing, unreached};
 ghost use Rattle.schema_types.specs.Ty.{false_type};
 ghost use Rattle.typing_findings.specs.Walked as failed;
@@ -30,8 +29,8 @@ pub fn and_sides<'a>(
 ) -> Result<Told<'a>, BuildError>
     ensures { IfOk result (λ r. walked_of r ≡ definition.and_sides (mark loc) (walked_of v.entry) (walked_of w.entry)) }
 {
-    let v = parted(alloc, v)?;
-    let w = parted(alloc, w)?;
+    let v = or_drop!(parted(alloc, v), w);
+    let w = or_drop!(parted(alloc, w), v);
     and_ended(alloc, loc, v, w)
 }
 
@@ -65,7 +64,7 @@ fn and_both<'a>(
         Some(t) => match &w.of {
             Some(u) => match and_type(t, u) {
                 Some(own) => {
-                    let caps = caps_of_both(alloc, u, &v.caps, &w.caps)?;
+                    let caps = or_drop!(caps_of_both(alloc, u, &v.caps, &w.caps), own, v, w);
                     and_typed(alloc, loc, own, caps, v, w)
                 }
                 None => and_failed(alloc, loc, v, w),
@@ -103,10 +102,23 @@ fn and_typed<'a>(
     let ok = v.ok && w.ok;
     let (left, found) = rest_of(v);
     let (right, more) = rest_of(w);
-    let found = joined(found, more)?;
-    let note = own.try_clone(alloc)?;
-    let tree = Expr::and(alloc, left, right, Some(note), loc)?;
-    Ok(ended_typed(ok, Typing { of: own, caps, tree }, found))
+    let found = or_drop!(joined(found, more), own, caps, left, right);
+    let note = or_drop!(own.try_clone(alloc), own, caps, left, right, found);
+    let tree = or_drop!(
+        Expr::and(alloc, left, right, Some(note), loc),
+        own,
+        caps,
+        found
+    );
+    Ok(ended_typed(
+        ok,
+        Typing {
+            of: own,
+            caps,
+            tree,
+        },
+        found,
+    ))
 }
 
 fn and_false<'a>(
@@ -121,9 +133,9 @@ fn and_false<'a>(
     let (left, found) = rest_of(v);
     let (right, more) = rest_of(w);
     drop(right);
-    let found = joined(found, more)?;
+    let found = or_drop!(joined(found, more), left);
     let note = Type::singleton_boolean(false);
-    let tree = Expr::and(alloc, left, unreached(), Some(note), loc)?;
+    let tree = or_drop!(Expr::and(alloc, left, unreached(), Some(note), loc), found);
     let of = Type::singleton_boolean(false);
     let caps = CapabilitySet::new(alloc);
     Ok(ended_typed(ok, Typing { of, caps, tree }, found))
@@ -139,8 +151,8 @@ fn and_failed<'a>(
 {
     let (left, found) = rest_of(v);
     let (right, more) = rest_of(w);
-    let found = joined(found, more)?;
+    let found = or_drop!(joined(found, more), left, right);
     let note = Type::primitive_boolean();
-    let tree = Expr::and(alloc, left, right, Some(note), loc)?;
+    let tree = or_drop!(Expr::and(alloc, left, right, Some(note), loc), found);
     Ok(Told::Fail(tree, found))
 }

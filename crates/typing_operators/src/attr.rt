@@ -6,8 +6,8 @@ ghost use Rattle.schema_core.specs.RequestEnvs.{env_data_of};
 ghost use Rattle.policy_expressions.specs.Tree.{attr};
 ghost use Rattle.policy_typing.specs.Rules.{safe_type};
 ghost use Rattle.policy_typing.specs.Typing.{typing, at};
-ghost use Rattle.typing_findings.specs.Access as access;
-ghost use Rattle.typing_findings.specs.Finding as finding;
+ghost use Rattle.findings.specs.Access as access;
+ghost use Rattle.findings.specs.Finding as finding;
 ghost use Rattle.typing_findings.specs.Own.{if_none};
 ghost use Rattle.typing_findings.specs.Walked.{ended, lends, one};
 ghost use Rattle.typing_findings.specs.Operators as definition;
@@ -75,21 +75,26 @@ fn attr_ended<'a>(
     } = v;
     drop(caps);
     match of {
-        Some(t) => match attribute_of(alloc, schema, &t, n)? {
+        Some(t) => match or_drop!(attribute_of(alloc, schema, &t, n), t, tree, found) {
             Some(a) => {
                 drop(t);
                 declared_ended(alloc, env, known, n, loc, ok, a, tree, found)
             }
             None => {
-                let own = undeclared_found(alloc, schema, env, &tree, &t, n, loc)?;
+                let own = or_drop!(
+                    undeclared_found(alloc, schema, env, &tree, &t, n, loc),
+                    t,
+                    tree,
+                    found
+                );
                 drop(t);
-                let found = joined(found, own)?;
-                let tree = Expr::get_attr(alloc, tree, n.try_clone()?, None, loc)?;
+                let found = or_drop!(joined(found, own), tree);
+                let tree = or_drop!(attr_lending(alloc, tree, n, None, loc), found);
                 Ok(Told::Fail(tree, found))
             }
         },
         None => {
-            let tree = Expr::get_attr(alloc, tree, n.try_clone()?, None, loc)?;
+            let tree = or_drop!(attr_lending(alloc, tree, n, None, loc), found);
             Ok(Told::Fail(tree, found))
         }
     }
@@ -114,15 +119,37 @@ fn declared_ended<'a>(
         is_required,
     } = a;
     if is_required || known {
-        let note = attr_type.try_clone(alloc)?;
-        let tree = Expr::get_attr(alloc, tree, n.try_clone()?, Some(note), loc)?;
+        let note = or_drop!(attr_type.try_clone(alloc), attr_type, tree, found);
+        let tree = or_drop!(
+            attr_lending(alloc, tree, n, Some(note), loc),
+            attr_type,
+            found
+        );
         let caps = CapabilitySet::new(alloc);
         let of = attr_type;
         Ok(ended_typed(ok, Typing { of, caps, tree }, found))
     } else {
-        let own = optional_found(alloc, env, &tree, n, loc)?;
-        let found = joined(found, own)?;
-        let tree = Expr::get_attr(alloc, tree, n.try_clone()?, Some(attr_type), loc)?;
+        let own = or_drop!(
+            optional_found(alloc, env, &tree, n, loc),
+            attr_type,
+            tree,
+            found
+        );
+        let found = or_drop!(joined(found, own), attr_type, tree);
+        let tree = or_drop!(attr_lending(alloc, tree, n, Some(attr_type), loc), found);
         Ok(Told::Fail(tree, found))
     }
+}
+
+fn attr_lending(
+    alloc: Global,
+    tree: Expr<Option<Type>>,
+    n: &Text,
+    note: Option<Type>,
+    loc: Option<Loc>,
+) -> Result<Expr<Option<Type>>, BuildError>
+    ensures { IfOk result (λ r. r ≡ attr tree n.now (lends note (mark loc))) }
+{
+    let n = or_drop!(n.try_clone(), tree, note);
+    Expr::get_attr(alloc, tree, n, note, loc)
 }

@@ -33,8 +33,8 @@ pub fn binary_told<'a>(
 ) -> Result<Told<'a>, BuildError>
     ensures { IfOk result (λ r. walked_of r ≡ definition.binary_walked schema.now (env_data_of env.now) op known x.now y.now (mark loc) (walked_of v.entry) (walked_of w.entry)) }
 {
-    let v = expect_if(alloc, left_of(op), x.source_loc(), v)?;
-    let w = expect_if(alloc, right_of(op), y.source_loc(), w)?;
+    let v = or_drop!(expect_if(alloc, left_of(op), x.source_loc(), v), w);
+    let w = or_drop!(expect_if(alloc, right_of(op), y.source_loc(), w), v);
     binary_fitting(alloc, schema, env, op, known, x, y, loc, v, w)
 }
 
@@ -52,8 +52,8 @@ fn binary_fitting<'a>(
 ) -> Result<Told<'a>, BuildError>
     ensures { IfOk result (λ r. walked_of r ≡ definition.binary_fitting schema.now (env_data_of env.now) op known x.now y.now (mark loc) (walked_of v.entry) (walked_of w.entry)) }
 {
-    let v = parted(alloc, v)?;
-    let w = parted(alloc, w)?;
+    let v = or_drop!(parted(alloc, v), w);
+    let w = or_drop!(parted(alloc, w), v);
     binary_ended(alloc, schema, env, op, known, x, y, loc, v, w)
 }
 
@@ -71,10 +71,19 @@ fn binary_ended<'a>(
 ) -> Result<Told<'a>, BuildError>
     ensures { IfOk result (λ r. walked_of r ≡ ended (v.entry.ok && w.entry.ok) (both (definition.binary_typing schema.now (env_data_of env.now) op known x.now y.now (mark loc)) (lent_as v.entry.of v.entry.caps v.entry.tree) (lent_as w.entry.of w.entry.caps w.entry.tree)) (binary op v.entry.tree w.entry.tree (lends (definition.binary_lent schema.now (env_data_of env.now) op x.now y.now v.entry.of) (mark loc))) (findings_from v.entry.found.items ++ (findings_from w.entry.found.items ++ definition.binary_own schema.now (env_data_of env.now) op known x.now y.now (mark loc) v.entry.of w.entry.of))) }
 {
-    let found = binary_own(alloc, schema, env, op, known, x, y, loc, &v.of, &w.of)?;
+    let found = or_drop!(
+        binary_own(alloc, schema, env, op, known, x, y, loc, &v.of, &w.of),
+        v,
+        w
+    );
     match &v.of {
         Some(t) => match &w.of {
-            Some(u) => match binary_type(alloc, schema, env, op, known, x, y, t, u)? {
+            Some(u) => match or_drop!(
+                binary_type(alloc, schema, env, op, known, x, y, t, u),
+                found,
+                v,
+                w
+            ) {
                 Some(own) => {
                     if v.ok && w.ok {
                         drop(found);
@@ -116,9 +125,12 @@ fn binary_success<'a>(
     drop(found);
     let (right, found) = rest_of(w);
     drop(found);
-    let note = own.try_clone(alloc)?;
-    let tree = Expr::binary_app(alloc, op, left, right, Some(note), loc)?;
-    let caps = binary_caps(alloc, op, x, y)?;
+    let note = or_drop!(own.try_clone(alloc), own, left, right);
+    let tree = or_drop!(
+        Expr::binary_app(alloc, op, left, right, Some(note), loc),
+        own
+    );
+    let caps = or_drop!(binary_caps(alloc, op, x, y), own, tree);
     Ok(Told::Success(Typing {
         of: own,
         caps,
@@ -139,8 +151,14 @@ fn binary_failure<'a>(
 {
     let (left, found) = rest_of(v);
     let (right, more) = rest_of(w);
-    let tree = Expr::binary_app(alloc, op, left, right, lent, loc)?;
-    let found = joined(found, joined(more, own)?)?;
+    let tree = or_drop!(
+        Expr::binary_app(alloc, op, left, right, lent, loc),
+        found,
+        more,
+        own
+    );
+    let more = or_drop!(joined(more, own), found, tree);
+    let found = or_drop!(joined(found, more), tree);
     Ok(Told::Fail(tree, found))
 }
 

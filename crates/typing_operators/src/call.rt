@@ -5,7 +5,7 @@ ghost use Rattle.std.specs.Option.{option_and_then, option_copied};
 ghost use Rattle.std.specs.List.{slice_get};
 ghost use Rattle.policy_expressions.specs.Tree.{call, trees_of, no_trees};
 ghost use Rattle.policy_typing.specs.Signatures.{call_type};
-ghost use Rattle.typing_findings.specs.Finding as finding;
+ghost use Rattle.findings.specs.Finding as finding;
 ghost use Rattle.typing_findings.specs.Walked as failed;
 ghost use Rattle.typing_findings.specs.Walked.{lends, one};
 ghost use Rattle.typing_findings.specs.Operators as definition;
@@ -26,11 +26,7 @@ use typing_rules::{
 };
 
 /// A call of an undefined function, whose arguments are not looked at. Errs where memory runs out.
-pub fn undefined_told<'a>(
-    alloc: Global,
-    f: &Name,
-    loc: Option<Loc>,
-) -> Result<Told<'a>, BuildError>
+pub fn undefined_told<'a>(alloc: Global, f: &Name, loc: Option<Loc>) -> Result<Told<'a>, BuildError>
     ensures { IfOk result (λ r. walked_of r ≡ failed.Fail (call f.now no_trees (lends None (mark loc))) (one (finding.UndefinedFunction f.now) loc)) }
 {
     let found = undefined_found(alloc, f, loc)?;

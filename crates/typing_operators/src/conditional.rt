@@ -1,6 +1,6 @@
 //! `if`.
 
-ghost use Rattle.std.specs.Prelude.{◌≡◌, ◌++◌, ◌&&◌, IfOk, Some, None, option_map};
+ghost use Rattle.std.specs.Prelude.{◌≡◌, ◌++◌, ◌&&◌, IfOk, Some, None, cond, option_map};
 ghost use Rattle.std.specs.Option.{option_and_then, unwrap_or};
 ghost use Rattle.policy_expressions.specs.Tree.{ite, mark_of};
 ghost use Rattle.capabilities.specs.Capability.{common};
@@ -8,20 +8,20 @@ ghost use Rattle.policy_typing.specs.Signatures.{bool_type};
 ghost use Rattle.policy_typing.specs.Typing.{typing, at, if_typing, unreached};
 ghost use Rattle.policy_typing.specs.Rules.{strict_join};
 ghost use Rattle.typing_findings.specs.Walked as failed;
-ghost use Rattle.typing_findings.specs.Walked.{ended, lends, has_typing, tree_of, findings_of};
+ghost use Rattle.typing_findings.specs.Walked.{ended, lends, has_typing, lent_by, tree_of, findings_of};
 ghost use Rattle.typing_findings.specs.Own as of_operators;
 ghost use Rattle.typing_findings.specs.Own.{of_both};
 ghost use Rattle.typing_findings.specs.Operators as definition;
-ghost use Rattle.typing_findings.specs.Operators.{test_lent, branches_found};
+ghost use Rattle.typing_findings.specs.Operators.{type_lent, test_lent, branches_found};
 ghost use Rattle.typing_rules.specs.Found.{findings_from};
 ghost use Rattle.typing_operators.specs.Told.{mark, walked_of, lent_as};
 
-use crate::told::{Part, Told, Typing, ended_typed, parted, rest_of, unreached};
+use crate::told::{Part, Told, Typing, ended_typed, parted, unreached};
 use capabilities::CapabilitySet;
+use findings::LubContext;
 use policy_expressions::{BuildError, Expr, Loc};
 use schema_types::{Primitive, Type, TypeKind};
 use std::alloc::{AllocError, Global};
-use typing_findings::finding::LubContext;
 use typing_rules::{Finding, joined, no_join, strict_join};
 
 // A test taken apart. One that lends no type is one of which nothing is known.
@@ -44,9 +44,33 @@ pub fn if_parts<'a>(
 ) -> Result<Told<'a>, BuildError>
     ensures { IfOk result (λ r. walked_of r ≡ definition.if_parts (mark loc) (walked_of u.entry) (walked_of v.entry) (walked_of w.entry)) }
 {
-    let u = test_of(alloc, u)?;
-    let v = parted(alloc, v)?;
-    let w = parted(alloc, w)?;
+    let u = or_drop!(test_of(alloc, u), v, w);
+    if_tested(alloc, loc, u, v, w)
+}
+
+fn if_tested<'a>(
+    alloc: Global,
+    loc: Option<Loc>,
+    u: Test<'a>,
+    v: Told<'a>,
+    w: Told<'a>,
+) -> Result<Told<'a>, BuildError>
+    ensures { IfOk result (λ r. walked_of r ≡ ended (u.entry.ok && (has_typing (walked_of v.entry) && has_typing (walked_of w.entry))) (if_typing u.entry.of u.entry.caps u.entry.tree (mark loc) (lent_by (walked_of v.entry)) (lent_by (walked_of w.entry))) (ite u.entry.tree (tree_of (walked_of v.entry)) (tree_of (walked_of w.entry)) (lends None (mark loc))) (findings_from u.entry.found.items ++ (findings_of (walked_of v.entry) ++ (findings_of (walked_of w.entry) ++ branches_found (mark loc) u.entry.of (type_lent (walked_of v.entry)) (type_lent (walked_of w.entry)))))) }
+{
+    let v = or_drop!(parted(alloc, v), u, w);
+    if_branched(alloc, loc, u, v, w)
+}
+
+fn if_branched<'a>(
+    alloc: Global,
+    loc: Option<Loc>,
+    u: Test<'a>,
+    v: Part<'a>,
+    w: Told<'a>,
+) -> Result<Told<'a>, BuildError>
+    ensures { IfOk result (λ r. walked_of r ≡ ended (u.entry.ok && (v.entry.ok && has_typing (walked_of w.entry))) (if_typing u.entry.of u.entry.caps u.entry.tree (mark loc) (lent_as v.entry.of v.entry.caps v.entry.tree) (lent_by (walked_of w.entry))) (ite u.entry.tree v.entry.tree (tree_of (walked_of w.entry)) (lends None (mark loc))) (findings_from u.entry.found.items ++ (findings_from v.entry.found.items ++ (findings_of (walked_of w.entry) ++ branches_found (mark loc) u.entry.of v.entry.of (type_lent (walked_of w.entry)))))) }
+{
+    let w = or_drop!(parted(alloc, w), u, v);
     if_ended(alloc, loc, u, v, w)
 }
 
@@ -69,7 +93,7 @@ fn test_of<'a>(alloc: Global, u: Told<'a>) -> Result<Test<'a>, AllocError>
             })
         }
         Told::Fail(tree, found) => {
-            let of = lent_or_boolean(alloc, &tree)?;
+            let of = or_drop!(lent_or_boolean(alloc, &tree), tree, found);
             Ok(Test {
                 ok: false,
                 of,
@@ -99,7 +123,7 @@ fn if_ended<'a>(
 ) -> Result<Told<'a>, BuildError>
     ensures { IfOk result (λ r. walked_of r ≡ ended (u.entry.ok && (v.entry.ok && w.entry.ok)) (if_typing u.entry.of u.entry.caps u.entry.tree (mark loc) (lent_as v.entry.of v.entry.caps v.entry.tree) (lent_as w.entry.of w.entry.caps w.entry.tree)) (ite u.entry.tree v.entry.tree w.entry.tree (lends None (mark loc))) (findings_from u.entry.found.items ++ (findings_from v.entry.found.items ++ (findings_from w.entry.found.items ++ branches_found (mark loc) u.entry.of v.entry.of w.entry.of)))) }
 {
-    let own = branches_found(alloc, loc, &u.of, &v.of, &w.of)?;
+    let own = or_drop!(branches_found(alloc, loc, &u.of, &v.of, &w.of), u, v, w);
     match u.of.kind() {
         TypeKind::True => if_true(alloc, loc, u, v, w, own),
         TypeKind::False => if_false(alloc, loc, u, v, w, own),
@@ -156,8 +180,8 @@ fn if_true<'a>(
 {
     match &v.of {
         Some(t) => {
-            let of = t.try_clone(alloc)?;
-            let caps = v.caps.union(&u.caps)?;
+            let of = or_drop!(t.try_clone(alloc), u, v, w, own);
+            let caps = or_drop!(v.caps.union(&u.caps), of, u, v, w, own);
             if_first(alloc, loc, of, caps, u, v, w, own)
         }
         None => if_failed(alloc, loc, u, v, w, own),
@@ -176,15 +200,20 @@ fn if_first<'a>(
 ) -> Result<Told<'a>, BuildError>
     ensures { IfOk result (λ r. walked_of r ≡ ended (u.entry.ok && (v.entry.ok && w.entry.ok)) (Some (typing of caps.entry (ite u.entry.tree v.entry.tree unreached (at of (mark loc))))) (ite u.entry.tree v.entry.tree w.entry.tree (lends None (mark loc))) (findings_from u.entry.found.items ++ (findings_from v.entry.found.items ++ (findings_from w.entry.found.items ++ findings_from own.items)))) }
 {
-    let ok = are_ok(u.ok, v.ok, w.ok);
-    let (test, found) = rest_of_test(u);
-    let (first, more) = rest_of(v);
-    let (second, others) = rest_of(w);
+    let (is_tested, test, found) = rest_of_test(u);
+    let (is_first, first, more) = rest_of_branch(v);
+    let (is_second, second, others) = rest_of_branch(w);
+    let ok = are_ok(is_tested, is_first, is_second);
+    let found = or_drop!(
+        joined_all(found, more, others, own),
+        of,
+        caps,
+        test,
+        first,
+        second
+    );
     drop(second);
-    let found = joined(found, joined(more, joined(others, own)?)?)?;
-    let note = of.try_clone(alloc)?;
-    let tree = Expr::ite(alloc, test, first, unreached(), Some(note), loc)?;
-    Ok(ended_typed(ok, Typing { of, caps, tree }, found))
+    if_typed(alloc, loc, ok, of, caps, test, first, unreached(), found)
 }
 
 // A false test leaves the first branch unreached.
@@ -200,8 +229,8 @@ fn if_false<'a>(
 {
     match &w.of {
         Some(t) => {
-            let of = t.try_clone(alloc)?;
-            let caps = w.caps.try_clone()?;
+            let of = or_drop!(t.try_clone(alloc), u, v, w, own);
+            let caps = or_drop!(w.caps.try_clone(), of, u, v, w, own);
             if_second(alloc, loc, of, caps, u, v, w, own)
         }
         None => if_failed(alloc, loc, u, v, w, own),
@@ -220,15 +249,20 @@ fn if_second<'a>(
 ) -> Result<Told<'a>, BuildError>
     ensures { IfOk result (λ r. walked_of r ≡ ended (u.entry.ok && (v.entry.ok && w.entry.ok)) (Some (typing of caps.entry (ite u.entry.tree unreached w.entry.tree (at of (mark loc))))) (ite u.entry.tree v.entry.tree w.entry.tree (lends None (mark loc))) (findings_from u.entry.found.items ++ (findings_from v.entry.found.items ++ (findings_from w.entry.found.items ++ findings_from own.items)))) }
 {
-    let ok = are_ok(u.ok, v.ok, w.ok);
-    let (test, found) = rest_of_test(u);
-    let (first, more) = rest_of(v);
+    let (is_tested, test, found) = rest_of_test(u);
+    let (is_first, first, more) = rest_of_branch(v);
+    let (is_second, second, others) = rest_of_branch(w);
+    let ok = are_ok(is_tested, is_first, is_second);
+    let found = or_drop!(
+        joined_all(found, more, others, own),
+        of,
+        caps,
+        test,
+        first,
+        second
+    );
     drop(first);
-    let (second, others) = rest_of(w);
-    let found = joined(found, joined(more, joined(others, own)?)?)?;
-    let note = of.try_clone(alloc)?;
-    let tree = Expr::ite(alloc, test, unreached(), second, Some(note), loc)?;
-    Ok(ended_typed(ok, Typing { of, caps, tree }, found))
+    if_typed(alloc, loc, ok, of, caps, test, unreached(), second, found)
 }
 
 // The types of the branches have a join, and what both make known is known.
@@ -244,9 +278,16 @@ fn if_either<'a>(
 {
     match &v.of {
         Some(s) => match &w.of {
-            Some(t) => match strict_join(alloc, s, t)? {
+            Some(t) => match or_drop!(strict_join(alloc, s, t), u, v, w, own) {
                 Ok(of) => {
-                    let caps = caps_of_branches(&u.caps, &v.caps, &w.caps)?;
+                    let caps = or_drop!(
+                        caps_of_branches(&u.caps, &v.caps, &w.caps),
+                        of,
+                        u,
+                        v,
+                        w,
+                        own
+                    );
                     if_joined(alloc, loc, of, caps, u, v, w, own)
                 }
                 Err(_) => if_failed(alloc, loc, u, v, w, own),
@@ -265,7 +306,9 @@ fn caps_of_branches<'a>(
     ensures { IfOk result (λ s. s ≡ common second.now (first.now ++ cs.now)) }
 {
     let first = first.union(cs)?;
-    second.intersect(&first)
+    let caps = second.intersect(&first);
+    drop(first);
+    caps
 }
 
 fn if_joined<'a>(
@@ -280,14 +323,19 @@ fn if_joined<'a>(
 ) -> Result<Told<'a>, BuildError>
     ensures { IfOk result (λ r. walked_of r ≡ ended (u.entry.ok && (v.entry.ok && w.entry.ok)) (Some (typing of caps.entry (ite u.entry.tree v.entry.tree w.entry.tree (at of (mark loc))))) (ite u.entry.tree v.entry.tree w.entry.tree (lends None (mark loc))) (findings_from u.entry.found.items ++ (findings_from v.entry.found.items ++ (findings_from w.entry.found.items ++ findings_from own.items)))) }
 {
-    let ok = are_ok(u.ok, v.ok, w.ok);
-    let (test, found) = rest_of_test(u);
-    let (first, more) = rest_of(v);
-    let (second, others) = rest_of(w);
-    let found = joined(found, joined(more, joined(others, own)?)?)?;
-    let note = of.try_clone(alloc)?;
-    let tree = Expr::ite(alloc, test, first, second, Some(note), loc)?;
-    Ok(ended_typed(ok, Typing { of, caps, tree }, found))
+    let (is_tested, test, found) = rest_of_test(u);
+    let (is_first, first, more) = rest_of_branch(v);
+    let (is_second, second, others) = rest_of_branch(w);
+    let ok = are_ok(is_tested, is_first, is_second);
+    let found = or_drop!(
+        joined_all(found, more, others, own),
+        of,
+        caps,
+        test,
+        first,
+        second
+    );
+    if_typed(alloc, loc, ok, of, caps, test, first, second, found)
 }
 
 fn if_failed<'a>(
@@ -300,12 +348,48 @@ fn if_failed<'a>(
 ) -> Result<Told<'a>, BuildError>
     ensures { IfOk result (λ r. walked_of r ≡ failed.Fail (ite u.entry.tree v.entry.tree w.entry.tree (lends None (mark loc))) (findings_from u.entry.found.items ++ (findings_from v.entry.found.items ++ (findings_from w.entry.found.items ++ findings_from own.items)))) }
 {
-    let (test, found) = rest_of_test(u);
-    let (first, more) = rest_of(v);
-    let (second, others) = rest_of(w);
-    let found = joined(found, joined(more, joined(others, own)?)?)?;
-    let tree = Expr::ite(alloc, test, first, second, None, loc)?;
+    let (_, test, found) = rest_of_test(u);
+    let (_, first, more) = rest_of_branch(v);
+    let (_, second, others) = rest_of_branch(w);
+    let found = or_drop!(joined_all(found, more, others, own), test, first, second);
+    let tree = or_drop!(Expr::ite(alloc, test, first, second, None, loc), found);
     Ok(Told::Fail(tree, found))
+}
+
+fn if_typed<'a>(
+    alloc: Global,
+    loc: Option<Loc>,
+    ok: bool,
+    of: Type,
+    caps: CapabilitySet<'a>,
+    test: Expr<Option<Type>>,
+    first: Expr<Option<Type>>,
+    second: Expr<Option<Type>>,
+    found: Vec<Finding>,
+) -> Result<Told<'a>, BuildError>
+    ensures { IfOk result (λ r. walked_of r ≡ cond ok (failed.Success (typing of caps.entry (ite test first second (at of (mark loc))))) (failed.Fail (ite test first second (at of (mark loc))) (findings_from found.items))) }
+{
+    let note = or_drop!(of.try_clone(alloc), of, caps, test, first, second, found);
+    let tree = or_drop!(
+        Expr::ite(alloc, test, first, second, Some(note), loc),
+        of,
+        caps,
+        found
+    );
+    Ok(ended_typed(ok, Typing { of, caps, tree }, found))
+}
+
+fn joined_all(
+    found: Vec<Finding>,
+    more: Vec<Finding>,
+    others: Vec<Finding>,
+    own: Vec<Finding>,
+) -> Result<Vec<Finding>, AllocError>
+    ensures { IfOk result (λ r. findings_from r.items ≡ findings_from found.items ++ (findings_from more.items ++ (findings_from others.items ++ findings_from own.items))) }
+{
+    let others = or_drop!(joined(others, own), found, more);
+    let more = or_drop!(joined(more, others), found);
+    joined(found, more)
 }
 
 fn are_ok(test: bool, first: bool, second: bool) -> bool
@@ -314,12 +398,13 @@ fn are_ok(test: bool, first: bool, second: bool) -> bool
     test && first && second
 }
 
-fn rest_of_test(u: Test<'_>) -> (Expr<Option<Type>>, Vec<Finding>)
-    ensures tree { result.0 ≡ u.entry.tree }
-    ensures found { result.1 ≡ u.entry.found }
+fn rest_of_test(u: Test<'_>) -> (bool, Expr<Option<Type>>, Vec<Finding>)
+    ensures ok { result.0 ≡ u.entry.ok }
+    ensures tree { result.1 ≡ u.entry.tree }
+    ensures found { result.2 ≡ u.entry.found }
 {
     let Test {
-        ok: _,
+        ok,
         of,
         caps,
         tree,
@@ -327,5 +412,22 @@ fn rest_of_test(u: Test<'_>) -> (Expr<Option<Type>>, Vec<Finding>)
     } = u;
     drop(of);
     drop(caps);
-    (tree, found)
+    (ok, tree, found)
+}
+
+fn rest_of_branch(v: Part<'_>) -> (bool, Expr<Option<Type>>, Vec<Finding>)
+    ensures ok { result.0 ≡ v.entry.ok }
+    ensures tree { result.1 ≡ v.entry.tree }
+    ensures found { result.2 ≡ v.entry.found }
+{
+    let Part {
+        ok,
+        of,
+        caps,
+        tree,
+        found,
+    } = v;
+    drop(of);
+    drop(caps);
+    (ok, tree, found)
 }

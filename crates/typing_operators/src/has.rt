@@ -1,10 +1,11 @@
 //! `has`.
 
-ghost use Rattle.std.specs.Prelude.{◌≡◌, ◌++◌, [], IfOk, Some};
+ghost use Rattle.std.specs.Prelude.{◌≡◌, ◌++◌, [], IfOk, Some, cond};
 ghost use Rattle.std.specs.Option.{option_and_then};
 ghost use Rattle.policy_expressions.specs.Tree.{has};
 ghost use Rattle.policy_typing.specs.Signatures.{bool_type};
-ghost use Rattle.policy_typing.specs.Typing.{has_caps};
+ghost use Rattle.policy_typing.specs.Typing.{typing, at, has_caps};
+ghost use Rattle.typing_findings.specs.Walked as walked;
 ghost use Rattle.typing_findings.specs.Walked.{ended, lends};
 ghost use Rattle.typing_findings.specs.Operators as definition;
 ghost use Rattle.typing_rules.specs.Found.{findings_from};
@@ -17,7 +18,7 @@ use policy_names::Text;
 use schema_core::ValidatorSchema;
 use schema_types::Type;
 use std::alloc::{AllocError, Global};
-use typing_rules::{Expected, attribute_of, has_type};
+use typing_rules::{Expected, Finding, attribute_of, has_type};
 
 /// `has`, by what its operand comes to, and whether the attribute is known to be there. Errs where memory runs out, or the
 /// expression would be nested too deep.
@@ -72,29 +73,50 @@ fn has_ended<'a>(
     drop(caps);
     match of {
         Some(t) => {
-            let attribute = attribute_of(alloc, schema, &t, n)?;
+            let attribute = or_drop!(attribute_of(alloc, schema, &t, n), t, tree, found);
             let own = has_type(schema, known, &t, n, &attribute);
             let declared = attribute.is_some();
             drop(attribute);
             drop(t);
             match own {
                 Some(of) => {
-                    let caps = has_caps(alloc, declared, x, n)?;
-                    let note = of.try_clone(alloc)?;
-                    let tree = Expr::has_attr(alloc, tree, n.try_clone()?, Some(note), loc)?;
-                    Ok(ended_typed(ok, Typing { of, caps, tree }, found))
+                    let caps = or_drop!(has_caps(alloc, declared, x, n), of, tree, found);
+                    has_typed(alloc, n, loc, ok, of, caps, tree, found)
                 }
                 None => {
-                    let tree = has_lending(alloc, tree, n, loc)?;
+                    let tree = or_drop!(has_lending(alloc, tree, n, loc), found);
                     Ok(Told::Fail(tree, found))
                 }
             }
         }
         None => {
-            let tree = has_lending(alloc, tree, n, loc)?;
+            let tree = or_drop!(has_lending(alloc, tree, n, loc), found);
             Ok(Told::Fail(tree, found))
         }
     }
+}
+
+fn has_typed<'a>(
+    alloc: Global,
+    n: &Text,
+    loc: Option<Loc>,
+    ok: bool,
+    of: Type,
+    caps: CapabilitySet<'a>,
+    tree: Expr<Option<Type>>,
+    found: Vec<Finding>,
+) -> Result<Told<'a>, BuildError>
+    ensures { IfOk result (λ r. walked_of r ≡ cond ok (walked.Success (typing of caps.entry (has tree n.now (at of (mark loc))))) (walked.Fail (has tree n.now (at of (mark loc))) (findings_from found.items))) }
+{
+    let note = or_drop!(of.try_clone(alloc), of, caps, tree, found);
+    let n = or_drop!(n.try_clone(), of, caps, note, tree, found);
+    let tree = or_drop!(
+        Expr::has_attr(alloc, tree, n, Some(note), loc),
+        of,
+        caps,
+        found
+    );
+    Ok(ended_typed(ok, Typing { of, caps, tree }, found))
 }
 
 fn has_lending(
@@ -105,8 +127,9 @@ fn has_lending(
 ) -> Result<Expr<Option<Type>>, BuildError>
     ensures { IfOk result (λ r. r ≡ has tree n.now (lends (Some bool_type) (mark loc))) }
 {
+    let n = or_drop!(n.try_clone(), tree);
     let note = Type::primitive_boolean();
-    Expr::has_attr(alloc, tree, n.try_clone()?, Some(note), loc)
+    Expr::has_attr(alloc, tree, n, Some(note), loc)
 }
 
 // A declared attribute is known to be there once the test is true.

@@ -65,19 +65,20 @@ fn is_ended<'a>(
             drop(t);
             match own {
                 Some(of) => {
-                    let note = of.try_clone(alloc)?;
-                    let tree = Expr::is(alloc, tree, name.try_clone()?, Some(note), loc)?;
+                    let note = or_drop!(of.try_clone(alloc), of, tree, found);
+                    let name = or_drop!(name.try_clone(), of, note, tree, found);
+                    let tree = or_drop!(Expr::is(alloc, tree, name, Some(note), loc), of, found);
                     let caps = CapabilitySet::new(alloc);
                     Ok(ended_typed(ok, Typing { of, caps, tree }, found))
                 }
                 None => {
-                    let tree = is_lending(alloc, tree, name, loc)?;
+                    let tree = or_drop!(is_lending(alloc, tree, name, loc), found);
                     Ok(Told::Fail(tree, found))
                 }
             }
         }
         None => {
-            let tree = is_lending(alloc, tree, name, loc)?;
+            let tree = or_drop!(is_lending(alloc, tree, name, loc), found);
             Ok(Told::Fail(tree, found))
         }
     }
@@ -91,6 +92,7 @@ fn is_lending(
 ) -> Result<Expr<Option<Type>>, BuildError>
     ensures { IfOk result (λ r. r ≡ is_type tree name.now (lends (Some bool_type) (mark loc))) }
 {
+    let name = or_drop!(name.try_clone(), tree);
     let note = Type::primitive_boolean();
-    Expr::is(alloc, tree, name.try_clone()?, Some(note), loc)
+    Expr::is(alloc, tree, name, Some(note), loc)
 }

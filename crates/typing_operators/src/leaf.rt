@@ -28,8 +28,9 @@ pub fn literal_told<'a>(
 {
     match literal_type(alloc, schema, l)? {
         Some(of) => {
-            let note = of.try_clone(alloc)?;
-            let tree = Expr::lit(l.try_clone()?, Some(note), loc);
+            let note = or_drop!(of.try_clone(alloc), of);
+            let l = or_drop!(l.try_clone(), of, note);
+            let tree = Expr::lit(l, Some(note), loc);
             let caps = CapabilitySet::new(alloc);
             Ok(Told::Success(Typing { of, caps, tree }))
         }
@@ -52,7 +53,7 @@ pub fn variable_told<'a>(
 {
     match variable_type(alloc, schema, env, v)? {
         Some(of) => {
-            let note = of.try_clone(alloc)?;
+            let note = or_drop!(of.try_clone(alloc), of);
             let tree = Expr::var(v, Some(note), loc);
             let caps = CapabilitySet::new(alloc);
             Ok(Told::Success(Typing { of, caps, tree }))
@@ -74,7 +75,7 @@ pub fn slot_told<'a>(
     ensures { IfOk result (λ r. walked_of r ≡ definition.Success (typing (environment.type_of_slot (env_data_of env.now) id) [] (slot id (at (environment.type_of_slot (env_data_of env.now) id) (mark loc))))) }
 {
     let of = slot_type(alloc, env, id)?;
-    let note = of.try_clone(alloc)?;
+    let note = or_drop!(of.try_clone(alloc), of);
     let tree = Expr::slot(id, Some(note), loc);
     let caps = CapabilitySet::new(alloc);
     Ok(Told::Success(Typing { of, caps, tree }))

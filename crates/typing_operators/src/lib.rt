@@ -1,6 +1,20 @@
 //! The operators of the typechecker: what each comes to, by what its operands come to.
 #![tactic(auto)]
 
+// What an operation gives; where it fails, what is held is dropped by calls, and the error goes up. A value that is
+// dropped on its own is taken apart by cases in the proof.
+macro_rules! or_drop {
+    ($fallible:expr, $($held:ident),*) => {
+        match $fallible {
+            Ok(value) => value,
+            Err(error) => {
+                $(drop($held);)*
+                return Err(error.into());
+            }
+        }
+    };
+}
+
 mod and;
 mod attr;
 mod binary;

@@ -64,19 +64,24 @@ fn like_ended<'a>(
             drop(t);
             match own {
                 Some(of) => {
-                    let note = of.try_clone(alloc)?;
-                    let tree = Expr::like(alloc, tree, pattern.try_clone(alloc)?, Some(note), loc)?;
+                    let note = or_drop!(of.try_clone(alloc), of, tree, found);
+                    let pattern = or_drop!(pattern.try_clone(alloc), of, note, tree, found);
+                    let tree = or_drop!(
+                        Expr::like(alloc, tree, pattern, Some(note), loc),
+                        of,
+                        found
+                    );
                     let caps = CapabilitySet::new(alloc);
                     Ok(ended_typed(ok, Typing { of, caps, tree }, found))
                 }
                 None => {
-                    let tree = like_lending(alloc, tree, pattern, loc)?;
+                    let tree = or_drop!(like_lending(alloc, tree, pattern, loc), found);
                     Ok(Told::Fail(tree, found))
                 }
             }
         }
         None => {
-            let tree = like_lending(alloc, tree, pattern, loc)?;
+            let tree = or_drop!(like_lending(alloc, tree, pattern, loc), found);
             Ok(Told::Fail(tree, found))
         }
     }
@@ -90,6 +95,7 @@ fn like_lending(
 ) -> Result<Expr<Option<Type>>, BuildError>
     ensures { IfOk result (λ r. r ≡ like tree pattern.now (lends (Some bool_type) (mark loc))) }
 {
+    let pattern = or_drop!(pattern.try_clone(alloc), tree);
     let note = Type::primitive_boolean();
-    Expr::like(alloc, tree, pattern.try_clone(alloc)?, Some(note), loc)
+    Expr::like(alloc, tree, pattern, Some(note), loc)
 }

@@ -29,8 +29,8 @@ pub fn or_sides<'a>(
 ) -> Result<Told<'a>, BuildError>
     ensures { IfOk result (λ r. walked_of r ≡ definition.or_sides (mark loc) (walked_of v.entry) (walked_of w.entry)) }
 {
-    let v = parted(alloc, v)?;
-    let w = parted(alloc, w)?;
+    let v = or_drop!(parted(alloc, v), w);
+    let w = or_drop!(parted(alloc, w), v);
     or_ended(alloc, loc, v, w)
 }
 
@@ -64,7 +64,7 @@ fn or_both<'a>(
         Some(t) => match &w.of {
             Some(u) => match or_type(t, u) {
                 Some(own) => {
-                    let caps = caps_of_either(t, u, &v.caps, &w.caps)?;
+                    let caps = or_drop!(caps_of_either(t, u, &v.caps, &w.caps), own, v, w);
                     or_typed(alloc, loc, own, caps, v, w)
                 }
                 None => or_failed(alloc, loc, v, w),
@@ -107,10 +107,23 @@ fn or_typed<'a>(
     let ok = v.ok && w.ok;
     let (left, found) = rest_of(v);
     let (right, more) = rest_of(w);
-    let found = joined(found, more)?;
-    let note = own.try_clone(alloc)?;
-    let tree = Expr::or(alloc, left, right, Some(note), loc)?;
-    Ok(ended_typed(ok, Typing { of: own, caps, tree }, found))
+    let found = or_drop!(joined(found, more), own, caps, left, right);
+    let note = or_drop!(own.try_clone(alloc), own, caps, left, right, found);
+    let tree = or_drop!(
+        Expr::or(alloc, left, right, Some(note), loc),
+        own,
+        caps,
+        found
+    );
+    Ok(ended_typed(
+        ok,
+        Typing {
+            of: own,
+            caps,
+            tree,
+        },
+        found,
+    ))
 }
 
 // A true left side leaves the right one unreached.
@@ -123,13 +136,17 @@ fn or_true<'a>(
     ensures { IfOk result (λ r. walked_of r ≡ ended (v.entry.ok && w.entry.ok) (Some (typing true_type v.entry.caps (disj v.entry.tree unreached (at true_type (mark loc))))) (disj v.entry.tree w.entry.tree (lends (Some bool_type) (mark loc))) (findings_from v.entry.found.items ++ findings_from w.entry.found.items)) }
 {
     let ok = v.ok && w.ok;
-    let caps = v.caps.try_clone()?;
+    let caps = or_drop!(v.caps.try_clone(), v, w);
     let (left, found) = rest_of(v);
     let (right, more) = rest_of(w);
     drop(right);
-    let found = joined(found, more)?;
+    let found = or_drop!(joined(found, more), caps, left);
     let note = Type::singleton_boolean(true);
-    let tree = Expr::or(alloc, left, unreached(), Some(note), loc)?;
+    let tree = or_drop!(
+        Expr::or(alloc, left, unreached(), Some(note), loc),
+        caps,
+        found
+    );
     let of = Type::singleton_boolean(true);
     Ok(ended_typed(ok, Typing { of, caps, tree }, found))
 }
@@ -144,8 +161,8 @@ fn or_failed<'a>(
 {
     let (left, found) = rest_of(v);
     let (right, more) = rest_of(w);
-    let found = joined(found, more)?;
+    let found = or_drop!(joined(found, more), left, right);
     let note = Type::primitive_boolean();
-    let tree = Expr::or(alloc, left, right, Some(note), loc)?;
+    let tree = or_drop!(Expr::or(alloc, left, right, Some(note), loc), found);
     Ok(Told::Fail(tree, found))
 }

@@ -74,10 +74,7 @@ pub(crate) fn are_typed(ws: &Vec<Told<'_>>) -> bool
 }
 
 // The types that operands lend, where each lends one.
-pub(crate) fn types_lent(
-    alloc: Global,
-    ws: &Vec<Told<'_>>,
-) -> Result<Option<Vec<Type>>, AllocError>
+pub(crate) fn types_lent(alloc: Global, ws: &Vec<Told<'_>>) -> Result<Option<Vec<Type>>, AllocError>
     ensures { IfOk result (λ o. option_map (λ v. v.items) o ≡ types_lent (all_of ws.now.items)) }
 {
     let mut types = Vec::new(alloc);

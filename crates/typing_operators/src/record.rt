@@ -101,7 +101,7 @@ fn record_ended<'a>(
 {
     match types {
         Some(types) => {
-            let of = record_type(types)?;
+            let of = record_type(alloc, types)?;
             let note = of.try_clone(alloc)?;
             let tree = Expr::record(trees, Some(note), loc)?;
             let caps = CapabilitySet::new(alloc);

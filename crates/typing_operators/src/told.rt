@@ -65,7 +65,11 @@ pub(crate) fn parted<'a>(alloc: Global, v: Told<'a>) -> Result<Part<'a>, AllocEr
             })
         }
         Told::Fail(tree, found) => {
-            let of = lent(alloc, &tree)?;
+            let Ok(of) = lent(alloc, &tree) else {
+                drop(tree);
+                drop(found);
+                return Err(AllocError);
+            };
             Ok(Part {
                 ok: false,
                 of,

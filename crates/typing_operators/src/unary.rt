@@ -72,19 +72,29 @@ fn unary_ended<'a>(
             drop(u);
             match own {
                 Some(t) => {
-                    let note = t.try_clone(alloc)?;
-                    let tree = Expr::unary_app(alloc, op, tree, Some(note), loc)?;
+                    let note = or_drop!(t.try_clone(alloc), t, tree, found);
+                    let tree = or_drop!(
+                        Expr::unary_app(alloc, op, tree, Some(note), loc),
+                        t,
+                        found
+                    );
                     let caps = CapabilitySet::new(alloc);
                     Ok(ended_typed(ok, Typing { of: t, caps, tree }, found))
                 }
                 None => {
-                    let tree = Expr::unary_app(alloc, op, tree, Some(unary_lent(op)), loc)?;
+                    let tree = or_drop!(
+                        Expr::unary_app(alloc, op, tree, Some(unary_lent(op)), loc),
+                        found
+                    );
                     Ok(Told::Fail(tree, found))
                 }
             }
         }
         None => {
-            let tree = Expr::unary_app(alloc, op, tree, Some(unary_lent(op)), loc)?;
+            let tree = or_drop!(
+                Expr::unary_app(alloc, op, tree, Some(unary_lent(op)), loc),
+                found
+            );
             Ok(Told::Fail(tree, found))
         }
     }

@@ -8,7 +8,7 @@ use Rattle.typing_operators.proofs.parts.rest_of_all.Given as goal
 -- what is taken so far, and then what is left
 abbrev pub invariant-loop-w : goal.invariant-loop-w
 invariant-loop-w l = record {
-  trees : l.trees.items ++ map tree_of (all_of (into_iter_items l.w-iterator)) ≡ map tree_of (all_of l.fn.ws.entry.items);
-  found : findings_from l.found.items ++ findings_of_all (all_of (into_iter_items l.w-iterator)) ≡ findings_of_all (all_of l.fn.ws.entry.items);
+  trees : l.trees.items ++ map tree_of (all_of (into_iter_items l.w-iterator)) ≡ map tree_of (all_of l.fn.ws.items);
+  found : findings_from l.found.items ++ findings_of_all (all_of (into_iter_items l.w-iterator)) ≡ findings_of_all (all_of l.fn.ws.items);
   len : into_iter_len l.w-iterator ≡ length (into_iter_items l.w-iterator);
 }
