@@ -14,7 +14,7 @@ loop-env-preserved c =
     let r : RequestEnv × PolicyCheck = (c.in-Some.env, c.in_ok-check.check) in
     let it = into_iter_items c.loop-env.env-iterator in
     let rest = into_iter_items c.next.new.self in
-    let is = c.in-Some.ensures.steps in
+    let is = c.in-Some.ensures.steps.0 in
     let pushed = c.in_ok-push.ensures.items in
     record {
       environments = envs_more s id x done new r it rest is pushed _ c.loop-env.invariant.environments;
