@@ -118,4 +118,4 @@ module _ (schema : SchemaData) (t : TemplateData) (rs : Checks) (same : map (λ 
 
   pub warned_told : (before : List ValidationWarning) → (if all_false rs then added same_warning before (impossible t.id) else before) ≡ warned schema t before
   warned_told before = ap (λ b. if b then added same_warning before (impossible t.id) else before)
-    (told_false schema t.id (condition_of t) (linked_envs schema t) rs same told ∙ sym (ap (λ b. not b && list_all is_irrelevant (checks_of schema t)) flat))
+      (told_false schema t.id (condition_of t) (linked_envs schema t) rs same told ∙ sym (ap (λ b. not b && list_all is_irrelevant (checks_of schema t)) flat))

@@ -61,10 +61,7 @@ pub(crate) fn only_too_deep(alloc: Global, id: &Text) -> Result<Vec<ValidationEr
     Ok(errors)
 }
 
-fn walk_condition<'a>(
-    at: &Setting<'a, '_, '_>,
-    e: &'a Expr<()>,
-) -> Result<Told<'a>, BuildError>
+fn walk_condition<'a>(at: &Setting<'a, '_, '_>, e: &'a Expr<()>) -> Result<Told<'a>, BuildError>
     ensures { IfOk result (λ r. walked_of r ≡ condition_walked at.now.schema.now (env_data_of at.now.env.now) e.now) }
 {
     let caps = CapabilitySet::new(at.alloc);

@@ -114,10 +114,7 @@ fn warn_where(
 }
 
 /// Warns that the policy's condition is false on each request.
-fn warn_impossible(
-    warnings: &mut Vec<ValidationWarning>,
-    id: &Text,
-) -> Result<(), AllocError>
+fn warn_impossible(warnings: &mut Vec<ValidationWarning>, id: &Text) -> Result<(), AllocError>
     ensures { OnOk result (warnings.new.items ≡ added same_warning warnings.old.items (impossible id.now)) }
 {
     let warning = ValidationWarning::ImpossiblePolicy(ImpossiblePolicy {
