@@ -4,7 +4,7 @@ use Rattle.std.specs.List.{flat_map, list_all}
 use Rattle.schema_core.specs.declared.request_env.RequestEnv.{RequestEnv}
 use Rattle.findings.specs.declared.error.ValidationError.{ValidationError}
 use Rattle.policy_typecheck.specs.declared.policy_check.PolicyCheck.{PolicyCheck}
-use Rattle.policy_typecheck.specs.declared.policy_check.PolicyCheck.TheVariants.{Success, Irrelevant, Fail}
+use Rattle.policy_typecheck.specs.declared.policy_check.PolicyCheck.TheVariants.{Irrelevant, Fail}
 
 abbrev pub has_passed : PolicyCheck → Bool
 has_passed (Fail es) = false
