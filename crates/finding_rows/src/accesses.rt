@@ -2,7 +2,7 @@
 
 use crate::made::{entity_type, name, ty, uid};
 use policy_expressions::{BuildError, Expr, Literal, Var};
-use policy_names::Text;
+use policy_names::{EntityType, EntityUID, Text};
 use policy_scope::{AttributeAccess, partition_nonempty};
 use schema_core::{Attributes, RequestEnv, Type};
 use std::alloc::Global;
@@ -62,21 +62,36 @@ Any => `foo.bar`, e.foo has bar; `foo.bar`, e.foo has bar
 action => `foo.bar`, e.foo has bar; `foo.bar`, e.foo has bar
 context => `foo.bar` in context for Action::"action", context.foo has bar; `foo.bar`, e.foo has bar"#;
 
+// What an environment lends.
+#[derive(Drop)]
+struct Parts {
+    principal: EntityType,
+    action: EntityUID,
+    resource: EntityType,
+    context: Attributes,
+}
+
+fn env(parts: &Parts) -> RequestEnv<'_> {
+    RequestEnv::DeclaredAction {
+        principal: &parts.principal,
+        action: &parts.action,
+        resource: &parts.resource,
+        context: &parts.context,
+        principal_slot: None,
+        resource_slot: None,
+    }
+}
+
 #[test]
 fn attributes_are_reached(rt: HostRuntime) -> Result<(), Fail> {
     let alloc = rt.alloc();
-    let principal = entity_type(alloc, "User")?;
-    let resource = entity_type(alloc, "Photo")?;
-    let action = uid(alloc, "Action", "action")?;
-    let context = Attributes::with_attributes(BTreeMap::new(alloc));
-    let env = RequestEnv::DeclaredAction {
-        principal: &principal,
-        action: &action,
-        resource: &resource,
-        context: &context,
-        principal_slot: None,
-        resource_slot: None,
+    let parts = Parts {
+        principal: entity_type(alloc, "User")?,
+        action: uid(alloc, "Action", "action")?,
+        resource: entity_type(alloc, "Photo")?,
+        context: Attributes::with_attributes(BTreeMap::new(alloc)),
     };
+    let env = env(&parts);
     let mut failures = String::new(alloc);
     for line in ACCESSES.lines() {
         let (word, wanted) = line.split_once(" => ").unwrap_or((line, ""));
