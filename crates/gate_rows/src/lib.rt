@@ -6,6 +6,8 @@ mod bodies;
 #[cfg(test)]
 mod calls;
 #[cfg(test)]
+mod checks;
+#[cfg(test)]
 mod documents;
 #[cfg(test)]
 mod expressions;
