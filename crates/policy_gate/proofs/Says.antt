@@ -45,10 +45,10 @@ past_request (Some f) next h = absurd (cc (h))
 
 -- the policies are accepted exactly where they have no errors
 no_errors : (d : Document) → (findings_of d.schema d.policies).errors ≡ [] → HasAcceptedPolicies d
-no_errors d none = (accepted_exactly d.schema d.policies).to none
+no_errors d none = (accepted_exactly d.schema d.policies).0 none
 
 accepted_errors : (d : Document) → HasAcceptedPolicies d → (findings_of d.schema d.policies).errors ≡ []
-accepted_errors d is = (accepted_exactly d.schema d.policies).from is
+accepted_errors d is = (accepted_exactly d.schema d.policies).1 is
 
 -- where 0 is due for a document, it keeps every rule
 past_all : (d : Document) → IsWhole d.request → IsDone (checked_answer d) → KeepsRules d × (checked_answer d ≡ slice_answer d)
