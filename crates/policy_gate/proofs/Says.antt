@@ -21,7 +21,7 @@ use Rattle.policy_gate.specs.declared.status.Status.TheVariants.{Done, Findings 
 use Rattle.policy_gate.specs.declared.command.Command.{Command}
 use Rattle.policy_gate.specs.declared.command.Command.TheVariants.{Check, Slice}
 use Rattle.policy_gate.specs.Command.{width_of}
-use Rattle.policy_documents.specs.declared.width.Width.TheVariants.{OverIds}
+use Rattle.document_places.specs.declared.width.Width.TheVariants.{OverIds}
 use Rattle.finding_texts.specs.Written.{findings_text}
 use Rattle.policy_validate.proofs.Accepting.{accepted_exactly}
 use Rattle.policy_documents.proofs.OneReading.{one_reading}

@@ -5,10 +5,10 @@ use Rattle.json_parts.specs.Json.{json_of}
 use Rattle.policy_names.specs.declared.entity_uid.EntityUID.{EntityUID}
 use Rattle.policy_store.specs.Request.{IsWhole}
 use Rattle.authorizer.specs.Response.{response}
-use Rattle.policy_documents.specs.PlaceText.{place_text}
+use Rattle.document_places.specs.PlaceText.{place_text}
 use Rattle.policy_documents.specs.Reading.{IsRead}
 use Rattle.policy_documents.specs.declared.document.Document.{Document}
-use Rattle.policy_documents.specs.declared.place.Place.{Place}
+use Rattle.document_places.specs.declared.place.Place.{Place}
 use Rattle.finding_texts.specs.Findings.{Findings}
 use Rattle.finding_texts.specs.Written.{findings_text}
 use Rattle.findings.specs.declared.error.ValidationError.{ValidationError}

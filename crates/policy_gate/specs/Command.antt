@@ -3,8 +3,8 @@ use Rattle.std.specs.Prelude.{ℕ, List, [], ◌∷◌, if◌then◌else◌, Opt
 use Rattle.std.specs.Str.{bytes_eq}
 use Rattle.policy_gate.specs.declared.command.Command.{Command}
 use Rattle.policy_gate.specs.declared.command.Command.TheVariants.{Check, Slice}
-use Rattle.policy_documents.specs.declared.width.Width.{Width}
-use Rattle.policy_documents.specs.declared.width.Width.TheVariants.{Whole, OverIds}
+use Rattle.document_places.specs.declared.width.Width.{Width}
+use Rattle.document_places.specs.declared.width.Width.TheVariants.{Whole, OverIds}
 
 -- a command of one word
 abbrev pub one_word : List ℕ → Option Command
