@@ -15,6 +15,7 @@ use Rattle.policy_gate.specs.declared.status.Status.{Status}
 use Rattle.policy_gate.specs.declared.status.Status.TheVariants.{Done, Findings, Usage, Document, Request, Store, PartialRequest, ReadFault, WriteFault, OutOfMemory, TooLong}
 use Rattle.policy_documents.specs.declared.document.Document.{Document as ADocument}
 use Rattle.policy_gate.specs.Headline.{HasAcceptedPolicies, IsChecked, IsDocumentOf, IsSliced, KeepsRules, KeepsRulesOf}
+use Rattle.policy_validate.specs.Laws.{NoErrorsWhereAccepted}
 use Rattle.policy_gate.proofs.Answers.{status_of_document}
 use Rattle.policy_gate.proofs.Says.{says_slice, says_check, says_refused, kept_is_done}
 
@@ -157,7 +158,7 @@ module _ (bytes : List ℕ) (source source' : SourceState) (sink sink' : SinkSta
 
 -- ---- what 0 and 1 say, and that 0 comes where every rule holds
 
-module _ (command : Option Command) (source source' : SourceState) (sink sink' : SinkState) (status : Status) (runs : Runs command source source' sink sink' status) where
+module _ (law : NoErrorsWhereAccepted) (command : Option Command) (source source' : SourceState) (sink sink' : SinkState) (status : Status) (runs : Runs command source source' sink sink' status) where
   -- what was due where the words are the command
   cause_at : (c : Command) (t : Status) → command ≡ Some c → status ≡ t → Cause (Some c) source source' sink sink' t
   cause_at c t is ends =
@@ -171,7 +172,7 @@ module _ (command : Option Command) (source source' : SourceState) (sink sink' :
   headline_for is ends = at (cause_at Slice Done is ends)
     where
       at : Cause (Some Slice) source source' sink sink' Done → (bytes : List ℕ) × (text : List ℕ) × WasRead source source' bytes × ((d : ADocument) × IsDocumentOf Slice bytes d × KeepsRules d × IsSliced d text) × Appends sink.holds sink'.holds text
-      at (text, (bytes, read, answer), written) = (bytes, text, read, says_slice bytes text answer, written)
+      at (text, (bytes, read, answer), written) = (bytes, text, read, says_slice law bytes text answer, written)
 
   pub checked_for : command ≡ Some Check → status ≡ Done
       → (bytes : List ℕ) × (text : List ℕ) × WasRead source source' bytes
@@ -180,7 +181,7 @@ module _ (command : Option Command) (source source' : SourceState) (sink sink' :
   checked_for is ends = at (cause_at Check Done is ends)
     where
       at : Cause (Some Check) source source' sink sink' Done → (bytes : List ℕ) × (text : List ℕ) × WasRead source source' bytes × ((d : ADocument) × IsDocumentOf Check bytes d × IsChecked d text) × Appends sink.holds sink'.holds text
-      at (text, (bytes, read, answer), written) = (bytes, text, read, says_check bytes text answer, written)
+      at (text, (bytes, read, answer), written) = (bytes, text, read, says_check law bytes text answer, written)
 
   pub refused_for : status ≡ Findings
       → (c : Command) × (command ≡ Some c)
@@ -189,13 +190,13 @@ module _ (command : Option Command) (source source' : SourceState) (sink sink' :
     where
       at : (o : Option Command) → command ≡ o → Cause o source source' sink sink' Findings → (c : Command) × (command ≡ Some c) × ((bytes : List ℕ) × WasRead source source' bytes × ((d : ADocument) × IsDocumentOf c bytes d × (¬ HasAcceptedPolicies d)))
       at None is (text, due) = absurd due
-      at (Some c) is (text, (bytes, read, answer)) = (c, is, (bytes, read, says_refused c bytes text answer))
+      at (Some c) is (text, (bytes, read, answer)) = (c, is, (bytes, read, says_refused law c bytes text answer))
 
-pub complete_for : (bytes : List ℕ) (d : ADocument) (source source' : SourceState) (sink sink' : SinkState) (status : Status) (told : source.left ≡ Some bytes) (q : IsQuiet source.faults source'.faults) (command : Option Command) (c : Command)
+pub complete_for : (law : NoErrorsWhereAccepted) (bytes : List ℕ) (d : ADocument) (source source' : SourceState) (sink sink' : SinkState) (status : Status) (told : source.left ≡ Some bytes) (q : IsQuiet source.faults source'.faults) (command : Option Command) (c : Command)
     → Runs command source source' sink sink' status → command ≡ Some c → length bytes ≤ DOCUMENT_LIMIT → IsQuiet sink.faults sink'.faults
     → IsDocumentOf c bytes d → KeepsRulesOf c d → (status ≡ Done) ⊎ (status ≡ OutOfMemory)
-complete_for bytes d source source' sink sink' status told q command c runs is short q' of keeps =
+complete_for law bytes d source source' sink sink' status told q command c runs is short q' of keeps =
     elim (exact_for bytes source source' sink sink' status told q command c runs is short q') [
-      | inl (text, answer, written) ↦ inl (kept_is_done c bytes d _ of keeps answer)
+      | inl (text, answer, written) ↦ inl (kept_is_done law c bytes d _ of keeps answer)
       | inr none ↦ inr none
     ]

@@ -15,6 +15,7 @@ use crate::answer::reply;
 use crate::command::{Command, command_of};
 use crate::reply::{Reply, reply_with};
 use crate::status::Status;
+use policy_validate::laws::no_errors_where_accepted;
 use outside::{DOCUMENT_LIMIT, ReadError, Sink, Source, read_document_bytes, write_text};
 use std::alloc::{AllocError, Global};
 
@@ -148,5 +149,6 @@ pub fn run<S: Source, K: Sink>(
         → IsDocumentOf command bytes document → KeepsRulesOf command document
         → (result ≡ Status.Done) ⊎ (result ≡ Status.OutOfMemory) }
 {
+    no_errors_where_accepted();
     outcome(alloc, words, source, sink)
 }

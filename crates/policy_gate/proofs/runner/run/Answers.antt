@@ -22,14 +22,14 @@ returns-clause-exact g c command bytes is told short q q' =
     exact_for bytes _ _ _ _ _ told q _ command c.outcome.ensures.runs is short q'
 
 pub returns-clause-headline : goal.returns-clause-headline
-returns-clause-headline g c is ends = headline_for _ _ _ _ _ _ c.outcome.ensures.runs is ends
+returns-clause-headline g c is ends = headline_for c.no_errors_where_accepted.ensures _ _ _ _ _ _ c.outcome.ensures.runs is ends
 
 pub returns-clause-checked : goal.returns-clause-checked
-returns-clause-checked g c is ends = checked_for _ _ _ _ _ _ c.outcome.ensures.runs is ends
+returns-clause-checked g c is ends = checked_for c.no_errors_where_accepted.ensures _ _ _ _ _ _ c.outcome.ensures.runs is ends
 
 pub returns-clause-refused : goal.returns-clause-refused
-returns-clause-refused g c ends = refused_for _ _ _ _ _ _ c.outcome.ensures.runs ends
+returns-clause-refused g c ends = refused_for c.no_errors_where_accepted.ensures _ _ _ _ _ _ c.outcome.ensures.runs ends
 
 pub returns-clause-complete : goal.returns-clause-complete
 returns-clause-complete g c command bytes document is told short q q' of keeps =
-    complete_for bytes document _ _ _ _ _ told q _ command c.outcome.ensures.runs is short q' of keeps
+    complete_for c.no_errors_where_accepted.ensures bytes document _ _ _ _ _ told q _ command c.outcome.ensures.runs is short q' of keeps
