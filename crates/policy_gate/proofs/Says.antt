@@ -1,5 +1,5 @@
 -- What an answer with status 0 or 1 says, and when 0 is due.
-use Rattle.std.proofs.Common.{◌≡◌, ℕ, List, [], ◌∷◌, inl, inr, Option, Some, None, Ok, Err, sym, ◌∙◌, ap, refl, subst}
+use Rattle.std.proofs.Common.{◌≡◌, ◌⊎◌, ℕ, List, [], ◌∷◌, inl, inr, Option, Some, None, Ok, Err, sym, ◌∙◌, ap, refl, subst}
 use Rattle.serde_json.specs.Data.{Data}
 use Rattle.policy_names.specs.declared.entity_uid.EntityUID.{EntityUID}
 use Rattle.policy_store.specs.Request.{IsWhole}
