@@ -84,7 +84,7 @@ abbrev pub slot_values : List (SlotId × EntityUID) → SlotValues
 slot_values values = record { principal = slice_get (given values Principal) 0; resource = slice_get (given values Resource) 0 }
 
 -- a fault, where there is one
-abbrev fault_if : Bool → PolicySetError → Option PolicySetError
+abbrev pub fault_if : Bool → PolicySetError → Option PolicySetError
 fault_if true fault = Some fault
 fault_if b fault = None
 
