@@ -1,5 +1,5 @@
 -- A link's condition is the condition of its own scope and the template's body.
-use Rattle.std.proofs.Common.{◌≡◌, Bool, true, false, ◌||◌, List, [], ◌∷◌, Option, Some, None, is_some, refl, ap}
+use Rattle.std.proofs.Common.{◌≡◌, Bool, true, false, ◌||◌, List, [], ◌∷◌, Option, Some, None, is_some, refl, ap, arith}
 use Rattle.std.specs.Prelude.{length, cond, nat_lt, slice_get}
 use Rattle.std.specs.Option.{option_or}
 use Rattle.policy_names.specs.declared.entity_uid.EntityUID.{EntityUID}
@@ -106,7 +106,7 @@ given_once : (b : Bool) (us : List EntityUID) → nat_lt (length us) (cond b 1 0
 given_once true [] h k = cc
 given_once true (u ∷ us) h k = refl
 given_once false [] h k = refl
-given_once false (u ∷ us) h k = cc
+given_once false (u ∷ us) h k = absurd (omega (arith, k))
 
 pub passed_fills : (t : TemplateData) (values : List (SlotId × EntityUID)) → slot_fault t values ≡ None → Fills (slot_values values) t
 passed_fills t values h =

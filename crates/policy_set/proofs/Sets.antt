@@ -23,26 +23,26 @@ module _ {V : Type 0} (key : V → List ℕ) where
   -- a look-up for another key is what it was
   other_at : (v : V) (vs : List V) (q : List ℕ) → is_eq (text_cmp q (key v)) ≡ false → value_at text_cmp key (with_value text_cmp key v vs) q ≡ value_at text_cmp key vs q
   other_at v [] q h = ap (λ b. cond b (Some v) None) h
-  other_at v (w ∷ ws) q h = by (text_cmp (key v) (key w)) refl where
-    by : (o : Ordering) → text_cmp (key v) (key w) ≡ o → value_at text_cmp key (match_ordering o (v ∷ w ∷ ws) (v ∷ ws) (w ∷ with_value text_cmp key v ws)) q ≡ value_at text_cmp key (w ∷ ws) q
-    by Less e = ap (λ b. cond b (Some v) (value_at text_cmp key (w ∷ ws) q)) h
-    by Equal e =
+  other_at v (w ∷ ws) q h = by (text_cmp (key v) (key w)) refl (other_at v ws q h) where
+    by : (o : Ordering) → text_cmp (key v) (key w) ≡ o → value_at text_cmp key (with_value text_cmp key v ws) q ≡ value_at text_cmp key ws q → value_at text_cmp key (match_ordering o (v ∷ w ∷ ws) (v ∷ ws) (w ∷ with_value text_cmp key v ws)) q ≡ value_at text_cmp key (w ∷ ws) q
+    by Less e later = ap (λ b. cond b (Some v) (value_at text_cmp key (w ∷ ws) q)) h
+    by Equal e later =
         ap (λ b. cond b (Some v) (value_at text_cmp key ws q)) h
         ∙ ap (λ b. cond b (Some w) (value_at text_cmp key ws q)) (sym (ap (λ k. is_eq (text_cmp q k)) (sym (exact_bytes (key v) (key w) e)) ∙ h))
-    by Greater e = ap (λ o. cond (is_eq (text_cmp q (key w))) (Some w) o) (other_at v ws q h)
+    by Greater e later = ap (λ o. cond (is_eq (text_cmp q (key w))) (Some w) o) later
 
   -- where a look-up finds nothing, each value has another key
   others : (vs : List V) (q : List ℕ) → value_at text_cmp key vs q ≡ None → AllByRecursion (λ v. is_eq (text_cmp q (key v)) ≡ false) vs
   others [] q h = tt
-  others (v ∷ vs) q h = by (is_eq (text_cmp q (key v))) refl h where
-    by : (b : Bool) → is_eq (text_cmp q (key v)) ≡ b → cond b (Some v) (value_at text_cmp key vs q) ≡ None → (is_eq (text_cmp q (key v)) ≡ false) × AllByRecursion (λ v. is_eq (text_cmp q (key v)) ≡ false) vs
-    by true e k = cc
-    by false e k = (e, others vs q k)
+  others (v ∷ vs) q h = by (is_eq (text_cmp q (key v))) refl (others vs q) h where
+    by : (b : Bool) → is_eq (text_cmp q (key v)) ≡ b → (value_at text_cmp key vs q ≡ None → AllByRecursion (λ v. is_eq (text_cmp q (key v)) ≡ false) vs) → cond b (Some v) (value_at text_cmp key vs q) ≡ None → (is_eq (text_cmp q (key v)) ≡ false) × AllByRecursion (λ v. is_eq (text_cmp q (key v)) ≡ false) vs
+    by true e later k = cc
+    by false e later k = (e, later k)
 
 turned : (m n : List ℕ) → is_eq (text_cmp m n) ≡ false → is_eq (text_cmp n m) ≡ false
 turned m n h = by (is_eq (text_cmp n m)) refl where
   by : (b : Bool) → is_eq (text_cmp n m) ≡ b → b ≡ false
-  by true e = let same = tells_apart exact_bytes n m e in sym (ap (λ k. is_eq (text_cmp k m)) same ∙ ap (λ k. is_eq (text_cmp m k)) (sym same)) ∙ ap (λ b. b) refl ∙ h
+  by true e = let same = tells_apart exact_bytes n m e in sym e ∙ ap (λ k. is_eq (text_cmp k m)) same ∙ ap (λ k. is_eq (text_cmp m k)) (sym same) ∙ h
   by false e = refl
 
 none_of : {X : Type 0} (o : Option X) → is_some o ≡ false → o ≡ None

@@ -1,5 +1,5 @@
 -- Sets of policies as plain data: templates, which have slots, and policies, which are static or links; each ascending by id.
-use Rattle.std.specs.Prelude.{◌≡◌, ⊤, ℕ, Bool, true, ◌||◌, ◌&&◌, not, nat_lt, List, [], ◌∷◌, ◌++◌, Option, Some, None, map, filter, flat_map, fold, length, slice_get, is_some, is_none, IsSomeAnd, IfSome, IsTrue, cond, refl}
+use Rattle.std.specs.Prelude.{◌≡◌, ⊤, ℕ, Bool, true, false, ◌||◌, not, nat_lt, List, [], ◌∷◌, ◌++◌, Option, Some, None, map, filter, flat_map, fold, length, slice_get, is_some, is_none, IsSomeAnd, IfSome, IsTrue, cond, refl}
 use Rattle.std.specs.Option.{option_or}
 use Rattle.std.specs.BTreeMap.{BTreeMap, values}
 use Rattle.std.specs.Coded.{Coded, coded_list, coded×, code_by}
@@ -86,7 +86,7 @@ slot_values values = record { principal = slice_get (given values Principal) 0; 
 -- a fault, where there is one
 abbrev pub fault_if : Bool → PolicySetError → Option PolicySetError
 fault_if true fault = Some fault
-fault_if b fault = None
+fault_if false fault = None
 
 -- why nothing with the id can be added: a template or a policy has it
 abbrev pub id_fault : PolicySetData → List ℕ → Option PolicySetError
@@ -113,7 +113,7 @@ slot_fault t values =
     (fault_if (is_extra t.resource (given values Resource)) (SlotExtra Resource))))
 
 -- with no template, that there is none; else what stands against this one
-abbrev template_fault : Option TemplateData → List ℕ → List (SlotId × EntityUID) → Option PolicySetError
+abbrev pub template_fault : Option TemplateData → List ℕ → List (SlotId × EntityUID) → Option PolicySetError
 template_fault None id values = Some (UnknownTemplate id)
 template_fault (Some t) id values = slot_fault t values
 

@@ -284,7 +284,7 @@ fn collected<'a>(
     alloc: Global,
     by_id: BTreeMap<Text, &'a Template>,
 ) -> Result<Vec<&'a Template>, AllocError>
-    ensures { IfOk result (λ ts. ts.items ≡ values by_id) }
+    ensures { IfOk result (λ ts. ts.items ≡ values by_id.entry) }
 {
     let mut templates = Vec::new(alloc);
     for template in by_id.into_values() {
