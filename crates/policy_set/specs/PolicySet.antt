@@ -45,29 +45,36 @@ is_taken s id = is_some (template_at s id) || is_some (policy_at s id)
 abbrev pub IsTaken : PolicySetData → List ℕ → Type 0
 IsTaken s id = IsTrue (is_taken s id)
 
+-- one more template at its place among ascending ones
+abbrev pub placed : List TemplateData → TemplateData → List TemplateData
+placed ts t = with_value text_cmp (λ u. u.id) t ts
+
 -- the set with one more template, at its place
 abbrev pub with_template : TemplateData → PolicySetData → PolicySetData
-with_template t s = record s { templates = with_value text_cmp (λ u. u.id) t s.templates }
+with_template t s = record s { templates = placed s.templates t }
 
 -- the set with one more policy, at its place
 abbrev pub with_policy : PolicyData → PolicySetData → PolicySetData
 with_policy p s = record s { policies = with_value text_cmp (λ q. q.id) p s.policies }
 
--- whether a policy is a link
+-- whether a policy is a link, and whether it is static
 abbrev pub is_link : PolicyData → Bool
 is_link p = is_some p.link
+
+abbrev pub is_static : PolicyData → Bool
+is_static p = not (is_link p)
 
 -- the policies that are links
 abbrev pub links : PolicySetData → List PolicyData
 links s = filter is_link s.policies
 
--- the policies that are no links, as they are written
+-- the static policies, as they are written
 abbrev pub statics : PolicySetData → List TemplateData
-statics s = map written_of (filter (λ p. not (is_link p)) s.policies)
+statics s = map written_of (filter is_static s.policies)
 
--- the templates and the static policies as they are written, ascending by id: each is put at its place
+-- the templates and the static policies as they are written, ascending by id
 abbrev pub written : PolicySetData → List TemplateData
-written s = fold (λ ts t. with_value text_cmp (λ u. u.id) t ts) [] (s.templates ++ statics s)
+written s = fold placed [] (s.templates ++ statics s)
 
 -- the two are one slot
 abbrev pub is_same_slot : SlotId → SlotId → Bool
