@@ -1,6 +1,6 @@
 -- What a set keeps, it keeps with one more template or policy whose id is new.
 use Rattle.std.proofs.Common.{◌≡◌, Bool, true, false, ◌||◌, cond, List, [], ◌∷◌, ℕ, Option, Some, None, IfSome, map, refl, sym, ◌∙◌, ap, subst}
-use Rattle.std.specs.Prelude.{is_some, IsSomeAnd, find}
+use Rattle.std.specs.Prelude.{is_some, IsSomeAnd}
 use Rattle.std.specs.List.{AllByRecursion}
 use Rattle.std.specs.List.Sorted.{IsStrictlySortedBy}
 use Rattle.std.specs.declared.cmp.Ordering.{Ordering}
@@ -10,7 +10,7 @@ use Rattle.std.proofs.lemmas.Map.Lookups.{exact_bytes}
 use Rattle.std.proofs.lemmas.Map.Views.{tells_apart}
 use Rattle.std.specs.Map.{values_of}
 use Rattle.std.specs.BTreeMap.{BTreeMap, IsOrdered, values, insert_entry}
-use Rattle.hierarchy.specs.Keyed.{AreAtTheirKeys, has_key, value_at, with_value}
+use Rattle.hierarchy.specs.Keyed.{AreAtTheirKeys, value_at, with_value}
 use Rattle.hierarchy.proofs.Keyed.{keys_ascend, value_named, value_put, own_put}
 use Rattle.policy_names.specs.Uid.{text_cmp}
 use Rattle.policy_set.specs.Data.{TemplateData, LinkData, PolicyData}

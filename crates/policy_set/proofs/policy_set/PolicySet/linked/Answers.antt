@@ -1,4 +1,4 @@
-use Rattle.std.proofs.Common.{◌≡◌, None, sym, subst, ◌∙◌, ap}
+use Rattle.std.proofs.Common.{◌≡◌, None, sym, subst}
 use Rattle.policy_set.specs.Links.{Fills}
 use Rattle.policy_set.specs.PolicySet.{slot_fault, IsLinkedIn}
 use Rattle.policy_set.proofs.Linked.{passed_fills}

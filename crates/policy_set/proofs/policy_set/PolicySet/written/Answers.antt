@@ -1,4 +1,4 @@
-use Rattle.std.proofs.Common.{◌≡◌, map, sym, ap, ◌∙◌}
+use Rattle.std.proofs.Common.{map, sym, ap, ◌∙◌}
 use Rattle.std.specs.Prelude.{fold, filter}
 use Rattle.std.specs.BTreeMap.{values, insert_entry}
 use Rattle.std.specs.Map.Iter.{deref}
