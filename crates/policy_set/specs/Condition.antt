@@ -98,7 +98,7 @@ static_of t = record {
   resource = t.resource;
   body = t.body;
   condition = condition_of t;
-  template = None;
+  link = None;
 }
 
 -- a policy as it would be written by itself

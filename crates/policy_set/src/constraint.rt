@@ -1,9 +1,12 @@
 //! What the scope of a policy asks of the request.
 
-ghost use Rattle.std.specs.Prelude.{◌≡◌};
+ghost use Rattle.std.specs.Prelude.{◌≡◌, IfOk};
+ghost use Rattle.std.specs.Option.{option_copied};
 ghost use Rattle.policy_set.specs.Condition.{is_slot, asks_slot};
+ghost use Rattle.policy_set.specs.Links.{with_id, linked};
 
 use policy_names::{EntityType, EntityUID};
+use std::alloc::AllocError;
 
 /// What a policy does where its condition is true.
 #[derive(Clone, Copy, Debug, PartialEq, Eq)]
@@ -31,6 +34,18 @@ impl EntityReference {
         match self {
             EntityReference::EUID(_) => false,
             EntityReference::Slot => true,
+        }
+    }
+
+    // An equal one, with the id in the place of the slot, where there is one.
+    fn with_id(&self, id: Option<&EntityUID>) -> Result<EntityReference, AllocError>
+        ensures { IfOk result (λ r. r ≡ with_id (option_copied id) self.now) }
+    {
+        match (self, id) {
+            (EntityReference::EUID(uid), _) | (EntityReference::Slot, Some(uid)) => {
+                Ok(EntityReference::EUID(uid.try_clone()?))
+            }
+            (EntityReference::Slot, None) => Ok(EntityReference::Slot),
         }
     }
 }
@@ -62,6 +77,31 @@ impl PrincipalOrResourceConstraint {
             | PrincipalOrResourceConstraint::IsIn(_, entity) => entity.is_slot(),
         }
     }
+
+    // An equal one, with the id in the place of its slot, where there is one.
+    pub(crate) fn with_id(
+        &self,
+        id: Option<&EntityUID>,
+    ) -> Result<PrincipalOrResourceConstraint, AllocError>
+        ensures { IfOk result (λ c. c ≡ linked (option_copied id) self.now) }
+    {
+        Ok(match self {
+            PrincipalOrResourceConstraint::Any => PrincipalOrResourceConstraint::Any,
+            PrincipalOrResourceConstraint::Eq(entity) => {
+                PrincipalOrResourceConstraint::Eq(entity.with_id(id)?)
+            }
+            PrincipalOrResourceConstraint::In(entity) => {
+                PrincipalOrResourceConstraint::In(entity.with_id(id)?)
+            }
+            PrincipalOrResourceConstraint::Is(entity_type) => {
+                PrincipalOrResourceConstraint::Is(entity_type.try_clone()?)
+            }
+            PrincipalOrResourceConstraint::IsIn(entity_type, entity) => {
+                let entity = entity.with_id(id)?;
+                PrincipalOrResourceConstraint::IsIn(entity_type.try_clone()?, entity)
+            }
+        })
+    }
 }
 
 /// What a scope asks of the action.
@@ -73,4 +113,17 @@ pub enum ActionConstraint {
     Eq(EntityUID),
     /// That it is one of these actions, or has one as an ancestor.
     In(Vec<EntityUID>),
+}
+
+impl ActionConstraint {
+    // An equal one.
+    pub(crate) fn try_clone(&self) -> Result<ActionConstraint, AllocError>
+        ensures { IfOk result (λ c. c ≡ self.now) }
+    {
+        match self {
+            ActionConstraint::Any => Ok(ActionConstraint::Any),
+            ActionConstraint::Eq(uid) => Ok(ActionConstraint::Eq(uid.try_clone()?)),
+            ActionConstraint::In(uids) => Ok(ActionConstraint::In(uids.clone()?)),
+        }
+    }
 }

@@ -2,6 +2,7 @@
 #![tactic(auto)]
 
 mod constraint;
+mod link;
 mod policy;
 mod policy_set;
 mod template;

@@ -5,9 +5,10 @@ ghost use Rattle.policy_expressions.specs.Tree.{depth_of};
 ghost use Rattle.policy_expressions.specs.Slots.{has_slot};
 ghost use Rattle.policy_set.specs.Data.{TemplateData};
 ghost use Rattle.policy_set.specs.Condition.{condition_of, has_scope_slot};
+ghost use Rattle.policy_set.specs.Links.{linked_of};
 
 use crate::{ActionConstraint, Effect, EntityReference, PrincipalOrResourceConstraint};
-use policy_expressions::{BinaryOp, BuildError, Expr, ExprKind, Literal, SlotId, Var};
+use policy_expressions::{BinaryOp, BuildError, Expr, ExprKind, Literal, SlotId, SlotValues, Var};
 use policy_names::{EntityType, EntityUID, Text};
 use std::alloc::{AllocError, Global};
 use std::marker::Model;
@@ -166,6 +167,37 @@ impl Template {
         ensures body { has_slot self.now.body ≡ false }
     {
         &self.condition
+    }
+
+    // A link of it as a template of its own, under another id.
+    pub(crate) fn with_ids(
+        &self,
+        alloc: Global,
+        id: Text,
+        values: &SlotValues,
+    ) -> Result<Template, AllocError>
+        ensures { IfOk result (λ t. t ≡ record (linked_of values.now self.now) { id = id }) }
+    {
+        let principal_constraint = self.principal_constraint.with_id(values.value(SlotId::Principal))?;
+        let action_constraint = self.action_constraint.try_clone()?;
+        let resource_constraint = self.resource_constraint.with_id(values.value(SlotId::Resource))?;
+        match self.condition.substitute(alloc, values) {
+            Ok(condition) => Ok(Template {
+                id,
+                effect: self.effect,
+                principal_constraint,
+                action_constraint,
+                resource_constraint,
+                condition,
+            }),
+            Err(e) => {
+                drop(id);
+                drop(principal_constraint);
+                drop(action_constraint);
+                drop(resource_constraint);
+                Err(e)
+            }
+        }
     }
 
     /// Whether its scope has a slot, so that it is to be linked.
