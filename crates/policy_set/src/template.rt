@@ -313,7 +313,7 @@ fn action_condition(alloc: Global, constraint: &ActionConstraint) -> Result<Expr
             Expr::binary_app(alloc, BinaryOp::Eq, left, right, (), None)
         }
         ActionConstraint::In(uids) => {
-            let items = literals(alloc, uids)?;
+            let items = literals(alloc, uids.as_slice())?;
             let right = Expr::set(items, (), None)?;
             let left = Expr::var(Var::Action, (), None);
             Expr::binary_app(alloc, BinaryOp::In, left, right, (), None)
@@ -334,8 +334,8 @@ fn id_literal(uid: &EntityUID) -> Result<Expr<()>, AllocError>
 }
 
 // The literals of the ids.
-fn literals(alloc: Global, uids: &Vec<EntityUID>) -> Result<Vec<Expr<()>>, AllocError>
-    ensures { IfOk result (λ es. es.items ≡ map id_literal uids.now.items) }
+fn literals(alloc: Global, uids: &[EntityUID]) -> Result<Vec<Expr<()>>, AllocError>
+    ensures { IfOk result (λ es. es.items ≡ map id_literal uids.now) }
 {
     let mut literals = Vec::new(alloc);
     for uid in uids {
