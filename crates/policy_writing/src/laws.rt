@@ -3,7 +3,7 @@
 ghost use Rattle.std.specs.Prelude.{◌≡◌, IfOk, Some};
 
 use crate::write_value;
-use policy_documents::read_value;
+use value_documents::read_value;
 use policy_values::Value;
 use std::alloc::{AllocError, Global};
 

@@ -1,7 +1,7 @@
 use Rattle.std.proofs.Common.{arith}
-use Rattle.policy_documents.specs.Policy.{policy_of_parts}
-use Rattle.policy_documents.proofs.Limited.{slot_read}
-use Rattle.policy_documents.proofs.policy.with_expression.Goals as goal
+use Rattle.entry_documents.specs.Policy.{policy_of_parts}
+use Rattle.entry_documents.proofs.Limited.{slot_read}
+use Rattle.entry_documents.proofs.policy.with_expression.Goals as goal
 
 pub returns-else-depth-ge-MOST_BODY_DEPTH : goal.returns-else-depth-ge-MOST_BODY_DEPTH
 returns-else-depth-ge-MOST_BODY_DEPTH c =

@@ -1,9 +1,32 @@
-//! The limits of policies.
+//! The limits of policies in documents over ids.
 
 ghost use Rattle.std.specs.Prelude.{◌≡◌};
-ghost use Rattle.policy_documents.specs.Limits.{is_id_operand, is_over_ids, has_no_places};
+ghost use Rattle.entry_documents.specs.Limits.{asks_action, asks_id, is_id_operand, is_over_ids, has_no_places};
 
 use policy_expressions::{BinaryOp, Expr, ExprKind, Literal, UnaryOp, Var};
+use policy_set::{ActionConstraint, EntityReference, PrincipalOrResourceConstraint};
+
+/// Whether a scope asks nothing, or for an id by `==` or `in`.
+pub(crate) fn asks_id(constraint: &PrincipalOrResourceConstraint) -> bool
+    ensures { result ≡ asks_id constraint.now }
+{
+    match constraint {
+        PrincipalOrResourceConstraint::Any => true,
+        PrincipalOrResourceConstraint::Eq(EntityReference::EUID(_)) => true,
+        PrincipalOrResourceConstraint::In(EntityReference::EUID(_)) => true,
+        _ => false,
+    }
+}
+
+/// Whether a scope asks nothing, or for one action.
+pub(crate) fn asks_action(constraint: &ActionConstraint) -> bool
+    ensures { result ≡ asks_action constraint.now }
+{
+    match constraint {
+        ActionConstraint::Any | ActionConstraint::Eq(_) => true,
+        ActionConstraint::In(_) => false,
+    }
+}
 
 /// Whether a condition is over ids: `true`, `false`, `&&`, `||` and `!` of such, `==` and `in` between ids.
 pub(crate) fn is_over_ids<T>(condition: &Expr<T>) -> bool

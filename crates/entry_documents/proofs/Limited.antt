@@ -21,13 +21,13 @@ use Rattle.policy_set.proofs.Depths.{by_body}
 use Rattle.serde_json.specs.Data.{Data}
 use Rattle.expr_documents.specs.Reads.{bounded}
 use Rattle.expr_documents.specs.declared.nesting.Bounded.TheVariants.{Within, Nested}
-use Rattle.policy_documents.specs.Limits.{is_id_operand, is_over_ids, has_no_places}
-use Rattle.policy_documents.specs.Policies.{added_entry, added_policy, added_template, and_then, template_read}
-use Rattle.policy_documents.specs.Policy.{is_too_deep, policy_keeps_limits, policy_of, policy_of_parts, policy_with_body, read_of, read_with}
-use Rattle.policy_documents.specs.declared.place.Place.TheVariants as place
-use Rattle.policy_documents.specs.declared.policy.PolicyParts.{PolicyParts}
-use Rattle.policy_documents.specs.declared.policy.PolicyRead.{PolicyRead}
-use Rattle.policy_documents.specs.declared.policy.PolicyRead.TheVariants as policy
+use Rattle.entry_documents.specs.Limits.{is_id_operand, is_over_ids, has_no_places}
+use Rattle.entry_documents.specs.Policies.{added_entry, added_policy, added_template, and_then, template_read}
+use Rattle.entry_documents.specs.Policy.{is_too_deep, policy_keeps_limits, policy_of, policy_of_parts, policy_with_body, read_of, read_with}
+use Rattle.entry_documents.specs.declared.place.Place.TheVariants as place
+use Rattle.entry_documents.specs.declared.policy.PolicyParts.{PolicyParts}
+use Rattle.entry_documents.specs.declared.policy.PolicyRead.{PolicyRead}
+use Rattle.entry_documents.specs.declared.policy.PolicyRead.TheVariants as policy
 
 pub both_true : (a b : Bool) → (a && b) ≡ true → (a ≡ true) × (b ≡ true)
 both_true true b h = (refl, h)

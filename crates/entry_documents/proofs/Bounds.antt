@@ -12,7 +12,7 @@ use Rattle.expr_documents.specs.declared.forms.Junction.{Junction}
 use Rattle.expr_documents.specs.declared.forms.Junction.TheVariants.{All}
 use Rattle.expr_documents.specs.declared.nesting.Bounded.TheVariants.{Within, Nested}
 use Rattle.expr_documents.proofs.Bounds.{join_read}
-use Rattle.policy_documents.specs.Body.{behind, conjunction, left_fold, or_anything, or_true}
+use Rattle.entry_documents.specs.Body.{behind, conjunction, left_fold, or_anything, or_true}
 
 behind_read : (j : Junction) (o : Option Plain) (y : Plain) → behind (on_two (join_tree j)) (option_map bounded o) (bounded y) ≡ bounded (behind (join_tree j) o y)
 behind_read j None y = refl

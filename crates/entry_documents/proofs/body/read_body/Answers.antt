@@ -3,11 +3,11 @@ use Rattle.std.specs.Prelude.{option_and_then}
 use Rattle.serde_json.specs.Data.{Items}
 use Rattle.serde_json.specs.View.{items_view}
 use Rattle.policy_expressions.specs.Plain.{Plain}
-use Rattle.policy_documents.specs.Body.{clauses_of, conjunction, left_fold, or_anything}
+use Rattle.entry_documents.specs.Body.{clauses_of, conjunction, left_fold, or_anything}
 use Rattle.expr_documents.specs.Reads.{bounded}
 use Rattle.expr_documents.specs.declared.nesting.Bounded.{Bounded}
-use Rattle.policy_documents.proofs.Bounds.{clauses_read}
-use Rattle.policy_documents.proofs.body.read_body.Goals as goal
+use Rattle.entry_documents.proofs.Bounds.{clauses_read}
+use Rattle.entry_documents.proofs.body.read_body.Goals as goal
 
 pub returns-in-Some : goal.returns-in-Some
 returns-in-Some c =

@@ -5,7 +5,7 @@ ghost use Rattle.serde_json.specs.View.{view, items_view};
 ghost use Rattle.expr_documents.specs.Exprs.{expr_of};
 ghost use Rattle.expr_documents.specs.Forms.{join_tree};
 ghost use Rattle.expr_documents.specs.Reads.{bounded, on_two};
-ghost use Rattle.policy_documents.specs.Body.{behind, body_of, clause_form, clause_of, clauses_of, left_fold, negated, or_true};
+ghost use Rattle.entry_documents.specs.Body.{behind, body_of, clause_form, clause_of, clauses_of, left_fold, negated, or_true};
 
 use expr_documents::{Bounded, Junction, joined, read_expr, unary};
 use json_parts::{list_items, lone_member};

@@ -1,10 +1,10 @@
 use Rattle.std.proofs.Common.{◌≡◌, None, drop, map, option_map}
 use Rattle.serde_json.specs.View.{items_view}
-use Rattle.policy_documents.specs.Body.{clauses_of, left_fold, or_true}
+use Rattle.entry_documents.specs.Body.{clauses_of, left_fold, or_true}
 use Rattle.expr_documents.specs.Forms.{join_tree}
 use Rattle.expr_documents.specs.Reads.{bounded, on_two}
 use Rattle.expr_documents.specs.declared.forms.Junction.TheVariants.{All}
-use Rattle.policy_documents.proofs.body.read_clauses.Given as goal
+use Rattle.entry_documents.proofs.body.read_clauses.Given as goal
 
 -- what there is, and then those of what is left, are all
 abbrev pub invariant-loop-item : goal.invariant-loop-item
