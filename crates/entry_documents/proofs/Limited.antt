@@ -1,6 +1,6 @@
--- Policies that are read keep the limits.
-use Rattle.std.proofs.Common.{◌≡◌, ℕ, ◌<◌, ◌≤◌, length, ◌&&◌, ◌||◌, Bool, true, false, Option, Some, None, option_map, Ok, Err, arith, refl, sym, ap, ◌∙◌}
-use Rattle.std.specs.Prelude.{nat_lt, option_and_then, if◌then◌else◌}
+-- Policies that are read in documents over ids keep the limits.
+use Rattle.std.proofs.Common.{◌≡◌, ◌<◌, ◌≤◌, ◌&&◌, ◌||◌, Bool, true, false, Option, Some, None, option_map, arith, refl}
+use Rattle.std.specs.Prelude.{IfSome, codes, is_some, nat_lt, option_and_then, if◌then◌else◌}
 use Rattle.std.proofs.lemmas.Bool.Decides.{nat_tests}
 use Rattle.policy_expressions.specs.Tree.{Tree, lit, var, conj, disj, unary, binary, depth_of}
 use Rattle.policy_expressions.specs.Slots.{has_slot}
@@ -16,15 +16,17 @@ use Rattle.policy_set.specs.declared.constraint.PrincipalOrResourceConstraint.Th
 use Rattle.policy_set.specs.Data.{TemplateData}
 use Rattle.policy_expressions.specs.Plain.{Plain}
 use Rattle.policy_set.specs.Condition.{asks_slot, has_scope_slot, scope_part, action_part, condition_of}
-use Rattle.policy_set.specs.PolicySet.{PolicySetData}
 use Rattle.policy_set.proofs.Depths.{by_body}
 use Rattle.serde_json.specs.Data.{Data}
+use Rattle.serde_json.specs.Find.{get}
 use Rattle.expr_documents.specs.Reads.{bounded}
 use Rattle.expr_documents.specs.declared.nesting.Bounded.TheVariants.{Within, Nested}
 use Rattle.entry_documents.specs.Limits.{is_id_operand, is_over_ids, has_no_places}
-use Rattle.entry_documents.specs.Policies.{added_entry, added_policy, added_template, and_then, template_read}
-use Rattle.entry_documents.specs.Policy.{is_too_deep, policy_keeps_limits, policy_of, policy_of_parts, policy_with_body, read_of, read_with}
-use Rattle.entry_documents.specs.declared.place.Place.TheVariants as place
+use Rattle.entry_documents.specs.Policy.{entry_of, is_too_deep, policy_keeps_limits, policy_of, policy_of_parts, policy_with_body, read_of, read_with}
+use Rattle.document_places.specs.Width.{within}
+use Rattle.document_places.specs.declared.width.Width.{Width}
+use Rattle.document_places.specs.declared.width.Width.TheVariants.{Whole, OverIds}
+use Rattle.entry_documents.specs.Link.{link_of}
 use Rattle.entry_documents.specs.declared.policy.PolicyParts.{PolicyParts}
 use Rattle.entry_documents.specs.declared.policy.PolicyRead.{PolicyRead}
 use Rattle.entry_documents.specs.declared.policy.PolicyRead.TheVariants as policy
@@ -78,8 +80,8 @@ part_asks_none i (scope.Is n) h = refl
 part_asks_none i (scope.IsIn n (EUID u)) h = refl
 part_asks_none i (scope.IsIn n Slot) h = absurd (cc)
 
--- a policy that keeps the limits has no slot in its scope
-kept_asks_none : (t : TemplateData) → policy_keeps_limits t ≡ true → has_scope_slot t ≡ false
+-- a policy over ids has no slot in its scope
+pub kept_asks_none : (t : TemplateData) → policy_keeps_limits OverIds t ≡ true → has_scope_slot t ≡ false
 kept_asks_none t h =
     let limits = both_true (is_over_ids (condition_of t)) (has_no_places (condition_of t)) h in
     let whole = both_true _ (is_over_ids t.body) limits.0 in
@@ -87,21 +89,25 @@ kept_asks_none t h =
     let first = both_true (is_over_ids (scope_part side.Principal t.principal)) (is_over_ids (action_part t.action)) scope.0 in
     neither (asks_slot t.principal) (asks_slot t.resource) (part_asks_none side.Principal t.principal first.0) (part_asks_none side.Resource t.resource scope.1)
 
-read_by : (t u : TemplateData) (b c : Bool) → policy_keeps_limits t ≡ c → (if b then Some policy.Nested else (if c then Some (policy.Policy t) else None)) ≡ Some (policy.Policy u) → has_scope_slot u ≡ false
-read_by t u true c k h = absurd (cc)
-read_by t u false false k h = absurd (cc)
-read_by t u false true k h = let same : t ≡ u = cc in rw (← same) (kept_asks_none t k)
+-- a policy that keeps the limits, and no link
+abbrev pub IsKept : PolicyRead → Type 0
+IsKept (policy.Policy t) = policy_keeps_limits OverIds t ≡ true
+IsKept (policy.Link l) = ⊥
+IsKept policy.Nested = Unit {0}
 
--- nor has one that is read
-read_asks_none : (o : Option TemplateData) (u : TemplateData) → option_and_then read_of o ≡ Some (policy.Policy u) → has_scope_slot u ≡ false
-read_asks_none None u h = absurd (cc)
-read_asks_none (Some t) u h = read_by t u (is_too_deep t) (policy_keeps_limits t) refl h
+kept_by : (t : TemplateData) (b c : Bool) → policy_keeps_limits OverIds t ≡ c → IfSome (if b then Some policy.Nested else (if c then Some (policy.Policy t) else None)) IsKept
+kept_by t true c k = tt
+kept_by t false true k = k
+kept_by t false false k = tt
 
--- nor has one that is read at an index
-pub at_asks_none : (i : ℕ) (o : Option TemplateData) (r : Option PolicyRead) (u : TemplateData) → r ≡ option_and_then read_of o → template_read i r ≡ Ok u → has_scope_slot u ≡ false
-at_asks_none i o None u e h = absurd (cc (h))
-at_asks_none i o (Some policy.Nested) u e h = absurd (cc (h))
-at_asks_none i o (Some (policy.Policy t)) u e h = let same : t ≡ u = cc (h) in rw (← same) (read_asks_none o t (sym e))
+-- what is read in documents over ids keeps their limits
+pub kept_entry : (d : Data) → IfSome (entry_of OverIds d) IsKept
+unfolding entry_of
+kept_entry d = by (is_some (get (codes "link") d)) (option_map policy.Link (link_of d)) (policy_of OverIds d) where
+  by : (b : Bool) (l : Option PolicyRead) (o : Option TemplateData) → IfSome (if b then within OverIds false l else option_and_then (read_of OverIds) o) IsKept
+  by true l o = tt
+  by false l None = tt
+  by false l (Some t) = kept_by t (is_too_deep t) (policy_keeps_limits OverIds t) refl
 
 -- ---- the depth of a policy that is built, and of one that is not
 
@@ -111,60 +117,43 @@ is_deep t h = grind (arith, nat_tests)
 pub is_built : (t : TemplateData) → ¬ (400 < depth_of (condition_of t)) → is_too_deep t ≡ false
 is_built t h = grind (arith, nat_tests)
 
-past_by : (t : TemplateData) (b : Bool) → policy_keeps_limits t ≡ b → has_slot t.body ≡ true → b ≡ false
+past_by : (t : TemplateData) (b : Bool) → policy_keeps_limits OverIds t ≡ b → has_slot t.body ≡ true → b ≡ false
 past_by t true k h =
     let limits = both_true (is_over_ids (condition_of t)) (has_no_places (condition_of t)) k in
     let whole = both_true _ (is_over_ids t.body) limits.0 in
     absurd (cc (h, has_no_slot t.body whole.1))
 past_by t false k h = refl
 
-pub has_slot_past : (t : TemplateData) → has_slot t.body ≡ true → policy_keeps_limits t ≡ false
-has_slot_past t h = past_by t (policy_keeps_limits t) refl h
+pub has_slot_past : (w : Width) (t : TemplateData) → has_slot t.body ≡ true → policy_keeps_limits w t ≡ false
+has_slot_past Whole t h = rw h refl
+has_slot_past OverIds t h = past_by t (policy_keeps_limits OverIds t) refl h
 
--- ---- what is read, and what it is added as
+-- ---- what is read
 
-nested_by : (t : TemplateData) (b : Bool) → is_too_deep t ≡ b → 400 < depth_of (condition_of t) → Some policy.Nested ≡ (if b then Some policy.Nested else (if policy_keeps_limits t then Some (policy.Policy t) else None))
-nested_by t true e h = refl
-nested_by t false e h = grind (arith, nat_tests)
+nested_by : (w : Width) (t : TemplateData) (b : Bool) → is_too_deep t ≡ b → 400 < depth_of (condition_of t) → Some policy.Nested ≡ (if b then Some policy.Nested else (if policy_keeps_limits w t then Some (policy.Policy t) else None))
+nested_by w t true e h = refl
+nested_by w t false e h = grind (arith, nat_tests)
 
 -- a policy that is built is read where it keeps the limits; one that is nested too deep, and one with a slot in its body, are not
-pub kept_read : (t : TemplateData) → is_too_deep t ≡ false → (if policy_keeps_limits t then Some (policy.Policy t) else None) ≡ read_of t
-kept_read t h = rw h refl
+pub kept_read : (w : Width) (t : TemplateData) → is_too_deep t ≡ false → (if policy_keeps_limits w t then Some (policy.Policy t) else None) ≡ read_of w t
+kept_read w t h = rw h refl
 
-pub nested_read : (t : TemplateData) → 400 < depth_of (condition_of t) → Some policy.Nested ≡ read_of t
-nested_read t h = nested_by t (is_too_deep t) refl h
+pub nested_read : (w : Width) (t : TemplateData) → 400 < depth_of (condition_of t) → Some policy.Nested ≡ read_of w t
+nested_read w t h = nested_by w t (is_too_deep t) refl h
 
-pub deep_read : (t : TemplateData) → 400 ≤ depth_of t.body → Some policy.Nested ≡ read_of t
-deep_read t h = nested_read t ((by_body t).0 h)
+pub deep_read : (w : Width) (t : TemplateData) → 400 ≤ depth_of t.body → Some policy.Nested ≡ read_of w t
+deep_read w t h = nested_read w t ((by_body t).0 h)
 
-pub slot_read : (t : TemplateData) → ¬ (400 ≤ depth_of t.body) → has_slot t.body ≡ true → None ≡ read_of t
-slot_read t h k = rw (is_built t (λ d. h ((by_body t).1 d)), has_slot_past t k) refl
+pub slot_read : (w : Width) (t : TemplateData) → ¬ (400 ≤ depth_of t.body) → has_slot t.body ≡ true → None ≡ read_of w t
+slot_read w t h k = rw (is_built t (λ d. h ((by_body t).1 d)), has_slot_past w t k) refl
 
-with_by : (p : PolicyParts) (x : Plain) (b : Bool) → nat_lt 400 (depth_of x) ≡ b → read_with p (if b then Nested else Within x) ≡ read_of (policy_of_parts p x)
-with_by p x true e =
+with_by : (w : Width) (p : PolicyParts) (x : Plain) (b : Bool) → nat_lt 400 (depth_of x) ≡ b → read_with w p (if b then Nested else Within x) ≡ read_of w (policy_of_parts p x)
+with_by w p x true e =
     let deep : 400 < depth_of (condition_of (policy_of_parts p x)) = grind (arith, nat_tests) in
-    nested_by (policy_of_parts p x) (is_too_deep (policy_of_parts p x)) refl deep
-with_by p x false e = refl
+    nested_by w (policy_of_parts p x) (is_too_deep (policy_of_parts p x)) refl deep
+with_by w p x false e = refl
 
 -- what is read of the parts and the body is what is read of the whole policy
-pub whole_read : (p : PolicyParts) (o : Option Plain) → option_and_then (read_with p) (option_map bounded o) ≡ option_and_then read_of (policy_with_body (Some p) o)
-whole_read p None = refl
-whole_read p (Some x) = with_by p x (nat_lt 400 (depth_of x)) refl
-
-added_by : (set : PolicySetData) (t : TemplateData) (b c : Bool)
-    → and_then (template_read (length set.policies) (if b then Some policy.Nested else (if c then Some (policy.Policy t) else None))) (added_template set)
-    ≡ and_then (if b then Err (place.PolicyNested (length set.policies)) else (if c then Ok t else Err (place.Policy (length set.policies)))) (added_template set)
-added_by set t true c = refl
-added_by set t false true = refl
-added_by set t false false = refl
-
--- what was read is added as the policy is
-added_read : (set : PolicySetData) (o : Option TemplateData) → and_then (template_read (length set.policies) (option_and_then read_of o)) (added_template set) ≡ added_entry set o
-added_read set None = refl
-added_read set (Some t) = added_by set t (is_too_deep t) (policy_keeps_limits t)
-
--- the set with a policy that was read at its index
-pub added_next : (set : PolicySetData) (d : Data) (i : ℕ) (r : Option PolicyRead) (t : TemplateData) → i ≡ length set.policies → r ≡ option_and_then read_of (policy_of d) → template_read i r ≡ Ok t → added_policy set d ≡ added_template set t
-unfolding added_policy
-added_next set d i r t e h k =
-    sym (added_read set (policy_of d)) ∙ ap (λ x. and_then x (added_template set)) (ap (λ j. template_read j (option_and_then read_of (policy_of d))) (sym e) ∙ ap (template_read i) (sym h) ∙ k)
+pub whole_read : (w : Width) (p : PolicyParts) (o : Option Plain) → option_and_then (read_with w p) (option_map bounded o) ≡ option_and_then (read_of w) (policy_with_body (Some p) o)
+whole_read w p None = refl
+whole_read w p (Some x) = with_by w p x (nat_lt 400 (depth_of x)) refl

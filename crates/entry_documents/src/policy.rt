@@ -133,16 +133,26 @@ fn with_expression(
 // A condition is one deeper than its body, and may be 400 deep.
 const MOST_BODY_DEPTH: u32 = 400;
 
+fn keeps_limits(width: Width, template: &Template) -> bool
+    ensures { result ≡ policy_keeps_limits width template.now }
+{
+    let condition = template.condition();
+    match width {
+        Width::Whole => true,
+        Width::OverIds => is_over_ids(condition) && has_no_places(condition),
+    }
+}
+
 // The policy, where it keeps the limits.
 fn within_limits(width: Width, template: Template) -> Option<PolicyRead>
     ensures { result ≡ (if policy_keeps_limits width template then Some (PolicyRead.Policy template) else None) }
 {
-    let condition = template.condition();
-    if width.asks_limits() && !(is_over_ids(condition) && has_no_places(condition)) {
+    if keeps_limits(width, &template) {
+        Some(PolicyRead::Policy(template))
+    } else {
         drop(template);
-        return None;
+        None
     }
-    Some(PolicyRead::Policy(template))
 }
 
 fn with_body(

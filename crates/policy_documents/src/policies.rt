@@ -1,10 +1,11 @@
 //! The set of policies of a document.
 
-ghost use Rattle.std.specs.Prelude.{◌≡◌, IfOk, MatchResult};
+ghost use Rattle.std.specs.Prelude.{◌≡◌, IfOk, MatchResult, None, Option};
+ghost use Rattle.policy_set.specs.declared.policy_set.PolicySetError.{PolicySetError};
 ghost use Rattle.serde_json.specs.View.{view, items_view};
-ghost use Rattle.policy_set.specs.PolicySet.{id_fault, IsNotAdded};
-ghost use Rattle.document_places.specs.Faults.{ComesTo};
-ghost use Rattle.policy_documents.specs.Policies.{added, added_link, added_read, added_template, fault_at, no_policies, policies_of, slot_pairs, with_written};
+ghost use Rattle.policy_set.specs.PolicySet.{PolicySetData, id_fault, IsNotAdded};
+ghost use Rattle.document_places.specs.Faults.{ComesTo, Fails};
+ghost use Rattle.policy_documents.specs.Policies.{added, added_link, added_read, added_template, no_policies, policies_of, slot_pairs, unless_fault, with_written};
 
 use document_places::{DocumentFault, Place, Width};
 use entry_documents::{PolicyRead, TemplateLink, read_entry};
@@ -16,7 +17,7 @@ use std::alloc::{AllocError, Global};
 
 // The fault for which the policy at the index is not added.
 fn fault_at(index: usize, error: PolicySetError) -> DocumentFault
-    ensures { result ≡ fault_at index error }
+    ensures { (fault : Option PolicySetError) (set : PolicySetData) → IsNotAdded fault error → Fails result (unless_fault index fault set) }
 {
     match error {
         PolicySetError::DuplicateId(_) => DocumentFault::Place(Place::PolicyDuplicate(index)),

@@ -28,14 +28,19 @@ context_of w (Some d) = if is_some (as_null d) then Some None else option_map (�
 abbrev pub request_names : List (List ℕ)
 request_names = codes "principal" ∷ codes "action" ∷ codes "resource" ∷ codes "context" ∷ []
 
-unfoldable pub given_request_of : Width → Data → Option Request
-given_request_of w d = do
-  members ← as_object d
+abbrev pub entries_of : Width → Data → Option Request
+entries_of w d = do
   principal ← known_of (get (codes "principal") d)
   action ← known_of (get (codes "action") d)
   resource ← known_of (get (codes "resource") d)
   context ← context_of w (get (codes "context") d)
-  if has_only request_names members then Some (record { principal = principal; action = action; resource = resource; context = context }) else None
+  Some (record { principal = principal; action = action; resource = resource; context = context })
+
+-- the request of an object without other members
+unfoldable pub given_request_of : Width → Data → Option Request
+given_request_of w d = do
+  members ← as_object d
+  if has_only request_names members then entries_of w d else None
 
 -- an absent request has no entry
 abbrev pub request_of : Width → Option Data → Option Request

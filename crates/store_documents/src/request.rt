@@ -2,7 +2,7 @@
 
 ghost use Rattle.std.specs.Prelude.{◌≡◌, IfOk, option_map};
 ghost use Rattle.serde_json.specs.View.{view, members_view};
-ghost use Rattle.store_documents.specs.Request.{context_of, given_request_of, known_of, request_of, values_within};
+ghost use Rattle.store_documents.specs.Request.{context_of, entries_of, given_request_of, known_of, request_of, values_within};
 
 use document_places::Width;
 use json_parts::{has_only, read_uid};
@@ -64,6 +64,33 @@ fn read_context(
     }
 }
 
+fn read_entries(
+    alloc: Global,
+    width: Width,
+    value: &Json,
+) -> Result<Option<Request>, AllocError>
+    ensures { IfOk result (λ o. o ≡ entries_of width (view value.now)) }
+{
+    let Some(principal) = read_known(alloc, value.get("principal"))? else {
+        return Ok(None);
+    };
+    let Some(action) = read_known(alloc, value.get("action"))? else {
+        return Ok(None);
+    };
+    let Some(resource) = read_known(alloc, value.get("resource"))? else {
+        return Ok(None);
+    };
+    let Some(context) = read_context(alloc, width, value.get("context"))? else {
+        return Ok(None);
+    };
+    Ok(Some(Request {
+        principal,
+        action,
+        resource,
+        context,
+    }))
+}
+
 #[tactic(auto, unfolding(crate::specs::Request::given_request_of))]
 fn read_given_request(
     alloc: Global,
@@ -75,27 +102,10 @@ fn read_given_request(
     let Some(members) = value.as_object() else {
         return Ok(None);
     };
-    let Some(principal) = read_known(alloc, value.get("principal"))? else {
-        return Ok(None);
-    };
-    let Some(action) = read_known(alloc, value.get("action"))? else {
-        return Ok(None);
-    };
-    let Some(resource) = read_known(alloc, value.get("resource"))? else {
-        return Ok(None);
-    };
     if !has_only(&["principal", "action", "resource", "context"], members) {
         return Ok(None);
     }
-    let Some(context) = read_context(alloc, width, value.get("context"))? else {
-        return Ok(None);
-    };
-    Ok(Some(Request {
-        principal,
-        action,
-        resource,
-        context,
-    }))
+    read_entries(alloc, width, value)
 }
 
 /// The request that the value is, if it is one; an absent one has no entry.
