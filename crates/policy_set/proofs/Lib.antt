@@ -1,3 +1,5 @@
 pub mod Depths
 mod Each
+pub mod Linked
 mod Plain
+mod Sets

@@ -40,7 +40,7 @@ impl EntityReference {
 
     // An equal one, with the id in the place of the slot, where there is one.
     fn with_id(&self, id: Option<&EntityUID>) -> Result<EntityReference, AllocError>
-        ensures { IfOk result (λ r. r ≡ with_id (option_copied id) self.now) }
+        ensures { IfOk result (λ r. r ≡ with_id (option_copied id.entry) self.now) }
     {
         match (self, id) {
             (EntityReference::EUID(uid), _) | (EntityReference::Slot, Some(uid)) => {
@@ -84,7 +84,7 @@ impl PrincipalOrResourceConstraint {
         &self,
         id: Option<&EntityUID>,
     ) -> Result<PrincipalOrResourceConstraint, AllocError>
-        ensures { IfOk result (λ c. c ≡ linked (option_copied id) self.now) }
+        ensures { IfOk result (λ c. c ≡ linked (option_copied id.entry) self.now) }
     {
         Ok(match self {
             PrincipalOrResourceConstraint::Any => PrincipalOrResourceConstraint::Any,
