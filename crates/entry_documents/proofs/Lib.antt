@@ -1,2 +1,3 @@
+mod Actions
 mod Bounds
 pub mod Limited

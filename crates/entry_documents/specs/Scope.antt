@@ -60,11 +60,12 @@ abbrev pub constraint_of : Width → Option Data → Option PrincipalOrResourceC
 constraint_of w None = Some Any
 constraint_of w (Some d) = option_and_then (kept w) (given_constraint_of d)
 
-abbrev pub action_form : List ℕ → Data → Option ActionConstraint
-action_form key d = if bytes_eq key (codes "==") then option_map action.Eq (uid_of d) else (if bytes_eq key (codes "in") then option_map action.In (uids_of (Some d)) else None)
+-- the action by `==`, or actions by `in`
+abbrev pub action_form : List ℕ → Option EntityUID → Option (List EntityUID) → Option ActionConstraint
+action_form key uid uids = if bytes_eq key (codes "==") then option_map action.Eq uid else (if bytes_eq key (codes "in") then option_map action.In uids else None)
 
 abbrev pub action_form_of : Members → Option ActionConstraint
-action_form_of ms = option_and_then (λ m. action_form m.0 m.1) (only_member ms)
+action_form_of ms = option_and_then (λ m. action_form m.0 (uid_of m.1) (uids_of (Some m.1))) (only_member ms)
 
 abbrev pub kept_action : Width → ActionConstraint → Option ActionConstraint
 kept_action w a = within w (asks_action a) (Some a)

@@ -171,11 +171,7 @@ fn with_body(
 
 // The body is read last, so that nothing of it has to be let go at a fault in another part.
 #[tactic(auto, using(crate::proofs::Limited::whole_read))]
-fn read_whole(
-    alloc: Global,
-    width: Width,
-    value: &Value,
-) -> Result<Option<PolicyRead>, AllocError>
+fn read_whole(alloc: Global, width: Width, value: &Value) -> Result<Option<PolicyRead>, AllocError>
     ensures { IfOk result (λ o. o ≡ option_and_then (read_of width) (policy_with_body (policy_parts_of width (view value.now)) (body_of (get (codes "body") (view value.now))))) }
 {
     let Some(parts) = read_policy_parts(alloc, width, value)? else {
@@ -189,11 +185,7 @@ fn read_whole(
 
 // The policy or the template that the value is, if it is one.
 #[tactic(auto, unfolding(crate::specs::Policy::policy_of))]
-fn read_policy(
-    alloc: Global,
-    width: Width,
-    value: &Value,
-) -> Result<Option<PolicyRead>, AllocError>
+fn read_policy(alloc: Global, width: Width, value: &Value) -> Result<Option<PolicyRead>, AllocError>
     ensures { IfOk result (λ o. o ≡ option_and_then (read_of width) (policy_of width (view value.now))) }
 {
     let Some(members) = value.as_object() else {

@@ -173,7 +173,7 @@ fn read_action_form(
     key: &str,
     value: &Value,
 ) -> Result<Option<ActionConstraint>, AllocError>
-    ensures { IfOk result (λ o. o ≡ action_form key.now (view value.now)) }
+    ensures { IfOk result (λ o. o ≡ action_form key.now (uid_of (view value.now)) (uids_of (Some (view value.now)))) }
 {
     match key {
         "==" => read_one_action(alloc, value),

@@ -75,11 +75,7 @@ fn with_policies(
     with_entities(alloc, width, parts, schema, policies)
 }
 
-fn read_parts(
-    alloc: Global,
-    width: Width,
-    parts: &Parts<'_>,
-) -> Result<Document, DocumentFault>
+fn read_parts(alloc: Global, width: Width, parts: &Parts<'_>) -> Result<Document, DocumentFault>
     ensures { MayComeTo result (IsReadFrom width (parts_view parts.now)) }
 {
     let schema = read_schema_within(alloc, width, parts.schema)?;

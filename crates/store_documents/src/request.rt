@@ -64,11 +64,7 @@ fn read_context(
     }
 }
 
-fn read_entries(
-    alloc: Global,
-    width: Width,
-    value: &Json,
-) -> Result<Option<Request>, AllocError>
+fn read_entries(alloc: Global, width: Width, value: &Json) -> Result<Option<Request>, AllocError>
     ensures { IfOk result (λ o. o ≡ entries_of width (view value.now)) }
 {
     let Some(principal) = read_known(alloc, value.get("principal"))? else {

@@ -46,11 +46,7 @@ fn refusal(alloc: Global, ids: &Vec<EntityUID>, error: EntitiesError) -> Documen
 
 /// The store that the entities of the items make with their parents; else the place of the first fault: the first item
 /// that is no entity, the first id that stands earlier, or the least id that is its own ancestor.
-pub fn read_store(
-    alloc: Global,
-    width: Width,
-    items: &[Value],
-) -> Result<Entities, DocumentFault>
+pub fn read_store(alloc: Global, width: Width, items: &[Value]) -> Result<Entities, DocumentFault>
     ensures { MayComeTo result (IsStoreOf width (items_view items.now)) }
 {
     let entities = read_entities(alloc, width, items)?;
