@@ -64,7 +64,7 @@ literals_plain (u ∷ us) = literals_plain us
 pub action_plain : (c : ActionConstraint) → has_slot (action_part c) ≡ false
 action_plain action.Any = refl
 action_plain (action.Eq u) = refl
-action_plain (action.In us) = literals_plain us.items
+action_plain (action.In us) = literals_plain us
 
 pub action_filled : (w : SlotValues) (c : ActionConstraint) → filled w (action_part c) ≡ action_part c
 action_filled w c = kept w (action_part c) (action_plain c)

@@ -110,7 +110,7 @@ literals_once (u ∷ us) = (tt, literals_once us)
 action_once : (c : ActionConstraint) → HasKeysOnce (action_part c)
 action_once action.Any = tt
 action_once (action.Eq u) = (tt, tt)
-action_once (action.In us) = (tt, literals_once us.items)
+action_once (action.In us) = (tt, literals_once us)
 
 pub condition_once : (t : TemplateData) → HasKeysOnce t.body → HasKeysOnce (condition_of t)
 condition_once t body = (((plain_once Principal t.principal, action_once t.action), plain_once Resource t.resource), body)

@@ -1,13 +1,14 @@
 -- A link's condition is the condition of its own scope and the template's body.
-use Rattle.std.proofs.Common.{◌≡◌, Bool, true, false, ◌||◌, List, [], ◌∷◌, Option, Some, None, is_some, refl, ap}
+use Rattle.std.proofs.Common.{◌≡◌, ℕ, Bool, true, false, ◌||◌, List, [], ◌∷◌, Option, Some, None, is_some, refl, sym, ◌∙◌, ap, arith}
 use Rattle.std.specs.Prelude.{length, cond, nat_lt, slice_get}
 use Rattle.std.specs.Option.{option_or}
+use Rattle.std.proofs.lemmas.Bool.{ltb-false}
 use Rattle.policy_names.specs.declared.entity_uid.EntityUID.{EntityUID}
 use Rattle.policy_expressions.specs.declared.kinds.BinaryOp.TheVariants.{Eq as IsEqual, In as IsIn}
 use Rattle.policy_expressions.specs.declared.kinds.SlotId.{SlotId}
 use Rattle.policy_expressions.specs.declared.kinds.SlotId.TheVariants.{Principal, Resource}
 use Rattle.policy_expressions.specs.declared.kinds.SlotValues.{SlotValues}
-use Rattle.policy_expressions.specs.Plain.{unmarked}
+use Rattle.policy_expressions.specs.Plain.{Plain, unmarked}
 use Rattle.policy_expressions.specs.Slots.{has_slot, some_has_slot, some_named_has_slot, filled, filled_all, filled_named, in_place, value_of}
 use Rattle.policy_expressions.specs.Tree.{Tree, lit, var, slot, ite, conj, disj, unary, binary, attr, has, like, is_type, call, set, rec, Trees, no_trees, tree, Named, no_named, named}
 use Rattle.policy_set.specs.declared.constraint.EntityReference.TheVariants.{EUID, Slot}
@@ -16,7 +17,7 @@ use Rattle.policy_set.specs.declared.constraint.PrincipalOrResourceConstraint.Th
 use Rattle.policy_set.specs.declared.constraint.ActionConstraint.{ActionConstraint}
 use Rattle.policy_set.specs.declared.policy_set.PolicySetError.{PolicySetError}
 use Rattle.policy_set.specs.Data.{TemplateData}
-use Rattle.policy_set.specs.Condition.{variable_of, referred, of_type, scope_part, action_part, condition_of, asks_slot, has_scope_slot}
+use Rattle.policy_set.specs.Condition.{variable_of, referred, of_type, scope_part, action_part, condition_of, asks_slot, has_scope_slot, right_of, template_with, IsTemplate}
 use Rattle.policy_set.specs.Links.{with_id, linked, linked_of, own_condition, HasPlainBody, Fills}
 use Rattle.policy_set.specs.PolicySet.{given, slot_values, slot_fault, fault_if, slot_count, is_missing, is_extra}
 use Rattle.policy_set.proofs.Plain.{action_slot}
@@ -80,6 +81,21 @@ action_filled w c = kept w (action_part c) (action_slot c)
 pub condition_filled : (w : SlotValues) (t : TemplateData) → HasPlainBody t → own_condition w t ≡ condition_of (linked_of w t)
 condition_filled w t h = λ i. conj (conj (conj (part_filled w Principal t.principal i) (action_filled w t.action i) unmarked) (part_filled w Resource t.resource i) unmarked) (kept w t.body h i) unmarked
 
+-- the link as a template of its own, under another id
+module _ (w : SlotValues) (t : TemplateData) (whole : Plain) (keeps : IsTemplate t whole) (id : List ℕ) (p : PrincipalOrResourceConstraint) (a : ActionConstraint) (r : PrincipalOrResourceConstraint) (new : Plain)
+    (principal : p ≡ linked w.principal t.principal) (act : a ≡ t.action) (resource : r ≡ linked w.resource t.resource) (made : new ≡ filled w whole) where
+  own : new ≡ condition_of (linked_of w t)
+  own = made ∙ ap (filled w) keeps.condition ∙ condition_filled w t keeps.body
+
+  pub copied : template_with id t.effect p a r new ≡ record (linked_of w t) { id = id }
+  copied = λ i. record { id = id; effect = t.effect; principal = principal i; action = act i; resource = resource i; body = right_of (own i) }
+
+  pub copied_condition : condition_of (template_with id t.effect p a r new) ≡ own_condition w t
+  copied_condition = ap condition_of copied ∙ sym (condition_filled w t keeps.body)
+
+  pub copied_keeps : IsTemplate (template_with id t.effect p a r new) new
+  copied_keeps = record { condition = own ∙ sym (ap condition_of copied); body = ap (λ e. has_slot (right_of e)) own ∙ keeps.body }
+
 -- a link's scope has no slot
 linked_plain : (o : Option EntityUID) (c : PrincipalOrResourceConstraint) → is_some o ≡ asks_slot c → asks_slot (linked o c) ≡ false
 linked_plain o Any h = refl
@@ -106,7 +122,7 @@ given_once : (b : Bool) (us : List EntityUID) → nat_lt (length us) (cond b 1 0
 given_once true [] h k = cc
 given_once true (u ∷ us) h k = refl
 given_once false [] h k = refl
-given_once false (u ∷ us) h k = cc
+given_once false (u ∷ us) h k = absurd (omega (arith, ltb-false 0 (length (u ∷ us)) k))
 
 pub passed_fills : (t : TemplateData) (values : List (SlotId × EntityUID)) → slot_fault t values ≡ None → Fills (slot_values values) t
 passed_fills t values h =

@@ -29,7 +29,7 @@ literals_slot (u ∷ us) = literals_slot us
 pub action_slot : (a : ActionConstraint) → has_slot (action_part a) ≡ false
 action_slot action.Any = refl
 action_slot (action.Eq uid) = refl
-action_slot (action.In us) = literals_slot us.items
+action_slot (action.In us) = literals_slot us
 
 four : (p a r b : Bool) → p || r ≡ false → a ≡ false → b ≡ false → ((p || a) || r) || b ≡ false
 four true a r b h i j = cc

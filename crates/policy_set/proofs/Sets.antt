@@ -8,11 +8,14 @@ use Rattle.std.specs.declared.cmp.Ordering.TheVariants.{Less, Equal, Greater}
 use Rattle.std.specs.Ordering.{is_eq, match_ordering}
 use Rattle.std.proofs.lemmas.Map.Lookups.{exact_bytes}
 use Rattle.std.proofs.lemmas.Map.Views.{tells_apart}
-use Rattle.hierarchy.specs.Keyed.{has_key, value_at, with_value}
+use Rattle.std.specs.Map.{values_of}
+use Rattle.std.specs.BTreeMap.{BTreeMap, IsOrdered, values, insert_entry}
+use Rattle.hierarchy.specs.Keyed.{AreAtTheirKeys, has_key, value_at, with_value}
+use Rattle.hierarchy.proofs.Keyed.{keys_ascend, value_put, own_put}
 use Rattle.policy_names.specs.Uid.{text_cmp}
 use Rattle.policy_set.specs.Data.{TemplateData, LinkData, PolicyData}
 use Rattle.policy_set.specs.Condition.{IsPolicy}
-use Rattle.policy_set.specs.PolicySet.{PolicySetData, template_at, policy_at, is_taken, with_template, with_policy, IsToLink, IsLinkOf, IsLinkedIn, IsPolicySet}
+use Rattle.policy_set.specs.PolicySet.{PolicySetData, template_at, policy_at, is_taken, with_template, with_policy, IsToLink, IsLinkOf, IsLinkedIn, IsPolicySet, HoldsSet}
 use Rattle.policy_set.proofs.Each.{each_with}
 
 pub each_so : {V : Type 0} {P Q : V → Type 0} → ((v : V) → P v → Q v) → (vs : List V) → AllByRecursion P vs → AllByRecursion Q vs
@@ -23,26 +26,26 @@ module _ {V : Type 0} (key : V → List ℕ) where
   -- a look-up for another key is what it was
   other_at : (v : V) (vs : List V) (q : List ℕ) → is_eq (text_cmp q (key v)) ≡ false → value_at text_cmp key (with_value text_cmp key v vs) q ≡ value_at text_cmp key vs q
   other_at v [] q h = ap (λ b. cond b (Some v) None) h
-  other_at v (w ∷ ws) q h = by (text_cmp (key v) (key w)) refl where
-    by : (o : Ordering) → text_cmp (key v) (key w) ≡ o → value_at text_cmp key (match_ordering o (v ∷ w ∷ ws) (v ∷ ws) (w ∷ with_value text_cmp key v ws)) q ≡ value_at text_cmp key (w ∷ ws) q
-    by Less e = ap (λ b. cond b (Some v) (value_at text_cmp key (w ∷ ws) q)) h
-    by Equal e =
+  other_at v (w ∷ ws) q h = by (text_cmp (key v) (key w)) refl (other_at v ws q h) where
+    by : (o : Ordering) → text_cmp (key v) (key w) ≡ o → value_at text_cmp key (with_value text_cmp key v ws) q ≡ value_at text_cmp key ws q → value_at text_cmp key (match_ordering o (v ∷ w ∷ ws) (v ∷ ws) (w ∷ with_value text_cmp key v ws)) q ≡ value_at text_cmp key (w ∷ ws) q
+    by Less e later = ap (λ b. cond b (Some v) (value_at text_cmp key (w ∷ ws) q)) h
+    by Equal e later =
         ap (λ b. cond b (Some v) (value_at text_cmp key ws q)) h
         ∙ ap (λ b. cond b (Some w) (value_at text_cmp key ws q)) (sym (ap (λ k. is_eq (text_cmp q k)) (sym (exact_bytes (key v) (key w) e)) ∙ h))
-    by Greater e = ap (λ o. cond (is_eq (text_cmp q (key w))) (Some w) o) (other_at v ws q h)
+    by Greater e later = ap (λ o. cond (is_eq (text_cmp q (key w))) (Some w) o) later
 
   -- where a look-up finds nothing, each value has another key
   others : (vs : List V) (q : List ℕ) → value_at text_cmp key vs q ≡ None → AllByRecursion (λ v. is_eq (text_cmp q (key v)) ≡ false) vs
   others [] q h = tt
-  others (v ∷ vs) q h = by (is_eq (text_cmp q (key v))) refl h where
-    by : (b : Bool) → is_eq (text_cmp q (key v)) ≡ b → cond b (Some v) (value_at text_cmp key vs q) ≡ None → (is_eq (text_cmp q (key v)) ≡ false) × AllByRecursion (λ v. is_eq (text_cmp q (key v)) ≡ false) vs
-    by true e k = cc
-    by false e k = (e, others vs q k)
+  others (v ∷ vs) q h = by (is_eq (text_cmp q (key v))) refl (others vs q) h where
+    by : (b : Bool) → is_eq (text_cmp q (key v)) ≡ b → (value_at text_cmp key vs q ≡ None → AllByRecursion (λ v. is_eq (text_cmp q (key v)) ≡ false) vs) → cond b (Some v) (value_at text_cmp key vs q) ≡ None → (is_eq (text_cmp q (key v)) ≡ false) × AllByRecursion (λ v. is_eq (text_cmp q (key v)) ≡ false) vs
+    by true e later k = cc
+    by false e later k = (e, later k)
 
 turned : (m n : List ℕ) → is_eq (text_cmp m n) ≡ false → is_eq (text_cmp n m) ≡ false
 turned m n h = by (is_eq (text_cmp n m)) refl where
   by : (b : Bool) → is_eq (text_cmp n m) ≡ b → b ≡ false
-  by true e = let same = tells_apart exact_bytes n m e in sym (ap (λ k. is_eq (text_cmp k m)) same ∙ ap (λ k. is_eq (text_cmp m k)) (sym same)) ∙ ap (λ b. b) refl ∙ h
+  by true e = let same = tells_apart exact_bytes n m e in sym e ∙ ap (λ k. is_eq (text_cmp k m)) same ∙ ap (λ k. is_eq (text_cmp m k)) (sym same) ∙ h
   by false e = refl
 
 none_of : {X : Type 0} (o : Option X) → is_some o ≡ false → o ≡ None
@@ -95,4 +98,38 @@ policy_added s set p free ok linked sorted = record {
   templates = set.templates;
   policies = each_with text_cmp (λ q. q.id) IsPolicy p ok s.policies set.policies;
   links = each_with text_cmp (λ q. q.id) (IsLinkedIn s) p linked s.policies set.links;
+}
+
+-- the same of the maps that hold a set
+module _ {V : Type 0} (key : V → List ℕ) (m n : BTreeMap (List ℕ) V) (keys : AreAtTheirKeys text_cmp key m) (v : V) (put : n.entries ≡ insert_entry text_cmp m.entries (key v) v) where
+  pub put_values : values n ≡ with_value text_cmp key v (values m)
+  put_values = ap values_of put ∙ value_put text_cmp key m keys v
+
+  pub put_keys : IsOrdered text_cmp n → AreAtTheirKeys text_cmp key n
+  put_keys ordered = record { ordered = ordered; own = subst (AllByRecursion (λ p. key p.1 ≡ p.0)) (sym put) (own_put text_cmp key exact_bytes v m.entries keys.own) }
+
+  put_ascend : IsOrdered text_cmp n → IsStrictlySortedBy text_cmp (map key (with_value text_cmp key v (values m)))
+  put_ascend ordered = subst (λ vs. IsStrictlySortedBy text_cmp (map key vs)) put_values (keys_ascend text_cmp key n (put_keys ordered))
+
+abbrev pub set_of : BTreeMap (List ℕ) TemplateData → BTreeMap (List ℕ) PolicyData → PolicySetData
+set_of ts ps = record { templates = values ts; policies = values ps }
+
+pub template_put : (ts us : BTreeMap (List ℕ) TemplateData) (ps : BTreeMap (List ℕ) PolicyData) → HoldsSet ts ps → (t : TemplateData) → is_taken (set_of ts ps) t.id ≡ false → IsToLink t →
+    IsOrdered text_cmp us → us.entries ≡ insert_entry text_cmp ts.entries t.id t → HoldsSet us ps
+template_put ts us ps holds t free ok ordered put = record {
+  template_ids = put_keys (λ u. u.id) ts us holds.template_ids t put ordered;
+  policy_ids = holds.policy_ids;
+  whole =
+      subst (λ vs. IsPolicySet (record { templates = vs; policies = values ps })) (sym (put_values (λ u. u.id) ts us holds.template_ids t put))
+      (template_added (set_of ts ps) holds.whole t free ok (put_ascend (λ u. u.id) ts us holds.template_ids t put ordered));
+}
+
+pub policy_put : (ts : BTreeMap (List ℕ) TemplateData) (ps qs : BTreeMap (List ℕ) PolicyData) → HoldsSet ts ps → (p : PolicyData) → is_taken (set_of ts ps) p.id ≡ false → IsPolicy p → IsLinkedIn (set_of ts ps) p →
+    IsOrdered text_cmp qs → qs.entries ≡ insert_entry text_cmp ps.entries p.id p → HoldsSet ts qs
+policy_put ts ps qs holds p free ok linked ordered put = record {
+  template_ids = holds.template_ids;
+  policy_ids = put_keys (λ q. q.id) ps qs holds.policy_ids p put ordered;
+  whole =
+      subst (λ vs. IsPolicySet (record { templates = values ts; policies = vs })) (sym (put_values (λ q. q.id) ps qs holds.policy_ids p put))
+      (policy_added (set_of ts ps) holds.whole p free ok linked (put_ascend (λ q. q.id) ps qs holds.policy_ids p put ordered));
 }

@@ -1,5 +1,5 @@
 -- Sets of policies as plain data: templates, which have slots, and policies, which are static or links; each ascending by id.
-use Rattle.std.specs.Prelude.{◌≡◌, ⊤, ℕ, Bool, true, ◌||◌, ◌&&◌, not, nat_lt, List, [], ◌∷◌, ◌++◌, Option, Some, None, map, filter, flat_map, fold, length, slice_get, is_some, is_none, IsSomeAnd, IfSome, IsTrue, cond, refl}
+use Rattle.std.specs.Prelude.{◌≡◌, ⊤, ℕ, Bool, true, false, ◌||◌, not, nat_lt, List, [], ◌∷◌, ◌++◌, Option, Some, None, map, filter, flat_map, fold, length, slice_get, is_some, is_none, IsSomeAnd, IfSome, IsTrue, cond, refl}
 use Rattle.std.specs.Option.{option_or}
 use Rattle.std.specs.BTreeMap.{BTreeMap, values}
 use Rattle.std.specs.Coded.{Coded, coded_list, coded×, code_by}
@@ -45,29 +45,36 @@ is_taken s id = is_some (template_at s id) || is_some (policy_at s id)
 abbrev pub IsTaken : PolicySetData → List ℕ → Type 0
 IsTaken s id = IsTrue (is_taken s id)
 
+-- one more template at its place among ascending ones
+abbrev pub placed : List TemplateData → TemplateData → List TemplateData
+placed ts t = with_value text_cmp (λ u. u.id) t ts
+
 -- the set with one more template, at its place
 abbrev pub with_template : TemplateData → PolicySetData → PolicySetData
-with_template t s = record s { templates = with_value text_cmp (λ u. u.id) t s.templates }
+with_template t s = record s { templates = placed s.templates t }
 
 -- the set with one more policy, at its place
 abbrev pub with_policy : PolicyData → PolicySetData → PolicySetData
 with_policy p s = record s { policies = with_value text_cmp (λ q. q.id) p s.policies }
 
--- whether a policy is a link
+-- whether a policy is a link, and whether it is static
 abbrev pub is_link : PolicyData → Bool
 is_link p = is_some p.link
+
+abbrev pub is_static : PolicyData → Bool
+is_static p = not (is_link p)
 
 -- the policies that are links
 abbrev pub links : PolicySetData → List PolicyData
 links s = filter is_link s.policies
 
--- the policies that are no links, as they are written
+-- the static policies, as they are written
 abbrev pub statics : PolicySetData → List TemplateData
-statics s = map written_of (filter (λ p. not (is_link p)) s.policies)
+statics s = map written_of (filter is_static s.policies)
 
--- the templates and the static policies as they are written, ascending by id: each is put at its place
+-- the templates and the static policies as they are written, ascending by id
 abbrev pub written : PolicySetData → List TemplateData
-written s = fold (λ ts t. with_value text_cmp (λ u. u.id) t ts) [] (s.templates ++ statics s)
+written s = fold placed [] (s.templates ++ statics s)
 
 -- the two are one slot
 abbrev pub is_same_slot : SlotId → SlotId → Bool
@@ -86,7 +93,7 @@ slot_values values = record { principal = slice_get (given values Principal) 0; 
 -- a fault, where there is one
 abbrev pub fault_if : Bool → PolicySetError → Option PolicySetError
 fault_if true fault = Some fault
-fault_if b fault = None
+fault_if false fault = None
 
 -- why nothing with the id can be added: a template or a policy has it
 abbrev pub id_fault : PolicySetData → List ℕ → Option PolicySetError
@@ -113,7 +120,7 @@ slot_fault t values =
     (fault_if (is_extra t.resource (given values Resource)) (SlotExtra Resource))))
 
 -- with no template, that there is none; else what stands against this one
-abbrev template_fault : Option TemplateData → List ℕ → List (SlotId × EntityUID) → Option PolicySetError
+abbrev pub template_fault : Option TemplateData → List ℕ → List (SlotId × EntityUID) → Option PolicySetError
 template_fault None id values = Some (UnknownTemplate id)
 template_fault (Some t) id values = slot_fault t values
 

@@ -7,6 +7,7 @@ ghost use Rattle.policy_set.specs.Links.{with_id, linked};
 
 use policy_names::{EntityType, EntityUID};
 use std::alloc::AllocError;
+use std::marker::Model;
 
 /// What a policy does where its condition is true.
 #[derive(Clone, Copy, Debug, PartialEq, Eq)]
@@ -39,7 +40,7 @@ impl EntityReference {
 
     // An equal one, with the id in the place of the slot, where there is one.
     fn with_id(&self, id: Option<&EntityUID>) -> Result<EntityReference, AllocError>
-        ensures { IfOk result (λ r. r ≡ with_id (option_copied id) self.now) }
+        ensures { IfOk result (λ r. r ≡ with_id (option_copied id.entry) self.now) }
     {
         match (self, id) {
             (EntityReference::EUID(uid), _) | (EntityReference::Slot, Some(uid)) => {
@@ -83,7 +84,7 @@ impl PrincipalOrResourceConstraint {
         &self,
         id: Option<&EntityUID>,
     ) -> Result<PrincipalOrResourceConstraint, AllocError>
-        ensures { IfOk result (λ c. c ≡ linked (option_copied id) self.now) }
+        ensures { IfOk result (λ c. c ≡ linked (option_copied id.entry) self.now) }
     {
         Ok(match self {
             PrincipalOrResourceConstraint::Any => PrincipalOrResourceConstraint::Any,
@@ -112,7 +113,53 @@ pub enum ActionConstraint {
     /// That it is this action.
     Eq(EntityUID),
     /// That it is one of these actions, or has one as an ancestor.
-    In(Vec<EntityUID>),
+    In(ActionList),
+}
+
+/// Actions, in the order in which a scope lists them.
+#[derive(Debug, Drop)]
+pub struct ActionList {
+    uids: Vec<EntityUID>,
+}
+
+impl Model for ActionList {
+    ghost use Rattle.std.specs.Prelude.{List};
+    ghost use Rattle.std.specs.Coded.{coded_list};
+    ghost use Rattle.policy_names.specs.Uid.{coded_uid};
+    ghost use Rattle.policy_names.specs.declared.entity_uid.EntityUID.{EntityUID};
+
+    ghost Value = { List EntityUID };
+
+    ghost coded = { coded_list coded_uid };
+
+    ghost view = { λ l. l.uids.items };
+}
+
+impl ActionList {
+    /// The list of these actions.
+    pub fn new(uids: Vec<EntityUID>) -> ActionList
+        ensures { result ≡ uids.items }
+    {
+        ActionList { uids }
+    }
+
+    /// The actions.
+    pub fn as_slice(&self) -> &[EntityUID]
+        ensures { result.now ≡ self.now }
+    {
+        self.uids.as_slice()
+    }
+
+    // An equal one.
+    fn try_clone(&self) -> Result<ActionList, AllocError>
+        ensures { IfOk result (λ l. l ≡ self.now) }
+    {
+        let mut uids = Vec::new(*self.uids.allocator());
+        for uid in &self.uids {
+            uids.push(uid.try_clone()?)?;
+        }
+        Ok(ActionList { uids })
+    }
 }
 
 impl ActionConstraint {
@@ -123,7 +170,7 @@ impl ActionConstraint {
         match self {
             ActionConstraint::Any => Ok(ActionConstraint::Any),
             ActionConstraint::Eq(uid) => Ok(ActionConstraint::Eq(uid.try_clone()?)),
-            ActionConstraint::In(uids) => Ok(ActionConstraint::In(uids.clone()?)),
+            ActionConstraint::In(uids) => Ok(ActionConstraint::In(uids.try_clone()?)),
         }
     }
 }

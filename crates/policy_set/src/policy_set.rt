@@ -142,7 +142,7 @@ impl PolicySet {
     ) -> Result<Policy, PolicySetError>
         ensures { MatchResult result (λ p. (template_fault (template_at self.now template_id.now) template_id.now values.items ≡ None) × IsSomeAnd (template_at self.now template_id.now) (λ t. p ≡ linked_policy id (slot_values values.items) t)) (IsNotAdded (template_fault (template_at self.now template_id.now) template_id.now values.items)) }
     {
-        let template = match self.templates.get(template_id) {
+        let template = match self.template(template_id) {
             Some(template) => template,
             None => {
                 drop(id);
@@ -163,7 +163,7 @@ impl PolicySet {
     fn is_taken(&self, id: &Text) -> bool
         ensures { result ≡ is_taken self.now id.now }
     {
-        self.templates.contains_key(id) || self.policies.contains_key(id)
+        self.template(id).is_some() || self.policy(id).is_some()
     }
 
     // Adds a template whose id is new.
@@ -284,7 +284,7 @@ fn collected<'a>(
     alloc: Global,
     by_id: BTreeMap<Text, &'a Template>,
 ) -> Result<Vec<&'a Template>, AllocError>
-    ensures { IfOk result (λ ts. ts.items ≡ values by_id) }
+    ensures { IfOk result (λ ts. ts.items ≡ values by_id.entry) }
 {
     let mut templates = Vec::new(alloc);
     for template in by_id.into_values() {

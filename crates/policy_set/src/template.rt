@@ -5,7 +5,7 @@ ghost use Rattle.policy_expressions.specs.Tree.{depth_of};
 ghost use Rattle.policy_expressions.specs.Slots.{has_slot};
 ghost use Rattle.policy_set.specs.Data.{TemplateData};
 ghost use Rattle.policy_set.specs.Condition.{condition_of, has_scope_slot};
-ghost use Rattle.policy_set.specs.Links.{linked_of};
+ghost use Rattle.policy_set.specs.Links.{linked_of, own_condition};
 
 use crate::{ActionConstraint, Effect, EntityReference, PrincipalOrResourceConstraint};
 use policy_expressions::{BinaryOp, BuildError, Expr, ExprKind, Literal, SlotId, SlotValues, Var};
@@ -176,7 +176,8 @@ impl Template {
         id: Text,
         values: &SlotValues,
     ) -> Result<Template, AllocError>
-        ensures { IfOk result (λ t. t ≡ record (linked_of values.now self.now) { id = id }) }
+        ensures link { IfOk result (λ t. t ≡ record (linked_of values.now self.now) { id = id }) }
+        ensures condition { IfOk result (λ t. condition_of t ≡ own_condition values.now self.now) }
     {
         let principal_constraint = self.principal_constraint.with_id(values.value(SlotId::Principal))?;
         let action_constraint = self.action_constraint.try_clone()?;
@@ -313,7 +314,7 @@ fn action_condition(alloc: Global, constraint: &ActionConstraint) -> Result<Expr
             Expr::binary_app(alloc, BinaryOp::Eq, left, right, (), None)
         }
         ActionConstraint::In(uids) => {
-            let items = literals(alloc, uids)?;
+            let items = literals(alloc, uids.as_slice())?;
             let right = Expr::set(items, (), None)?;
             let left = Expr::var(Var::Action, (), None);
             Expr::binary_app(alloc, BinaryOp::In, left, right, (), None)
@@ -334,8 +335,8 @@ fn id_literal(uid: &EntityUID) -> Result<Expr<()>, AllocError>
 }
 
 // The literals of the ids.
-fn literals(alloc: Global, uids: &Vec<EntityUID>) -> Result<Vec<Expr<()>>, AllocError>
-    ensures { IfOk result (λ es. es.items ≡ map id_literal uids.now.items) }
+fn literals(alloc: Global, uids: &[EntityUID]) -> Result<Vec<Expr<()>>, AllocError>
+    ensures { IfOk result (λ es. es.items ≡ map id_literal uids.now) }
 {
     let mut literals = Vec::new(alloc);
     for uid in uids {
