@@ -3,3 +3,4 @@ mod Each
 pub mod Linked
 mod Plain
 mod Sets
+mod Written

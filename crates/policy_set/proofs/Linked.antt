@@ -19,7 +19,7 @@ use Rattle.policy_set.specs.declared.policy_set.PolicySetError.{PolicySetError}
 use Rattle.policy_set.specs.Data.{TemplateData}
 use Rattle.policy_set.specs.Condition.{variable_of, referred, of_type, scope_part, action_part, condition_of, asks_slot, has_scope_slot, right_of, template_with, IsTemplate}
 use Rattle.policy_set.specs.Links.{with_id, linked, linked_of, own_condition, HasPlainBody, Fills}
-use Rattle.policy_set.specs.PolicySet.{given, slot_values, slot_fault, fault_if, slot_count, is_missing, is_extra}
+use Rattle.policy_set.specs.PolicySet.{given, slot_values, slot_fault, fault_if, is_missing, is_extra}
 use Rattle.policy_set.proofs.Plain.{action_slot}
 
 or_left : (a b : Bool) → (a || b) ≡ false → a ≡ false

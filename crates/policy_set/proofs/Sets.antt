@@ -1,6 +1,6 @@
 -- What a set keeps, it keeps with one more template or policy whose id is new.
 use Rattle.std.proofs.Common.{◌≡◌, Bool, true, false, ◌||◌, cond, List, [], ◌∷◌, ℕ, Option, Some, None, IfSome, map, refl, sym, ◌∙◌, ap, subst}
-use Rattle.std.specs.Prelude.{is_some, IsSomeAnd, find}
+use Rattle.std.specs.Prelude.{is_some, IsSomeAnd}
 use Rattle.std.specs.List.{AllByRecursion}
 use Rattle.std.specs.List.Sorted.{IsStrictlySortedBy}
 use Rattle.std.specs.declared.cmp.Ordering.{Ordering}
@@ -10,11 +10,13 @@ use Rattle.std.proofs.lemmas.Map.Lookups.{exact_bytes}
 use Rattle.std.proofs.lemmas.Map.Views.{tells_apart}
 use Rattle.std.specs.Map.{values_of}
 use Rattle.std.specs.BTreeMap.{BTreeMap, IsOrdered, values, insert_entry}
-use Rattle.hierarchy.specs.Keyed.{AreAtTheirKeys, has_key, value_at, with_value}
-use Rattle.hierarchy.proofs.Keyed.{keys_ascend, value_put, own_put}
+use Rattle.hierarchy.specs.Keyed.{AreAtTheirKeys, value_at, with_value}
+use Rattle.hierarchy.proofs.Keyed.{keys_ascend, value_named, value_put, own_put}
 use Rattle.policy_names.specs.Uid.{text_cmp}
 use Rattle.policy_set.specs.Data.{TemplateData, LinkData, PolicyData}
+use Rattle.policy_expressions.specs.declared.kinds.SlotValues.{SlotValues}
 use Rattle.policy_set.specs.Condition.{IsPolicy}
+use Rattle.policy_set.specs.Links.{Fills, linked_policy}
 use Rattle.policy_set.specs.PolicySet.{PolicySetData, template_at, policy_at, is_taken, with_template, with_policy, IsToLink, IsLinkOf, IsLinkedIn, IsPolicySet, HoldsSet}
 use Rattle.policy_set.proofs.Each.{each_with}
 
@@ -99,6 +101,12 @@ policy_added s set p free ok linked sorted = record {
   policies = each_with text_cmp (λ q. q.id) IsPolicy p ok s.policies set.policies;
   links = each_with text_cmp (λ q. q.id) (IsLinkedIn s) p linked s.policies set.links;
 }
+
+-- the link of a template that is found is a link in the set
+pub linked_in : (s : PolicySetData) (q : List ℕ) (t : TemplateData) → template_at s q ≡ Some t → (w : SlotValues) → Fills w t → (id : List ℕ) → IsLinkedIn s (linked_policy id w t)
+linked_in s q t found w fills id =
+    let named : t.id ≡ q = subst (λ o. IfSome o (λ u. u.id ≡ q)) found (value_named text_cmp (λ u. u.id) exact_bytes s.templates q) in
+    subst (λ o. IsSomeAnd o (IsLinkOf (linked_policy id w t) w)) (sym (ap (template_at s) named ∙ found)) (fills, refl)
 
 -- the same of the maps that hold a set
 module _ {V : Type 0} (key : V → List ℕ) (m n : BTreeMap (List ℕ) V) (keys : AreAtTheirKeys text_cmp key m) (v : V) (put : n.entries ≡ insert_entry text_cmp m.entries (key v) v) where

@@ -1,5 +1,5 @@
 -- Sets of policies as plain data: templates, which have slots, and policies, which are static or links; each ascending by id.
-use Rattle.std.specs.Prelude.{◌≡◌, ⊤, ℕ, Bool, true, false, ◌||◌, not, nat_lt, List, [], ◌∷◌, ◌++◌, Option, Some, None, map, filter, flat_map, fold, length, slice_get, is_some, is_none, IsSomeAnd, IfSome, IsTrue, cond, refl}
+use Rattle.std.specs.Prelude.{◌≡◌, ⊤, ℕ, Bool, true, false, ◌||◌, not, nat_lt, List, [], ◌++◌, Option, Some, None, map, filter, fold, length, slice_get, is_some, IsSomeAnd, IfSome, IsTrue, cond, refl}
 use Rattle.std.specs.Option.{option_or}
 use Rattle.std.specs.BTreeMap.{BTreeMap, values}
 use Rattle.std.specs.Coded.{Coded, coded_list, coded×, code_by}
@@ -11,7 +11,7 @@ use Rattle.policy_names.specs.declared.entity_uid.EntityUID.{EntityUID}
 use Rattle.policy_expressions.specs.declared.kinds.SlotId.{SlotId}
 use Rattle.policy_expressions.specs.declared.kinds.SlotId.TheVariants.{Principal, Resource}
 use Rattle.policy_expressions.specs.declared.kinds.SlotValues.{SlotValues}
-use Rattle.policy_set.specs.Data.{TemplateData, LinkData, PolicyData, coded_template, coded_policy}
+use Rattle.policy_set.specs.Data.{TemplateData, PolicyData, coded_template, coded_policy}
 use Rattle.policy_set.specs.declared.constraint.PrincipalOrResourceConstraint.{PrincipalOrResourceConstraint}
 use Rattle.policy_set.specs.Condition.{IsPolicy, asks_slot, has_scope_slot, written_of}
 use Rattle.policy_set.specs.Links.{HasPlainBody, Fills, linked_policy}

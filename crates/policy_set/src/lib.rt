@@ -2,6 +2,7 @@
 #![tactic(auto)]
 
 mod constraint;
+pub mod laws;
 mod link;
 mod policy;
 mod policy_set;

@@ -140,7 +140,8 @@ impl PolicySet {
         id: Text,
         values: Vec<(SlotId, EntityUID)>,
     ) -> Result<Policy, PolicySetError>
-        ensures { MatchResult result (λ p. (template_fault (template_at self.now template_id.now) template_id.now values.items ≡ None) × IsSomeAnd (template_at self.now template_id.now) (λ t. p ≡ linked_policy id (slot_values values.items) t)) (IsNotAdded (template_fault (template_at self.now template_id.now) template_id.now values.items)) }
+        ensures answer { MatchResult result (λ p. (template_fault (template_at self.now template_id.now) template_id.now values.items ≡ None) × IsSomeAnd (template_at self.now template_id.now) (λ t. p ≡ linked_policy id (slot_values values.items) t)) (IsNotAdded (template_fault (template_at self.now template_id.now) template_id.now values.items)) }
+        ensures link { IfOk result (IsLinkedIn self.now) }
     {
         let template = match self.template(template_id) {
             Some(template) => template,
@@ -156,7 +157,8 @@ impl PolicySet {
             return Err(e);
         }
         let alloc = *values.allocator();
-        Ok(Policy::link(alloc, template, id, slot_values(values))?)
+        let policy = Policy::link(alloc, template, id, slot_values(values))?;
+        Ok(policy)
     }
 
     // Whether a template or a policy has the id.
@@ -181,7 +183,8 @@ impl PolicySet {
                 return Err(e);
             }
         };
-        put(&mut self.templates, id, template)
+        put(&mut self.templates, id, template)?;
+        Ok(())
     }
 
     // Adds a policy whose id is new.
@@ -199,7 +202,8 @@ impl PolicySet {
                 return Err(e);
             }
         };
-        put(&mut self.policies, id, policy)
+        put(&mut self.policies, id, policy)?;
+        Ok(())
     }
 
     /// How many policies there are, static ones and links.
@@ -274,10 +278,17 @@ impl PolicySet {
 }
 
 ghost use Rattle.std.specs.Prelude.{◌≡◌, OnOk, OnErr, IfOk, Some};
-ghost use Rattle.policy_set.specs.PolicySet.{IsNotAdded};
+ghost use Rattle.policy_set.specs.PolicySet.{IsNotAdded, IsPolicySet};
 ghost use Rattle.policy_set.specs.declared.policy_set.PolicySetError.TheVariants.{DuplicateId};
 ghost use Rattle.std.specs.BTreeMap.{IsOrdered, insert_entry, values};
 ghost use Rattle.policy_names.specs.Uid.{text_cmp};
+
+/// In a set the ids ascend and stand once among templates and policies, and each link is that of a template of the set.
+pub fn is_policy_set(set: &PolicySet)
+    ensures { IsPolicySet set.now }
+{
+    let _policies = &set.policies;
+}
 
 // The templates in the order of their ids.
 fn collected<'a>(

@@ -179,9 +179,13 @@ impl Template {
         ensures link { IfOk result (λ t. t ≡ record (linked_of values.now self.now) { id = id }) }
         ensures condition { IfOk result (λ t. condition_of t ≡ own_condition values.now self.now) }
     {
-        let principal_constraint = self.principal_constraint.with_id(values.value(SlotId::Principal))?;
+        let principal_constraint = self
+            .principal_constraint
+            .with_id(values.value(SlotId::Principal))?;
         let action_constraint = self.action_constraint.try_clone()?;
-        let resource_constraint = self.resource_constraint.with_id(values.value(SlotId::Resource))?;
+        let resource_constraint = self
+            .resource_constraint
+            .with_id(values.value(SlotId::Resource))?;
         match self.condition.substitute(alloc, values) {
             Ok(condition) => Ok(Template {
                 id,

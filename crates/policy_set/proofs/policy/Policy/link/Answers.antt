@@ -1,6 +1,4 @@
-use Rattle.std.proofs.Common.{Some, ◌∙◌, ap}
-use Rattle.policy_set.specs.Condition.{has_scope_slot}
-use Rattle.policy_set.proofs.Linked.{scope_filled}
+use Rattle.std.proofs.Common.{Some, ◌∙◌}
 use Rattle.policy_set.proofs.policy.Policy.link.Goals as goal
 
 pub returns : goal.returns
