@@ -23,7 +23,7 @@ use Rattle.policy_links.specs.Laws.{LinksAreTyped, StaticsAreTyped, TypedAreSoun
 use Rattle.policy_validate.specs.Accepted.{KeepsLinkRules, IsAccepted}
 use Rattle.policy_validate.specs.Laws.{AcceptedAreTyped, AcceptedAreSound}
 use Rattle.policy_validate.proofs.Empty.{all_both}
-use Rattle.policy_validate.proofs.Written.{all_found, passed, all_written}
+use Rattle.policy_validate.proofs.AllWritten.{all_found, passed, all_written}
 
 either_false : (a b : Bool) → (a || b) ≡ false → (a ≡ false) × (b ≡ false)
 either_false true b h = absurd (cc h)
