@@ -1,39 +1,56 @@
 -- The findings on a set of policies, and the sets that are accepted.
-use Rattle.std.specs.Prelude.{◌≡◌, ◌&&◌, not, nat_lt, Bool, List, [], ◌∷◌, ◌++◌, None, map, flat_map, if◌then◌else◌}
-use Rattle.policy_expressions.specs.Tree.{depth_of}
-use Rattle.policy_set.specs.Data.{PolicyData}
-use Rattle.policy_set.specs.Condition.{written_of}
-use Rattle.policy_set.specs.PolicySet.{PolicySetData}
+use Rattle.std.specs.Prelude.{List, [], ◌++◌, map, flat_map, IfSome, IsTrue}
+use Rattle.std.specs.List.{AllByRecursion}
+use Rattle.policy_set.specs.Data.{TemplateData, PolicyData}
+use Rattle.policy_set.specs.Condition.{condition_of, written_of}
+use Rattle.policy_set.specs.PolicySet.{PolicySetData, written, links}
 use Rattle.schema_core.specs.Schema.{SchemaData}
 use Rattle.findings.specs.declared.error.ValidationError.{ValidationError}
-use Rattle.findings.specs.declared.error.ValidationError.TheVariants.{UnrecognizedEntityType, UnrecognizedActionId, InvalidActionApplication, TooDeep}
+use Rattle.findings.specs.declared.error.ValidationError.TheVariants.{UnrecognizedEntityType, InvalidEnumEntity, UnrecognizedActionId, InvalidActionApplication}
 use Rattle.findings.specs.declared.error.ValidationWarning.{ValidationWarning}
-use Rattle.findings.specs.declared.error.ValidationWarning.TheVariants.{ImpossiblePolicy}
 use Rattle.finding_texts.specs.Findings.{Findings}
-use Rattle.policy_scope.specs.Names.{entity_type_findings, action_id_findings}
-use Rattle.policy_scope.specs.Scope.{application_findings}
-use Rattle.policy_validate.specs.Impossible.{is_impossible}
+use Rattle.policy_scope.specs.Names.{entity_type_findings, enum_findings, action_id_findings, slot_type_findings}
+use Rattle.policy_scope.specs.Scope.{application_findings, is_applicable}
+use Rattle.policy_typecheck.specs.Added.{all_added, same_error}
+use Rattle.policy_typecheck.specs.Policies.{refusals, warned}
+use Rattle.policy_links.specs.Accepted.{IsAcceptedTemplate, HasKnownType}
 
--- a condition may be 200 deep
-abbrev pub is_too_deep : PolicyData → Bool
-is_too_deep p = nat_lt 200 (depth_of p.condition)
+module _ (schema : SchemaData) where
+  -- what typing finds of a condition, each finding once
+  abbrev pub typing_errors : TemplateData → List ValidationError
+  typing_errors t = all_added same_error [] (refusals schema t)
 
--- the errors of a policy: types of literals, actions of literals, its scope, its depth
-abbrev pub errors_of : SchemaData → PolicyData → List ValidationError
-errors_of schema p =
-    map UnrecognizedEntityType (entity_type_findings schema p.id p.condition)
-    ++ (map UnrecognizedActionId (action_id_findings schema p.id p.condition)
-    ++ (map InvalidActionApplication (application_findings schema (written_of p))
-    ++ (if is_too_deep p then TooDeep (record { source_loc = None; policy_id = p.id }) ∷ [] else [])))
+  -- the errors of a template or a static policy: the types, the ids of enumerated types and the actions that its condition names, its
+  -- scope, and what typing finds
+  abbrev pub errors_of_written : TemplateData → List ValidationError
+  errors_of_written t =
+      map UnrecognizedEntityType (entity_type_findings schema t.id (condition_of t))
+      ++ (map InvalidEnumEntity (enum_findings schema t.id (condition_of t))
+      ++ (map UnrecognizedActionId (action_id_findings schema t.id (condition_of t))
+      ++ (map InvalidActionApplication (application_findings schema t)
+      ++ typing_errors t)))
 
--- the warning on a policy that is impossible. A policy that is too deep has none
-abbrev pub warnings_of : SchemaData → PolicyData → List ValidationWarning
-warnings_of schema p = if not (is_too_deep p) && is_impossible schema p then ImpossiblePolicy (record { source_loc = None; policy_id = p.id }) ∷ [] else []
+  -- those of a link: the types of the ids that it gives for slots, and its own scope
+  abbrev pub errors_of_link : PolicyData → List ValidationError
+  errors_of_link p = map UnrecognizedEntityType (slot_type_findings schema p) ++ map InvalidActionApplication (application_findings schema (written_of p))
 
--- those of a set of policies, policy by policy
-abbrev pub findings_of : SchemaData → PolicySetData → Findings
-findings_of schema s = record { errors = flat_map (errors_of schema) s.policies; warnings = flat_map (warnings_of schema) s.policies }
+  -- the warning on a template or a static policy that is impossible
+  abbrev pub warnings_of : TemplateData → List ValidationWarning
+  warnings_of t = warned schema t []
 
--- no policy has an error; warnings do not matter
-abbrev pub IsAccepted : SchemaData → PolicySetData → Type 0
-IsAccepted schema s = flat_map (errors_of schema) s.policies ≡ []
+  -- those of a set, in the order of the ids: of all that is written, and then of all links
+  abbrev pub findings_of : PolicySetData → Findings
+  findings_of s = record {
+    errors = flat_map errors_of_written (written s) ++ flat_map errors_of_link (links s);
+    warnings = flat_map warnings_of (written s);
+  }
+
+  -- a link keeps the rules for links: what it gives for slots is of known types, and some action meets its own scope
+  pub record KeepsLinkRules (p : PolicyData) : Type 0 where
+    pub slots : IfSome p.link (λ l. HasKnownType schema l.values.principal × HasKnownType schema l.values.resource)
+    pub scope : IsTrue (is_applicable schema (written_of p))
+
+  -- each template and static policy is accepted, and each link keeps the rules for links; warnings do not matter
+  pub record IsAccepted (s : PolicySetData) : Type 0 where
+    pub as_written : AllByRecursion (IsAcceptedTemplate schema) (written s)
+    pub as_linked : AllByRecursion KeepsLinkRules (links s)

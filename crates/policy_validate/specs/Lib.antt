@@ -1,6 +1,6 @@
 pub mod Accepted
 pub mod Conformance
-pub mod Impossible
 pub mod InvalidTypes
+pub mod Laws
 pub mod RuleText
 pub mod Written

@@ -1,7 +1,7 @@
 //! What requests, stores and policies keep of a schema.
 #![tactic(auto)]
 
-mod impossible;
+pub mod laws;
 mod request;
 mod request_error;
 mod store;
@@ -16,5 +16,6 @@ pub use request_error::{
 };
 pub use store::conforms;
 pub use store_rule::{ConformanceError, EntityDoesNotConform, StoreRule};
-pub use validator::{ValidationMode, Validator};
+pub use schema_core::ValidationMode;
+pub use validator::Validator;
 pub use written::{entity_text, request_text};

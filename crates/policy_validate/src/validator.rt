@@ -1,29 +1,23 @@
 //! The validator.
 
-ghost use Rattle.std.specs.Prelude.{◌≡◌, ◌++◌, map, IfOk, OnOk};
+ghost use Rattle.std.specs.Prelude.{◌≡◌, ◌↔◌, ◌++◌, [], map, flat_map, IfOk, OnOk};
 ghost use Rattle.findings.specs.declared.error.ValidationError.TheVariants as error;
-ghost use Rattle.policy_set.specs.Condition.{written_of};
-ghost use Rattle.policy_scope.specs.Names.{entity_type_findings, action_id_findings};
-ghost use Rattle.policy_scope.specs.Scope.{application_findings};
-ghost use Rattle.policy_validate.specs.Accepted.{errors_of, warnings_of, is_too_deep, findings_of};
+ghost use Rattle.policy_set.specs.PolicySet.{written, links};
+ghost use Rattle.policy_validate.specs.Accepted.{typing_errors, errors_of_written, errors_of_link, warnings_of, findings_of, IsAccepted};
 
-use crate::impossible::is_impossible;
+use crate::laws::no_errors_where_accepted;
+use extension_types::{ExtensionSchemas, all_objects};
 use policy_scope::{
-    ImpossiblePolicy, TooDeep, ValidationError, ValidationResult, ValidationWarning,
-    unknown_actions_in, unknown_types_in, validate_linked_action_application,
+    InvalidActionApplication, InvalidEnumEntity, UnrecognizedActionId, UnrecognizedEntityType,
+    ValidationError, ValidationResult, ValidationWarning, validate_action_ids,
+    validate_entity_types, validate_entity_types_in_slots, validate_enum_entity,
+    validate_linked_action_application, validate_template_action_application,
 };
-use policy_set::{Policy, PolicySet};
-use schema_core::ValidatorSchema;
+use policy_set::{Policy, PolicySet, Template};
+use policy_typecheck::Typechecker;
+use schema_core::{ValidationMode, ValidatorSchema};
 use std::alloc::{AllocError, Global};
 use std::marker::Model;
-
-/// How policies are validated.
-#[derive(Clone, Copy, Debug, Default, PartialEq, Eq)]
-pub enum ValidationMode {
-    /// A policy that is accepted can go wrong on no request that conforms, but by a missing entity or an overflow.
-    #[default]
-    Strict,
-}
 
 /// Validates policies against a schema.
 #[derive(Debug, Drop)]
@@ -56,118 +50,178 @@ impl<'a> Validator<'a> {
         self.schema
     }
 
-    /// All findings on the policies, in the order of their ids. Those of one policy are, in this order: types of literals
-    /// that are not declared, actions of literals that are not declared, a scope that no declared action meets, a
-    /// condition deeper than 200. A policy that is not too deep is warned of where its condition is false in every
-    /// environment of the schema.
+    /// All findings on the policies. The set is accepted exactly where there is no error among them.
     ///
-    /// So far it is right over policies whose conditions are over ids alone: it does not type other expressions, and so
-    /// lets `1 < "a"` pass.
+    /// First come the errors of templates and static policies in the order of their ids, of each in this order: types
+    /// that are not declared, ids that their enumerated types do not list, actions that are not declared, a scope that no
+    /// declared action meets, and then what typing its condition finds, environment by environment, or that the condition
+    /// is too deep to be typed. Then come those of links in the order of their ids, of each: types of the ids that it
+    /// gives for slots, and a scope that no declared action meets. A template or a static policy is warned of where its
+    /// condition is false in every environment.
     pub fn validate(
         &self,
         alloc: Global,
         policies: &PolicySet,
-        _mode: ValidationMode,
+        mode: ValidationMode,
     ) -> Result<ValidationResult, AllocError>
-        ensures { IfOk result (λ found. found ≡ findings_of self.now policies.now) }
+        ensures found { IfOk result (λ found. found ≡ findings_of self.now policies.now) }
+        ensures accepted { IfOk result (λ found. (found.errors ≡ []) ↔ IsAccepted self.now policies.now) }
     {
-        let schema = self.schema;
-        let mut errors = Vec::new(alloc);
-        let mut warnings = Vec::new(alloc);
-        for policy in policies.policies() {
-            add_errors(alloc, schema, policy, &mut errors)?;
-            add_warnings(schema, policy, &mut warnings)?;
-        }
-        Ok(ValidationResult::new(errors, warnings))
+        no_errors_where_accepted();
+        let objects = all_objects(alloc)?;
+        let extensions = ExtensionSchemas::all_available(alloc, &objects)?;
+        let typechecker = Typechecker::new(self.schema, &extensions, mode);
+        findings_on(alloc, self.schema, &typechecker, policies)
     }
 }
 
-// Adds the errors of a policy.
-fn add_errors(
+fn findings_on(
     alloc: Global,
     schema: &ValidatorSchema,
-    policy: &Policy,
-    errors: &mut Vec<ValidationError>,
-) -> Result<(), AllocError>
-    ensures { OnOk result (errors.new.items ≡ errors.old.items ++ errors_of schema.now policy.now) }
+    typechecker: &Typechecker<'_, '_>,
+    policies: &PolicySet,
+) -> Result<ValidationResult, AllocError>
+    requires { typechecker.now ≡ schema.now }
+    ensures { IfOk result (λ found. found ≡ findings_of schema.now policies.now) }
 {
-    add_entity_types(alloc, schema, policy, errors)?;
-    add_action_ids(alloc, schema, policy, errors)?;
-    add_applications(alloc, schema, policy, errors)?;
-    if is_too_deep(policy) {
-        errors.push(ValidationError::TooDeep(TooDeep {
-            source_loc: None,
-            policy_id: policy.id().try_clone()?,
-        }))?;
+    let mut errors = Vec::new(alloc);
+    let mut warnings = Vec::new(alloc);
+    add_all_written(alloc, schema, typechecker, policies, &mut errors, &mut warnings)?;
+    add_all_links(alloc, schema, policies, &mut errors)?;
+    Ok(ValidationResult::new(errors, warnings))
+}
+
+// Adds the findings on all templates and static policies.
+fn add_all_written(
+    alloc: Global,
+    schema: &ValidatorSchema,
+    typechecker: &Typechecker<'_, '_>,
+    policies: &PolicySet,
+    errors: &mut Vec<ValidationError>,
+    warnings: &mut Vec<ValidationWarning>,
+) -> Result<(), AllocError>
+    requires { typechecker.now ≡ schema.now }
+    ensures errors { OnOk result (errors.new.items ≡ errors.old.items ++ flat_map (errors_of_written schema.now) (written policies.now)) }
+    ensures warnings { OnOk result (warnings.new.items ≡ warnings.old.items ++ flat_map (warnings_of schema.now) (written policies.now)) }
+{
+    for template in policies.written(alloc)? {
+        add_written(alloc, schema, typechecker, template, errors, warnings)?;
     }
     Ok(())
 }
 
-// Whether the condition of the policy is deeper than 200.
-fn is_too_deep(policy: &Policy) -> bool
-    ensures { result ≡ is_too_deep policy.now }
-{
-    policy.condition().depth() > MAX_CHECKED_DEPTH
-}
-
-// How deep a condition may be.
-const MAX_CHECKED_DEPTH: u32 = 200;
-
-fn add_entity_types(
+// Adds the findings on a template or a static policy.
+fn add_written(
     alloc: Global,
     schema: &ValidatorSchema,
-    policy: &Policy,
+    typechecker: &Typechecker<'_, '_>,
+    template: &Template,
+    errors: &mut Vec<ValidationError>,
+    warnings: &mut Vec<ValidationWarning>,
+) -> Result<(), AllocError>
+    requires { typechecker.now ≡ schema.now }
+    ensures errors { OnOk result (errors.new.items ≡ errors.old.items ++ errors_of_written schema.now template.now) }
+    ensures warnings { OnOk result (warnings.new.items ≡ warnings.old.items ++ warnings_of schema.now template.now) }
+{
+    add_types(validate_entity_types(alloc, schema, template)?, errors)?;
+    add_unlisted(validate_enum_entity(alloc, schema, template)?, errors)?;
+    add_actions(validate_action_ids(alloc, schema, template)?, errors)?;
+    add_applications(validate_template_action_application(alloc, schema, template)?, errors)?;
+    add_typing(alloc, typechecker, template, errors, warnings)
+}
+
+// Adds what typing the condition of a template or a static policy finds. It goes into lists of its own first, since the
+// typechecker looks through the errors that it is handed for each that it adds.
+fn add_typing(
+    alloc: Global,
+    typechecker: &Typechecker<'_, '_>,
+    template: &Template,
+    errors: &mut Vec<ValidationError>,
+    warnings: &mut Vec<ValidationWarning>,
+) -> Result<(), AllocError>
+    ensures errors { OnOk result (errors.new.items ≡ errors.old.items ++ typing_errors typechecker.now template.now) }
+    ensures warnings { OnOk result (warnings.new.items ≡ warnings.old.items ++ warnings_of typechecker.now template.now) }
+{
+    let mut found = Vec::new(alloc);
+    let mut warned = Vec::new(alloc);
+    typechecker.typecheck_policy(alloc, template, &mut found, &mut warned)?;
+    errors.append(&mut found)?;
+    warnings.append(&mut warned)?;
+    Ok(())
+}
+
+// Adds the errors of all links.
+fn add_all_links(
+    alloc: Global,
+    schema: &ValidatorSchema,
+    policies: &PolicySet,
     errors: &mut Vec<ValidationError>,
 ) -> Result<(), AllocError>
-    ensures { OnOk result (errors.new.items ≡ errors.old.items ++ map error.UnrecognizedEntityType (entity_type_findings schema.now policy.now.id policy.now.condition)) }
+    ensures { OnOk result (errors.new.items ≡ errors.old.items ++ flat_map (errors_of_link schema.now) (links policies.now)) }
 {
-    for finding in unknown_types_in(alloc, schema, policy.id(), policy.condition())? {
+    for link in policies.links(alloc)? {
+        add_link(alloc, schema, link, errors)?;
+    }
+    Ok(())
+}
+
+// Adds the errors of a link.
+fn add_link(
+    alloc: Global,
+    schema: &ValidatorSchema,
+    link: &Policy,
+    errors: &mut Vec<ValidationError>,
+) -> Result<(), AllocError>
+    ensures { OnOk result (errors.new.items ≡ errors.old.items ++ errors_of_link schema.now link.now) }
+{
+    add_types(validate_entity_types_in_slots(alloc, schema, link)?, errors)?;
+    add_applications(validate_linked_action_application(alloc, schema, link)?, errors)
+}
+
+fn add_types(
+    found: Vec<UnrecognizedEntityType>,
+    errors: &mut Vec<ValidationError>,
+) -> Result<(), AllocError>
+    ensures { OnOk result (errors.new.items ≡ errors.old.items ++ map error.UnrecognizedEntityType found.items) }
+{
+    for finding in found {
         errors.push(ValidationError::UnrecognizedEntityType(finding))?;
     }
     Ok(())
 }
 
-fn add_action_ids(
-    alloc: Global,
-    schema: &ValidatorSchema,
-    policy: &Policy,
+fn add_unlisted(
+    found: Vec<InvalidEnumEntity>,
     errors: &mut Vec<ValidationError>,
 ) -> Result<(), AllocError>
-    ensures { OnOk result (errors.new.items ≡ errors.old.items ++ map error.UnrecognizedActionId (action_id_findings schema.now policy.now.id policy.now.condition)) }
+    ensures { OnOk result (errors.new.items ≡ errors.old.items ++ map error.InvalidEnumEntity found.items) }
 {
-    for finding in unknown_actions_in(alloc, schema, policy.id(), policy.condition())? {
+    for finding in found {
+        errors.push(ValidationError::InvalidEnumEntity(finding))?;
+    }
+    Ok(())
+}
+
+fn add_actions(
+    found: Vec<UnrecognizedActionId>,
+    errors: &mut Vec<ValidationError>,
+) -> Result<(), AllocError>
+    ensures { OnOk result (errors.new.items ≡ errors.old.items ++ map error.UnrecognizedActionId found.items) }
+{
+    for finding in found {
         errors.push(ValidationError::UnrecognizedActionId(finding))?;
     }
     Ok(())
 }
 
 fn add_applications(
-    alloc: Global,
-    schema: &ValidatorSchema,
-    policy: &Policy,
+    found: Vec<InvalidActionApplication>,
     errors: &mut Vec<ValidationError>,
 ) -> Result<(), AllocError>
-    ensures { OnOk result (errors.new.items ≡ errors.old.items ++ map error.InvalidActionApplication (application_findings schema.now (written_of policy.now))) }
+    ensures { OnOk result (errors.new.items ≡ errors.old.items ++ map error.InvalidActionApplication found.items) }
 {
-    for finding in validate_linked_action_application(alloc, schema, policy)? {
+    for finding in found {
         errors.push(ValidationError::InvalidActionApplication(finding))?;
-    }
-    Ok(())
-}
-
-// Adds the warning on a policy that is impossible.
-fn add_warnings(
-    schema: &ValidatorSchema,
-    policy: &Policy,
-    warnings: &mut Vec<ValidationWarning>,
-) -> Result<(), AllocError>
-    ensures { OnOk result (warnings.new.items ≡ warnings.old.items ++ warnings_of schema.now policy.now) }
-{
-    if !is_too_deep(policy) && is_impossible(schema, policy) {
-        warnings.push(ValidationWarning::ImpossiblePolicy(ImpossiblePolicy {
-            source_loc: None,
-            policy_id: policy.id().try_clone()?,
-        }))?;
     }
     Ok(())
 }

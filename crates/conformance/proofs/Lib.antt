@@ -1,0 +1,5 @@
+pub mod Listed
+pub mod Members
+pub mod Options
+pub mod Requests
+pub mod Stores

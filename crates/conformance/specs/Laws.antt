@@ -1,0 +1,26 @@
+-- No rule is broken exactly where the request, the store conforms.
+use Rattle.std.specs.Prelude.{◌≡◌, ◌↔◌, true, None}
+use Rattle.policy_store.specs.declared.request.Request.{Request}
+use Rattle.policy_store.specs.Request.{IsWhole}
+use Rattle.policy_store.specs.Store.{Store}
+use Rattle.policy_values.specs.Value.{Val}
+use Rattle.schema_core.specs.Faults.{IsSchema}
+use Rattle.schema_core.specs.Schema.{SchemaData}
+use Rattle.schema_types.specs.Ty.{Ty}
+use Rattle.policy_types.specs.Member.{Member}
+use Rattle.policy_typing.specs.Conforms.{RequestConforms, StoreConforms}
+use Rattle.conformance.specs.Misfits.{misfit}
+use Rattle.conformance.specs.RequestRules.{first_request_fault}
+use Rattle.conformance.specs.StoreRules.{first_store_fault}
+
+-- where all functions are there, nothing is wrong exactly with the values of a type
+abbrev pub NothingIsWrongWithMembers : Type 0
+NothingIsWrongWithMembers = (t : Ty) (v : Val) → (misfit (λ _. true) t v ≡ None) ↔ Member t v
+
+-- a whole request breaks no rule exactly where it conforms
+abbrev pub RequestRulesAreExact : Type 0
+RequestRulesAreExact = (schema : SchemaData) → IsSchema schema → (q : Request) → IsWhole q → (first_request_fault schema (λ _. true) q ≡ None) ↔ RequestConforms schema q
+
+-- a store breaks no rule exactly where it conforms
+abbrev pub StoreRulesAreExact : Type 0
+StoreRulesAreExact = (schema : SchemaData) → IsSchema schema → (s : Store) → (first_store_fault schema s ≡ None) ↔ StoreConforms schema s

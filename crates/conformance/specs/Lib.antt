@@ -1,0 +1,7 @@
+pub mod Ids
+pub mod InvalidTypes
+pub mod Laws
+pub mod Misfits
+pub mod RequestRules
+pub mod RuleText
+pub mod StoreRules

@@ -1,0 +1,13 @@
+//! Whether requests and stores conform to a schema.
+#![tactic(auto)]
+
+pub mod laws;
+mod request_error;
+mod store_rule;
+
+pub use request_error::{
+    InvalidContextError, InvalidPrincipalTypeError, InvalidResourceTypeError,
+    RequestValidationError, UndeclaredActionError, UndeclaredPrincipalTypeError,
+    UndeclaredResourceTypeError,
+};
+pub use store_rule::{ConformanceError, EntityDoesNotConform, StoreRule};

@@ -1,8 +1,0 @@
-use Rattle.std.proofs.Common.{◌≡◌, ◌++◌, map}
-use Rattle.std.specs.Vec.Iter.{into_iter_items}
-use Rattle.findings.specs.declared.error.ValidationError.TheVariants.{UnrecognizedActionId}
-use Rattle.policy_scope.specs.Names.{action_id_findings}
-use Rattle.policy_validate.proofs.validator.add_action_ids.Given as goal
-
-abbrev pub invariant-loop-finding : goal.invariant-loop-finding
-invariant-loop-finding l = l.errors.items ++ map UnrecognizedActionId (into_iter_items l.finding-iterator) ≡ l.fn.errors.items ++ map UnrecognizedActionId (action_id_findings l.schema l.policy.id l.policy.condition)
