@@ -78,7 +78,7 @@ null
 [{"when":{"<":[1,2]}}]"#;
 
 // What a word says is due for a command.
-fn due(command: &str, word: &str) -> &str {
+fn due(command: &str, word: &str) -> &'static str {
     match word {
         "allowed" if command == "check" => "Done errors 0, warnings 0|",
         "allowed" =>
