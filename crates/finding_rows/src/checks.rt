@@ -11,7 +11,7 @@ use policy_scope::{
     validate_enum_entity, validate_template_action_application,
 };
 use policy_set::{
-    ActionConstraint, Effect, EntityReference, PrincipalOrResourceConstraint, Template,
+    ActionConstraint, ActionList, Effect, EntityReference, PrincipalOrResourceConstraint, Template,
 };
 use schema_core::ValidatorSchema;
 use std::alloc::Global;
@@ -105,7 +105,7 @@ fn action_constraint(alloc: Global, text: &str) -> Result<ActionConstraint, Fail
             for eid in rest.split(" ") {
                 uids.push(uid(alloc, "Action", eid)?)?;
             }
-            Ok(ActionConstraint::In(uids))
+            Ok(ActionConstraint::In(ActionList::new(uids)))
         }
         _ => Ok(ActionConstraint::Any),
     }

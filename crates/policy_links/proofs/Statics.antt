@@ -36,7 +36,8 @@ use Rattle.policy_links.specs.Laws.{StaticsAreUnlinked, StaticsAreTyped, Statics
 use Rattle.policy_links.specs.Linked.{linked_env, slot_types, linked_envs_at, linked_envs_of}
 use Rattle.policy_links.proofs.Declared.{and_both}
 use Rattle.policy_links.proofs.Parts.{action_plain}
-use Rattle.policy_links.proofs.Links.{condition_filled, all_more, from_mapped, from_each, one_of}
+use Rattle.policy_set.proofs.Linked.{condition_filled}
+use Rattle.policy_links.proofs.Links.{all_more, from_mapped, from_each, one_of}
 
 flat_single : {X Y : Type 0} (f : X → Y) (xs : List X) → flat_map (λ x. f x ∷ []) xs ≡ map f xs
 flat_single f [] = refl
@@ -110,7 +111,7 @@ literals_once (u ∷ us) = (tt, literals_once us)
 action_once : (c : ActionConstraint) → HasKeysOnce (action_part c)
 action_once action.Any = tt
 action_once (action.Eq u) = (tt, tt)
-action_once (action.In us) = (tt, literals_once us.items)
+action_once (action.In us) = (tt, literals_once us)
 
 pub condition_once : (t : TemplateData) → HasKeysOnce t.body → HasKeysOnce (condition_of t)
 condition_once t body = (((plain_once Principal t.principal, action_once t.action), plain_once Resource t.resource), body)

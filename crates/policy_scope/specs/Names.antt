@@ -1,6 +1,6 @@
 -- The names in a condition: the types that it names and the actions of its literals, which have to be declared, and the ids of
 -- enumerated types, which have to be listed.
-use Rattle.std.specs.Prelude.{◌||◌, not, Bool, ℕ, List, [], ◌∷◌, ◌++◌, Option, Some, None, fold, find, option_map, is_some, codes, eqb, if◌then◌else◌}
+use Rattle.std.specs.Prelude.{◌||◌, not, Bool, ℕ, List, [], ◌∷◌, ◌++◌, Option, Some, None, map, fold, find, option_map, option_to_list, is_some, codes, eqb, if◌then◌else◌}
 use Rattle.std.specs.List.{filter_map, starts_with}
 use Rattle.std.specs.Option.{option_cmp, option_and_then}
 use Rattle.std.specs.Ordering.{nat_cmp, ordering_then}
@@ -14,6 +14,7 @@ use Rattle.policy_expressions.specs.declared.kinds.Literal.TheVariants as litera
 use Rattle.policy_expressions.specs.Tree.{Tree, lit, var, slot, ite, conj, disj, unary, binary, attr, like, is_type, call, set, rec, Trees, no_trees, tree, Named, no_named, named, Mark}
 use Rattle.policy_expressions.specs.Tree as core
 use Rattle.policy_expressions.specs.Plain.{Plain}
+use Rattle.policy_set.specs.Data.{LinkData, PolicyData}
 use Rattle.schema_core.specs.Kinds.{Kind, standard, enumerated}
 use Rattle.schema_core.specs.Schema.{SchemaData, ActionData, type_at, action_at}
 use Rattle.findings.specs.declared.rules.UnrecognizedEntityType.{UnrecognizedEntityType}
@@ -95,6 +96,15 @@ entity_type_finding schema policy m = if is_known_type schema (type_of m.0) then
 -- all types that are not known, in a condition of the policy
 abbrev pub entity_type_findings : SchemaData → List ℕ → Plain → List UnrecognizedEntityType
 entity_type_findings schema policy condition = distinct entity_type_cmp (filter_map (entity_type_finding schema policy) (names_in condition))
+
+-- the ids that a link gives for the slots of its template, the principal's first
+abbrev pub ids_given : Option LinkData → List EntityUID
+ids_given None = []
+ids_given (Some l) = option_to_list l.values.principal ++ option_to_list l.values.resource
+
+-- all types of these ids that are not known; they stand at no place
+abbrev pub slot_type_findings : SchemaData → PolicyData → List UnrecognizedEntityType
+slot_type_findings schema p = distinct entity_type_cmp (filter_map (entity_type_finding schema p.id) (map (λ uid. (an_id uid, None)) (ids_given p.link)))
 
 -- the text stands somewhere in the other
 abbrev pub occurs_in : List ℕ → List ℕ → Bool

@@ -40,7 +40,7 @@ module _ (schema : SchemaData) where
   abbrev pub action_meets : ActionConstraint → ActionData → Bool
   action_meets action.Any a = true
   action_meets (action.Eq u) a = uid_eq u a.name
-  action_meets (action.In us) a = list_all (λ u. is_some (action_at schema u)) us.items && list_any (is_action_within schema a.name) us.items
+  action_meets (action.In us) a = list_all (λ u. is_some (action_at schema u)) us && list_any (is_action_within schema a.name) us
 
   -- the action has a principal type and a resource type that meet these parts of a scope
   abbrev pub are_met : PrincipalOrResourceConstraint → PrincipalOrResourceConstraint → ActionData → Bool

@@ -1,9 +1,10 @@
 //! The names in a policy: the types that it names and the actions of its literals have to be declared, and the ids of
 //! enumerated types to be listed.
 
-ghost use Rattle.std.specs.Prelude.{◌≡◌, ◌++◌, IfOk, OnOk, map, option_copied};
+ghost use Rattle.std.specs.Prelude.{◌≡◌, ◌++◌, IfOk, OnOk, map, None, option_copied, option_to_list};
 ghost use Rattle.policy_expressions.specs.Tree.{trees_of, named_of};
-ghost use Rattle.policy_scope.specs.Names.{type_of, names_in, names_in_all, names_in_named, is_known_type, is_known_action, entity_type_findings, action_id_findings, enum_findings, choices_without, others_listed, choices_in, action_id_hint, occurs_in};
+ghost use Rattle.policy_scope.specs.Names.{type_of, names_in, names_in_all, names_in_named, is_known_type, is_known_action, an_id, distinct, entity_type_cmp, entity_type_finding, entity_type_findings, slot_type_findings, action_id_findings, enum_findings, choices_without, others_listed, choices_in, action_id_hint, occurs_in};
+ghost use Rattle.std.specs.List.{filter_map};
 ghost use Rattle.std.specs.Ordering.{is_eq};
 ghost use Rattle.hierarchy.specs.Reaches.{has};
 ghost use Rattle.policy_names.specs.Uid.{text_cmp};
@@ -15,9 +16,9 @@ use findings::{
     InvalidEnumEntity, InvalidEnumEntityError, ListOf, UnrecognizedActionId,
     UnrecognizedActionIdHelp, UnrecognizedEntityType,
 };
-use policy_expressions::{Expr, ExprKind, Literal, Loc};
+use policy_expressions::{Expr, ExprKind, Literal, Loc, SlotValues};
 use policy_names::{Eid, EntityType, EntityUID, Text};
-use policy_set::Template;
+use policy_set::{Policy, Template};
 use schema_core::{ValidatorEntityTypeKind, ValidatorSchema};
 use std::alloc::{AllocError, Global};
 use std::cmp::Ordering;
@@ -47,6 +48,50 @@ pub fn unknown_types_in(
 {
     let mut names = Vec::new(alloc);
     add_names(condition, &mut names)?;
+    unknown_types(alloc, schema, policy_id, names)
+}
+
+/// The types of the ids that a link gives for the slots of its template and that are neither declared nor types of
+/// actions: each once, the principal's first. A static policy has none.
+pub fn validate_entity_types_in_slots(
+    alloc: Global,
+    schema: &ValidatorSchema,
+    policy: &Policy,
+) -> Result<Vec<UnrecognizedEntityType>, AllocError>
+    ensures { IfOk result (λ found. found.items ≡ slot_type_findings schema.now policy.now) }
+{
+    let mut names = Vec::new(alloc);
+    if let Some(values) = policy.env() {
+        add_given(values, &mut names)?;
+    }
+    unknown_types(alloc, schema, policy.id(), names)
+}
+
+// Adds the ids that are given for slots.
+fn add_given<'a>(
+    values: &'a SlotValues,
+    names: &mut Vec<(Mention<'a>, Option<Loc>)>,
+) -> Result<(), AllocError>
+    ensures { OnOk result (map pair_of names.new.items ≡ map pair_of names.old.items ++ map (λ uid. (an_id uid, None)) (option_to_list values.now.principal ++ option_to_list values.now.resource)) }
+{
+    if let Some(uid) = &values.principal {
+        names.push((Mention::Id(uid), None))?;
+    }
+    if let Some(uid) = &values.resource {
+        names.push((Mention::Id(uid), None))?;
+    }
+    Ok(())
+}
+
+// The types of these names that are not known, each once at its place.
+fn unknown_types(
+    alloc: Global,
+    schema: &ValidatorSchema,
+    policy_id: &Text,
+    names: Vec<(Mention<'_>, Option<Loc>)>,
+) -> Result<Vec<UnrecognizedEntityType>, AllocError>
+    ensures { IfOk result (λ found. found.items ≡ distinct entity_type_cmp (filter_map (entity_type_finding schema.now policy_id.now) (map pair_of names.entry.items))) }
+{
     let mut seen = BTreeSet::new(alloc);
     let mut found = Vec::new(alloc);
     for (mention, loc) in names {

@@ -112,21 +112,22 @@ fn action_meets(
         ActionConstraint::Any => true,
         ActionConstraint::Eq(uid) => same_id(uid, action.name()),
         ActionConstraint::In(uids) => {
+            let uids = uids.as_slice();
             are_declared(schema, uids) && is_within_some(schema, action.name(), uids)
         }
     }
 }
 
 // Whether each of these actions is declared.
-fn are_declared(schema: &ValidatorSchema, uids: &Vec<EntityUID>) -> bool
-    ensures { result ≡ list_all (λ u. is_some (action_at schema.now u)) uids.now.items }
+fn are_declared(schema: &ValidatorSchema, uids: &[EntityUID]) -> bool
+    ensures { result ≡ list_all (λ u. is_some (action_at schema.now u)) uids.now }
 {
     uids.iter().all(|uid| schema.get_action_id(uid).is_some())
 }
 
 // Whether the action is one of these, or among the descendants of one.
-fn is_within_some(schema: &ValidatorSchema, uid: &EntityUID, uids: &Vec<EntityUID>) -> bool
-    ensures { result ≡ list_any (is_action_within schema.now uid.now) uids.now.items }
+fn is_within_some(schema: &ValidatorSchema, uid: &EntityUID, uids: &[EntityUID]) -> bool
+    ensures { result ≡ list_any (is_action_within schema.now uid.now) uids.now }
 {
     uids.iter()
         .any(|above| is_action_within(schema, uid, above))

@@ -35,7 +35,7 @@ literals_depth (u ∷ us) = omega (arith, literals_depth us)
 action_depth : (a : ActionConstraint) → depth_of (action_part a) ≤ 3
 action_depth action.Any = omega arith
 action_depth (action.Eq uid) = omega arith
-action_depth (action.In us) = omega (arith, literals_depth us.items)
+action_depth (action.In us) = omega (arith, literals_depth us)
 
 -- the condition is deeper than 400 exactly where the body is 400 deep at least
 pub by_body : (t : TemplateData) → (400 ≤ depth_of t.body) ↔ (400 < depth_of (condition_of t))

@@ -1,3 +1,6 @@
 pub mod Depths
 mod Each
+pub mod Linked
 mod Plain
+mod Sets
+mod Written

@@ -26,10 +26,10 @@ literals_slot : (us : List EntityUID) → some_has_slot (literals us) ≡ false
 literals_slot [] = refl
 literals_slot (u ∷ us) = literals_slot us
 
-action_slot : (a : ActionConstraint) → has_slot (action_part a) ≡ false
+pub action_slot : (a : ActionConstraint) → has_slot (action_part a) ≡ false
 action_slot action.Any = refl
 action_slot (action.Eq uid) = refl
-action_slot (action.In us) = literals_slot us.items
+action_slot (action.In us) = literals_slot us
 
 four : (p a r b : Bool) → p || r ≡ false → a ≡ false → b ≡ false → ((p || a) || r) || b ≡ false
 four true a r b h i j = cc

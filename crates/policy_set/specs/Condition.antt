@@ -65,7 +65,7 @@ literals uids = trees_of (map id_literal uids)
 abbrev pub action_part : ActionConstraint → Plain
 action_part action.Any = anything
 action_part (action.Eq uid) = binary IsEqual (var variable.Action unmarked) (id_literal uid) unmarked
-action_part (action.In uids) = binary IsIn (var variable.Action unmarked) (set (literals uids.items) unmarked) unmarked
+action_part (action.In uids) = binary IsIn (var variable.Action unmarked) (set (literals uids) unmarked) unmarked
 
 abbrev pub scope_of : PrincipalOrResourceConstraint → ActionConstraint → PrincipalOrResourceConstraint → Plain
 scope_of p a r = conj (conj (scope_part Principal p) (action_part a) unmarked) (scope_part Resource r) unmarked
@@ -98,7 +98,7 @@ static_of t = record {
   resource = t.resource;
   body = t.body;
   condition = condition_of t;
-  template = None;
+  link = None;
 }
 
 -- a policy as it would be written by itself

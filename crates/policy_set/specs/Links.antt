@@ -1,9 +1,9 @@
 -- Links of templates: the template with the link's ids in the places of its slots.
-use Rattle.std.specs.Prelude.{◌≡◌, false, Option, Some, None, is_some}
+use Rattle.std.specs.Prelude.{◌≡◌, ℕ, false, List, Option, Some, None, is_some}
 use Rattle.policy_names.specs.declared.entity_uid.EntityUID.{EntityUID}
 use Rattle.policy_expressions.specs.declared.kinds.SlotValues.{SlotValues}
 use Rattle.policy_expressions.specs.Slots.{has_slot, filled}
-use Rattle.policy_set.specs.Data.{TemplateData}
+use Rattle.policy_set.specs.Data.{TemplateData, PolicyData}
 use Rattle.policy_expressions.specs.Plain.{Plain}
 use Rattle.policy_set.specs.Condition.{condition_of, asks_slot}
 use Rattle.policy_set.specs.declared.constraint.EntityReference.{EntityReference}
@@ -41,3 +41,16 @@ HasPlainBody t = has_slot t.body ≡ false
 pub record Fills (w : SlotValues) (t : TemplateData) : Type 0 where
   pub principal : is_some w.principal ≡ asks_slot t.principal
   pub resource : is_some w.resource ≡ asks_slot t.resource
+
+-- the link with the id
+abbrev pub linked_policy : List ℕ → SlotValues → TemplateData → PolicyData
+linked_policy id w t = record {
+  id = id;
+  effect = t.effect;
+  principal = linked w.principal t.principal;
+  action = t.action;
+  resource = linked w.resource t.resource;
+  body = t.body;
+  condition = own_condition w t;
+  link = Some (record { template = t.id; values = w });
+}

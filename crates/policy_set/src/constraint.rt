@@ -1,9 +1,13 @@
 //! What the scope of a policy asks of the request.
 
-ghost use Rattle.std.specs.Prelude.{◌≡◌};
+ghost use Rattle.std.specs.Prelude.{◌≡◌, IfOk};
+ghost use Rattle.std.specs.Option.{option_copied};
 ghost use Rattle.policy_set.specs.Condition.{is_slot, asks_slot};
+ghost use Rattle.policy_set.specs.Links.{with_id, linked};
 
 use policy_names::{EntityType, EntityUID};
+use std::alloc::AllocError;
+use std::marker::Model;
 
 /// What a policy does where its condition is true.
 #[derive(Clone, Copy, Debug, PartialEq, Eq)]
@@ -31,6 +35,18 @@ impl EntityReference {
         match self {
             EntityReference::EUID(_) => false,
             EntityReference::Slot => true,
+        }
+    }
+
+    // An equal one, with the id in the place of the slot, where there is one.
+    fn with_id(&self, id: Option<&EntityUID>) -> Result<EntityReference, AllocError>
+        ensures { IfOk result (λ r. r ≡ with_id (option_copied id.entry) self.now) }
+    {
+        match (self, id) {
+            (EntityReference::EUID(uid), _) | (EntityReference::Slot, Some(uid)) => {
+                Ok(EntityReference::EUID(uid.try_clone()?))
+            }
+            (EntityReference::Slot, None) => Ok(EntityReference::Slot),
         }
     }
 }
@@ -62,6 +78,31 @@ impl PrincipalOrResourceConstraint {
             | PrincipalOrResourceConstraint::IsIn(_, entity) => entity.is_slot(),
         }
     }
+
+    // An equal one, with the id in the place of its slot, where there is one.
+    pub(crate) fn with_id(
+        &self,
+        id: Option<&EntityUID>,
+    ) -> Result<PrincipalOrResourceConstraint, AllocError>
+        ensures { IfOk result (λ c. c ≡ linked (option_copied id.entry) self.now) }
+    {
+        Ok(match self {
+            PrincipalOrResourceConstraint::Any => PrincipalOrResourceConstraint::Any,
+            PrincipalOrResourceConstraint::Eq(entity) => {
+                PrincipalOrResourceConstraint::Eq(entity.with_id(id)?)
+            }
+            PrincipalOrResourceConstraint::In(entity) => {
+                PrincipalOrResourceConstraint::In(entity.with_id(id)?)
+            }
+            PrincipalOrResourceConstraint::Is(entity_type) => {
+                PrincipalOrResourceConstraint::Is(entity_type.try_clone()?)
+            }
+            PrincipalOrResourceConstraint::IsIn(entity_type, entity) => {
+                let entity = entity.with_id(id)?;
+                PrincipalOrResourceConstraint::IsIn(entity_type.try_clone()?, entity)
+            }
+        })
+    }
 }
 
 /// What a scope asks of the action.
@@ -72,5 +113,64 @@ pub enum ActionConstraint {
     /// That it is this action.
     Eq(EntityUID),
     /// That it is one of these actions, or has one as an ancestor.
-    In(Vec<EntityUID>),
+    In(ActionList),
+}
+
+/// Actions, in the order in which a scope lists them.
+#[derive(Debug, Drop)]
+pub struct ActionList {
+    uids: Vec<EntityUID>,
+}
+
+impl Model for ActionList {
+    ghost use Rattle.std.specs.Prelude.{List};
+    ghost use Rattle.std.specs.Coded.{coded_list};
+    ghost use Rattle.policy_names.specs.Uid.{coded_uid};
+    ghost use Rattle.policy_names.specs.declared.entity_uid.EntityUID.{EntityUID};
+
+    ghost Value = { List EntityUID };
+
+    ghost coded = { coded_list coded_uid };
+
+    ghost view = { λ l. l.uids.items };
+}
+
+impl ActionList {
+    /// The list of these actions.
+    pub fn new(uids: Vec<EntityUID>) -> ActionList
+        ensures { result ≡ uids.items }
+    {
+        ActionList { uids }
+    }
+
+    /// The actions.
+    pub fn as_slice(&self) -> &[EntityUID]
+        ensures { result.now ≡ self.now }
+    {
+        self.uids.as_slice()
+    }
+
+    // An equal one.
+    fn try_clone(&self) -> Result<ActionList, AllocError>
+        ensures { IfOk result (λ l. l ≡ self.now) }
+    {
+        let mut uids = Vec::new(*self.uids.allocator());
+        for uid in &self.uids {
+            uids.push(uid.try_clone()?)?;
+        }
+        Ok(ActionList { uids })
+    }
+}
+
+impl ActionConstraint {
+    // An equal one.
+    pub(crate) fn try_clone(&self) -> Result<ActionConstraint, AllocError>
+        ensures { IfOk result (λ c. c ≡ self.now) }
+    {
+        match self {
+            ActionConstraint::Any => Ok(ActionConstraint::Any),
+            ActionConstraint::Eq(uid) => Ok(ActionConstraint::Eq(uid.try_clone()?)),
+            ActionConstraint::In(uids) => Ok(ActionConstraint::In(uids.try_clone()?)),
+        }
+    }
 }

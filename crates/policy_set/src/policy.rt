@@ -1,17 +1,24 @@
 //! Policies that are evaluated.
 
-ghost use Rattle.std.specs.Prelude.{◌≡◌, false, not, is_some};
-ghost use Rattle.policy_set.specs.Condition.{IsPolicy, has_scope_slot, static_of};
+ghost use Rattle.std.specs.Prelude.{◌≡◌, false, not, is_some, option_map, IfOk};
+ghost use Rattle.std.specs.Option.{option_copied};
+ghost use Rattle.policy_expressions.specs.declared.kinds.SlotValues.{SlotValues};
+ghost use Rattle.policy_set.specs.Condition.{IsPolicy, has_scope_slot, static_of, written_of};
+ghost use Rattle.policy_set.specs.Links.{Fills, linked_policy};
 
+use crate::link::Link;
 use crate::{ActionConstraint, Effect, PrincipalOrResourceConstraint, Template};
-use policy_expressions::Expr;
+use policy_expressions::{Expr, SlotValues};
 use policy_names::Text;
+use std::alloc::{AllocError, Global};
 use std::marker::Model;
 
-/// A policy of a set. Its condition has no slot.
+/// A policy of a set: static, or a link of a template. Its condition has no slot.
 #[derive(Drop)]
 pub struct Policy {
+    // The policy as it would be written by itself: a link has its ids in the places of slots.
     template: Template,
+    link: Option<Link>,
 }
 
 impl Model for Policy {
@@ -23,7 +30,7 @@ impl Model for Policy {
 
     ghost coded = { coded_policy };
 
-    ghost view = { λ p. static_of p.template };
+    ghost view = { λ p. record (static_of p.template) { link = p.link } };
 
     ghost invariant = { λ p. has_scope_slot p.template ≡ false };
 }
@@ -34,7 +41,41 @@ impl Policy {
         requires { has_scope_slot template ≡ false }
         ensures { result ≡ static_of template }
     {
-        Policy { template }
+        Policy {
+            template,
+            link: None,
+        }
+    }
+
+    /// The link of a template under an id, with an id for each of its slots and for no other.
+    pub(crate) fn link(
+        alloc: Global,
+        template: &Template,
+        id: Text,
+        values: SlotValues,
+    ) -> Result<Policy, AllocError>
+        requires { Fills values template.now }
+        ensures { IfOk result (λ p. p ≡ linked_policy id values template.now) }
+    {
+        let written = match template.with_ids(alloc, id, &values) {
+            Ok(written) => written,
+            Err(e) => {
+                drop(values);
+                return Err(e);
+            }
+        };
+        let template = match template.id().try_clone() {
+            Ok(template) => template,
+            Err(e) => {
+                drop(values);
+                drop(written);
+                return Err(e);
+            }
+        };
+        Ok(Policy {
+            template: written,
+            link: Some(Link { template, values }),
+        })
     }
 
     /// Its id.
@@ -87,11 +128,37 @@ impl Policy {
         self.template.condition()
     }
 
-    /// Whether it is a policy of its own, and no link of a template. So far each is.
+    /// Whether it is a policy of its own, and no link of a template.
     pub fn is_static(&self) -> bool
-        ensures { result ≡ not (is_some self.now.template) }
+        ensures { result ≡ not (is_some self.now.link) }
     {
-        let _written = &self.template;
-        true
+        self.link.is_none()
+    }
+
+    /// The id of the template that it links; none, where it is static.
+    pub fn template(&self) -> Option<&Text>
+        ensures { option_copied result ≡ option_map (λ l. l.template) self.now.link }
+    {
+        match &self.link {
+            Some(link) => Some(&link.template),
+            None => None,
+        }
+    }
+
+    /// The ids that it gives for the slots of its template; none, where it is static.
+    pub fn env(&self) -> Option<&SlotValues>
+        ensures { option_copied result ≡ option_map (λ l. l.values) self.now.link }
+    {
+        match &self.link {
+            Some(link) => Some(&link.values),
+            None => None,
+        }
+    }
+
+    // The policy as it would be written by itself.
+    pub(crate) fn written(&self) -> &Template
+        ensures { result.now ≡ written_of self.now }
+    {
+        &self.template
     }
 }

@@ -5,9 +5,10 @@ ghost use Rattle.policy_expressions.specs.Tree.{depth_of};
 ghost use Rattle.policy_expressions.specs.Slots.{has_slot};
 ghost use Rattle.policy_set.specs.Data.{TemplateData};
 ghost use Rattle.policy_set.specs.Condition.{condition_of, has_scope_slot};
+ghost use Rattle.policy_set.specs.Links.{linked_of, own_condition};
 
 use crate::{ActionConstraint, Effect, EntityReference, PrincipalOrResourceConstraint};
-use policy_expressions::{BinaryOp, BuildError, Expr, ExprKind, Literal, SlotId, Var};
+use policy_expressions::{BinaryOp, BuildError, Expr, ExprKind, Literal, SlotId, SlotValues, Var};
 use policy_names::{EntityType, EntityUID, Text};
 use std::alloc::{AllocError, Global};
 use std::marker::Model;
@@ -168,6 +169,42 @@ impl Template {
         &self.condition
     }
 
+    // A link of it as a template of its own, under another id.
+    pub(crate) fn with_ids(
+        &self,
+        alloc: Global,
+        id: Text,
+        values: &SlotValues,
+    ) -> Result<Template, AllocError>
+        ensures link { IfOk result (λ t. t ≡ record (linked_of values.now self.now) { id = id }) }
+        ensures condition { IfOk result (λ t. condition_of t ≡ own_condition values.now self.now) }
+    {
+        let principal_constraint = self
+            .principal_constraint
+            .with_id(values.value(SlotId::Principal))?;
+        let action_constraint = self.action_constraint.try_clone()?;
+        let resource_constraint = self
+            .resource_constraint
+            .with_id(values.value(SlotId::Resource))?;
+        match self.condition.substitute(alloc, values) {
+            Ok(condition) => Ok(Template {
+                id,
+                effect: self.effect,
+                principal_constraint,
+                action_constraint,
+                resource_constraint,
+                condition,
+            }),
+            Err(e) => {
+                drop(id);
+                drop(principal_constraint);
+                drop(action_constraint);
+                drop(resource_constraint);
+                Err(e)
+            }
+        }
+    }
+
     /// Whether its scope has a slot, so that it is to be linked.
     pub fn has_slot(&self) -> bool
         ensures { result ≡ has_scope_slot self.now }
@@ -281,7 +318,7 @@ fn action_condition(alloc: Global, constraint: &ActionConstraint) -> Result<Expr
             Expr::binary_app(alloc, BinaryOp::Eq, left, right, (), None)
         }
         ActionConstraint::In(uids) => {
-            let items = literals(alloc, uids)?;
+            let items = literals(alloc, uids.as_slice())?;
             let right = Expr::set(items, (), None)?;
             let left = Expr::var(Var::Action, (), None);
             Expr::binary_app(alloc, BinaryOp::In, left, right, (), None)
@@ -302,8 +339,8 @@ fn id_literal(uid: &EntityUID) -> Result<Expr<()>, AllocError>
 }
 
 // The literals of the ids.
-fn literals(alloc: Global, uids: &Vec<EntityUID>) -> Result<Vec<Expr<()>>, AllocError>
-    ensures { IfOk result (λ es. es.items ≡ map id_literal uids.now.items) }
+fn literals(alloc: Global, uids: &[EntityUID]) -> Result<Vec<Expr<()>>, AllocError>
+    ensures { IfOk result (λ es. es.items ≡ map id_literal uids.now) }
 {
     let mut literals = Vec::new(alloc);
     for uid in uids {

@@ -6,4 +6,4 @@ use Rattle.policy_set.proofs.policy_set.PolicySet.policy.Goals as goal
 
 pub returns : goal.returns
 returns c =
-    c.get.ensures.value ∙ (value_found text_cmp (λ p. p.id) c.self.inside.policies c.self.invariant.at_ids c.args.id.now ∙ ap (λ s. policy_at s c.args.id.now) c.self.view_is)
+    c.get.ensures.value ∙ (value_found text_cmp (λ p. p.id) c.self.inside.policies c.self.invariant.policy_ids c.args.id.now ∙ ap (λ s. policy_at s c.args.id.now) c.self.view_is)

@@ -3,7 +3,7 @@ use Rattle.std.proofs.lemmas.Bool.{not-true, not-false}
 use Rattle.policy_scope.specs.Names.{entity_type_cmp}
 use Rattle.policy_scope.proofs.Made.{type_made, type_made_total}
 use Rattle.policy_scope.proofs.Once.{once_new, once_old}
-use Rattle.policy_scope.proofs.names.unknown_types_in.Goals as goal
+use Rattle.policy_scope.proofs.names.unknown_types.Goals as goal
 
 pub loop-mention-preserved-in_ok-push : goal.loop-mention-preserved-in_ok-push
 loop-mention-preserved-in_ok-push c =

@@ -1,0 +1,3 @@
+//! Laws of sets of policies.
+
+pub use crate::policy_set::is_policy_set;
