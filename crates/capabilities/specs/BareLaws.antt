@@ -90,7 +90,7 @@ same_tree_equiv = on_equiv (λ x. coded_plain.code (bare x)) same_stored_equiv
 
 module _ {A : Type 0} where
   mutual
-    depth_bare : (x : Tree A) → depth_of (bare x) ≡ depth_of x
+    pub depth_bare : (x : Tree A) → depth_of (bare x) ≡ depth_of x
     depth_bare (lit l a) = refl
     depth_bare (var v a) = refl
     depth_bare (slot i a) = refl

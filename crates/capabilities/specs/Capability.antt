@@ -1,14 +1,15 @@
 -- Capabilities: what is known of expressions, once a condition is true.
-use Rattle.std.specs.Prelude.{◌≡◌, ℕ, Bool, ◌&&◌, ◌⊎◌, List, [], ◌∷◌, ◌++◌, refl}
+use Rattle.std.specs.Prelude.{◌≡◌, ℕ, Bool, ◌&&◌, ◌⊎◌, List, [], ◌∷◌, ◌++◌, refl, fold}
 use Rattle.std.proofs.Common.{inl, inr}
 use Rattle.std.specs.List.{list_any, list_all, filter, flat_map}
 use Rattle.std.specs.Coded.{Coded, coded_ℕ, coded_list, coded×, coded⊎, code_by}
 use Rattle.std.specs.Hash as fed
 use Rattle.std.specs.Hash.{HashWrites}
-use Rattle.policy_expressions.specs.Tree.{depth_of}
+use Rattle.std.specs.Hash.DefaultHasher as sip
 use Rattle.policy_expressions.specs.Shape.{SameShape}
 use Rattle.capabilities.specs.Bare.{coded_plain, bare, same_stored, same_tree}
 use Rattle.policy_expressions.specs.Plain.{Plain}
+use Rattle.capabilities.specs.Path.{path_fed}
 
 -- an attribute, or the tag that an expression names
 pub data Access : Type 0 where
@@ -88,10 +89,14 @@ is_covered cs ds = list_all (has_cap ds) cs
 abbrev pub same_known : List Capability → List Capability → Bool
 same_known cs ds = is_covered cs ds && is_covered ds cs
 
--- what the hash of a capability is of: how deep its expressions are, and its attribute
+-- what the hash of a capability is of: the paths of its expressions, and its attribute
 abbrev pub access_fed : Access → HashWrites
 access_fed (Attribute n) = fed.u8 0 ++ fed.str n
-access_fed (Tag k) = fed.u8 1 ++ fed.u32 (depth_of k)
+access_fed (Tag k) = fed.u8 1 ++ path_fed k
 
 abbrev pub capability_fed : Capability → HashWrites
-capability_fed k = fed.u32 (depth_of k.on) ++ access_fed k.what
+capability_fed k = path_fed k.on ++ access_fed k.what
+
+-- a number that tells most capabilities apart: the hash
+abbrev pub print_of : Capability → ℕ
+print_of k = sip.finish (fold sip.write sip.initial (capability_fed k))

@@ -6,10 +6,13 @@ use Rattle.std.specs.Cmp.{IsEquivalence, IsPartialEquivalence, equiv, on_equiv, 
 use Rattle.std.proofs.lemmas.Bool.Decides.{Decides-and, Decides-or, Decides-at}
 use Rattle.std.proofs.lemmas.Map.Steps.{list_any_congr}
 use Rattle.std.proofs.lemmas.Cmp.{and_equiv}
+use Rattle.std.specs.Prelude.{fold}
 use Rattle.std.specs.Hash as fed
+use Rattle.std.specs.Hash.DefaultHasher as sip
 use Rattle.capabilities.specs.Bare.{same_tree}
-use Rattle.capabilities.specs.BareLaws.{bare_alike, same_shape, stored_decides, same_stored_equiv, same_tree_decides, same_tree_equiv, same_depth}
-use Rattle.capabilities.specs.Capability.{Access, Attribute, Tag, Capability, SameAccess, AreAlike, IsKnown, coded_access, bare_access, same_access, is_alike, has_cap, common, is_covered, same_known, access_fed, capability_fed}
+use Rattle.capabilities.specs.BareLaws.{bare_alike, same_shape, stored_decides, same_stored_equiv, same_tree_decides, same_tree_equiv}
+use Rattle.capabilities.specs.PathLaws.{same_path}
+use Rattle.capabilities.specs.Capability.{Access, Attribute, Tag, Capability, SameAccess, AreAlike, IsKnown, coded_access, bare_access, same_access, is_alike, has_cap, common, is_covered, same_known, access_fed, capability_fed, print_of}
 
 access_alike : (x y : Access) → SameAccess x y → bare_access x ≡ bare_access y
 access_alike (Attribute m) (Attribute n) h = ap Attribute h
@@ -135,14 +138,20 @@ known_equiv = equiv known_partial (λ cs. (same_known_decides cs cs).1 (λ k. (�
 
 access_fed_alike : (x y : Access) → SameAccess x y → access_fed x ≡ access_fed y
 access_fed_alike (Attribute m) (Attribute n) h = ap access_fed (ap Attribute h)
-access_fed_alike (Tag k) (Tag l) h = ap (λ n. fed.u8 1 ++ fed.u32 n) (same_depth k l h)
+access_fed_alike (Tag k) (Tag l) h = ap (λ ws. fed.u8 1 ++ ws) (same_path k l h)
 access_fed_alike x y h = absurd h
+
+fed_alike : (k m : Capability) → AreAlike k m → capability_fed k ≡ capability_fed m
+fed_alike k m h = λ i. same_path k.on m.on h.0 i ++ access_fed_alike k.what m.what h.1 i
+
+-- capabilities that are alike have one print
+pub same_print : (k m : Capability) → AreAlike k m → print_of k ≡ print_of m
+same_print k m h = ap (λ ws. sip.finish (fold sip.write sip.initial ws)) (fed_alike k m h)
 
 -- capabilities that are alike are hashed alike
 pub hash_alike : (k m : Capability) → is_alike k m ≡ true → capability_fed k ≡ capability_fed m
 hash_alike k m h =
-    let e = (alike_decides k m).0 h in
-    λ i. fed.u32 (same_depth k.on m.on e.0 i) ++ access_fed_alike k.what m.what e.1 i
+    fed_alike k m ((alike_decides k m).0 h)
 
 -- being alike goes both ways, and each capability is alike with itself
 pub alike_itself : (k : Capability) → AreAlike k k

@@ -4,3 +4,5 @@ pub mod BareLaws
 pub mod Capability
 pub mod CapabilityLaws
 pub mod Holds
+pub mod Path
+pub mod PathLaws

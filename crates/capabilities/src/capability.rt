@@ -3,13 +3,14 @@
 ghost use Rattle.std.specs.Prelude.{◌≡◌, ◌↔◌, IfOk, IsTrue};
 ghost use Rattle.policy_expressions.specs.Shape.{SameShape};
 ghost use Rattle.std.specs.Prelude.{fold, ◌++◌};
-ghost use Rattle.capabilities.specs.Capability.{Attribute, Tag, AreAlike, SameAccess, is_alike, access_fed};
+ghost use Rattle.capabilities.specs.Capability.{Attribute, Tag, AreAlike, SameAccess, is_alike, access_fed, capability_fed, print_of};
 ghost use Rattle.capabilities.specs.AccessView.{access_of};
 
+use crate::path::feed_path;
 use policy_expressions::Expr;
 use policy_names::Text;
 use std::alloc::{AllocError, Global};
-use std::hash::{Hash, Hasher};
+use std::hash::{DefaultHasher, Hash, Hasher};
 use std::marker::Model;
 
 /// That an expression has an attribute, or the tag that another expression names. Capabilities are equal where their
@@ -18,6 +19,8 @@ use std::marker::Model;
 pub struct Capability<'a> {
     on: &'a Expr<()>,
     what: Known<'a>,
+    // A hash: most capabilities are told apart by it.
+    print: u64,
 }
 
 // What the expression has.
@@ -38,6 +41,11 @@ impl<'a> Model for Capability<'a> {
     ghost use Rattle.capabilities.specs.AccessView.{access_of};
 
     ghost view = { λ a. record { on = a.on.now; what = access_of a.what } };
+
+    ghost use Rattle.std.specs.Prelude.{◌≡◌};
+    ghost use Rattle.capabilities.specs.Capability.{print_of};
+
+    ghost invariant = { λ a. a.print ≡ print_of (record { on = a.on.now; what = access_of a.what }) };
 }
 
 impl<'a> Capability<'a> {
@@ -45,30 +53,21 @@ impl<'a> Capability<'a> {
     pub fn new_attribute(on_expr: &'a Expr<()>, attribute: Text) -> Capability<'a>
         ensures { result ≡ record { on = on_expr.now; what = Attribute attribute } }
     {
-        Capability {
-            on: on_expr,
-            what: Known::Attribute(attribute),
-        }
+        new_capability(on_expr, Known::Attribute(attribute))
     }
 
     /// That the expression has the tag that another one names.
     pub fn new_borrowed_tag(on_expr: &'a Expr<()>, tag: &'a Expr<()>) -> Capability<'a>
         ensures { result ≡ record { on = on_expr.now; what = Tag tag.now } }
     {
-        Capability {
-            on: on_expr,
-            what: Known::BorrowedTag(tag),
-        }
+        new_capability(on_expr, Known::BorrowedTag(tag))
     }
 
     /// That the expression has the tag that another one names, which the capability owns.
     pub fn new_owned_tag(on_expr: &'a Expr<()>, tag: Expr<()>) -> Capability<'a>
         ensures { result ≡ record { on = on_expr.now; what = Tag tag } }
     {
-        Capability {
-            on: on_expr,
-            what: Known::OwnedTag(tag),
-        }
+        new_capability(on_expr, Known::OwnedTag(tag))
     }
 
     /// An equal capability.
@@ -77,8 +76,24 @@ impl<'a> Capability<'a> {
     {
         let on = self.on;
         let what = copy_of(alloc, &self.what)?;
-        Ok(Capability { on, what })
+        let print = self.print;
+        Ok(Capability { on, what, print })
     }
+}
+
+fn new_capability<'a>(on: &'a Expr<()>, what: Known<'a>) -> Capability<'a>
+    ensures { result ≡ record { on = on.now; what = access_of what.entry } }
+{
+    let print = print_of(on, &what);
+    Capability { on, what, print }
+}
+
+fn print_of(on: &Expr<()>, what: &Known<'_>) -> u64
+    ensures { result ≡ print_of (record { on = on.now; what = access_of what.now }) }
+{
+    let mut state = DefaultHasher::new();
+    feed(on, what, &mut state);
+    state.finish()
 }
 
 fn copy_of<'a>(alloc: Global, what: &Known<'a>) -> Result<Known<'a>, AllocError>
@@ -98,12 +113,12 @@ pub(crate) fn are_alike(k: &Capability<'_>, m: &Capability<'_>) -> bool
     is_same(k, m)
 }
 
-// What is cheap is compared first: depths and attributes tell most capabilities apart.
-#[tactic(auto, using(crate::specs::BareLaws::same_depth))]
+// The prints are compared first: they tell most capabilities apart.
+#[tactic(auto, using(crate::specs::CapabilityLaws::same_print))]
 fn is_same(k: &Capability<'_>, m: &Capability<'_>) -> bool
     ensures { IsTrue result ↔ AreAlike k.now m.now }
 {
-    k.on.depth() == m.on.depth() && is_same_access(&k.what, &m.what) && k.on.same_shape(m.on)
+    k.print == m.print && is_same_access(&k.what, &m.what) && k.on.same_shape(m.on)
 }
 
 fn is_same_access(x: &Known<'_>, y: &Known<'_>) -> bool
@@ -160,13 +175,21 @@ impl<'a> Hash for Capability<'a> {
 
     ghost respects_eq = { hash_alike };
 
-    // Only what is cheap: how deep the expressions are, and the attribute.
+    // Only what is cheap: the paths of the expressions, and the attribute.
     fn hash<H: Hasher>(&self, state: &mut H) {
-        state.write_u32(self.on.depth());
-        feed_known(&self.what, state);
+        feed(self.on, &self.what, state);
     }
 }
 
+#[tactic(auto, using(policy_values::proofs::HashSteps::fold_both))]
+fn feed<H: Hasher>(on: &Expr<()>, what: &Known<'_>, state: &mut H)
+    ensures { state.new ≡ fold H.write state.old (capability_fed (record { on = on.now; what = access_of what.now })) }
+{
+    feed_path(on, state);
+    feed_known(what, state);
+}
+
+#[tactic(auto, using(policy_values::proofs::HashSteps::fold_both))]
 fn feed_known<H: Hasher>(what: &Known<'_>, state: &mut H)
     ensures { state.new ≡ fold H.write state.old (access_fed (access_of what.now)) }
 {
@@ -177,11 +200,11 @@ fn feed_known<H: Hasher>(what: &Known<'_>, state: &mut H)
         }
         Known::BorrowedTag(tag) => {
             state.write_u8(1);
-            state.write_u32(tag.depth());
+            feed_path(tag, state);
         }
         Known::OwnedTag(tag) => {
             state.write_u8(1);
-            state.write_u32(tag.depth());
+            feed_path(tag, state);
         }
     }
 }

@@ -5,6 +5,7 @@ mod capability;
 mod capability_set;
 pub mod laws;
 mod part;
+mod path;
 
 pub use capability::Capability;
 pub use capability_set::CapabilitySet;

@@ -25,12 +25,8 @@ use Rattle.policy_links.specs.Laws.{IsSameOrFalse, FollowsTyping, own_slot, Link
 use Rattle.policy_links.specs.Linked.{linked_env, types_above, types_around, slot_types, linked_envs_with, linked_envs_at, linked_envs_of}
 use Rattle.policy_links.proofs.Declared.{AreOfEntities, of_entities}
 use Rattle.policy_links.proofs.Follow.{conj_follows}
-use Rattle.policy_links.proofs.Parts.{same_text, part_filled, action_plain, action_filled, plain_follows, part_follows}
-use Rattle.policy_links.proofs.Slots.{kept}
-
--- a link's condition is that of its own scope
-pub condition_filled : (w : SlotValues) (t : TemplateData) → HasPlainBody t → own_condition w t ≡ condition_of (linked_of w t)
-condition_filled w t h = λ i. conj (conj (conj (part_filled w Principal t.principal i) (action_filled w t.action i) unmarked) (part_filled w Resource t.resource i) unmarked) (kept w t.body h i) unmarked
+use Rattle.policy_set.proofs.Linked.{condition_filled}
+use Rattle.policy_links.proofs.Parts.{same_text, action_plain, plain_follows, part_follows}
 
 pub links_follow : LinksFollowTemplates
 links_follow schema ok t plain w fills scope a e =

@@ -10,11 +10,10 @@ use Rattle.policy_expressions.specs.declared.kinds.BinaryOp.TheVariants.{Eq as I
 use Rattle.policy_expressions.specs.declared.kinds.Literal.TheVariants as literal
 use Rattle.policy_expressions.specs.declared.kinds.SlotId.{SlotId}
 use Rattle.policy_expressions.specs.declared.kinds.SlotId.TheVariants.{Principal, Resource}
-use Rattle.policy_expressions.specs.declared.kinds.SlotValues.{SlotValues}
 use Rattle.policy_expressions.specs.declared.kinds.Var.{Var}
 use Rattle.policy_expressions.specs.declared.kinds.Var.TheVariants as variable
 use Rattle.policy_types.specs.Join.{is_entity}
-use Rattle.policy_expressions.specs.Slots.{has_slot, some_has_slot, filled, in_place, value_of}
+use Rattle.policy_expressions.specs.Slots.{has_slot, some_has_slot}
 use Rattle.policy_expressions.specs.Tree.{lit, var, slot, conj, binary}
 use Rattle.policy_names.proofs.Ties.{equal_of}
 use Rattle.schema_types.specs.Ty.{Ty, false_type, entity}
@@ -31,31 +30,16 @@ use Rattle.policy_set.specs.declared.constraint.PrincipalOrResourceConstraint.{P
 use Rattle.policy_set.specs.declared.constraint.PrincipalOrResourceConstraint.TheVariants.{Any, Eq, In, Is, IsIn as IsWithin}
 use Rattle.policy_set.specs.declared.constraint.ActionConstraint.{ActionConstraint}
 use Rattle.policy_set.specs.declared.constraint.ActionConstraint.TheVariants as action
-use Rattle.policy_set.specs.Condition.{anything, variable_of, referred, compared, of_type, scope_part, literals, action_part, asks_slot}
+use Rattle.policy_set.specs.Condition.{anything, compared, of_type, scope_part, literals, action_part, asks_slot}
 use Rattle.policy_expressions.specs.Plain.{unmarked}
-use Rattle.policy_set.specs.Links.{with_id, linked}
+use Rattle.policy_set.specs.Links.{linked}
 use Rattle.policy_links.specs.Laws.{with_id as slot_filled, FollowsTyping, own_slot}
 use Rattle.policy_links.specs.Linked.{linked_env}
 use Rattle.policy_links.proofs.Follow.{equal_follows, FollowsType, type_follows, Follows, conj_follows}
-use Rattle.policy_links.proofs.Slots.{kept, same_types}
+use Rattle.policy_links.proofs.Slots.{same_types}
 
 pub same_text : (m n : List ℕ) → is_eq (text_cmp m n) ≡ true → m ≡ n
 same_text m n h = exact_bytes m n (equal_of (text_cmp m n) h)
-
--- filling the parts
-place_filled : (i : SlotId) (o : Option EntityUID) → in_place o i unmarked ≡ referred i (with_id o Slot)
-place_filled i None = refl
-place_filled i (Some u) = refl
-
-pub part_filled : (w : SlotValues) (i : SlotId) (c : PrincipalOrResourceConstraint) → filled w (scope_part i c) ≡ scope_part i (linked (value_of w i) c)
-part_filled w i Any = refl
-part_filled w i (Eq (EUID u)) = refl
-part_filled w i (Eq Slot) = ap (λ x. binary IsEqual (var (variable_of i) unmarked) x unmarked) (place_filled i (value_of w i))
-part_filled w i (In (EUID u)) = refl
-part_filled w i (In Slot) = ap (λ x. binary IsIn (var (variable_of i) unmarked) x unmarked) (place_filled i (value_of w i))
-part_filled w i (Is n) = refl
-part_filled w i (IsWithin n (EUID u)) = refl
-part_filled w i (IsWithin n Slot) = ap (λ x. conj (of_type i n) (binary IsIn (var (variable_of i) unmarked) x unmarked) unmarked) (place_filled i (value_of w i))
 
 literals_plain : (us : List EntityUID) → some_has_slot (literals us) ≡ false
 literals_plain [] = refl
@@ -65,9 +49,6 @@ pub action_plain : (c : ActionConstraint) → has_slot (action_part c) ≡ false
 action_plain action.Any = refl
 action_plain (action.Eq u) = refl
 action_plain (action.In us) = literals_plain us
-
-pub action_filled : (w : SlotValues) (c : ActionConstraint) → filled w (action_part c) ≡ action_part c
-action_filled w c = kept w (action_part c) (action_plain c)
 
 -- `==` with an id in place of a slot: the types are one, or have no id in common
 equal_follows_slot : (n : List ℕ) (u : EntityUID) → FollowsType (equal_type None None (entity (n ∷ [])) (entity (n ∷ []))) (equal_type None (Some u) (entity (n ∷ [])) (entity (u.entity_type ∷ [])))

@@ -6,11 +6,10 @@ use Rattle.policy_names.specs.declared.entity_uid.EntityUID.{EntityUID}
 use Rattle.policy_expressions.specs.declared.kinds.BinaryOp.{BinaryOp}
 use Rattle.policy_expressions.specs.declared.kinds.BinaryOp.TheVariants.{Eq, In}
 use Rattle.policy_expressions.specs.declared.kinds.Literal.TheVariants as literal
-use Rattle.policy_expressions.specs.declared.kinds.SlotValues.{SlotValues}
 use Rattle.policy_expressions.specs.declared.kinds.Var.{Var}
 use Rattle.policy_expressions.specs.declared.kinds.Var.TheVariants.{Principal, Action, Resource, Context}
 use Rattle.policy_expressions.specs.Functions.{function_of}
-use Rattle.policy_expressions.specs.Slots.{has_slot, some_has_slot, some_named_has_slot, filled, filled_all, filled_named}
+use Rattle.policy_expressions.specs.Slots.{has_slot, some_has_slot, some_named_has_slot}
 use Rattle.policy_expressions.specs.Tree.{Tree, lit, var, slot, ite, conj, disj, unary, binary, attr, has, like, is_type, call, set, rec, Trees, no_trees, tree, Named, no_named, named, Mark}
 use Rattle.schema_types.specs.Ty.{Ty}
 use Rattle.schema_core.specs.EnvData.{EnvData}
@@ -33,36 +32,6 @@ or_left false b h = refl
 or_right : (a b : Bool) → (a || b) ≡ false → b ≡ false
 or_right true b h = cc
 or_right false b h = h
-
--- filling an expression without slots
-module _ {A : Type 0} (w : SlotValues) where
-  mutual
-    pub kept : (x : Tree A) → has_slot x ≡ false → filled w x ≡ x
-    kept (lit l m) h = refl
-    kept (var v m) h = refl
-    kept (slot i m) h = absurd (cc)
-    kept (ite x y z m) h =
-        let k = or_right (has_slot x) (has_slot y || has_slot z) h in
-        λ i. ite (kept x (or_left (has_slot x) (has_slot y || has_slot z) h) i) (kept y (or_left (has_slot y) (has_slot z) k) i) (kept z (or_right (has_slot y) (has_slot z) k) i) m
-    kept (conj x y m) h = λ i. conj (kept x (or_left (has_slot x) (has_slot y) h) i) (kept y (or_right (has_slot x) (has_slot y) h) i) m
-    kept (disj x y m) h = λ i. disj (kept x (or_left (has_slot x) (has_slot y) h) i) (kept y (or_right (has_slot x) (has_slot y) h) i) m
-    kept (unary o x m) h = ap (λ z. unary o z m) (kept x h)
-    kept (binary o x y m) h = λ i. binary o (kept x (or_left (has_slot x) (has_slot y) h) i) (kept y (or_right (has_slot x) (has_slot y) h) i) m
-    kept (attr x n m) h = ap (λ z. attr z n m) (kept x h)
-    kept (has x n m) h = ap (λ z. has z n m) (kept x h)
-    kept (like x p m) h = ap (λ z. like z p m) (kept x h)
-    kept (is_type x n m) h = ap (λ z. is_type z n m) (kept x h)
-    kept (call f xs m) h = ap (λ z. call f z m) (kept_all xs h)
-    kept (set xs m) h = ap (λ z. set z m) (kept_all xs h)
-    kept (rec xs m) h = ap (λ z. rec z m) (kept_named xs h)
-
-    pub kept_all : (xs : Trees A) → some_has_slot xs ≡ false → filled_all w xs ≡ xs
-    kept_all no_trees h = refl
-    kept_all (tree x xs) h = λ i. tree (kept x (or_left (has_slot x) (some_has_slot xs) h) i) (kept_all xs (or_right (has_slot x) (some_has_slot xs) h) i)
-
-    pub kept_named : (xs : Named A) → some_named_has_slot xs ≡ false → filled_named w xs ≡ xs
-    kept_named no_named h = refl
-    kept_named (named k x xs) h = λ i. named k (kept x (or_left (has_slot x) (some_named_has_slot xs) h) i) (kept_named xs (or_right (has_slot x) (some_named_has_slot xs) h) i)
 
 -- typing an expression without slots, with one and with another type of what stands for them
 module _ (schema : SchemaData) (a : ActionData) (e : Environment) (p r p' r' : Option (List ℕ)) where

@@ -36,7 +36,8 @@ use Rattle.policy_links.specs.Laws.{StaticsAreUnlinked, StaticsAreTyped, Statics
 use Rattle.policy_links.specs.Linked.{linked_env, slot_types, linked_envs_at, linked_envs_of}
 use Rattle.policy_links.proofs.Declared.{and_both}
 use Rattle.policy_links.proofs.Parts.{action_plain}
-use Rattle.policy_links.proofs.Links.{condition_filled, all_more, from_mapped, from_each, one_of}
+use Rattle.policy_set.proofs.Linked.{condition_filled}
+use Rattle.policy_links.proofs.Links.{all_more, from_mapped, from_each, one_of}
 
 flat_single : {X Y : Type 0} (f : X → Y) (xs : List X) → flat_map (λ x. f x ∷ []) xs ≡ map f xs
 flat_single f [] = refl

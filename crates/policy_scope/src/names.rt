@@ -90,7 +90,7 @@ fn unknown_types(
     policy_id: &Text,
     names: Vec<(Mention<'_>, Option<Loc>)>,
 ) -> Result<Vec<UnrecognizedEntityType>, AllocError>
-    ensures { IfOk result (λ found. found.items ≡ distinct entity_type_cmp (filter_map (entity_type_finding schema.now policy_id.now) (map pair_of names.items))) }
+    ensures { IfOk result (λ found. found.items ≡ distinct entity_type_cmp (filter_map (entity_type_finding schema.now policy_id.now) (map pair_of names.entry.items))) }
 {
     let mut seen = BTreeSet::new(alloc);
     let mut found = Vec::new(alloc);

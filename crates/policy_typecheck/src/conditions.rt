@@ -32,7 +32,7 @@ pub(crate) fn is_too_deep(condition: &Expr<()>) -> bool
 
 /// The check of the policy's condition.
 pub(crate) fn check_condition<'a>(
-    at: &Setting<'a, '_, '_>,
+    at: &Setting<'a, '_, '_, '_>,
     id: &Text,
     condition: &'a Expr<()>,
 ) -> Result<PolicyCheck, AllocError>
@@ -61,7 +61,7 @@ pub(crate) fn only_too_deep(alloc: Global, id: &Text) -> Result<Vec<ValidationEr
     Ok(errors)
 }
 
-fn walk_condition<'a>(at: &Setting<'a, '_, '_>, e: &'a Expr<()>) -> Result<Told<'a>, BuildError>
+fn walk_condition<'a>(at: &Setting<'a, '_, '_, '_>, e: &'a Expr<()>) -> Result<Told<'a>, BuildError>
     ensures { IfOk result (λ r. walked_of r ≡ condition_walked at.now.schema.now (env_data_of at.now.env.now) e.now) }
 {
     let caps = CapabilitySet::new(at.alloc);

@@ -14,11 +14,11 @@ use typing_rules::{CalledFunction, called_function};
 
 /// Extensions in which every extension function is found.
 #[derive(Drop)]
-pub(crate) struct Extensions<'a> {
-    schemas: &'a ExtensionSchemas<'a>,
+pub(crate) struct Extensions<'a, 'x> {
+    schemas: &'a ExtensionSchemas<'x>,
 }
 
-impl<'a> Model for Extensions<'a> {
+impl<'a, 'x> Model for Extensions<'a, 'x> {
     ghost use Rattle.extension_types.specs.Types.{Extensions, coded_extensions};
 
     ghost Value = { Extensions };
@@ -32,8 +32,8 @@ impl<'a> Model for Extensions<'a> {
     ghost invariant = { λ e. KnowsFunctions e.schemas.now };
 }
 
-impl<'a> Extensions<'a> {
-    pub(crate) fn new(schemas: &'a ExtensionSchemas<'a>) -> Extensions<'a>
+impl<'a, 'x> Extensions<'a, 'x> {
+    pub(crate) fn new(schemas: &'a ExtensionSchemas<'x>) -> Extensions<'a, 'x>
         requires { KnowsFunctions schemas.now }
         ensures { result ≡ schemas.now }
     {
@@ -41,7 +41,7 @@ impl<'a> Extensions<'a> {
     }
 
     /// The function of a name.
-    pub(crate) fn called(&self, name: &Name) -> Option<CalledFunction<'a>>
+    pub(crate) fn called(&self, name: &Name) -> Option<CalledFunction<'x>>
         ensures { option_map (λ c. c.function) result ≡ function_of name.now }
     {
         called_function(self.schemas, name)
@@ -50,9 +50,9 @@ impl<'a> Extensions<'a> {
 
 /// The schema, the environment and the extensions under which an expression is typed.
 #[derive(Drop)]
-pub(crate) struct Setting<'a, 's, 'e> {
+pub(crate) struct Setting<'a, 's, 'e, 'x> {
     pub(crate) alloc: Global,
     pub(crate) schema: &'s ValidatorSchema,
     pub(crate) env: &'a RequestEnv<'a>,
-    pub(crate) extensions: &'e Extensions<'s>,
+    pub(crate) extensions: &'e Extensions<'s, 'x>,
 }

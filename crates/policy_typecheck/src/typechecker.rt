@@ -29,13 +29,13 @@ use std::marker::Model;
 
 /// A typechecker for the policies of a schema.
 #[derive(Drop)]
-pub struct Typechecker<'a> {
+pub struct Typechecker<'a, 'x> {
     schema: &'a ValidatorSchema,
-    extensions: Extensions<'a>,
+    extensions: Extensions<'a, 'x>,
     mode: ValidationMode,
 }
 
-impl<'a> Model for Typechecker<'a> {
+impl<'a, 'x> Model for Typechecker<'a, 'x> {
     ghost use Rattle.schema_core.specs.Schema.{SchemaData, coded_schema};
 
     ghost Value = { SchemaData };
@@ -45,13 +45,13 @@ impl<'a> Model for Typechecker<'a> {
     ghost view = { λ t. t.schema.now };
 }
 
-impl<'a> Typechecker<'a> {
+impl<'a, 'x> Typechecker<'a, 'x> {
     /// The typechecker for a schema, with all extensions.
     pub fn new(
         schema: &'a ValidatorSchema,
-        extensions: &'a ExtensionSchemas<'a>,
+        extensions: &'a ExtensionSchemas<'x>,
         mode: ValidationMode,
-    ) -> Typechecker<'a>
+    ) -> Typechecker<'a, 'x>
         requires { KnowsFunctions extensions.now }
         ensures { result ≡ schema.now }
     {

@@ -29,7 +29,7 @@ use typing_rules::Expected;
 // so does dropping by a call what was told of one part when the walk of the next fails.
 #[cycle(walk)]
 pub(crate) fn walk<'a>(
-    at: &Setting<'a, '_, '_>,
+    at: &Setting<'a, '_, '_, '_>,
     caps: &CapabilitySet<'a>,
     e: &'a Expr<()>,
 ) -> Result<Told<'a>, BuildError>
@@ -57,7 +57,7 @@ pub(crate) fn walk<'a>(
 
 #[cycle(walk)]
 fn walk_if<'a>(
-    at: &Setting<'a, '_, '_>,
+    at: &Setting<'a, '_, '_, '_>,
     caps: &CapabilitySet<'a>,
     x: &'a Expr<()>,
     y: &'a Expr<()>,
@@ -85,7 +85,7 @@ fn walk_if<'a>(
 
 #[cycle(walk)]
 fn walk_and<'a>(
-    at: &Setting<'a, '_, '_>,
+    at: &Setting<'a, '_, '_, '_>,
     caps: &CapabilitySet<'a>,
     x: &'a Expr<()>,
     y: &'a Expr<()>,
@@ -105,7 +105,7 @@ fn walk_and<'a>(
 
 #[cycle(walk)]
 fn walk_or<'a>(
-    at: &Setting<'a, '_, '_>,
+    at: &Setting<'a, '_, '_, '_>,
     caps: &CapabilitySet<'a>,
     x: &'a Expr<()>,
     y: &'a Expr<()>,
@@ -126,7 +126,7 @@ fn walk_or<'a>(
 // A test, or a side of `&&` or `||`.
 #[cycle(walk)]
 fn walk_boolean<'a>(
-    at: &Setting<'a, '_, '_>,
+    at: &Setting<'a, '_, '_, '_>,
     caps: &CapabilitySet<'a>,
     y: &'a Expr<()>,
 ) -> Result<Told<'a>, BuildError>
@@ -140,7 +140,7 @@ fn walk_boolean<'a>(
 // The branch behind a test that has to be true: with what it makes known, unless it failed.
 #[cycle(walk)]
 fn walk_after<'a>(
-    at: &Setting<'a, '_, '_>,
+    at: &Setting<'a, '_, '_, '_>,
     caps: &CapabilitySet<'a>,
     v: &Told<'a>,
     y: &'a Expr<()>,
@@ -162,7 +162,7 @@ fn walk_after<'a>(
 // The branch behind a test that has to be false.
 #[cycle(walk)]
 fn walk_besides<'a>(
-    at: &Setting<'a, '_, '_>,
+    at: &Setting<'a, '_, '_, '_>,
     caps: &CapabilitySet<'a>,
     v: &Told<'a>,
     z: &'a Expr<()>,
@@ -181,7 +181,7 @@ fn walk_besides<'a>(
 // The right side of `&&`.
 #[cycle(walk)]
 fn walk_right_of_and<'a>(
-    at: &Setting<'a, '_, '_>,
+    at: &Setting<'a, '_, '_, '_>,
     caps: &CapabilitySet<'a>,
     v: &Told<'a>,
     y: &'a Expr<()>,
@@ -203,7 +203,7 @@ fn walk_right_of_and<'a>(
 // The right side of `||`.
 #[cycle(walk)]
 fn walk_right_of_or<'a>(
-    at: &Setting<'a, '_, '_>,
+    at: &Setting<'a, '_, '_, '_>,
     caps: &CapabilitySet<'a>,
     v: &Told<'a>,
     y: &'a Expr<()>,
@@ -221,7 +221,7 @@ fn walk_right_of_or<'a>(
 
 #[cycle(walk)]
 fn walk_unary<'a>(
-    at: &Setting<'a, '_, '_>,
+    at: &Setting<'a, '_, '_, '_>,
     caps: &CapabilitySet<'a>,
     op: UnaryOp,
     x: &'a Expr<()>,
@@ -235,7 +235,7 @@ fn walk_unary<'a>(
 
 #[cycle(walk)]
 fn walk_binary<'a>(
-    at: &Setting<'a, '_, '_>,
+    at: &Setting<'a, '_, '_, '_>,
     caps: &CapabilitySet<'a>,
     op: BinaryOp,
     x: &'a Expr<()>,
@@ -257,7 +257,7 @@ fn walk_binary<'a>(
 
 #[cycle(walk)]
 fn walk_attr<'a>(
-    at: &Setting<'a, '_, '_>,
+    at: &Setting<'a, '_, '_, '_>,
     caps: &CapabilitySet<'a>,
     x: &'a Expr<()>,
     n: &'a Text,
@@ -281,7 +281,7 @@ fn walk_attr<'a>(
 
 #[cycle(walk)]
 fn walk_has<'a>(
-    at: &Setting<'a, '_, '_>,
+    at: &Setting<'a, '_, '_, '_>,
     caps: &CapabilitySet<'a>,
     x: &'a Expr<()>,
     n: &'a Text,
@@ -296,7 +296,7 @@ fn walk_has<'a>(
 
 #[cycle(walk)]
 fn walk_like<'a>(
-    at: &Setting<'a, '_, '_>,
+    at: &Setting<'a, '_, '_, '_>,
     caps: &CapabilitySet<'a>,
     x: &'a Expr<()>,
     p: &'a Pattern,
@@ -310,7 +310,7 @@ fn walk_like<'a>(
 
 #[cycle(walk)]
 fn walk_is<'a>(
-    at: &Setting<'a, '_, '_>,
+    at: &Setting<'a, '_, '_, '_>,
     caps: &CapabilitySet<'a>,
     x: &'a Expr<()>,
     n: &'a EntityType,
@@ -324,7 +324,7 @@ fn walk_is<'a>(
 
 #[cycle(walk)]
 fn walk_call<'a>(
-    at: &Setting<'a, '_, '_>,
+    at: &Setting<'a, '_, '_, '_>,
     caps: &CapabilitySet<'a>,
     f: &'a Name,
     xs: &'a Vec<Expr<()>>,
@@ -343,7 +343,7 @@ fn walk_call<'a>(
 
 #[cycle(walk)]
 fn walk_set<'a>(
-    at: &Setting<'a, '_, '_>,
+    at: &Setting<'a, '_, '_, '_>,
     caps: &CapabilitySet<'a>,
     xs: &'a Vec<Expr<()>>,
     loc: Option<Loc>,
@@ -356,7 +356,7 @@ fn walk_set<'a>(
 
 #[cycle(walk)]
 fn walk_record<'a>(
-    at: &Setting<'a, '_, '_>,
+    at: &Setting<'a, '_, '_, '_>,
     caps: &CapabilitySet<'a>,
     fields: &'a BTreeMap<Text, Expr<()>>,
     loc: Option<Loc>,
@@ -371,7 +371,7 @@ fn walk_record<'a>(
 #[cycle(walk)]
 #[tactic(auto, using(policy_expressions::proofs::TreeSteps::depth_in))]
 fn walk_all<'a>(
-    at: &Setting<'a, '_, '_>,
+    at: &Setting<'a, '_, '_, '_>,
     caps: &CapabilitySet<'a>,
     xs: &'a Vec<Expr<()>>,
 ) -> Result<Vec<Told<'a>>, BuildError>
@@ -388,7 +388,7 @@ fn walk_all<'a>(
 // Fields, by ascending keys.
 #[cycle(walk)]
 fn walk_named<'a>(
-    at: &Setting<'a, '_, '_>,
+    at: &Setting<'a, '_, '_, '_>,
     caps: &CapabilitySet<'a>,
     fields: &'a BTreeMap<Text, Expr<()>>,
 ) -> Result<BTreeMap<Text, Told<'a>>, BuildError>
