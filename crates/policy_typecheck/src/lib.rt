@@ -12,4 +12,5 @@ mod typechecker;
 mod walks;
 
 pub use policy_check::PolicyCheck;
+pub use typecheck_answer::TypecheckAnswer;
 pub use typechecker::Typechecker;
