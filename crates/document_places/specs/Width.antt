@@ -1,5 +1,5 @@
 -- What the width of reading asks for.
-use Rattle.std.specs.Prelude.{Bool, true, false, ◌&&◌, not, if◌then◌else◌, Option, Some, None}
+use Rattle.std.specs.Prelude.{Bool, true, false, ◌&&◌, not, if◌then◌else◌, Option, None}
 use Rattle.document_places.specs.declared.width.Width.{Width}
 use Rattle.document_places.specs.declared.width.Width.TheVariants.{Whole, OverIds}
 

@@ -21,6 +21,6 @@ values_back None (Some u) = refl
 values_back (Some u) None = refl
 values_back (Some u) (Some v) = refl
 
-linked_by : (l : TemplateLink) (o : Option TemplateData) (set next : PolicySetData) → IsSomeAnd o (λ t. next ≡ with_policy (linked_policy l.id (slot_values (slot_pairs l.values)) t) set) → next ≡ with_link l o set
+pub linked_by : (l : TemplateLink) (o : Option TemplateData) (set next : PolicySetData) → IsSomeAnd o (λ t. next ≡ with_policy (linked_policy l.id (slot_values (slot_pairs l.values)) t) set) → next ≡ with_link l o set
 linked_by l None set next h = absurd h
 linked_by l (Some t) set next h = h ∙ ap (λ w. with_policy (linked_policy l.id w t) set) (values_back l.values.principal l.values.resource)
