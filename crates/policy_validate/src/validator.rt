@@ -4,8 +4,9 @@ ghost use Rattle.std.specs.Prelude.{◌≡◌, ◌↔◌, ◌++◌, [], map, fla
 ghost use Rattle.findings.specs.declared.error.ValidationError.TheVariants as error;
 ghost use Rattle.policy_set.specs.PolicySet.{written, links};
 ghost use Rattle.policy_validate.specs.Accepted.{typing_errors, errors_of_written, errors_of_link, warnings_of, findings_of, IsAccepted};
+ghost use Rattle.policy_validate.specs.Laws.{AreTyped};
 
-use crate::laws::no_errors_where_accepted;
+use crate::laws::{accepted_are_typed, no_errors_where_accepted};
 use extension_types::{ExtensionSchemas, all_objects};
 use policy_scope::{
     InvalidActionApplication, InvalidEnumEntity, UnrecognizedActionId, UnrecognizedEntityType,
@@ -13,6 +14,7 @@ use policy_scope::{
     validate_entity_types, validate_entity_types_in_slots, validate_enum_entity,
     validate_linked_action_application, validate_template_action_application,
 };
+use policy_set::laws::is_policy_set;
 use policy_set::{Policy, PolicySet, Template};
 use policy_typecheck::Typechecker;
 use schema_core::{ValidationMode, ValidatorSchema};
@@ -50,7 +52,8 @@ impl<'a> Validator<'a> {
         self.schema
     }
 
-    /// All findings on the policies. The set is accepted exactly where there is no error among them.
+    /// All findings on the policies. The set is accepted exactly where there is no error among them; then the condition of
+    /// each policy, static or a link, has a type in every environment of the schema.
     ///
     /// First come the errors of templates and static policies in the order of their ids, of each in this order: types
     /// that are not declared, ids that their enumerated types do not list, actions that are not declared, a scope that no
@@ -66,13 +69,24 @@ impl<'a> Validator<'a> {
     ) -> Result<ValidationResult, AllocError>
         ensures found { IfOk result (λ found. found ≡ findings_of self.now policies.now) }
         ensures accepted { IfOk result (λ found. (found.errors ≡ []) ↔ IsAccepted self.now policies.now) }
+        ensures typed { IfOk result (λ found. found.errors ≡ [] → AreTyped self.now policies.now) }
     {
         no_errors_where_accepted();
+        are_typed_where_accepted(self.schema, policies);
         let objects = all_objects(alloc)?;
         let extensions = ExtensionSchemas::all_available(alloc, &objects)?;
         let typechecker = Typechecker::new(self.schema, &extensions, mode);
         findings_on(alloc, self.schema, &typechecker, policies)
     }
+}
+
+// In an accepted set the condition of each policy, static or a link, has a type in every environment of the schema.
+fn are_typed_where_accepted(schema: &ValidatorSchema, policies: &PolicySet)
+    ensures { IsAccepted schema.now policies.now → AreTyped schema.now policies.now }
+{
+    let _actions = schema.action_ids();
+    is_policy_set(policies);
+    accepted_are_typed();
 }
 
 fn findings_on(
