@@ -1,11 +1,14 @@
 //! The validator.
 
 ghost use Rattle.std.specs.Prelude.{◌≡◌, ◌↔◌, ◌++◌, [], map, flat_map, IfOk, OnOk};
+ghost use Rattle.std.specs.List.{AllByRecursion};
 ghost use Rattle.findings.specs.declared.error.ValidationError.TheVariants as error;
+ghost use Rattle.schema_core.specs.EnvData.{unlinked_envs};
+ghost use Rattle.policy_links.specs.Accepted.{IsTypedIn};
 ghost use Rattle.policy_set.specs.PolicySet.{written, links};
 ghost use Rattle.policy_validate.specs.Accepted.{typing_errors, errors_of_written, errors_of_link, warnings_of, findings_of, IsAccepted};
 
-use crate::laws::no_errors_where_accepted;
+use crate::laws::{accepted_are_typed, no_errors_where_accepted};
 use extension_types::{ExtensionSchemas, all_objects};
 use policy_scope::{
     InvalidActionApplication, InvalidEnumEntity, UnrecognizedActionId, UnrecognizedEntityType,
@@ -13,6 +16,7 @@ use policy_scope::{
     validate_entity_types, validate_entity_types_in_slots, validate_enum_entity,
     validate_linked_action_application, validate_template_action_application,
 };
+use policy_set::laws::is_policy_set;
 use policy_set::{Policy, PolicySet, Template};
 use policy_typecheck::Typechecker;
 use schema_core::{ValidationMode, ValidatorSchema};
@@ -66,13 +70,25 @@ impl<'a> Validator<'a> {
     ) -> Result<ValidationResult, AllocError>
         ensures found { IfOk result (λ found. found ≡ findings_of self.now policies.now) }
         ensures accepted { IfOk result (λ found. (found.errors ≡ []) ↔ IsAccepted self.now policies.now) }
+        ensures typed { IfOk result (λ found. found.errors ≡ [] → AllByRecursion (λ p. IsTypedIn self.now p.condition (unlinked_envs self.now)) policies.now.policies) }
     {
         no_errors_where_accepted();
+        typed_where_accepted(self.schema, policies);
         let objects = all_objects(alloc)?;
         let extensions = ExtensionSchemas::all_available(alloc, &objects)?;
         let typechecker = Typechecker::new(self.schema, &extensions, mode);
         findings_on(alloc, self.schema, &typechecker, policies)
     }
+}
+
+// Where no error is found, the condition of each policy has a type in every environment of the schema.
+fn typed_where_accepted(schema: &ValidatorSchema, policies: &PolicySet)
+    ensures { (findings_of schema.now policies.now).errors ≡ [] → AllByRecursion (λ p. IsTypedIn schema.now p.condition (unlinked_envs schema.now)) policies.now.policies }
+{
+    no_errors_where_accepted();
+    accepted_are_typed();
+    let _actions = schema.action_ids();
+    is_policy_set(policies);
 }
 
 fn findings_on(
