@@ -2,4 +2,5 @@ pub mod Listed
 pub mod Members
 pub mod Options
 pub mod Requests
+pub mod Sizes
 pub mod Stores

@@ -15,12 +15,14 @@ use Rattle.schema_types.specs.Names.{has_name}
 use Rattle.schema_types.specs.Attrs.{attr_at}
 use Rattle.schema_types.specs.Ty.{Ty, true_type, false_type, primitive, any_set, set_of, record_of, any_entity, entity, action, extension, Attrs, no_attrs, attr, is_open}
 use Rattle.policy_types.specs.Member.{has_field, type_of, Undeclared, IsDeclared, HasRequired, Member, Members, Typed}
-use Rattle.conformance.specs.Misfits.{Misfit, fits_if, earlier, first_missing, misfit_field, misfit, misfit_all, misfit_fields}
+use Rattle.conformance.specs.Misfits.{fits_if, earlier, first_missing, misfit_field, misfit, misfit_all, misfit_fields}
+use Rattle.conformance.specs.declared.misfits.Constructor.{Constructor}
+use Rattle.conformance.specs.declared.misfits.Misfit.{Misfit}
 use Rattle.conformance.specs.Laws.{NothingIsWrongWithMembers}
 use Rattle.conformance.proofs.Options.{none_first, none_rest, neither, none_inside}
 
-abbrev pub all_there : List ℕ → Bool
-all_there n = true
+abbrev pub all_there : Constructor → Bool
+all_there c = true
 
 fits : (b : Bool) → fits_if b ≡ None → b ≡ true
 fits true h = refl

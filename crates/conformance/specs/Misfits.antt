@@ -13,26 +13,40 @@ use Rattle.schema_types.specs.Names.{has_name}
 use Rattle.schema_types.specs.Attrs.{attr_at}
 use Rattle.schema_types.specs.Ty.{Ty, true_type, false_type, primitive, any_set, set_of, record_of, any_entity, entity, action, extension, Attrs, no_attrs, attr, is_open}
 use Rattle.policy_types.specs.Member.{has_field, type_of}
+use Rattle.extension_types.specs.Types.{Extensions}
+use Rattle.extension_types.specs.Table.{is_function}
+use Rattle.conformance.specs.declared.misfits.Constructor.{Constructor}
+use Rattle.conformance.specs.declared.misfits.Constructor.TheVariants.{Decimal, Ip, Datetime, Duration}
+use Rattle.conformance.specs.declared.misfits.Misfit.{Misfit}
+use Rattle.conformance.specs.declared.misfits.Misfit.TheVariants.{Lacks, Other}
 
--- the function that makes the value of an extension is not there; or the value is not of the type
-pub data Misfit : Type 0 where
-  lacks : List ℕ → Misfit
-  other : Misfit
+-- the name of a function that makes values
+abbrev pub name_of : Constructor → List ℕ
+name_of Decimal = codes "decimal"
+name_of Ip = codes "ip"
+name_of Datetime = codes "datetime"
+name_of Duration = codes "duration"
+
+-- whether it is among the extensions
+abbrev pub knows : Extensions → Constructor → Bool
+knows e c = is_function e.function_types (name_of c)
 
 -- none, where it fits
 abbrev pub fits_if : Bool → Option Misfit
 fits_if true = None
-fits_if false = Some other
+fits_if false = Some Other
+
+-- what is wrong under a key stands before a missing key where it is less
+abbrev pub first_of : Ordering → Misfit → Misfit
+first_of Less m = m
+first_of o m = Other
 
 -- the earlier of what is wrong under a key, and of a key that is missing
 abbrev pub earlier : Option (List ℕ × Misfit) → Option (List ℕ) → Option Misfit
 earlier None None = None
 earlier (Some m) None = Some m.1
-earlier None (Some k) = Some other
-earlier (Some m) (Some k) = Some (first (text_cmp m.0 k)) where
-  first : Ordering → Misfit
-  first Less = m.1
-  first o = other
+earlier None (Some k) = Some Other
+earlier (Some m) (Some k) = Some (first_of (text_cmp m.0 k) m.1)
 
 -- the first required key without a field
 abbrev pub first_missing : Attrs → Fields → Option (List ℕ)
@@ -44,11 +58,11 @@ abbrev pub misfit_field : OpenTag → Option AttributeType → Option Misfit →
 misfit_field o None m = fits_if (is_open o)
 misfit_field o (Some a) m = m
 
--- which function is there, by its name
-module _ (is_there : List ℕ → Bool) where
-  -- a value of an extension's type n, which this function makes and which is of the type m
-  abbrev pub extension_misfit : List ℕ → List ℕ → List ℕ → Option Misfit
-  extension_misfit n function m = if is_there function then fits_if (is_eq (text_cmp n m)) else Some (lacks function)
+-- which functions are there
+module _ (is_there : Constructor → Bool) where
+  -- a value of an extension at a place of the type n, which this function makes and which is of the type m
+  abbrev pub extension_misfit : List ℕ → Constructor → List ℕ → Option Misfit
+  extension_misfit n c m = if is_there c then fits_if (is_eq (text_cmp n m)) else Some (Lacks c)
 
   abbrev mutual
     pub misfit : Ty → Val → Option Misfit
@@ -63,11 +77,11 @@ module _ (is_there : List ℕ → Bool) where
     misfit any_entity (id u) = None
     misfit (entity ns) (id u) = fits_if (has_name ns u.entity_type)
     misfit (action n xs) (id u) = fits_if (is_eq (text_cmp u.entity_type n))
-    misfit (extension n) (decimal m) = extension_misfit n (codes "decimal") (codes "decimal")
-    misfit (extension n) (ip r) = extension_misfit n (codes "ip") (codes "ipaddr")
-    misfit (extension n) (datetime m) = extension_misfit n (codes "datetime") (codes "datetime")
-    misfit (extension n) (duration m) = extension_misfit n (codes "duration") (codes "duration")
-    misfit t v = Some other
+    misfit (extension n) (decimal m) = extension_misfit n Decimal (codes "decimal")
+    misfit (extension n) (ip r) = extension_misfit n Ip (codes "ipaddr")
+    misfit (extension n) (datetime m) = extension_misfit n Datetime (codes "datetime")
+    misfit (extension n) (duration m) = extension_misfit n Duration (codes "duration")
+    misfit t v = Some Other
 
     pub misfit_all : Ty → Vals → Option Misfit
     misfit_all t no_vals = None

@@ -11,7 +11,10 @@ use Rattle.schema_types.specs.Ty.{record_of}
 use Rattle.schema_core.specs.Schema.{SchemaData, ActionData, type_at, action_at}
 use Rattle.policy_scope.specs.Names.{choices_without}
 use Rattle.conformance.specs.Ids.{unlisted_in_fields}
-use Rattle.conformance.specs.Misfits.{Misfit, lacks, other, misfit}
+use Rattle.conformance.specs.Misfits.{name_of, misfit}
+use Rattle.conformance.specs.declared.misfits.Constructor.{Constructor}
+use Rattle.conformance.specs.declared.misfits.Misfit.{Misfit}
+use Rattle.conformance.specs.declared.misfits.Misfit.TheVariants.{Lacks, Other}
 use Rattle.conformance.specs.declared.request_error.RequestValidationError.{RequestValidationError}
 use Rattle.conformance.specs.declared.request_error.RequestValidationError.TheVariants.{UndeclaredAction, UndeclaredPrincipalType, UndeclaredResourceType, InvalidPrincipalType, InvalidResourceType, InvalidEnumEntity, InvalidContext, TypeOfContext, OutOfMemory}
 
@@ -22,8 +25,8 @@ unless false fault = Some fault
 
 -- what is wrong with the context as a whole: it is not of the action's; or it holds a value whose function is not there
 abbrev pub context_error : ActionData → Fields → Misfit → RequestValidationError
-context_error a fs (lacks function) = TypeOfContext function
-context_error a fs other = InvalidContext (record { context = fs; action = a.name })
+context_error a fs (Lacks c) = TypeOfContext (name_of c)
+context_error a fs Other = InvalidContext (record { context = fs; action = a.name })
 
 module _ (schema : SchemaData) where
   -- an id of an enumerated type is listed
@@ -46,7 +49,7 @@ principal_type_fault a p = unless (has text_cmp a.principals p.entity_type) (Inv
 abbrev pub resource_type_fault : ActionData → EntityUID → Option RequestValidationError
 resource_type_fault a r = unless (has text_cmp a.resources r.entity_type) (InvalidResourceType (record { resource_ty = r.entity_type; action = a.name; valid_resource_tys = a.resources }))
 
-module _ (schema : SchemaData) (is_there : List ℕ → Bool) where
+module _ (schema : SchemaData) (is_there : Constructor → Bool) where
   -- the ids in the context are listed, and the context is of the action's
   abbrev pub context_fault : ActionData → Fields → Option RequestValidationError
   context_fault a fs = option_or (option_and_then (listed_fault schema) (unlisted_in_fields schema fs)) (option_map (context_error a fs) (misfit is_there (record_of a.context ClosedAttributes) (rec fs)))

@@ -2,9 +2,13 @@
 #![tactic(auto)]
 
 pub mod laws;
+mod ids;
+mod misfits;
+mod request;
 mod request_error;
 mod store_rule;
 
+pub use request::validate_request;
 pub use request_error::{
     InvalidContextError, InvalidPrincipalTypeError, InvalidResourceTypeError,
     RequestValidationError, UndeclaredActionError, UndeclaredPrincipalTypeError,

@@ -17,14 +17,11 @@ use Rattle.policy_validate.specs.Accepted.{findings_of, IsAccepted}
 abbrev pub NoErrorsWhereAccepted : Type 0
 NoErrorsWhereAccepted = (schema : SchemaData) (s : PolicySetData) → ((findings_of schema s).errors ≡ []) ↔ IsAccepted schema s
 
--- the condition of each policy, static or a link, has a type in every environment of the schema
-abbrev pub AreTyped : SchemaData → PolicySetData → Type 0
-AreTyped schema s = AllByRecursion (λ p. IsTypedIn schema p.condition (unlinked_envs schema)) s.policies
-
--- so it is in an accepted set
+-- in an accepted set the condition of each policy, static or a link, has a type in every environment of the schema
 abbrev pub AcceptedAreTyped : Type 0
 AcceptedAreTyped =
-    (schema : SchemaData) → IsSchema schema → (s : PolicySetData) → IsPolicySet s → IsAccepted schema s → AreTyped schema s
+    (schema : SchemaData) → IsSchema schema → (s : PolicySetData) → IsPolicySet s → IsAccepted schema s →
+    AllByRecursion (λ p. IsTypedIn schema p.condition (unlinked_envs schema)) s.policies
 
 -- and keeps what typing promises of conditions, for each request and each store that conform
 abbrev pub AcceptedAreSound : Type 0

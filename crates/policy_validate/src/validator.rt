@@ -1,10 +1,12 @@
 //! The validator.
 
 ghost use Rattle.std.specs.Prelude.{◌≡◌, ◌↔◌, ◌++◌, [], map, flat_map, IfOk, OnOk};
+ghost use Rattle.std.specs.List.{AllByRecursion};
 ghost use Rattle.findings.specs.declared.error.ValidationError.TheVariants as error;
+ghost use Rattle.schema_core.specs.EnvData.{unlinked_envs};
+ghost use Rattle.policy_links.specs.Accepted.{IsTypedIn};
 ghost use Rattle.policy_set.specs.PolicySet.{written, links};
 ghost use Rattle.policy_validate.specs.Accepted.{typing_errors, errors_of_written, errors_of_link, warnings_of, findings_of, IsAccepted};
-ghost use Rattle.policy_validate.specs.Laws.{AreTyped};
 
 use crate::laws::{accepted_are_typed, no_errors_where_accepted};
 use extension_types::{ExtensionSchemas, all_objects};
@@ -52,8 +54,7 @@ impl<'a> Validator<'a> {
         self.schema
     }
 
-    /// All findings on the policies. The set is accepted exactly where there is no error among them; then the condition of
-    /// each policy, static or a link, has a type in every environment of the schema.
+    /// All findings on the policies. The set is accepted exactly where there is no error among them.
     ///
     /// First come the errors of templates and static policies in the order of their ids, of each in this order: types
     /// that are not declared, ids that their enumerated types do not list, actions that are not declared, a scope that no
@@ -69,10 +70,10 @@ impl<'a> Validator<'a> {
     ) -> Result<ValidationResult, AllocError>
         ensures found { IfOk result (λ found. found ≡ findings_of self.now policies.now) }
         ensures accepted { IfOk result (λ found. (found.errors ≡ []) ↔ IsAccepted self.now policies.now) }
-        ensures typed { IfOk result (λ found. found.errors ≡ [] → AreTyped self.now policies.now) }
+        ensures typed { IfOk result (λ found. found.errors ≡ [] → AllByRecursion (λ p. IsTypedIn self.now p.condition (unlinked_envs self.now)) policies.now.policies) }
     {
         no_errors_where_accepted();
-        are_typed_where_accepted(self.schema, policies);
+        typed_where_accepted(self.schema, policies);
         let objects = all_objects(alloc)?;
         let extensions = ExtensionSchemas::all_available(alloc, &objects)?;
         let typechecker = Typechecker::new(self.schema, &extensions, mode);
@@ -80,13 +81,14 @@ impl<'a> Validator<'a> {
     }
 }
 
-// In an accepted set the condition of each policy, static or a link, has a type in every environment of the schema.
-fn are_typed_where_accepted(schema: &ValidatorSchema, policies: &PolicySet)
-    ensures { IsAccepted schema.now policies.now → AreTyped schema.now policies.now }
+// Where no error is found, the condition of each policy has a type in every environment of the schema.
+fn typed_where_accepted(schema: &ValidatorSchema, policies: &PolicySet)
+    ensures { (findings_of schema.now policies.now).errors ≡ [] → AllByRecursion (λ p. IsTypedIn schema.now p.condition (unlinked_envs schema.now)) policies.now.policies }
 {
+    no_errors_where_accepted();
+    accepted_are_typed();
     let _actions = schema.action_ids();
     is_policy_set(policies);
-    accepted_are_typed();
 }
 
 fn findings_on(
