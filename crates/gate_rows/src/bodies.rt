@@ -143,11 +143,7 @@ fn bodies_of_each_depth(rt: HostRuntime) -> Result<(), Fail> {
     see_depths(rt.alloc(), "check", DEPTHS)?;
     see_depths(rt.alloc(), "check", CHAINS)?;
     for line in NO_BODIES.lines() {
-        let told = told(
-            rt.alloc(),
-            "slice",
-            document_of(rt.alloc(), line)?.as_str(),
-        )?;
+        let told = told(rt.alloc(), "slice", document_of(rt.alloc(), line)?.as_str())?;
         assert_eq!(rt; told.as_str(), due("slice", "form"), "{line}");
     }
     Ok(())

@@ -5,7 +5,8 @@ use std::alloc::Global;
 use std::test::Fail;
 
 // The schema of the conditions.
-const SCHEMA: &str = r##"{"entityTypes":{"User":{"memberOf":["Group"],"attributes":{"name":"String","age":"Long","nick":{"optional":"String"},"boss":{"entity":"User"},"roles":{"set":"String"},"born":"datetime","span":"duration","home":"ipaddr","pay":"decimal","address":{"record":{"city":"String","zip":{"optional":"Long"}}}},"tags":"String"},"Group":{},"Doc":{"attributes":{"owner":{"entity":"User"},"public":"Bool"}}},"actions":[{"id":["Action","view"],"principals":["User"],"resources":["Doc"],"context":{"now":"datetime","ok":"Bool","n":{"optional":"Long"}}}]}"##;
+const SCHEMA: &str =
+    r##"{"entityTypes":{"User":{"memberOf":["Group"],"attributes":{"name":"String","age":"Long","nick":{"optional":"String"},"boss":{"entity":"User"},"roles":{"set":"String"},"born":"datetime","span":"duration","home":"ipaddr","pay":"decimal","address":{"record":{"city":"String","zip":{"optional":"Long"}}}},"tags":"String"},"Group":{},"Doc":{"attributes":{"owner":{"entity":"User"},"public":"Bool"}}},"actions":[{"id":["Action","view"],"principals":["User"],"resources":["Doc"],"context":{"now":"datetime","ok":"Bool","n":{"optional":"Long"}}}]}"##;
 
 // Each line says the condition of a policy p and, behind ` => `, what is found of it: the lines of the text between ` / `;
 // `typed` where nothing is; `impossible` where it is false in each environment.
@@ -424,8 +425,7 @@ fn failures(alloc: Global) -> Result<String, Fail> {
             failures.push_str(line)?;
             continue;
         };
-        let document = format!(
-            in alloc;
+        let document = format!(in alloc;
             "{{\"schema\":{SCHEMA},\"policies\":[{{\"id\":\"p\",\"effect\":\"permit\",\"body\":[{{\"when\":{condition}}}]}}]}}"
         )?;
         let told = told(alloc, "check", document.as_str())?;
