@@ -5,11 +5,10 @@ use Rattle.policy_names.specs.declared.entity_uid.EntityUID.{EntityUID}
 use Rattle.policy_documents.specs.declared.document.Document.{Document}
 use Rattle.finding_texts.specs.Findings.{Findings}
 use Rattle.findings.specs.declared.error.ValidationError.{ValidationError}
-use Rattle.policy_validate.specs.Accepted.{findings_of}
 use Rattle.policy_validate.specs.Conformance.{first_request_fault, first_store_fault}
 use Rattle.policy_validate.specs.declared.request_error.RequestValidationError.{RequestValidationError}
 use Rattle.policy_validate.specs.declared.store_rule.StoreRule.{StoreRule}
-use Rattle.policy_gate.specs.Answer.{IsAnswer, IsAnswerIf, IsAnswerFor, IsAnswerTo, IsSliceAnswer, behind_errors, behind_store, behind_request, slice_answer, checked_answer}
+use Rattle.policy_gate.specs.Answer.{IsAnswer, IsAnswerIf, IsAnswerFor, IsAnswerTo, IsSliceAnswer, behind_errors, behind_store, behind_request, slice_answer, checked_answer, found_in}
 use Rattle.json_parts.specs.Json.{json_of}
 use Rattle.policy_gate.specs.Reply.{Answer, answer}
 use Rattle.policy_gate.specs.Status.{IsOfDocument}
@@ -35,7 +34,7 @@ of_request (Some f) next h = tt
 
 of_checked : (d : Document) → IsOf (checked_answer d)
 of_checked d =
-    let found = findings_of d.schema d.policies in
+    let found = found_in d in
     of_request (first_request_fault d.schema d.request) _ (of_store (first_store_fault d.schema d.entities) _ (of_errors found.errors found (slice_answer d) tt))
 
 of_slice : (d : Document) (a : Answer) → IsSliceAnswer d a → IsOf a
@@ -44,7 +43,7 @@ of_slice d a (inr (partial, is)) = subst IsOf (sym is) tt
 
 of_document : (c : Command) (d : Document) (a : Answer) → IsAnswerTo c d a → IsOf a
 of_document Check d a is =
-    let found = findings_of d.schema d.policies in
+    let found = found_in d in
     subst IsOf (sym is) (of_errors found.errors found (answer Done (findings_text found)) tt)
 of_document Slice d a is = of_slice d a is
 

@@ -7,12 +7,11 @@ use Rattle.policy_documents.specs.Reading.{IsRead}
 use Rattle.policy_documents.specs.declared.document.Document.{Document}
 use Rattle.finding_texts.specs.Findings.{Findings}
 use Rattle.findings.specs.declared.error.ValidationError.{ValidationError}
-use Rattle.policy_validate.specs.Accepted.{findings_of, IsAccepted}
 use Rattle.policy_validate.specs.Conformance.{first_request_fault, first_store_fault, RequestConforms, StoreConforms}
 use Rattle.policy_validate.specs.declared.request_error.RequestValidationError.{RequestValidationError}
 use Rattle.policy_validate.specs.declared.store_rule.StoreRule.{StoreRule}
 use Rattle.entity_manifest.proofs.Covering.{covers, allows, decision_same}
-use Rattle.policy_gate.specs.Answer.{IsAnswer, IsAnswerIf, IsAnswerFor, IsAnswerTo, IsSliceAnswer, behind_errors, behind_store, behind_request, check_answer, slice_answer, checked_answer}
+use Rattle.policy_gate.specs.Answer.{IsAnswer, IsAnswerIf, IsAnswerFor, IsAnswerTo, IsSliceAnswer, behind_errors, behind_store, behind_request, check_answer, slice_answer, checked_answer, found_in}
 use Rattle.policy_gate.specs.Headline.{HasAcceptedPolicies, IsChecked, IsDocumentOf, IsSliced, KeepsRules, KeepsRulesOf}
 use Rattle.json_parts.specs.Json.{json_of}
 use Rattle.policy_gate.specs.Reply.{Answer, answer}
@@ -45,16 +44,18 @@ past_request (Some f) next h = absurd (cc (h))
 
 module _ (law : NoErrorsWhereAccepted) where
   -- the policies are accepted exactly where they have no errors
-  no_errors : (d : Document) → (findings_of d.schema d.policies).errors ≡ [] → HasAcceptedPolicies d
+  no_errors : (d : Document) → (found_in d).errors ≡ [] → HasAcceptedPolicies d
+  unfolding found_in
   no_errors d none = (law d.schema d.policies).0 none
 
-  accepted_errors : (d : Document) → HasAcceptedPolicies d → (findings_of d.schema d.policies).errors ≡ []
+  accepted_errors : (d : Document) → HasAcceptedPolicies d → (found_in d).errors ≡ []
+  unfolding found_in
   accepted_errors d is = (law d.schema d.policies).1 is
 
   -- where 0 is due for a document, it keeps every rule
   past_all : (d : Document) → IsWhole d.request → IsDone (checked_answer d) → KeepsRules d × (checked_answer d ≡ slice_answer d)
   past_all d whole h =
-      let found = findings_of d.schema d.policies in
+      let found = found_in d in
       let r = past_request (first_request_fault d.schema d.request) _ h in
       let s = past_store (first_store_fault d.schema d.entities) (behind_errors found.errors found (slice_answer d)) (sym (ap (λ b. b.status) r.1) ∙ h) in
       let e = past_errors found.errors found (slice_answer d) (sym (ap (λ b. b.status) (r.1 ∙ s.1)) ∙ h) in
@@ -96,7 +97,7 @@ module _ (law : NoErrorsWhereAccepted) where
 
   checked : (d : Document) (text : List ℕ) → answer Done text ≡ check_answer d → IsChecked d text
   checked d text is =
-      let found = findings_of d.schema d.policies in
+      let found = found_in d in
       let past = past_errors found.errors found (answer Done (findings_text found)) (sym (ap (λ b. b.status) is)) in
       record { written = ap (λ b. b.text) (is ∙ past.1); accepted = no_errors d past.0 }
 
@@ -127,9 +128,9 @@ module _ (law : NoErrorsWhereAccepted) where
   found_behind_request None next h = h
   found_behind_request (Some f) next h = absurd (cc (h))
 
-  not_accepted : (d : Document) (text : List ℕ) → IsFound (behind_errors (findings_of d.schema d.policies).errors (findings_of d.schema d.policies) (answer Done text)) → ¬ HasAcceptedPolicies d
+  not_accepted : (d : Document) (text : List ℕ) → IsFound (behind_errors (found_in d).errors (found_in d) (answer Done text)) → ¬ HasAcceptedPolicies d
   not_accepted d text h is =
-      let found = findings_of d.schema d.policies in
+      let found = found_in d in
       elim (some_errors found.errors found (answer Done text) h) [
         | inl some ↦ some (accepted_errors d is)
         | inr done ↦ absurd (cc done)
@@ -137,7 +138,7 @@ module _ (law : NoErrorsWhereAccepted) where
 
   refuses_slice : (d : Document) (a : Answer) → IsSliceAnswer d a → IsFound a → ¬ HasAcceptedPolicies d
   refuses_slice d a (inl (whole, is)) h =
-      let found = findings_of d.schema d.policies in
+      let found = found_in d in
       not_accepted d (slice_answer d).text
       (found_behind_store (first_store_fault d.schema d.entities) (behind_errors found.errors found (slice_answer d))
       (found_behind_request (first_request_fault d.schema d.request) _ (sym (ap (λ b. b.status) is) ∙ h)))
@@ -145,7 +146,7 @@ module _ (law : NoErrorsWhereAccepted) where
 
   refuses_document : (c : Command) (d : Document) (a : Answer) → IsAnswerTo c d a → IsFound a → ¬ HasAcceptedPolicies d
   refuses_document Check d a is h =
-      let found = findings_of d.schema d.policies in
+      let found = found_in d in
       not_accepted d (findings_text found) (sym (ap (λ b. b.status) is) ∙ h)
   refuses_document Slice d a is h = refuses_slice d a is h
 
@@ -165,7 +166,7 @@ module _ (law : NoErrorsWhereAccepted) where
 
   kept_slice : (d : Document) (a : Answer) → KeepsRules d → IsSliceAnswer d a → IsDone a
   kept_slice d a keeps (inl (whole, is)) =
-      let found = findings_of d.schema d.policies in
+      let found = found_in d in
       ap (λ b. b.status) (is
       ∙ ap (λ o. behind_request o (behind_store (first_store_fault d.schema d.entities) (behind_errors found.errors found (slice_answer d)))) keeps.request
       ∙ ap (λ o. behind_store o (behind_errors found.errors found (slice_answer d))) keeps.store
@@ -174,7 +175,7 @@ module _ (law : NoErrorsWhereAccepted) where
 
   kept_done : (c : Command) (d : Document) (a : Answer) → KeepsRulesOf c d → IsAnswerTo c d a → IsDone a
   kept_done Check d a accepted is =
-      let found = findings_of d.schema d.policies in
+      let found = found_in d in
       ap (λ b. b.status) (is ∙ ap (λ es. behind_errors es found (answer Done (findings_text found))) (accepted_errors d accepted))
   kept_done Slice d a keeps is = kept_slice d a keeps is
 

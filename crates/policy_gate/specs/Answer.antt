@@ -30,11 +30,17 @@ abbrev pub behind_errors : List ValidationError → Findings → Answer → Answ
 behind_errors [] found next = next
 behind_errors (e ∷ es) found next = answer status.Findings (findings_text found)
 
+-- what is found of the document's policies
+unfoldable pub found_in : Document → Findings
+found_in d = findings_of d.schema d.policies
+
+-- the findings; with errors among them the policies are refused
+abbrev pub told : Findings → Answer
+told found = behind_errors found.errors found (answer status.Done (findings_text found))
+
 -- the findings on the document's policies
 abbrev pub check_answer : Document → Answer
-check_answer d =
-    let found = findings_of d.schema d.policies in
-    behind_errors found.errors found (answer status.Done (findings_text found))
+check_answer d = told (found_in d)
 
 -- the store restricted to what the document's policies read on its request, with the response on it
 abbrev pub slice_answer : Document → Answer
@@ -55,10 +61,9 @@ behind_request (Some fault) next = answer status.Request (request_text fault)
 -- what is due for a document whose request is whole
 abbrev pub checked_answer : Document → Answer
 checked_answer d =
-    let found = findings_of d.schema d.policies in
     behind_request (first_request_fault d.schema d.request)
     (behind_store (first_store_fault d.schema d.entities)
-    (behind_errors found.errors found (slice_answer d)))
+    (behind_errors (found_in d).errors (found_in d) (slice_answer d)))
 
 abbrev pub partial_request : Answer
 partial_request = answer status.PartialRequest (codes "request: entity slicing requires a fully concrete request. Got a partial request\n")

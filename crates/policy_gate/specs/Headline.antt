@@ -7,11 +7,12 @@ use Rattle.policy_documents.specs.Reading.{IsRead}
 use Rattle.policy_documents.specs.declared.document.Document.{Document}
 use Rattle.serde_json.specs.Data.{Data}
 use Rattle.finding_texts.specs.Written.{findings_text}
-use Rattle.policy_validate.specs.Accepted.{findings_of, IsAccepted}
+use Rattle.policy_validate.specs.Accepted.{IsAccepted}
 use Rattle.policy_validate.specs.Conformance.{RequestConforms, StoreConforms}
 use Rattle.entity_manifest.specs.Cover.{restricted, Covers, AreAllowedBetween}
 use Rattle.policy_writing.specs.SliceJson.{slice_text}
 use Rattle.json_parts.specs.Json.{json_of}
+use Rattle.policy_gate.specs.Answer.{found_in}
 use Rattle.policy_gate.specs.Command.{width_of}
 use Rattle.policy_gate.specs.declared.command.Command.{Command}
 use Rattle.policy_gate.specs.declared.command.Command.TheVariants.{Check, Slice}
@@ -41,7 +42,7 @@ KeepsRulesOf Slice d = KeepsRules d
 
 -- the text is the findings on the document's policies, which are accepted: there may be warnings
 pub record IsChecked (d : Document) (text : List ℕ) : Type 0 where
-  pub written : text ≡ findings_text (findings_of d.schema d.policies)
+  pub written : text ≡ findings_text (found_in d)
   pub accepted : HasAcceptedPolicies d
 
 -- the document's store restricted to what its policies read on its request

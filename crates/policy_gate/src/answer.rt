@@ -2,9 +2,8 @@
 ghost use Rattle.std.specs.Prelude.{◌≡◌, IfOk};
 ghost use Rattle.serde_json.specs.View.{view};
 ghost use Rattle.policy_store.specs.Request.{IsWhole};
-ghost use Rattle.policy_validate.specs.Accepted.{findings_of};
 ghost use Rattle.policy_validate.specs.Conformance.{RequestConforms, StoreConforms, first_store_fault};
-ghost use Rattle.policy_gate.specs.Answer.{IsAnswer, IsAnswerFor, IsAnswerTo, IsSliceAnswer, behind_errors, behind_store, check_answer, checked_answer, slice_answer};
+ghost use Rattle.policy_gate.specs.Answer.{IsAnswer, IsAnswerFor, IsAnswerTo, IsSliceAnswer, behind_errors, behind_store, check_answer, checked_answer, found_in, slice_answer, told};
 ghost use Rattle.policy_gate.specs.Reply.{reply_view};
 
 use crate::command::{Command, width_of};
@@ -71,18 +70,26 @@ fn with_findings(alloc: Global, document: &Document) -> Result<Reply, AllocError
     ensures { IfOk result (λ r. reply_view r ≡ check_answer document.now) }
 {
     let found = found_in(alloc, document)?;
+    told(alloc, &found)
+}
+
+// The findings, with the status that they have.
+fn told(alloc: Global, found: &ValidationResult) -> Result<Reply, AllocError>
+    ensures { IfOk result (λ r. reply_view r ≡ told found.now) }
+{
     let status = if found.validation_passed() {
         Status::Done
     } else {
         Status::Findings
     };
-    let text = findings_text(alloc, &found)?;
+    let text = findings_text(alloc, found)?;
     reply_with(alloc, status, text.as_str())
 }
 
 // What is found of the document's policies.
+#[tactic(auto, unfolding(crate::specs::Answer::found_in))]
 fn found_in(alloc: Global, document: &Document) -> Result<ValidationResult, AllocError>
-    ensures { IfOk result (λ found. found ≡ findings_of document.now.schema document.now.policies) }
+    ensures { IfOk result (λ found. found ≡ found_in document.now) }
 {
     let validator = Validator::new(&document.schema);
     validator.validate(alloc, &document.policies, ValidationMode::Strict)
@@ -119,7 +126,7 @@ fn with_request(alloc: Global, document: &Document) -> Result<Reply, AllocError>
     requires whole { IsWhole document.now.request }
     requires request { RequestConforms document.now.schema document.now.request }
     ensures { IfOk result (λ r. reply_view r ≡ behind_store (first_store_fault document.now.schema document.now.entities)
-        (behind_errors (findings_of document.now.schema document.now.policies).errors (findings_of document.now.schema document.now.policies) (slice_answer document.now))) }
+        (behind_errors (found_in document.now).errors (found_in document.now) (slice_answer document.now))) }
 {
     match conforms(&document.schema, &document.entities) {
         Ok(()) => with_store(alloc, document),
@@ -136,8 +143,8 @@ fn with_store(alloc: Global, document: &Document) -> Result<Reply, AllocError>
     requires whole { IsWhole document.now.request }
     requires request { RequestConforms document.now.schema document.now.request }
     requires store { StoreConforms document.now.schema document.now.entities }
-    ensures { IfOk result (λ r. reply_view r ≡ behind_errors (findings_of document.now.schema document.now.policies).errors
-        (findings_of document.now.schema document.now.policies) (slice_answer document.now)) }
+    ensures { IfOk result (λ r. reply_view r ≡ behind_errors (found_in document.now).errors
+        (found_in document.now) (slice_answer document.now)) }
 {
     let found = found_in(alloc, document)?;
     if found.validation_passed() {
