@@ -72,13 +72,28 @@ impl<'a> Validator<'a> {
         ensures accepted { IfOk result (λ found. (found.errors ≡ []) ↔ IsAccepted self.now policies.now) }
         ensures typed { IfOk result (λ found. found.errors ≡ [] → AllByRecursion (λ p. IsTypedIn self.now p.condition (unlinked_envs self.now)) policies.now.policies) }
     {
-        no_errors_where_accepted();
-        typed_where_accepted(self.schema, policies);
         let objects = all_objects(alloc)?;
         let extensions = ExtensionSchemas::all_available(alloc, &objects)?;
         let typechecker = Typechecker::new(self.schema, &extensions, mode);
-        findings_on(alloc, self.schema, &typechecker, policies)
+        checked(alloc, self.schema, &typechecker, policies)
     }
+}
+
+// All findings, and what holds where there is no error among them.
+fn checked(
+    alloc: Global,
+    schema: &ValidatorSchema,
+    typechecker: &Typechecker<'_, '_>,
+    policies: &PolicySet,
+) -> Result<ValidationResult, AllocError>
+    requires { typechecker.now ≡ schema.now }
+    ensures found { IfOk result (λ found. found ≡ findings_of schema.now policies.now) }
+    ensures accepted { IfOk result (λ found. (found.errors ≡ []) ↔ IsAccepted schema.now policies.now) }
+    ensures typed { IfOk result (λ found. found.errors ≡ [] → AllByRecursion (λ p. IsTypedIn schema.now p.condition (unlinked_envs schema.now)) policies.now.policies) }
+{
+    no_errors_where_accepted();
+    typed_where_accepted(schema, policies);
+    findings_on(alloc, schema, typechecker, policies)
 }
 
 // Where no error is found, the condition of each policy has a type in every environment of the schema.
