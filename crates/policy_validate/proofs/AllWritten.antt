@@ -140,10 +140,10 @@ mapped_others (p ∷ ps) h = (mapped_all written_of (λ t. IsOther (λ t. t.id) 
 pub all_written : (P : TemplateData → Type 0) (s : PolicySetData) → IsPolicySet s → AllByRecursion P (written s) → AllByRecursion P s.templates × AllByRecursion (λ p. is_static p ≡ true → P (written_of p)) s.policies
 all_written P s set h =
     let others = joined_others (λ t. t.id) s.templates (statics s) (sorted_others (λ t. t.id) s.templates set.template_ids)
-        (mapped_others (filter is_static s.policies) (kept_others (λ p. p.id) is_static s.policies (sorted_others (λ p. p.id) s.policies set.policy_ids)))
-        (mapped_all written_of (λ t. AllByRecursion (IsOther (λ t. t.id) t) s.templates) (filter is_static s.policies)
-        (kept (λ p. AllByRecursion (IsOther (λ t. t.id) (written_of p)) s.templates) is_static s.policies
-        (all_more (λ p. template_at s p.id ≡ None) (λ p. AllByRecursion (IsOther (λ t. t.id) (written_of p)) s.templates) (λ p none. none_other (λ t. t.id) p.id s.templates none) s.policies set.apart))) in
+    (mapped_others (filter is_static s.policies) (kept_others (λ p. p.id) is_static s.policies (sorted_others (λ p. p.id) s.policies set.policy_ids)))
+    (mapped_all written_of (λ t. AllByRecursion (IsOther (λ t. t.id) t) s.templates) (filter is_static s.policies)
+    (kept (λ p. AllByRecursion (IsOther (λ t. t.id) (written_of p)) s.templates) is_static s.policies
+    (all_more (λ p. template_at s p.id ≡ None) (λ p. AllByRecursion (IsOther (λ t. t.id) (written_of p)) s.templates) (λ p none. none_other (λ t. t.id) p.id s.templates none) s.policies set.apart))) in
     let each = all_split P s.templates (statics s) (each_put (λ t. t.id) P [] (s.templates ++ statics s) (nothing (s.templates ++ statics s)) others h).1 in
     (each.0, passed (λ p. P (written_of p)) is_static s.policies (all_mapped written_of P (filter is_static s.policies) each.1))
   where

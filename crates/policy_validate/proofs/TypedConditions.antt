@@ -80,7 +80,7 @@ module _ (exact : CheckIsExact) (schema : SchemaData) (t : TemplateData) where
       by false flat h = (
         ltb-false 200 (depth_of condition) flat,
         all_both (λ env. TellsWhy (check_at env)) (λ env. errors_of t.id (check_at env) ≡ []) (IsTyped schema condition) (λ env. typed_in t.id exact schema condition flat env) (linked_envs schema t) told
-        (none_mapped check_at (λ c. errors_of t.id c ≡ []) (linked_envs schema t) (none_in_each (errors_of t.id) (map check_at (linked_envs schema t)) h)),
+            (none_mapped check_at (λ c. errors_of t.id c ≡ []) (linked_envs schema t) (none_in_each (errors_of t.id) (map check_at (linked_envs schema t)) h)),
       )
 
   pub typed_is : depth_of condition ≤ 200 → IsTypedIn schema condition (linked_envs schema t) → all_added same_error [] (refusals schema t) ≡ []

@@ -2,9 +2,7 @@
 
 ghost use Rattle.policy_validate.specs.Laws.{NoErrorsWhereAccepted, AcceptedAreTyped, AcceptedAreSound};
 
-use policy_links::laws::{
-    links_are_typed, refusals_are_told, statics_are_typed, typed_are_sound,
-};
+use policy_links::laws::{links_are_typed, refusals_are_told, statics_are_typed, typed_are_sound};
 use typing_findings::laws::check_is_exact;
 
 /// No error is found exactly where the set is accepted.

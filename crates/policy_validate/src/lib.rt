@@ -14,8 +14,8 @@ pub use request_error::{
     InvalidPrincipalTypeError, InvalidResourceTypeError, RequestValidationError,
     UndeclaredActionError, UndeclaredPrincipalTypeError, UndeclaredResourceTypeError,
 };
+pub use schema_core::ValidationMode;
 pub use store::conforms;
 pub use store_rule::{ConformanceError, EntityDoesNotConform, StoreRule};
-pub use schema_core::ValidationMode;
 pub use validator::Validator;
 pub use written::{entity_text, request_text};

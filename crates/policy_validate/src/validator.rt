@@ -117,7 +117,14 @@ fn findings_on(
 {
     let mut errors = Vec::new(alloc);
     let mut warnings = Vec::new(alloc);
-    add_all_written(alloc, schema, typechecker, policies, &mut errors, &mut warnings)?;
+    add_all_written(
+        alloc,
+        schema,
+        typechecker,
+        policies,
+        &mut errors,
+        &mut warnings,
+    )?;
     add_all_links(alloc, schema, policies, &mut errors)?;
     Ok(ValidationResult::new(errors, warnings))
 }
@@ -157,7 +164,10 @@ fn add_written(
     add_types(validate_entity_types(alloc, schema, template)?, errors)?;
     add_unlisted(validate_enum_entity(alloc, schema, template)?, errors)?;
     add_actions(validate_action_ids(alloc, schema, template)?, errors)?;
-    add_applications(validate_template_action_application(alloc, schema, template)?, errors)?;
+    add_applications(
+        validate_template_action_application(alloc, schema, template)?,
+        errors,
+    )?;
     add_typing(alloc, typechecker, template, errors, warnings)
 }
 
@@ -206,7 +216,10 @@ fn add_link(
     ensures { OnOk result (errors.new.items ≡ errors.old.items ++ errors_of_link schema.now link.now) }
 {
     add_types(validate_entity_types_in_slots(alloc, schema, link)?, errors)?;
-    add_applications(validate_linked_action_application(alloc, schema, link)?, errors)
+    add_applications(
+        validate_linked_action_application(alloc, schema, link)?,
+        errors,
+    )
 }
 
 fn add_types(
