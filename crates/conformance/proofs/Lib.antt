@@ -1,3 +1,4 @@
+pub mod Lacking
 pub mod Listed
 pub mod Members
 pub mod Options
