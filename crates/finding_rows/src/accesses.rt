@@ -1,6 +1,6 @@
 //! How attributes are reached, and results that are taken apart.
 
-use crate::made::{entity_type, name, ty, uid};
+use crate::made::{entity_type, ty, uid};
 use policy_expressions::{BuildError, Expr, Literal, Var};
 use policy_names::{EntityType, EntityUID, Text};
 use policy_scope::{AttributeAccess, partition_nonempty};

@@ -1,13 +1,15 @@
-//! What is found of policies, and the signatures of extension functions, row by row: what no clause of their calls says.
+//! What no document shows, row by row: findings that none has, and calls that no command makes.
 #![tactic(auto)]
 
 #[cfg(test)]
 mod accesses;
 #[cfg(test)]
-mod checks;
+mod answers;
+#[cfg(test)]
+mod environments;
+#[cfg(test)]
+mod extensions;
 #[cfg(test)]
 mod made;
 #[cfg(test)]
 mod messages;
-#[cfg(test)]
-mod signatures;

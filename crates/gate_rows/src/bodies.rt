@@ -37,6 +37,14 @@ const DEPTHS: &str = r#"# a condition is one deeper than its body: at most 200 i
 # one item is the item itself
 [{"when":{"all":[{"any":[ 0 true]}]}}] => allowed"#;
 
+// The same for bodies that `check` alone takes: a chain of `if`, one deeper for each pair.
+const CHAINS: &str = r#"[{"when":{"if":[ 380 true]}}] => allowed
+[{"when":{"if":[ 396 true]}}] => allowed
+[{"when":{"if":[ 398 true]}}] => too deep
+[{"when":{"if":[ 796 true]}}] => too deep
+[{"when":{"if":[ 798 true]}}] => nested
+[{"when":{"if":[ 379 true]}}] => form"#;
+
 // What is no body.
 const NO_BODIES: &str = r#"true
 null
@@ -69,9 +77,10 @@ null
 [{"unless":{"in":{"var":"principal"}}}]
 [{"when":{"<":[1,2]}}]"#;
 
-// What a word says is due.
-fn due(word: &str) -> &str {
+// What a word says is due for a command.
+fn due(command: &str, word: &str) -> &'static str {
     match word {
+        "allowed" if command == "check" => "Done errors 0, warnings 0|",
         "allowed" =>
             "Done {\"decision\":\"Allow\",\"errors\":[],\"reasons\":[\"p0\"],\"slice\":[]}|",
         "too deep" => {
@@ -111,21 +120,31 @@ fn document_of(alloc: Global, parts: &str) -> Result<String, Fail> {
     with_body(alloc, front, count, end)
 }
 
-#[test]
-fn bodies_of_each_depth(rt: HostRuntime) -> Result<(), Fail> {
-    for line in DEPTHS.lines() {
+// Each line of the table is as it is due for the command.
+fn see_depths(alloc: Global, command: &str, table: &str) -> Result<(), Fail> {
+    for line in table.lines() {
         if line.starts_with("#") {
             continue;
         }
         let Some((parts, word)) = line.split_once(" => ") else {
             return Err(Fail::new("a line says nothing"));
         };
-        let told = told(rt.alloc(), document_of(rt.alloc(), parts)?.as_str())?;
-        assert_eq!(rt; told.as_str(), due(word), "{line}");
+        let told = told(alloc, command, document_of(alloc, parts)?.as_str())?;
+        if told.as_str() != due(command, word) {
+            return Err(Fail::new("a line does not hold"));
+        }
     }
+    Ok(())
+}
+
+#[test]
+fn bodies_of_each_depth(rt: HostRuntime) -> Result<(), Fail> {
+    see_depths(rt.alloc(), "slice", DEPTHS)?;
+    see_depths(rt.alloc(), "check", DEPTHS)?;
+    see_depths(rt.alloc(), "check", CHAINS)?;
     for line in NO_BODIES.lines() {
-        let told = told(rt.alloc(), document_of(rt.alloc(), line)?.as_str())?;
-        assert_eq!(rt; told.as_str(), due("form"), "{line}");
+        let told = told(rt.alloc(), "slice", document_of(rt.alloc(), line)?.as_str())?;
+        assert_eq!(rt; told.as_str(), due("slice", "form"), "{line}");
     }
     Ok(())
 }

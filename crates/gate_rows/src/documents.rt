@@ -5,7 +5,7 @@ use std::alloc::Global;
 use std::test::Fail;
 
 // Words of the tables' lines, each with the text that it stands for.
-const WORDS: [(&str, &str); 11] = [
+const WORDS: [(&str, &str); 15] = [
     (
         "$photos",
         r#"{"entityTypes":{"Group":{},"Photo":{},"User":{"memberOf":["Group"]}},"actions":[{"id":["Action","view"],"principals":["User"],"resources":["Photo"]}]}"#,
@@ -33,6 +33,22 @@ const WORDS: [(&str, &str); 11] = [
     (
         "$many",
         r#"{"entityTypes":{"Album":{},"Group":{"memberOf":["Group"]},"Photo":{"memberOf":["Album"]},"User":{"memberOf":["Group"]}},"actions":[{"id":["Action","view"],"principals":["User"],"resources":["Photo"],"memberOf":[["Action","read"]]},{"id":["Action","read"]},{"id":["Action","list"],"principals":["User"]},{"id":["Action","Action::edit"],"principals":["User"],"resources":["Photo","Album"]}]}"#,
+    ),
+    (
+        "$people",
+        r#"{"entityTypes":{"Group":{},"Photo":{},"User":{"attributes":{"level":{"optional":"Long"},"manager":{"entity":"User"},"name":"String"},"memberOf":["Group"],"tags":"String"}},"actions":[{"id":["Action","view"],"principals":["User"],"resources":["Photo"],"context":{"n":"Long"}}]}"#,
+    ),
+    (
+        "$optional",
+        r#"{"entityTypes":{"Photo":{"attributes":{"b":{"optional":"Long"}}},"User":{"attributes":{"a":{"optional":"Long"}}}},"actions":[{"id":["Action","view"],"principals":["User"],"resources":["Photo"]}]}"#,
+    ),
+    (
+        "$enums",
+        r#"{"entityTypes":{"Bar":{"memberOf":["Foo"]},"Foo":{"enum":["foo"]}},"actions":[{"id":["Action","a"],"principals":["Foo"],"resources":["Bar"]}]}"#,
+    ),
+    (
+        "$spaces",
+        r#"{"entityTypes":{"some_namespace::Photo":{},"some_namespace::User":{},"some_namespace::UserGroup":{}},"actions":[{"id":["Action","view"],"principals":["some_namespace::User"],"resources":["some_namespace::Photo"]}]}"#,
     ),
     (
         "$view",
@@ -258,9 +274,9 @@ pub(crate) fn in_full(alloc: Global, line: &str) -> Result<String, Fail> {
     Ok(document)
 }
 
-// How the run on the document ends, and what it writes.
-pub(crate) fn told(alloc: Global, document: &str) -> Result<String, Fail> {
-    let (status, written) = run_on(alloc, &["slice"], document.as_bytes(), 5000, &[], &[])?;
+// How the command's run on the document ends, and what it writes.
+pub(crate) fn told(alloc: Global, command: &str, document: &str) -> Result<String, Fail> {
+    let (status, written) = run_on(alloc, &[command], document.as_bytes(), 5000, &[], &[])?;
     let Ok(text) = String::from_utf8(written) else {
         return Err(Fail::new("no text is written"));
     };
@@ -268,8 +284,8 @@ pub(crate) fn told(alloc: Global, document: &str) -> Result<String, Fail> {
     Ok(format!(in alloc; "{status:?} {text}")?)
 }
 
-// The lines that do not hold, with what their documents give.
-fn failures(alloc: Global, table: &str) -> Result<String, Fail> {
+// The lines that do not hold, with what the command says of their documents.
+pub(crate) fn failures(alloc: Global, command: &str, table: &str) -> Result<String, Fail> {
     let mut failures = String::new(alloc);
     for line in table.lines() {
         if line.starts_with("#") {
@@ -279,7 +295,7 @@ fn failures(alloc: Global, table: &str) -> Result<String, Fail> {
             failures.push_str(line)?;
             continue;
         };
-        let told = told(alloc, in_full(alloc, document)?.as_str())?;
+        let told = told(alloc, command, in_full(alloc, document)?.as_str())?;
         if told.as_str() != wanted {
             failures.push_str(format!(in alloc; "{line}, not {told}\n")?.as_str())?;
         }
@@ -290,7 +306,7 @@ fn failures(alloc: Global, table: &str) -> Result<String, Fail> {
 #[test]
 fn documents_are_answered(rt: HostRuntime) -> Result<(), Fail> {
     for table in [ANSWERS, BODIES, FIRST_CAUSES, READINGS] {
-        let failures = failures(rt.alloc(), table)?;
+        let failures = failures(rt.alloc(), "slice", table)?;
         assert_eq!(rt; failures.as_str(), "");
     }
     Ok(())

@@ -6,6 +6,10 @@ mod bodies;
 #[cfg(test)]
 mod calls;
 #[cfg(test)]
+mod checks;
+#[cfg(test)]
+mod conditions;
+#[cfg(test)]
 mod documents;
 #[cfg(test)]
 mod expressions;

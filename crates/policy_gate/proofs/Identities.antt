@@ -9,7 +9,7 @@ use Rattle.policy_set.specs.Data.{PolicyData}
 use Rattle.truth_types.specs.Sound.{IsTerm, IsIdentity}
 use Rattle.entity_manifest.specs.Cover.{AreOverIds}
 use Rattle.policy_documents.specs.Laws.{KeepLimits}
-use Rattle.policy_documents.specs.Limits.{is_id_operand, is_over_ids}
+use Rattle.entry_documents.specs.Limits.{is_id_operand, is_over_ids}
 
 both_true : (a b : Bool) → (a && b) ≡ true → (a ≡ true) × (b ≡ true)
 both_true true b h = (refl, h)

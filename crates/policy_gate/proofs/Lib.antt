@@ -1,4 +1,4 @@
 mod Answers
 mod Identities
 mod Runs
-mod Sliced
+mod Says

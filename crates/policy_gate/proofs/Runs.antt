@@ -10,66 +10,76 @@ use Rattle.policy_gate.specs.Reply.{Answer, answer}
 use Rattle.policy_gate.specs.Run.{Cause, Gives, IsDocumentDue, IsDue, IsDueAfterReading, Runs}
 use Rattle.policy_gate.specs.Status.{IsAfterEnd, IsOfDocument, after_fault}
 use Rattle.policy_gate.specs.declared.command.Command.{Command}
-use Rattle.policy_gate.specs.declared.command.Command.TheVariants.{Slice}
+use Rattle.policy_gate.specs.declared.command.Command.TheVariants.{Check, Slice}
 use Rattle.policy_gate.specs.declared.status.Status.{Status}
 use Rattle.policy_gate.specs.declared.status.Status.TheVariants.{Done, Findings, Usage, Document, Request, Store, PartialRequest, ReadFault, WriteFault, OutOfMemory, TooLong}
 use Rattle.policy_documents.specs.declared.document.Document.{Document as ADocument}
-use Rattle.policy_gate.specs.Headline.{IsDocumentOf, KeepsRules, IsSliced}
+use Rattle.policy_gate.specs.Headline.{HasAcceptedPolicies, IsChecked, IsDocumentOf, IsSliced, KeepsRules, KeepsRulesOf}
+use Rattle.policy_validate.specs.Laws.{NoErrorsWhereAccepted}
 use Rattle.policy_gate.proofs.Answers.{status_of_document}
-use Rattle.policy_gate.proofs.Sliced.{says, kept_is_done}
+use Rattle.policy_gate.proofs.Says.{says_slice, says_check, says_refused, kept_is_done}
 
 -- ---- each status has its cause
 
-module _ (command : Option Command) (source source' : SourceState) (sink sink' : SinkState) where
-  abbrev Why : Status → Type 0
-  Why t = Cause command source source' sink sink' t
-
+module _ (sink sink' : SinkState) where
   -- of an answer whose status a fault leaves
-  other : (a : Answer) (t status : Status) → a.status ≡ t → after_fault t ≡ t → Why t → Gives a sink sink' status → Why status
-  other a t status is same why (inl g) = subst Why (sym (g.0 ∙ is)) why
-  other a t status is same why (inr g) = subst Why (sym (g.1 ∙ ap after_fault is ∙ same)) why
+  other : (Why : Status → Type 0) (a : Answer) (t status : Status) → a.status ≡ t → after_fault t ≡ t → Why t → Gives a sink sink' status → Why status
+  other Why a t status is same why (inl g) = subst Why (sym (g.0 ∙ is)) why
+  other Why a t status is same why (inr g) = subst Why (sym (g.1 ∙ ap after_fault is ∙ same)) why
+
+module _ (command : Command) (source source' : SourceState) (sink sink' : SinkState) where
+  abbrev Why : Status → Type 0
+  Why t = Cause (Some command) source source' sink sink' t
 
   -- of an answer to a document
-  judged : (t : Status) (text : List ℕ) (status : Status) → IsOfDocument t → IsDocumentDue source source' t text → Gives (answer t text) sink sink' status → Why status
+  judged : (t : Status) (text : List ℕ) (status : Status) → IsOfDocument t → IsDocumentDue (Some command) source source' t text → Gives (answer t text) sink sink' status → Why status
   judged Done text status ok due (inl g) = subst Why (sym g.0) (text, due, g.1)
   judged Done text status ok due (inr g) = subst Why (sym g.1) (g.0, (text, due, g.2))
   judged Usage text status ok due g = absurd ok
-  judged Document text status ok due g = other (answer Document text) Document status refl refl (text, due) g
-  judged Findings text status ok due g = other (answer Findings text) Findings status refl refl (text, due) g
-  judged Request text status ok due g = other (answer Request text) Request status refl refl (text, due) g
-  judged Store text status ok due g = other (answer Store text) Store status refl refl (text, due) g
-  judged PartialRequest text status ok due g = other (answer PartialRequest text) PartialRequest status refl refl (text, due) g
+  judged Document text status ok due g = other sink sink' Why (answer Document text) Document status refl refl (text, due) g
+  judged Findings text status ok due g = other sink sink' Why (answer Findings text) Findings status refl refl (text, due) g
+  judged Request text status ok due g = other sink sink' Why (answer Request text) Request status refl refl (text, due) g
+  judged Store text status ok due g = other sink sink' Why (answer Store text) Store status refl refl (text, due) g
+  judged PartialRequest text status ok due g = other sink sink' Why (answer PartialRequest text) PartialRequest status refl refl (text, due) g
   judged ReadFault text status ok due g = absurd ok
   judged WriteFault text status ok due g = absurd ok
   judged OutOfMemory text status ok due g = absurd ok
   judged TooLong text status ok due g = absurd ok
 
-  after_reading : (a : Answer) (status : Status) → IsDueAfterReading source source' a → Gives a sink sink' status → Why status
-  after_reading a status (inl (bytes, read, is)) g = judged a.status a.text status (status_of_document bytes a is) (bytes, read, is) g
-  after_reading a status (inr (inl d)) g = other a ReadFault status (ap (λ b. b.status) d.0) refl d.1 g
-  after_reading a status (inr (inr d)) g = other a TooLong status (ap (λ b. b.status) d.0) refl d.1 g
+  after_reading : (a : Answer) (status : Status) → IsDueAfterReading command source source' a → Gives a sink sink' status → Why status
+  after_reading a status (inl (bytes, read, is)) g = judged a.status a.text status (status_of_document command bytes a is) (bytes, read, is) g
+  after_reading a status (inr (inl d)) g = other sink sink' Why a ReadFault status (ap (λ b. b.status) d.0) refl d.1 g
+  after_reading a status (inr (inr d)) g = other sink sink' Why a TooLong status (ap (λ b. b.status) d.0) refl d.1 g
 
-  for_words : (o : Option Command) (a : Answer) (status : Status) → command ≡ o → IsDue o source source' a → Gives a sink sink' status → Why status
-  for_words None a status is d g = other a Usage status (ap (λ b. b.status) d.0) refl (is, d.1) g
-  for_words (Some Slice) a status is d g = after_reading a status d g
+module _ (source source' : SourceState) (sink sink' : SinkState) where
+  for_words : (command : Option Command) (a : Answer) (status : Status) → IsDue command source source' a → Gives a sink sink' status → Cause command source source' sink sink' status
+  for_words None a status d g = other sink sink' (Cause None source source' sink sink') a Usage status (ap (λ b. b.status) d.0) refl (refl, d.1) g
+  for_words (Some command) a status d g = after_reading command source source' sink sink' a status d g
 
-  pub causes : (status : Status) → Runs command source source' sink sink' status → Cause command source source' sink sink' status
-  causes status (inl d) = subst Why (sym d.1) d.2
-  causes status (inr (a, d, g)) = for_words command a status refl d g
+pub causes : (command : Option Command) (source source' : SourceState) (sink sink' : SinkState) (status : Status)
+    → Runs command source source' sink sink' status → Cause command source source' sink sink' status
+causes command source source' sink sink' status (inl d) = subst (Cause command source source' sink sink') (sym d.1) d.2
+causes command source source' sink sink' status (inr (a, d, g)) = for_words source source' sink sink' command a status d g
 
 -- ---- which statuses mean that the source was read to its end
 
+-- what is due for a document is due after its bytes were read
+was_read : (command : Option Command) (source source' : SourceState) (status : Status) (text : List ℕ)
+    → IsDocumentDue command source source' status text → (bytes : List ℕ) × WasRead source source' bytes
+was_read None source source' status text due = absurd due
+was_read (Some command) source source' status text (bytes, read, is) = (bytes, read)
+
 read_at : (command : Option Command) (source source' : SourceState) (sink sink' : SinkState) (status : Status)
     → Cause command source source' sink sink' status → IsAfterEnd status → (bytes : List ℕ) × WasRead source source' bytes
-read_at command source source' sink sink' Done (text, due, w) ok = (due.0, due.1)
+read_at command source source' sink sink' Done (text, due, w) ok = was_read command source source' Done text due
 read_at command source source' sink sink' Usage why ok = absurd ok
-read_at command source source' sink sink' Document (text, due) ok = (due.0, due.1)
-read_at command source source' sink sink' Findings (text, due) ok = (due.0, due.1)
-read_at command source source' sink sink' Request (text, due) ok = (due.0, due.1)
-read_at command source source' sink sink' Store (text, due) ok = (due.0, due.1)
-read_at command source source' sink sink' PartialRequest (text, due) ok = (due.0, due.1)
+read_at command source source' sink sink' Document (text, due) ok = was_read command source source' Document text due
+read_at command source source' sink sink' Findings (text, due) ok = was_read command source source' Findings text due
+read_at command source source' sink sink' Request (text, due) ok = was_read command source source' Request text due
+read_at command source source' sink sink' Store (text, due) ok = was_read command source source' Store text due
+read_at command source source' sink sink' PartialRequest (text, due) ok = was_read command source source' PartialRequest text due
 read_at command source source' sink sink' ReadFault why ok = absurd ok
-read_at command source source' sink sink' WriteFault (rose, (text, due, w)) ok = (due.0, due.1)
+read_at command source source' sink sink' WriteFault (rose, (text, due, w)) ok = was_read command source source' Done text due
 read_at command source source' sink sink' OutOfMemory why ok = absurd ok
 read_at command source source' sink sink' TooLong why ok = absurd ok
 
@@ -108,9 +118,9 @@ module _ (command : Option Command) (source source' : SourceState) (sink sink' :
   -- more was taken than a document may have
   past : (o : Option Command) (a : Answer) → source.taken + DOCUMENT_LIMIT < source'.taken → IsDue o source source' a → Gives a sink sink' status → status ≡ TooLong
   past None a more (is, same) g = let still = ap (λ s. s.taken) same in absurd (omega (arith, still))
-  past (Some Slice) a more (inl (bytes, (short, t, end), is)) g = absurd (omega (arith, t.0))
-  past (Some Slice) a more (inr (inl d)) g = absurd (omega (arith, d.2))
-  past (Some Slice) a more (inr (inr d)) g = stays a TooLong sink sink' status (ap (λ b. b.status) d.0) refl g
+  past (Some c) a more (inl (bytes, (short, t, end), is)) g = absurd (omega (arith, t.0))
+  past (Some c) a more (inr (inl d)) g = absurd (omega (arith, d.2))
+  past (Some c) a more (inr (inr d)) g = stays a TooLong sink sink' status (ap (λ b. b.status) d.0) refl g
 
   pub too_long_for : Runs command source source' sink sink' status → source.taken + DOCUMENT_LIMIT < source'.taken → (status ≡ TooLong) ⊎ (status ≡ OutOfMemory)
   too_long_for (inl d) more = inr d.1
@@ -120,49 +130,73 @@ module _ (bytes : List ℕ) (source source' : SourceState) (sink sink' : SinkSta
   told_at : (taken : List ℕ) → Consumes source.left source'.left taken → Consumes (Some bytes) source'.left taken
   told_at taken p = subst (λ l. Consumes l source'.left taken) told p
 
-  past_told : (a : Answer) → DOCUMENT_LIMIT < length bytes → IsDueAfterReading source source' a → Gives a sink sink' status → status ≡ TooLong
-  past_told a long (inl (taken, (short, t, end), is)) g = let same = ap length (all_taken bytes taken source'.left (told_at taken t.1) end) in absurd (omega (arith, same))
-  past_told a long (inr (inl d)) g = absurd (quiet source.faults source'.faults q d.1)
-  past_told a long (inr (inr d)) g = stays a TooLong sink sink' status (ap (λ b. b.status) d.0) refl g
+  past_told : (c : Command) (a : Answer) → DOCUMENT_LIMIT < length bytes → IsDueAfterReading c source source' a → Gives a sink sink' status → status ≡ TooLong
+  past_told c a long (inl (taken, (short, t, end), is)) g = let same = ap length (all_taken bytes taken source'.left (told_at taken t.1) end) in absurd (omega (arith, same))
+  past_told c a long (inr (inl d)) g = absurd (quiet source.faults source'.faults q d.1)
+  past_told c a long (inr (inr d)) g = stays a TooLong sink sink' status (ap (λ b. b.status) d.0) refl g
 
-  pub too_long_told : (command : Option Command) → Runs command source source' sink sink' status → command ≡ Some Slice → DOCUMENT_LIMIT < length bytes → (status ≡ TooLong) ⊎ (status ≡ OutOfMemory)
-  too_long_told command (inl d) is long = inr d.1
-  too_long_told command (inr (a, d, g)) is long = inl (past_told a long (subst (λ o. IsDue o source source' a) is d) g)
+  pub too_long_told : (command : Option Command) (c : Command) → Runs command source source' sink sink' status → command ≡ Some c → DOCUMENT_LIMIT < length bytes → (status ≡ TooLong) ⊎ (status ≡ OutOfMemory)
+  too_long_told command c (inl d) is long = inr d.1
+  too_long_told command c (inr (a, d, g)) is long = inl (past_told c a long (subst (λ o. IsDue o source source' a) is d) g)
 
   -- which answer to the bytes is written
-  abbrev Answered : Type 0
-  Answered = (text : List ℕ) × IsAnswer bytes (answer status text) × Appends sink.holds sink'.holds text
+  abbrev Answered : Command → Type 0
+  Answered c = (text : List ℕ) × IsAnswer c bytes (answer status text) × Appends sink.holds sink'.holds text
 
-  given : (a : Answer) → IsAnswer bytes a → IsQuiet sink.faults sink'.faults → Gives a sink sink' status → Answered
-  given a is q' (inl g) = (a.text, subst (λ t. IsAnswer bytes (answer t a.text)) (sym g.0) is, g.1)
-  given a is q' (inr g) = absurd (quiet sink.faults sink'.faults q' g.0)
+  given : (c : Command) (a : Answer) → IsAnswer c bytes a → IsQuiet sink.faults sink'.faults → Gives a sink sink' status → Answered c
+  given c a is q' (inl g) = (a.text, subst (λ t. IsAnswer c bytes (answer t a.text)) (sym g.0) is, g.1)
+  given c a is q' (inr g) = absurd (quiet sink.faults sink'.faults q' g.0)
 
-  within : (a : Answer) → length bytes ≤ DOCUMENT_LIMIT → IsQuiet sink.faults sink'.faults → IsDueAfterReading source source' a → Gives a sink sink' status → Answered
-  within a short q' (inl (taken, (few, t, end), is)) g = given a (subst (λ b. IsAnswer b a) (sym (all_taken bytes taken source'.left (told_at taken t.1) end)) is) q' g
-  within a short q' (inr (inl d)) g = absurd (quiet source.faults source'.faults q d.1)
-  within a short q' (inr (inr (is, (taken, many, t)))) g = let most = longer bytes taken source'.left (told_at taken t.1) in absurd (omega (arith, most))
+  within : (c : Command) (a : Answer) → length bytes ≤ DOCUMENT_LIMIT → IsQuiet sink.faults sink'.faults → IsDueAfterReading c source source' a → Gives a sink sink' status → Answered c
+  within c a short q' (inl (taken, (few, t, end), is)) g = given c a (subst (λ b. IsAnswer c b a) (sym (all_taken bytes taken source'.left (told_at taken t.1) end)) is) q' g
+  within c a short q' (inr (inl d)) g = absurd (quiet source.faults source'.faults q d.1)
+  within c a short q' (inr (inr (is, (taken, many, t)))) g = let most = longer bytes taken source'.left (told_at taken t.1) in absurd (omega (arith, most))
 
-  pub exact_for : (command : Option Command) → Runs command source source' sink sink' status → command ≡ Some Slice → length bytes ≤ DOCUMENT_LIMIT → IsQuiet sink.faults sink'.faults → Answered ⊎ (status ≡ OutOfMemory)
-  exact_for command (inl d) is short q' = inr d.1
-  exact_for command (inr (a, d, g)) is short q' = inl (within a short q' (subst (λ o. IsDue o source source' a) is d) g)
+  pub exact_for : (command : Option Command) (c : Command) → Runs command source source' sink sink' status → command ≡ Some c → length bytes ≤ DOCUMENT_LIMIT → IsQuiet sink.faults sink'.faults → Answered c ⊎ (status ≡ OutOfMemory)
+  exact_for command c (inl d) is short q' = inr d.1
+  exact_for command c (inr (a, d, g)) is short q' = inl (within c a short q' (subst (λ o. IsDue o source source' a) is d) g)
 
--- ---- what 0 says, and that it comes where every rule holds
+-- ---- what 0 and 1 say, and that 0 comes where every rule holds
 
-pub headline_for : (command : Option Command) (source source' : SourceState) (sink sink' : SinkState) (status : Status)
-    → Runs command source source' sink sink' status → status ≡ Done
-    → (bytes : List ℕ) × (text : List ℕ) × WasRead source source' bytes
-    × ((d : ADocument) × IsDocumentOf bytes d × KeepsRules d × IsSliced d text)
-    × Appends sink.holds sink'.holds text
-headline_for command source source' sink sink' status runs is = at (subst (Cause command source source' sink sink') is (causes command source source' sink sink' status runs))
-  where
-    at : Cause command source source' sink sink' Done → (bytes : List ℕ) × (text : List ℕ) × WasRead source source' bytes × ((d : ADocument) × IsDocumentOf bytes d × KeepsRules d × IsSliced d text) × Appends sink.holds sink'.holds text
-    at (text, (bytes, read, answer), written) = (bytes, text, read, says bytes text answer, written)
+module _ (law : NoErrorsWhereAccepted) (command : Option Command) (source source' : SourceState) (sink sink' : SinkState) (status : Status) (runs : Runs command source source' sink sink' status) where
+  -- what was due where the words are the command
+  cause_at : (c : Command) (t : Status) → command ≡ Some c → status ≡ t → Cause (Some c) source source' sink sink' t
+  cause_at c t is ends =
+      subst (λ o. Cause o source source' sink sink' t) is
+      (subst (Cause command source source' sink sink') ends (causes command source source' sink sink' status runs))
 
-pub complete_for : (bytes : List ℕ) (d : ADocument) (source source' : SourceState) (sink sink' : SinkState) (status : Status) (told : source.left ≡ Some bytes) (q : IsQuiet source.faults source'.faults) (command : Option Command)
-    → Runs command source source' sink sink' status → command ≡ Some Slice → length bytes ≤ DOCUMENT_LIMIT → IsQuiet sink.faults sink'.faults
-    → IsDocumentOf bytes d → KeepsRules d → (status ≡ Done) ⊎ (status ≡ OutOfMemory)
-complete_for bytes d source source' sink sink' status told q command runs is short q' of keeps =
-    elim (exact_for bytes source source' sink sink' status told q command runs is short q') [
-      | inl (text, answer, written) ↦ inl (kept_is_done bytes d _ of keeps answer)
+  pub headline_for : command ≡ Some Slice → status ≡ Done
+      → (bytes : List ℕ) × (text : List ℕ) × WasRead source source' bytes
+      × ((d : ADocument) × IsDocumentOf Slice bytes d × KeepsRules d × IsSliced d text)
+      × Appends sink.holds sink'.holds text
+  headline_for is ends = at (cause_at Slice Done is ends)
+    where
+      at : Cause (Some Slice) source source' sink sink' Done → (bytes : List ℕ) × (text : List ℕ) × WasRead source source' bytes × ((d : ADocument) × IsDocumentOf Slice bytes d × KeepsRules d × IsSliced d text) × Appends sink.holds sink'.holds text
+      at (text, (bytes, read, answer), written) = (bytes, text, read, says_slice law bytes text answer, written)
+
+  pub checked_for : command ≡ Some Check → status ≡ Done
+      → (bytes : List ℕ) × (text : List ℕ) × WasRead source source' bytes
+      × ((d : ADocument) × IsDocumentOf Check bytes d × IsChecked d text)
+      × Appends sink.holds sink'.holds text
+  checked_for is ends = at (cause_at Check Done is ends)
+    where
+      at : Cause (Some Check) source source' sink sink' Done → (bytes : List ℕ) × (text : List ℕ) × WasRead source source' bytes × ((d : ADocument) × IsDocumentOf Check bytes d × IsChecked d text) × Appends sink.holds sink'.holds text
+      at (text, (bytes, read, answer), written) = (bytes, text, read, says_check law bytes text answer, written)
+
+  pub refused_for : status ≡ Findings
+      → (c : Command) × (command ≡ Some c)
+      × ((bytes : List ℕ) × WasRead source source' bytes × ((d : ADocument) × IsDocumentOf c bytes d × (¬ HasAcceptedPolicies d)))
+  refused_for ends = at command refl (subst (Cause command source source' sink sink') ends (causes command source source' sink sink' status runs))
+    where
+      at : (o : Option Command) → command ≡ o → Cause o source source' sink sink' Findings → (c : Command) × (command ≡ Some c) × ((bytes : List ℕ) × WasRead source source' bytes × ((d : ADocument) × IsDocumentOf c bytes d × (¬ HasAcceptedPolicies d)))
+      at None is (text, due) = absurd due
+      at (Some c) is (text, (bytes, read, answer)) = (c, is, (bytes, read, says_refused law c bytes text answer))
+
+pub complete_for : (law : NoErrorsWhereAccepted) (bytes : List ℕ) (d : ADocument) (source source' : SourceState) (sink sink' : SinkState) (status : Status) (told : source.left ≡ Some bytes) (q : IsQuiet source.faults source'.faults) (command : Option Command) (c : Command)
+    → Runs command source source' sink sink' status → command ≡ Some c → length bytes ≤ DOCUMENT_LIMIT → IsQuiet sink.faults sink'.faults
+    → IsDocumentOf c bytes d → KeepsRulesOf c d → (status ≡ Done) ⊎ (status ≡ OutOfMemory)
+complete_for law bytes d source source' sink sink' status told q command c runs is short q' of keeps =
+    elim (exact_for bytes source source' sink sink' status told q command c runs is short q') [
+      | inl (text, answer, written) ↦ inl (kept_is_done law c bytes d _ of keeps answer)
       | inr none ↦ inr none
     ]

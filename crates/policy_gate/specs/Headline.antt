@@ -1,4 +1,4 @@
--- What status 0 says: the slice that is written is enough for every policy of the document.
+-- What status 0 says. For `slice`: the slice that is written is enough for every policy of the document. For `check`: the policies are accepted.
 use Rattle.std.specs.Prelude.{◌≡◌, ℕ, List, [], Some, None, Ok}
 use Rattle.policy_store.specs.Request.{IsWhole}
 use Rattle.policy_store.specs.Store.{Store}
@@ -6,15 +6,23 @@ use Rattle.authorizer.specs.Response.{response}
 use Rattle.policy_documents.specs.Reading.{IsRead}
 use Rattle.policy_documents.specs.declared.document.Document.{Document}
 use Rattle.serde_json.specs.Data.{Data}
-use Rattle.policy_validate.specs.Accepted.{IsAccepted}
+use Rattle.finding_texts.specs.Written.{findings_text}
+use Rattle.policy_validate.specs.Accepted.{findings_of, IsAccepted}
 use Rattle.policy_validate.specs.Conformance.{RequestConforms, StoreConforms}
 use Rattle.entity_manifest.specs.Cover.{restricted, Covers, AreAllowedBetween}
 use Rattle.policy_writing.specs.SliceJson.{slice_text}
 use Rattle.json_parts.specs.Json.{json_of}
+use Rattle.policy_gate.specs.Command.{width_of}
+use Rattle.policy_gate.specs.declared.command.Command.{Command}
+use Rattle.policy_gate.specs.declared.command.Command.TheVariants.{Check, Slice}
 
--- the document that the bytes are
-abbrev pub IsDocumentOf : List ℕ → Document → Type 0
-IsDocumentOf bytes d = (v : Data) × (json_of bytes ≡ Some v) × IsRead v (Ok d)
+-- the document that the bytes are, among those that the command takes
+abbrev pub IsDocumentOf : Command → List ℕ → Document → Type 0
+IsDocumentOf command bytes d = (v : Data) × (json_of bytes ≡ Some v) × IsRead (width_of command) v (Ok d)
+
+-- the policies of the document are accepted
+abbrev pub HasAcceptedPolicies : Document → Type 0
+HasAcceptedPolicies d = IsAccepted d.schema d.policies
 
 -- the document keeps every rule
 pub record KeepsRules (d : Document) : Type 0 where
@@ -24,7 +32,17 @@ pub record KeepsRules (d : Document) : Type 0 where
   -- the store conforms to the schema
   pub store : StoreConforms d.schema d.entities
   -- the policies are accepted
-  pub policies : IsAccepted d.schema d.policies
+  pub policies : HasAcceptedPolicies d
+
+-- it keeps every rule of the command
+abbrev pub KeepsRulesOf : Command → Document → Type 0
+KeepsRulesOf Check d = HasAcceptedPolicies d
+KeepsRulesOf Slice d = KeepsRules d
+
+-- the text is the findings on the document's policies, which are accepted: there may be warnings
+pub record IsChecked (d : Document) (text : List ℕ) : Type 0 where
+  pub written : text ≡ findings_text (findings_of d.schema d.policies)
+  pub accepted : HasAcceptedPolicies d
 
 -- the document's store restricted to what its policies read on its request
 abbrev pub slice_of : Document → Store

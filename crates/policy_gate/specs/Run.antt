@@ -9,7 +9,6 @@ use Rattle.policy_gate.specs.Answer.{IsAnswer}
 use Rattle.policy_gate.specs.Reply.{Answer, answer}
 use Rattle.policy_gate.specs.Status.{after_fault}
 use Rattle.policy_gate.specs.declared.command.Command.{Command}
-use Rattle.policy_gate.specs.declared.command.Command.TheVariants.{Slice}
 use Rattle.policy_gate.specs.declared.status.Status.{Status}
 use Rattle.policy_gate.specs.declared.status.Status.TheVariants.{Done, Findings, Usage, Document, Request, Store, PartialRequest, ReadFault, WriteFault, OutOfMemory, TooLong}
 
@@ -25,16 +24,16 @@ read_fault = answer ReadFault (codes "read fault\n")
 abbrev pub too_long : Answer
 too_long = answer TooLong (codes "document: more than 16777216 bytes\n")
 
--- what is due where a document is read: what its bytes ask for; or the source failed, or gave too many bytes
-abbrev pub IsDueAfterReading : SourceState → SourceState → Answer → Type 0
-IsDueAfterReading source source' a = ((bytes : List ℕ) × WasRead source source' bytes × IsAnswer bytes a)
+-- what is due where a document is read: what the command asks for its bytes; or the source failed, or gave too many bytes
+abbrev pub IsDueAfterReading : Command → SourceState → SourceState → Answer → Type 0
+IsDueAfterReading command source source' a = ((bytes : List ℕ) × WasRead source source' bytes × IsAnswer command bytes a)
     ⊎ (((a ≡ read_fault) × Rose source.faults source'.faults × (source'.taken ≤ source.taken + DOCUMENT_LIMIT))
     ⊎ ((a ≡ too_long) × TakesTooMany source source'))
 
 -- what is due for the words; where they are no command the source is left alone
 abbrev pub IsDue : Option Command → SourceState → SourceState → Answer → Type 0
 IsDue None source source' a = (a ≡ usage) × (source' ≡ source)
-IsDue (Some Slice) source source' a = IsDueAfterReading source source' a
+IsDue (Some command) source source' a = IsDueAfterReading command source source' a
 
 -- all of the answer's text is written, and its status stands; or the sink's count rose, and a front of the text is written
 abbrev pub Gives : Answer → SinkState → SinkState → Status → Type 0
@@ -47,21 +46,22 @@ Runs command source source' sink sink' status =
     (IsSome command × (status ≡ OutOfMemory) × Keeps sink.holds sink'.holds)
     ⊎ ((a : Answer) × IsDue command source source' a × Gives a sink sink' status)
 
--- the document was read, and this status is due for its bytes, with this text
-abbrev pub IsDocumentDue : SourceState → SourceState → Status → List ℕ → Type 0
-IsDocumentDue source source' status text = (bytes : List ℕ) × WasRead source source' bytes × IsAnswer bytes (answer status text)
+-- the words are a command, the document was read, and this status is due for its bytes, with this text
+abbrev pub IsDocumentDue : Option Command → SourceState → SourceState → Status → List ℕ → Type 0
+IsDocumentDue None source source' status text = ⊥
+IsDocumentDue (Some command) source source' status text = (bytes : List ℕ) × WasRead source source' bytes × IsAnswer command bytes (answer status text)
 
 -- why a run ends with a status
 abbrev pub Cause : Option Command → SourceState → SourceState → SinkState → SinkState → Status → Type 0
-Cause command source source' sink sink' Done = (text : List ℕ) × IsDocumentDue source source' Done text × Appends sink.holds sink'.holds text
+Cause command source source' sink sink' Done = (text : List ℕ) × IsDocumentDue command source source' Done text × Appends sink.holds sink'.holds text
 Cause command source source' sink sink' Usage = (command ≡ None) × (source' ≡ source)
-Cause command source source' sink sink' Document = (text : List ℕ) × IsDocumentDue source source' Document text
-Cause command source source' sink sink' Findings = (text : List ℕ) × IsDocumentDue source source' Findings text
-Cause command source source' sink sink' Request = (text : List ℕ) × IsDocumentDue source source' Request text
-Cause command source source' sink sink' Store = (text : List ℕ) × IsDocumentDue source source' Store text
-Cause command source source' sink sink' PartialRequest = (text : List ℕ) × IsDocumentDue source source' PartialRequest text
+Cause command source source' sink sink' Document = (text : List ℕ) × IsDocumentDue command source source' Document text
+Cause command source source' sink sink' Findings = (text : List ℕ) × IsDocumentDue command source source' Findings text
+Cause command source source' sink sink' Request = (text : List ℕ) × IsDocumentDue command source source' Request text
+Cause command source source' sink sink' Store = (text : List ℕ) × IsDocumentDue command source source' Store text
+Cause command source source' sink sink' PartialRequest = (text : List ℕ) × IsDocumentDue command source source' PartialRequest text
 Cause command source source' sink sink' ReadFault = Rose source.faults source'.faults
 Cause command source source' sink sink' WriteFault = Rose sink.faults sink'.faults
-    × ((text : List ℕ) × IsDocumentDue source source' Done text × ((n : ℕ) × Appends sink.holds sink'.holds (take n text)))
+    × ((text : List ℕ) × IsDocumentDue command source source' Done text × ((n : ℕ) × Appends sink.holds sink'.holds (take n text)))
 Cause command source source' sink sink' OutOfMemory = Keeps sink.holds sink'.holds
 Cause command source source' sink sink' TooLong = TakesTooMany source source'

@@ -4,15 +4,16 @@ ghost use Rattle.serde_json.specs.View.{view};
 ghost use Rattle.policy_store.specs.Request.{IsWhole};
 ghost use Rattle.policy_validate.specs.Accepted.{findings_of};
 ghost use Rattle.policy_validate.specs.Conformance.{RequestConforms, StoreConforms, first_store_fault};
-ghost use Rattle.policy_gate.specs.Answer.{IsAnswer, IsAnswerFor, IsAnswerTo, behind_errors, behind_store, checked_answer, slice_answer};
+ghost use Rattle.policy_gate.specs.Answer.{IsAnswer, IsAnswerFor, IsAnswerTo, IsSliceAnswer, behind_errors, behind_store, check_answer, checked_answer, slice_answer};
 ghost use Rattle.policy_gate.specs.Reply.{reply_view};
 
+use crate::command::{Command, width_of};
 use crate::reply::{Reply, reply_with};
 use crate::status::Status;
 use authorizer::decide;
 use entity_manifest::restricted_store;
-use policy_documents::{Document, DocumentFault, parse_json, read_document};
-use policy_scope::findings_text;
+use policy_documents::{Document, DocumentFault, parse_json, read_document_within};
+use policy_scope::{ValidationResult, findings_text};
 use policy_validate::{
     ConformanceError, RequestValidationError, ValidationMode, Validator, conforms, entity_text,
     request_text, validate_request,
@@ -26,24 +27,24 @@ const NO_JSON: &str = "document: json\n";
 const PARTIAL_REQUEST: &str =
     "request: entity slicing requires a fully concrete request. Got a partial request\n";
 
-/// The reply that is due for a document of these bytes.
+/// The reply that is due for the command and a document of these bytes.
 #[tactic(auto, unfolding(crate::specs::Answer::IsAnswer))]
-pub(crate) fn reply(alloc: Global, bytes: &[u8]) -> Result<Reply, AllocError>
-    ensures { IfOk result (λ r. IsAnswer bytes.now (reply_view r)) }
+pub(crate) fn reply(alloc: Global, command: Command, bytes: &[u8]) -> Result<Reply, AllocError>
+    ensures { IfOk result (λ r. IsAnswer command bytes.now (reply_view r)) }
 {
     match parse_json(alloc, bytes)? {
-        Some(value) => reply_to_value(alloc, &value),
+        Some(value) => reply_to_value(alloc, command, &value),
         None => reply_with(alloc, Status::Document, NO_JSON),
     }
 }
 
 // The reply to a JSON value: the place of its first fault, or what is due for the document that it is.
-fn reply_to_value(alloc: Global, value: &Value) -> Result<Reply, AllocError>
-    ensures { IfOk result (λ r. IsAnswerFor (view value.now) (reply_view r)) }
+fn reply_to_value(alloc: Global, command: Command, value: &Value) -> Result<Reply, AllocError>
+    ensures { IfOk result (λ r. IsAnswerFor command (view value.now) (reply_view r)) }
 {
-    match read_document(alloc, value) {
+    match read_document_within(alloc, value, width_of(command)) {
         Ok(document) => {
-            let reply = reply_to(alloc, &document);
+            let reply = reply_to(alloc, command, &document);
             drop(document);
             reply
         }
@@ -56,8 +57,40 @@ fn reply_to_value(alloc: Global, value: &Value) -> Result<Reply, AllocError>
 }
 
 // The reply to a document.
-fn reply_to(alloc: Global, document: &Document) -> Result<Reply, AllocError>
-    ensures { IfOk result (λ r. IsAnswerTo document.now (reply_view r)) }
+fn reply_to(alloc: Global, command: Command, document: &Document) -> Result<Reply, AllocError>
+    ensures { IfOk result (λ r. IsAnswerTo command document.now (reply_view r)) }
+{
+    match command {
+        Command::Check => with_findings(alloc, document),
+        Command::Slice => cut(alloc, document),
+    }
+}
+
+// The findings on the policies.
+fn with_findings(alloc: Global, document: &Document) -> Result<Reply, AllocError>
+    ensures { IfOk result (λ r. reply_view r ≡ check_answer document.now) }
+{
+    let found = found_in(alloc, document)?;
+    let status = if found.validation_passed() {
+        Status::Done
+    } else {
+        Status::Findings
+    };
+    let text = findings_text(alloc, &found)?;
+    reply_with(alloc, status, text.as_str())
+}
+
+// What is found of the document's policies.
+fn found_in(alloc: Global, document: &Document) -> Result<ValidationResult, AllocError>
+    ensures { IfOk result (λ found. found ≡ findings_of document.now.schema document.now.policies) }
+{
+    let validator = Validator::new(&document.schema);
+    validator.validate(alloc, &document.policies, ValidationMode::Strict)
+}
+
+// The cut store with the decision, where the document keeps every rule.
+fn cut(alloc: Global, document: &Document) -> Result<Reply, AllocError>
+    ensures { IfOk result (λ r. IsSliceAnswer document.now (reply_view r)) }
 {
     if document.request.is_whole() {
         checked(alloc, document)
@@ -106,8 +139,7 @@ fn with_store(alloc: Global, document: &Document) -> Result<Reply, AllocError>
     ensures { IfOk result (λ r. reply_view r ≡ behind_errors (findings_of document.now.schema document.now.policies).errors
         (findings_of document.now.schema document.now.policies) (slice_answer document.now)) }
 {
-    let validator = Validator::new(&document.schema);
-    let found = validator.validate(alloc, &document.policies, ValidationMode::Strict)?;
+    let found = found_in(alloc, document)?;
     if found.validation_passed() {
         return sliced(alloc, document);
     }

@@ -1,10 +1,14 @@
 //! The words of a call.
 ghost use Rattle.std.specs.Prelude.{◌≡◌, map, string_bytes};
-ghost use Rattle.policy_gate.specs.Command.{command_of, one_word};
+ghost use Rattle.policy_gate.specs.Command.{command_of, one_word, width_of};
+
+use policy_documents::Width;
 
 /// What a run is asked to do.
 #[derive(Clone, Copy, Debug, PartialEq, Eq)]
 pub enum Command {
+    /// Say what is found of the document's policies.
+    Check,
     /// Cut the document's store to what its policies may read, and decide on the cut store.
     Slice,
 }
@@ -13,8 +17,19 @@ fn one_word(word: &str) -> Option<Command>
     ensures { result ≡ one_word word.now }
 {
     match word {
+        "check" => Some(Command::Check),
         "slice" => Some(Command::Slice),
         _ => None,
+    }
+}
+
+/// Which documents the command takes.
+pub(crate) fn width_of(command: Command) -> Width
+    ensures { result ≡ width_of command }
+{
+    match command {
+        Command::Check => Width::Whole,
+        Command::Slice => Width::OverIds,
     }
 }
 

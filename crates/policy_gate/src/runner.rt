@@ -6,7 +6,7 @@ ghost use Rattle.outside.specs.Steps.{IsQuiet};
 ghost use Rattle.policy_gate.specs.Answer.{IsAnswer};
 ghost use Rattle.policy_gate.specs.Command.{command_of};
 ghost use Rattle.policy_documents.specs.declared.document.Document.{Document};
-ghost use Rattle.policy_gate.specs.Headline.{IsDocumentOf, KeepsRules, IsSliced};
+ghost use Rattle.policy_gate.specs.Headline.{HasAcceptedPolicies, IsChecked, IsDocumentOf, IsSliced, KeepsRules, KeepsRulesOf};
 ghost use Rattle.policy_gate.specs.Reply.{answer, reply_view};
 ghost use Rattle.policy_gate.specs.Run.{Cause, Gives, IsDue, IsDueAfterReading, Runs};
 ghost use Rattle.policy_gate.specs.Status.{IsAfterEnd};
@@ -16,6 +16,7 @@ use crate::command::{Command, command_of};
 use crate::reply::{Reply, reply_with};
 use crate::status::Status;
 use outside::{DOCUMENT_LIMIT, ReadError, Sink, Source, read_document_bytes, write_text};
+use policy_validate::laws::no_errors_where_accepted;
 use std::alloc::{AllocError, Global};
 
 const USAGE: &str =
@@ -36,30 +37,20 @@ fn finish<K: Sink>(sink: &mut K, status: Status, text: &str) -> Status
 }
 
 // Reads the document, and makes the reply to it.
-fn from_document<S: Source>(alloc: Global, source: &mut S) -> Result<Reply, AllocError>
-    ensures due { IfOk result (λ r.
-        IsDueAfterReading (S.state source.old) (S.state source.new) (reply_view r)) }
-    ensures taken { TakesFew (S.state source.old) (S.state source.new) }
-{
-    match read_document_bytes(alloc, source) {
-        Ok(bytes) => reply(alloc, bytes.as_slice()),
-        Err(ReadError::Fault) => reply_with(alloc, Status::ReadFault, READ_FAULT),
-        Err(ReadError::TooLong) => reply_with(alloc, Status::TooLong, TOO_LONG),
-        Err(ReadError::OutOfMemory) => Err(AllocError),
-    }
-}
-
-fn from_command<S: Source>(
+fn from_document<S: Source>(
     alloc: Global,
     command: Command,
     source: &mut S,
 ) -> Result<Reply, AllocError>
     ensures due { IfOk result (λ r.
-        IsDue (Some command) (S.state source.old) (S.state source.new) (reply_view r)) }
+        IsDueAfterReading command (S.state source.old) (S.state source.new) (reply_view r)) }
     ensures taken { TakesFew (S.state source.old) (S.state source.new) }
 {
-    match command {
-        Command::Slice => from_document(alloc, source),
+    match read_document_bytes(alloc, source) {
+        Ok(bytes) => reply(alloc, command, bytes.as_slice()),
+        Err(ReadError::Fault) => reply_with(alloc, Status::ReadFault, READ_FAULT),
+        Err(ReadError::TooLong) => reply_with(alloc, Status::TooLong, TOO_LONG),
+        Err(ReadError::OutOfMemory) => Err(AllocError),
     }
 }
 
@@ -77,7 +68,7 @@ fn outcome<S: Source, K: Sink>(
     let Some(command) = command_of(words) else {
         return finish(sink, Status::Usage, USAGE);
     };
-    match from_command(alloc, command, source) {
+    match from_document(alloc, command, source) {
         Ok(reply) => finish(sink, reply.status, reply.text.as_str()),
         Err(_) => Status::OutOfMemory,
     }
@@ -112,37 +103,52 @@ pub fn run<S: Source, K: Sink>(
     ensures usage { command_of (map string_bytes words.now.items) ≡ None → result ≡ Status.Usage }
     ensures too_long { (S.state source.old).taken + DOCUMENT_LIMIT < (S.state source.new).taken
         → (result ≡ Status.TooLong) ⊎ (result ≡ Status.OutOfMemory) }
-    ensures too_long_told { (bytes : List ℕ)
-        → command_of (map string_bytes words.now.items) ≡ Some Command.Slice
+    ensures too_long_told { (command : Command) (bytes : List ℕ)
+        → command_of (map string_bytes words.now.items) ≡ Some command
         → (S.state source.old).left ≡ Some bytes → DOCUMENT_LIMIT < length bytes
         → IsQuiet (S.state source.old).faults (S.state source.new).faults
         → (result ≡ Status.TooLong) ⊎ (result ≡ Status.OutOfMemory) }
-    ensures exact { (bytes : List ℕ)
-        → command_of (map string_bytes words.now.items) ≡ Some Command.Slice
+    ensures exact { (command : Command) (bytes : List ℕ)
+        → command_of (map string_bytes words.now.items) ≡ Some command
         → (S.state source.old).left ≡ Some bytes → length bytes ≤ DOCUMENT_LIMIT
         → IsQuiet (S.state source.old).faults (S.state source.new).faults
         → IsQuiet (K.state sink.old).faults (K.state sink.new).faults
-        → ((text : List ℕ) × IsAnswer bytes (answer result text)
+        → ((text : List ℕ) × IsAnswer command bytes (answer result text)
         × Appends (K.state sink.old).holds (K.state sink.new).holds text)
         ⊎ (result ≡ Status.OutOfMemory) }
 
-    // The headline: with 0 all bytes were read and are a document that keeps every rule, and the text that is written is
+    // The headline: where `slice` ends with 0 all bytes were read and are a document that keeps every rule, and the text that is written is
     // its store restricted to what its policies read, with the response; on that slice, and on every store between it and
     // the whole one, every policy has the outcome that it has on the whole store: a truth value, a missing entity or an
     // overflow.
-    ensures headline { result ≡ Status.Done
+    ensures headline { command_of (map string_bytes words.now.items) ≡ Some Command.Slice
+        → result ≡ Status.Done
         → (bytes : List ℕ) × (text : List ℕ) × WasRead (S.state source.old) (S.state source.new) bytes
-        × ((document : Document) × IsDocumentOf bytes document × KeepsRules document × IsSliced document text)
+        × ((document : Document) × IsDocumentOf Command.Slice bytes document × KeepsRules document × IsSliced document text)
         × Appends (K.state sink.old).holds (K.state sink.new).holds text }
 
-    // And 0 comes wherever every rule holds, unless memory runs out.
-    ensures complete { (bytes : List ℕ) (document : Document)
-        → command_of (map string_bytes words.now.items) ≡ Some Command.Slice
+    // Where `check` ends with 0 the document's policies are accepted, and the text is what is found of them: warnings alone.
+    ensures checked { command_of (map string_bytes words.now.items) ≡ Some Command.Check
+        → result ≡ Status.Done
+        → (bytes : List ℕ) × (text : List ℕ) × WasRead (S.state source.old) (S.state source.new) bytes
+        × ((document : Document) × IsDocumentOf Command.Check bytes document × IsChecked document text)
+        × Appends (K.state sink.old).holds (K.state sink.new).holds text }
+
+    // A command finds errors in the policies of no other documents than those whose policies are not accepted.
+    ensures refused { result ≡ Status.Findings
+        → (command : Command) × (command_of (map string_bytes words.now.items) ≡ Some command)
+        × ((bytes : List ℕ) × WasRead (S.state source.old) (S.state source.new) bytes
+        × ((document : Document) × IsDocumentOf command bytes document × (¬ HasAcceptedPolicies document))) }
+
+    // And 0 comes wherever every rule of the command holds, unless memory runs out.
+    ensures complete { (command : Command) (bytes : List ℕ) (document : Document)
+        → command_of (map string_bytes words.now.items) ≡ Some command
         → (S.state source.old).left ≡ Some bytes → length bytes ≤ DOCUMENT_LIMIT
         → IsQuiet (S.state source.old).faults (S.state source.new).faults
         → IsQuiet (K.state sink.old).faults (K.state sink.new).faults
-        → IsDocumentOf bytes document → KeepsRules document
+        → IsDocumentOf command bytes document → KeepsRulesOf command document
         → (result ≡ Status.Done) ⊎ (result ≡ Status.OutOfMemory) }
 {
+    no_errors_where_accepted();
     outcome(alloc, words, source, sink)
 }

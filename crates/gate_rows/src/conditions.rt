@@ -1,7 +1,16 @@
-# What the typechecker finds of conditions, worked out by hand from the rules of typing: the body of a policy p without a scope, in JSON, and behind => what is found
-# (a line of the text between two /), typed where nothing is, impossible where the condition is false in each environment. The schema:
-# {"entityTypes":{"User":{"memberOf":["Group"],"attributes":{"name":"String","age":"Long","nick":{"optional":"String"},"boss":{"entity":"User"},"roles":{"set":"String"},"born":"datetime","span":"duration","home":"ipaddr","pay":"decimal","address":{"record":{"city":"String","zip":{"optional":"Long"}}}},"tags":"String"},"Group":{},"Doc":{"attributes":{"owner":{"entity":"User"},"public":"Bool"}}},"actions":[{"id":["Action","view"],"principals":["User"],"resources":["Doc"],"context":{"now":"datetime","ok":"Bool","n":{"optional":"Long"}}}]}
-# a condition is a boolean
+//! What the typechecker finds of conditions, through `check`. What is due comes from the rules of typing.
+
+use crate::documents::told;
+use std::alloc::Global;
+use std::test::Fail;
+
+// The schema of the conditions.
+const SCHEMA: &str =
+    r##"{"entityTypes":{"User":{"memberOf":["Group"],"attributes":{"name":"String","age":"Long","nick":{"optional":"String"},"boss":{"entity":"User"},"roles":{"set":"String"},"born":"datetime","span":"duration","home":"ipaddr","pay":"decimal","address":{"record":{"city":"String","zip":{"optional":"Long"}}}},"tags":"String"},"Group":{},"Doc":{"attributes":{"owner":{"entity":"User"},"public":"Bool"}}},"actions":[{"id":["Action","view"],"principals":["User"],"resources":["Doc"],"context":{"now":"datetime","ok":"Bool","n":{"optional":"Long"}}}]}"##;
+
+// Each line says the condition of a policy p and, behind ` => `, what is found of it: the lines of the text between ` / `;
+// `typed` where nothing is; `impossible` where it is false in each environment.
+const CONDITIONS: &str = r##"# a condition is a boolean
 true => typed
 false => impossible
 1 => error UnexpectedType: for policy `p`, unexpected type: expected Bool but saw Long
@@ -377,4 +386,59 @@ false => impossible
 {"at":[0,4],"of":{"contains":[{"at":[1,2],"of":[{"at":[2,3],"of":1},{"at":[3,4],"of":"a"}]},1]}} => error IncompatibleTypes at 1..2: the types Long and String are not compatible /   help: for policy `p`, elements of a set must have compatible types. Types must be exactly equal to be compatible
 {"at":[0,4],"of":{"==":[{"at":[1,2],"of":{"getTag":[{"var":"principal"},"t"]}},"x"]}} => error UnsafeTagAccess at 1..2: for policy `p`, unable to guarantee safety of access to tag `"t"` on entity type `User` /   help: try testing for the tag's presence with `.hasTag("t") && ..`
 {"at":[0,2],"of":[]} => error EmptySetForbidden at 0..2: for policy `p`, empty set literals are forbidden in policies
-{"at":[0,8],"of":{"if":[{"at":[1,2],"of":{"has":[{"var":"principal"},"nick"]}},{"at":[3,4],"of":1},{"at":[5,6],"of":"a"}]}} => error IncompatibleTypes at 0..8: the types Long and String are not compatible /   help: for policy `p`, both branches of a conditional must have compatible types. Types must be exactly equal to be compatible
+{"at":[0,8],"of":{"if":[{"at":[1,2],"of":{"has":[{"var":"principal"},"nick"]}},{"at":[3,4],"of":1},{"at":[5,6],"of":"a"}]}} => error IncompatibleTypes at 0..8: the types Long and String are not compatible /   help: for policy `p`, both branches of a conditional must have compatible types. Types must be exactly equal to be compatible"##;
+
+const IMPOSSIBLE: &str =
+    "warning ImpossiblePolicy: for policy `p`, policy is impossible: the policy expression evaluates to false for all valid requests|";
+
+// What `check` answers where this is found.
+fn answer(alloc: Global, found: &str) -> Result<String, Fail> {
+    match found {
+        "typed" => Ok(format!(in alloc; "Done errors 0, warnings 0|")?),
+        "impossible" => Ok(format!(in alloc; "Done {IMPOSSIBLE}errors 0, warnings 1|")?),
+        _ => with_count(alloc, found),
+    }
+}
+
+// The lines of errors, and how many there are.
+fn with_count(alloc: Global, found: &str) -> Result<String, Fail> {
+    let mut lines = String::new(alloc);
+    let mut errors = 0;
+    for line in found.split(" / ") {
+        if line.starts_with("error ") {
+            errors += 1;
+        }
+        lines.push_str(line)?;
+        lines.push_str("|")?;
+    }
+    Ok(format!(in alloc; "Findings {lines}errors {errors}, warnings 0|")?)
+}
+
+// The lines that do not hold, with what `check` says of their conditions.
+fn failures(alloc: Global) -> Result<String, Fail> {
+    let mut failures = String::new(alloc);
+    for line in CONDITIONS.lines() {
+        if line.starts_with("#") {
+            continue;
+        }
+        let Some((condition, found)) = line.split_once(" => ") else {
+            failures.push_str(line)?;
+            continue;
+        };
+        let document = format!(in alloc;
+            "{{\"schema\":{SCHEMA},\"policies\":[{{\"id\":\"p\",\"effect\":\"permit\",\"body\":[{{\"when\":{condition}}}]}}]}}"
+        )?;
+        let told = told(alloc, "check", document.as_str())?;
+        if told.as_str() != answer(alloc, found)?.as_str() {
+            failures.push_str(format!(in alloc; "{line}, not {told}\n")?.as_str())?;
+        }
+    }
+    Ok(failures)
+}
+
+#[test]
+fn conditions_are_typed(rt: HostRuntime) -> Result<(), Fail> {
+    let failures = failures(rt.alloc())?;
+    assert_eq!(rt; failures.as_str(), "");
+    Ok(())
+}
