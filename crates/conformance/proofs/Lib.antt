@@ -1,3 +1,4 @@
+pub mod Known
 pub mod Lacking
 pub mod Listed
 pub mod Members

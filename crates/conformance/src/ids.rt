@@ -100,7 +100,10 @@ pub(crate) fn unlisted(
 pub(crate) fn lists_ids(schema: &ValidatorSchema, v: &Value) -> bool
     ensures { result ≡ lists_ids schema.now v.now }
 {
-    unlisted_in(schema, v).is_none()
+    match unlisted_in(schema, v) {
+        Some(_) => false,
+        None => true,
+    }
 }
 
 /// The first id in the value that its type does not list.

@@ -44,36 +44,38 @@ abbrev mutual
   value_text (long n) = signed_decimal n
   value_text (string s) = string_text s
   value_text (entity u) = uid_text u.entity_type u.eid
-  value_text (set vs) = codes "[" ++ (elements_text vs ++ codes "]")
-  value_text (rec fs) = codes "{" ++ (fields_text fs ++ codes "}")
+  value_text (set vs) = codes "[" ++ (elements_text 4 vs ++ codes "]")
+  value_text (rec fs) = codes "{" ++ (fields_text 4 fs ++ codes "}")
   value_text (decimal n) = codes "decimal(\"" ++ (decimal_text n ++ codes "\")")
   value_text (ip r) = codes "ip(\"" ++ (range_text r ++ codes "\")")
   value_text (datetime n) = call_text (codes "datetime") (signed_decimal n)
   value_text (duration n) = call_text (codes "duration") (signed_decimal n)
 
-  pub elements_text : Vals → List ℕ
-  elements_text no_vals = []
-  elements_text (val v vs) = value_text v ++ further_elements 4 vs
+  -- the elements, of which so many are shown behind the first
+  pub elements_text : ℕ → Vals → List ℕ
+  elements_text n no_vals = []
+  elements_text n (val v vs) = value_text v ++ further_elements n vs
 
-  -- the elements behind the first, of which so many more are shown
+  -- those behind the first, of which so many more are shown
   pub further_elements : ℕ → Vals → List ℕ
   further_elements n no_vals = []
   further_elements n (val v vs) = if n == 0 then codes ", .. " else codes ", " ++ (value_text v ++ further_elements (n - 1) vs)
 
-  pub fields_text : Fields → List ℕ
-  fields_text no_fields = []
-  fields_text (field k v fs) = field_text k (value_text v) ++ further_fields 4 fs
+  -- the fields, of which so many are shown behind the first
+  pub fields_text : ℕ → Fields → List ℕ
+  fields_text n no_fields = []
+  fields_text n (field k v fs) = field_text k (value_text v) ++ further_fields n fs
 
-  -- the fields behind the first, of which so many more are shown
+  -- those behind the first, of which so many more are shown
   pub further_fields : ℕ → Fields → List ℕ
   further_fields n no_fields = []
   further_fields n (field k v fs) = if n == 0 then codes ", .. " else codes ", " ++ (field_text k (value_text v) ++ further_fields (n - 1) fs)
 
 -- the elements that are left, where it is told whether the first is among them
 abbrev pub elements_left : Bool → ℕ → Vals → List ℕ
-elements_left true n vs = elements_text vs
+elements_left true n vs = elements_text n vs
 elements_left false n vs = further_elements n vs
 
 abbrev pub fields_left : Bool → ℕ → Fields → List ℕ
-fields_left true n fs = fields_text fs
+fields_left true n fs = fields_text n fs
 fields_left false n fs = further_fields n fs

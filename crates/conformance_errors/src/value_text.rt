@@ -101,7 +101,7 @@ fn write_set(alloc: Global, text: &mut String, items: &Vec<Value>) -> Result<(),
 #[cycle(write)]
 #[tactic(auto, using(crate::proofs::Sizes::size_in))]
 fn write_elements(alloc: Global, text: &mut String, items: &Vec<Value>) -> Result<(), AllocError>
-    ensures { OnOk result (string_bytes text.new ≡ string_bytes text.old ++ elements_text (vals_of items.now.items)) }
+    ensures { OnOk result (string_bytes text.new ≡ string_bytes text.old ++ elements_text 4 (vals_of items.now.items)) }
 {
     let mut is_first = true;
     let mut left = FURTHER_PARTS;
@@ -141,7 +141,7 @@ fn write_fields(
     text: &mut String,
     fields: &BTreeMap<Text, Value>,
 ) -> Result<(), AllocError>
-    ensures { OnOk result (string_bytes text.new ≡ string_bytes text.old ++ fields_text (fields_of fields.now.entries)) }
+    ensures { OnOk result (string_bytes text.new ≡ string_bytes text.old ++ fields_text 4 (fields_of fields.now.entries)) }
 {
     let mut is_first = true;
     let mut left = FURTHER_PARTS;

@@ -23,10 +23,10 @@ decreases-write_field l = 5 * size_of l.v.now + 1
 
 -- the text so far, and then the parts that are left
 abbrev pub invariant-write_elements-loop-item : goal.invariant-write_elements-loop-item
-invariant-write_elements-loop-item l = string_bytes l.text ++ elements_left l.is_first l.left (vals_of (drop l.item-index l.items.items)) ≡ string_bytes l.fn.text ++ elements_text (vals_of l.items.items)
+invariant-write_elements-loop-item l = string_bytes l.text ++ elements_left l.is_first l.left (vals_of (drop l.item-index l.items.items)) ≡ string_bytes l.fn.text ++ elements_text 4 (vals_of l.items.items)
 
 abbrev pub invariant-write_fields-loop-key : goal.invariant-write_fields-loop-key
 invariant-write_fields-loop-key l = record {
-  left : string_bytes l.text ++ fields_left l.is_first l.left (fields_of l.key-iterator) ≡ string_bytes l.fn.text ++ fields_text (fields_of l.fields.entries);
+  left : string_bytes l.text ++ fields_left l.is_first l.left (fields_of l.key-iterator) ≡ string_bytes l.fn.text ++ fields_text 4 (fields_of l.fields.entries);
   size : size_of_fields (fields_of l.key-iterator) ≤ size_of_fields (fields_of l.fields.entries);
 }
