@@ -1,3 +1,5 @@
+pub mod Known
+pub mod Lacking
 pub mod Listed
 pub mod Members
 pub mod Options

@@ -1,5 +1,5 @@
 -- Ids that are listed.
-use Rattle.std.proofs.Common.{◌≡◌, ℕ, Bool, true, false, ◌&&◌, List, Option, Some, None, IsSome, refl, sym, ap, ◌∙◌, if◌then◌else◌}
+use Rattle.std.proofs.Common.{◌≡◌, ℕ, Bool, true, false, ◌&&◌, List, Option, Some, None, is_none, IsSome, refl, sym, ap, ◌∙◌, if◌then◌else◌}
 use Rattle.std.specs.Option.{option_or, option_map, option_map_or, option_and_then}
 use Rattle.hierarchy.specs.Reaches.{has}
 use Rattle.policy_names.specs.declared.entity_uid.EntityUID.{EntityUID}
@@ -11,7 +11,7 @@ use Rattle.policy_typing.specs.Conforms.{is_listed, is_listed_in, lists_ids, lis
 use Rattle.policy_scope.specs.Names.{choices_in, others_listed}
 use Rattle.conformance.specs.Ids.{unlisted_in, unlisted_in_all, unlisted_in_fields}
 use Rattle.conformance.specs.RequestRules.{listed_fault}
-use Rattle.conformance.proofs.Options.{none_first, none_rest, neither, both_true}
+use Rattle.conformance.proofs.Options.{none_first, none_rest, neither, both_true, same_answers}
 
 module _ (u : EntityUID) {X : Type 0} (f : List (List ℕ) → X) where
   pub kind_lists : (k : Kind) → option_map f (option_and_then (others_listed u) (choices_in k)) ≡ None → is_listed_in k u.eid ≡ true
@@ -113,3 +113,11 @@ module _ (schema : SchemaData) where
       by : (o : Option EntityUID) → IsUnlisted o → option_and_then (listed_fault schema) o ≡ None → o ≡ None
       by None k e = refl
       by (Some u) k e = absurd (cc (listed u e, k))
+
+  nothing : (o : Option EntityUID) → is_none o ≡ true → o ≡ None
+  nothing None h = refl
+  nothing (Some u) h = absurd (cc h)
+
+  -- a value holds listed ids alone exactly where none is found that is not
+  pub none_unlisted_is : (v : Val) → is_none (unlisted_in schema v) ≡ lists_ids schema v
+  none_unlisted_is v = same_answers (is_none (unlisted_in schema v)) (lists_ids schema v) (λ h. ids_listed v (nothing (unlisted_in schema v) h)) (λ h. ap is_none (none_unlisted v h))

@@ -25,17 +25,17 @@ use Rattle.policy_typing.specs.Conforms.{is_listed, lists_ids, lists_fields, Are
 use Rattle.conformance.specs.Misfits.{misfit, first_missing}
 use Rattle.conformance.specs.RequestRules.{unless}
 use Rattle.conformance.specs.StoreRules.{first_key, is_of, first_broken, declared_fault, attribute_fault, tag_fault, tags_fault, ancestor_fault, ancestors_fault, declared_entity_fault, typed_entity_fault, is_ancestor_if_above, has_its_ancestors, action_entity_fault, entity_fault, first_store_fault}
-use Rattle.conformance.specs.declared.store_rule.StoreRule.{StoreRule}
-use Rattle.conformance.specs.declared.store_rule.StoreRule.TheVariants.{TypeNotDeclared, IdNotListed, AttributeNotDeclared, AttributeOfAnotherType, AttributeHoldsUnlistedId, RequiredAttributeMissing, TagsNotAllowed, TagOfAnotherType, TagHoldsUnlistedId, AncestorNotAllowed, AncestorNotListed, ActionNotDeclared, ActionHasAttributes, ActionHasTags, ActionAncestorsDiffer}
+use Rattle.conformance_errors.specs.declared.store_rule.StoreRule.{StoreRule}
+use Rattle.conformance_errors.specs.declared.store_rule.StoreRule.TheVariants.{TypeNotDeclared, IdNotListed, AttributeNotDeclared, AttributeOfAnotherType, AttributeHoldsUnlistedId, RequiredAttributeMissing, TagsNotAllowed, TagOfAnotherType, TagHoldsUnlistedId, AncestorNotAllowed, AncestorNotListed, ActionNotDeclared, ActionHasAttributes, ActionHasTags, ActionAncestorsDiffer}
 use Rattle.conformance.specs.Laws.{StoreRulesAreExact}
 use Rattle.conformance.proofs.Options.{none_first, none_rest, neither, kept, keeps, no_fault, none_inside, both_true, same_answers, all_more, all_pass, pass_all}
 use Rattle.conformance.proofs.Members.{all_there, all_required, required_all, member_of, of_member}
 
 -- the value is of the type exactly where it is a member
-of_type : (t : Ty) (v : Val) → is_of t v ≡ true → Member t v
+pub of_type : (t : Ty) (v : Val) → is_of t v ≡ true → Member t v
 of_type t v h = member_of t v (no_fault (misfit all_there t v) h)
 
-type_has : (t : Ty) (v : Val) → Member t v → is_of t v ≡ true
+pub type_has : (t : Ty) (v : Val) → Member t v → is_of t v ≡ true
 type_has t v h = ap (λ o. not (is_some o)) (of_member t v h)
 
 no_key : (fs : Fields) → first_key fs ≡ None → fs ≡ no_fields
@@ -221,7 +221,7 @@ module _ (schema : SchemaData) (ok : IsSchema schema) (e : StoredEntity) where
   are_ancestors same =
       let below = pass_all (action_below schema e.uid) e.ancestors (all_more (λ u. has uid_cmp e.ancestors u ≡ true) (λ u. action_below schema e.uid u ≡ true) (λ u h. sym (same u) ∙ h) e.ancestors (each_has e.ancestors)) in
       let above = pass_all (is_ancestor_if_above e) schema.action_ids (all_more (λ a. action_at schema a.name ≡ Some a) (λ a. is_ancestor_if_above e a ≡ true)
-          (λ a is. above_if a (λ h. same a.name ∙ ap (λ o. option_map_or (λ b. has uid_cmp b.descendants e.uid) o false) is ∙ h)) schema.action_ids (each_found schema.action_ids ok.actions_ascend)) in
+      (λ a is. above_if a (λ h. same a.name ∙ ap (λ o. option_map_or (λ b. has uid_cmp b.descendants e.uid) o false) is ∙ h)) schema.action_ids (each_found schema.action_ids ok.actions_ascend)) in
       λ i. below i && above i
 
   -- an action's entity

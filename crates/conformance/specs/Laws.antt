@@ -1,5 +1,5 @@
 -- No rule is broken exactly where the request, the store conforms.
-use Rattle.std.specs.Prelude.{◌≡◌, ◌↔◌, true, None}
+use Rattle.std.specs.Prelude.{◌≡◌, ◌↔◌, ℕ, true, List, None, option_map}
 use Rattle.policy_store.specs.declared.request.Request.{Request}
 use Rattle.policy_store.specs.Request.{IsWhole}
 use Rattle.policy_store.specs.Store.{Store}
@@ -9,7 +9,10 @@ use Rattle.schema_core.specs.Schema.{SchemaData}
 use Rattle.schema_types.specs.Ty.{Ty}
 use Rattle.policy_types.specs.Member.{Member}
 use Rattle.policy_typing.specs.Conforms.{RequestConforms, StoreConforms}
-use Rattle.conformance.specs.Misfits.{misfit}
+use Rattle.policy_expressions.specs.Functions.{function_of}
+use Rattle.extension_types.specs.Table.{function_at, typed}
+use Rattle.extension_types.specs.Types.{Extensions}
+use Rattle.conformance.specs.Misfits.{knows, misfit}
 use Rattle.conformance.specs.RequestRules.{first_request_fault}
 use Rattle.conformance.specs.StoreRules.{first_store_fault}
 
@@ -24,3 +27,9 @@ RequestRulesAreExact = (schema : SchemaData) → IsSchema schema → (q : Reques
 -- a store breaks no rule exactly where it conforms
 abbrev pub StoreRulesAreExact : Type 0
 StoreRulesAreExact = (schema : SchemaData) → IsSchema schema → (s : Store) → (first_store_fault schema s ≡ None) ↔ StoreConforms schema s
+
+-- where each extension function is there under its name, nothing depends on which are there
+abbrev pub AllFunctionsAreKnown : Type 0
+AllFunctionsAreKnown =
+    (e : Extensions) → ((name : List ℕ) → function_at e.function_types name ≡ option_map (typed name) (function_of name)) →
+    (schema : SchemaData) (q : Request) → first_request_fault schema (knows e) q ≡ first_request_fault schema (λ _. true) q

@@ -7,7 +7,7 @@ use Rattle.policy_names.specs.declared.entity_uid.EntityUID.{EntityUID}
 use Rattle.policy_names.specs.Uid.{text_cmp, uid_cmp}
 use Rattle.policy_names.specs.Basename.{is_action_type}
 use Rattle.policy_values.specs.Value.{Val, Fields, no_fields, field}
-use Rattle.policy_store.specs.Store.{StoredEntity, Store}
+use Rattle.policy_store.specs.Store.{StoredEntity, Store, entity_at}
 use Rattle.schema_types.specs.declared.ty.AttributeType.{AttributeType}
 use Rattle.schema_types.specs.Attrs.{attr_at}
 use Rattle.schema_types.specs.Ty.{Ty, Attrs}
@@ -16,10 +16,10 @@ use Rattle.schema_core.specs.Schema.{SchemaData, TypeData, ActionData, type_at, 
 use Rattle.policy_typing.specs.Conforms.{is_listed, lists_ids}
 use Rattle.conformance.specs.Misfits.{misfit, first_missing}
 use Rattle.conformance.specs.RequestRules.{unless}
-use Rattle.conformance.specs.declared.store_rule.ConformanceError.{ConformanceError}
-use Rattle.conformance.specs.declared.store_rule.ConformanceError.TheVariants as refused
-use Rattle.conformance.specs.declared.store_rule.StoreRule.{StoreRule}
-use Rattle.conformance.specs.declared.store_rule.StoreRule.TheVariants.{TypeNotDeclared, IdNotListed, AttributeNotDeclared, AttributeOfAnotherType, AttributeHoldsUnlistedId, RequiredAttributeMissing, TagsNotAllowed, TagOfAnotherType, TagHoldsUnlistedId, AncestorNotAllowed, AncestorNotListed, ActionNotDeclared, ActionHasAttributes, ActionHasTags, ActionAncestorsDiffer}
+use Rattle.conformance_errors.specs.declared.store_rule.ConformanceError.{ConformanceError}
+use Rattle.conformance_errors.specs.declared.store_rule.ConformanceError.TheVariants as refused
+use Rattle.conformance_errors.specs.declared.store_rule.StoreRule.{StoreRule}
+use Rattle.conformance_errors.specs.declared.store_rule.StoreRule.TheVariants.{TypeNotDeclared, IdNotListed, AttributeNotDeclared, AttributeOfAnotherType, AttributeHoldsUnlistedId, RequiredAttributeMissing, TagsNotAllowed, TagOfAnotherType, TagHoldsUnlistedId, AncestorNotAllowed, AncestorNotListed, ActionNotDeclared, ActionHasAttributes, ActionHasTags, ActionAncestorsDiffer}
 
 -- the least key of fields
 abbrev pub first_key : Fields → Option (List ℕ)
@@ -65,22 +65,31 @@ module _ (schema : SchemaData) where
   ancestors_fault ty [] = None
   ancestors_fault ty (u ∷ us) = option_or (ancestor_fault ty u) (ancestors_fault ty us)
 
-  -- the first rule that an entity of a declared type breaks: of its id, its attributes, its tags, its ancestors
+  -- behind the rules of single attributes: none that is required is missing; then the rules of tags, and of ancestors
+  abbrev pub further_fault : StoredEntity → TypeData → Option StoreRule
+  further_fault e t =
+      option_or (option_map RequiredAttributeMissing (first_missing (attributes_in t.kind) e.attrs))
+      (option_or (tags_fault (tags_in t.kind) e.tags)
+      (ancestors_fault e.uid.entity_type e.ancestors))
+
+  -- the first rule that an entity of a declared type breaks: of its id, of its attributes, and then those
   abbrev pub declared_entity_fault : StoredEntity → TypeData → Option StoreRule
   declared_entity_fault e t =
       option_or (unless (is_listed schema e.uid) IdNotListed)
       (option_or (first_broken (attribute_fault (attributes_in t.kind)) e.attrs)
-      (option_or (option_map RequiredAttributeMissing (first_missing (attributes_in t.kind) e.attrs))
-      (option_or (tags_fault (tags_in t.kind) e.tags)
-      (ancestors_fault e.uid.entity_type e.ancestors))))
+      (further_fault e t))
 
   -- the first rule that an entity breaks that is no action's
   abbrev pub typed_entity_fault : StoredEntity → Option StoreRule
   typed_entity_fault e = option_map_or (declared_entity_fault e) (type_at schema e.uid.entity_type) (Some TypeNotDeclared)
 
+  -- each action of which the entity's action is a descendant is an ancestor of the entity
+  abbrev pub has_all_ancestors : StoredEntity → Bool
+  has_all_ancestors e = list_all (is_ancestor_if_above e) schema.action_ids
+
   -- the ancestors of the entity are those of its action: none is missing, and there is no other
   abbrev pub has_its_ancestors : StoredEntity → Bool
-  has_its_ancestors e = list_all (action_below schema e.uid) e.ancestors && list_all (is_ancestor_if_above e) schema.action_ids
+  has_its_ancestors e = list_all (action_below schema e.uid) e.ancestors && has_all_ancestors e
 
   -- the first rule that an action's entity breaks: the action is declared, the entity has no attributes and no tags,
   -- and its ancestors are those of the action
@@ -99,6 +108,14 @@ module _ (schema : SchemaData) where
   abbrev pub first_store_fault : Store → Option (EntityUID × StoreRule)
   first_store_fault [] = None
   first_store_fault (e ∷ es) = option_or (option_map (λ rule. (e.uid, rule)) (entity_fault e)) (first_store_fault es)
+
+-- the entity of an action with the id lacks the action as an ancestor
+abbrev pub lacks_it : Store → ActionData → EntityUID → Bool
+lacks_it s a uid = option_map_or (λ e. is_action_type uid.entity_type && not (has uid_cmp e.ancestors a.name)) (entity_at s uid) false
+
+-- the entity of an action with the id lacks one of these actions of which its action is a descendant
+abbrev pub lacks : List ActionData → Store → EntityUID → Bool
+lacks actions s uid = option_map_or (λ e. is_action_type uid.entity_type && not (list_all (is_ancestor_if_above e) actions)) (entity_at s uid) false
 
 -- the error names this entity and this rule. Memory is wanted only where there is a fault
 abbrev pub IsStoreFault : Option (EntityUID × StoreRule) → ConformanceError → Type 0

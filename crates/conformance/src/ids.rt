@@ -51,10 +51,7 @@ fn same_eid(one: &Eid, other: &Eid) -> bool
 }
 
 /// The ids that the id's type lists, where it is enumerated and does not list this one.
-pub(crate) fn choices_without<'a>(
-    schema: &'a ValidatorSchema,
-    uid: &EntityUID,
-) -> Option<&'a [Eid]>
+pub(crate) fn choices_without<'a>(schema: &'a ValidatorSchema, uid: &EntityUID) -> Option<&'a [Eid]>
     ensures { option_copied result ≡ choices_without schema.now uid.now }
 {
     let ty = schema.get_entity_type(uid.entity_type())?;
@@ -103,7 +100,10 @@ pub(crate) fn unlisted(
 pub(crate) fn lists_ids(schema: &ValidatorSchema, v: &Value) -> bool
     ensures { result ≡ lists_ids schema.now v.now }
 {
-    unlisted_in(schema, v).is_none()
+    match unlisted_in(schema, v) {
+        Some(_) => false,
+        None => true,
+    }
 }
 
 /// The first id in the value that its type does not list.

@@ -1,6 +1,6 @@
 //! The rules of requests and stores say what typing asks of them.
 
-ghost use Rattle.conformance.specs.Laws.{NothingIsWrongWithMembers, RequestRulesAreExact, StoreRulesAreExact};
+ghost use Rattle.conformance.specs.Laws.{NothingIsWrongWithMembers, RequestRulesAreExact, StoreRulesAreExact, AllFunctionsAreKnown};
 
 /// Where all extension functions are there, nothing is wrong exactly with the values of a type.
 pub fn nothing_is_wrong_with_members()
@@ -15,4 +15,9 @@ pub fn request_rules_are_exact()
 /// A store breaks no rule exactly where it conforms.
 pub fn store_rules_are_exact()
     ensures { StoreRulesAreExact }
+{}
+
+/// With all extensions, what is found of a request does not depend on the extensions.
+pub fn all_functions_are_known()
+    ensures { AllFunctionsAreKnown }
 {}

@@ -1,17 +1,16 @@
 //! Whether requests and stores conform to a schema.
 #![tactic(auto)]
 
-pub mod laws;
 mod ids;
+pub mod laws;
 mod misfits;
 mod request;
-mod request_error;
-mod store_rule;
+mod store;
 
-pub use request::validate_request;
-pub use request_error::{
-    InvalidContextError, InvalidPrincipalTypeError, InvalidResourceTypeError,
-    RequestValidationError, UndeclaredActionError, UndeclaredPrincipalTypeError,
-    UndeclaredResourceTypeError,
+pub use conformance_errors::{
+    ConformanceError, EntityDoesNotConform, InvalidContextError, InvalidPrincipalTypeError,
+    InvalidResourceTypeError, RequestValidationError, StoreRule, UndeclaredActionError,
+    UndeclaredPrincipalTypeError, UndeclaredResourceTypeError, entity_text, request_text,
 };
-pub use store_rule::{ConformanceError, EntityDoesNotConform, StoreRule};
+pub use request::validate_request;
+pub use store::conforms;

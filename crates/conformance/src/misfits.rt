@@ -83,11 +83,7 @@ pub(crate) fn misfit_of(extensions: &ExtensionSchemas<'_>, t: &Type, v: &Value) 
     }
 }
 
-fn primitive_misfit(
-    extensions: &ExtensionSchemas<'_>,
-    p: Primitive,
-    v: &Value,
-) -> Option<Misfit>
+fn primitive_misfit(extensions: &ExtensionSchemas<'_>, p: Primitive, v: &Value) -> Option<Misfit>
     ensures { result ≡ misfit (knows extensions.now) (primitive p) v.now }
 {
     let _functions = extensions;
@@ -99,11 +95,7 @@ fn primitive_misfit(
     }
 }
 
-fn extension_misfit(
-    extensions: &ExtensionSchemas<'_>,
-    name: &Name,
-    v: &Value,
-) -> Option<Misfit>
+fn extension_misfit(extensions: &ExtensionSchemas<'_>, name: &Name, v: &Value) -> Option<Misfit>
     ensures { result ≡ misfit (knows extensions.now) (extension name.now) v.now }
 {
     match v.kind() {
@@ -144,11 +136,7 @@ fn is_type(ty: &EntityType, name: &EntityType) -> bool
 }
 
 #[cycle(walk)]
-fn kind_misfit(
-    extensions: &ExtensionSchemas<'_>,
-    k: &EntityRecordKind,
-    v: &Value,
-) -> Option<Misfit>
+fn kind_misfit(extensions: &ExtensionSchemas<'_>, k: &EntityRecordKind, v: &Value) -> Option<Misfit>
     ensures { result ≡ misfit (knows extensions.now) (kind_of k.now) v.now }
 {
     match (k, v.kind()) {
@@ -172,11 +160,7 @@ fn kind_misfit(
 
 #[cycle(walk)]
 #[tactic(auto, using(crate::proofs::Sizes::size_in))]
-fn misfit_in_set(
-    extensions: &ExtensionSchemas<'_>,
-    t: &Type,
-    items: &Vec<Value>,
-) -> Option<Misfit>
+fn misfit_in_set(extensions: &ExtensionSchemas<'_>, t: &Type, items: &Vec<Value>) -> Option<Misfit>
     ensures { result ≡ misfit_all (knows extensions.now) t.now (vals_of items.now.items) }
 {
     for item in items {
@@ -198,7 +182,10 @@ pub(crate) fn record_misfit(
 ) -> Option<Misfit>
     ensures { result ≡ misfit (knows extensions.now) (record_of attrs.now tag) (rec (fields_of fields.now.entries)) }
 {
-    earlier(misfit_in_fields(extensions, attrs, tag, fields), first_missing(attrs, fields))
+    earlier(
+        misfit_in_fields(extensions, attrs, tag, fields),
+        first_missing(attrs, fields),
+    )
 }
 
 fn earlier(found: Option<(&Text, Misfit)>, missing: Option<&Text>) -> Option<Misfit>

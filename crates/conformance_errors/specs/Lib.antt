@@ -1,0 +1,4 @@
+pub mod InvalidTypes
+pub mod RuleText
+pub mod ValueText
+pub mod Written
