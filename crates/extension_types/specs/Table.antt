@@ -1,6 +1,6 @@
 -- The extensions and their functions, in their order.
-use Rattle.std.specs.Prelude.{◌≡◌, ℕ, List, [], ◌∷◌, ◌++◌, Option, Some, None, Contains, codes, map, find}
-use Rattle.std.specs.List.{flat_map, IsDistinct}
+use Rattle.std.specs.Prelude.{◌≡◌, ℕ, Bool, List, [], ◌∷◌, ◌++◌, Option, Some, None, Contains, codes, map, find}
+use Rattle.std.specs.List.{flat_map, list_any, IsDistinct}
 use Rattle.std.specs.Ordering.{is_eq}
 use Rattle.policy_names.specs.Uid.{text_cmp}
 use Rattle.schema_types.specs.Names.{union}
@@ -87,6 +87,10 @@ overloading_in es = union [] (flat_map (λ e. e.overloading) es)
 -- the function with the name, where there is one
 abbrev pub function_at : List FunctionType → List ℕ → Option FunctionType
 function_at fs name = find (λ f. is_eq (text_cmp name f.name)) fs
+
+-- whether there is one
+abbrev pub is_function : List FunctionType → List ℕ → Bool
+is_function fs name = list_any (λ f. is_eq (text_cmp name f.name)) fs
 
 abbrev pub names_of : List FunctionType → List (List ℕ)
 names_of fs = map (λ f. f.name) fs

@@ -1,6 +1,6 @@
 //! Extensions that are used together.
 
-use crate::gathered::{by_name, functions_of, overloading_of};
+use crate::gathered::{by_name, functions_of, have_function, overloading_of};
 use crate::{ExtensionFunctionType, ExtensionSchema};
 use policy_names::Name;
 use std::alloc::{AllocError, AllocFailed, Global};
@@ -80,7 +80,7 @@ impl<'a> ExtensionSchemas<'a> {
     ghost use Rattle.std.specs.List.Sorted.{IsStrictlySortedBy};
     ghost use Rattle.policy_names.specs.Uid.{text_cmp};
     ghost use Rattle.policy_expressions.specs.Functions.{function_of};
-    ghost use Rattle.extension_types.specs.Table.{all_extensions, functions_in, overloading_in, function_at, typed, names_of, AreOnce};
+    ghost use Rattle.extension_types.specs.Table.{all_extensions, functions_in, overloading_in, function_at, is_function, typed, names_of, AreOnce};
     ghost use Rattle.extension_types.specs.Refused.{IsRefused};
 
     /// These extensions. Errs with `FuncMultiplyDefined` exactly where a function has the name of an earlier one, and
@@ -125,6 +125,13 @@ impl<'a> ExtensionSchemas<'a> {
         ensures { option_copied result ≡ function_at self.now.function_types name.now }
     {
         self.function_types.get(name).copied()
+    }
+
+    /// Whether an extension has a function of this name. It takes no memory.
+    pub fn has_function(&self, name: &str) -> bool
+        ensures { result ≡ is_function self.now.function_types name.now }
+    {
+        have_function(self.extension_schemas, name)
     }
 
     /// Whether the type of a name is compared by `<` and `<=`.

@@ -3,7 +3,8 @@ ghost use Rattle.std.specs.Prelude.{◌≡◌, ◌++◌, IfOk, OnOk, MatchResult
 ghost use Rattle.std.specs.BTreeSet.{IsOrdered};
 ghost use Rattle.policy_names.specs.Uid.{text_cmp};
 ghost use Rattle.schema_types.specs.Names.{union};
-ghost use Rattle.extension_types.specs.Table.{functions_in, overloading_in, names_of, AreOnce};
+ghost use Rattle.std.specs.Ordering.{is_eq};
+ghost use Rattle.extension_types.specs.Table.{is_function, functions_in, overloading_in, names_of, AreOnce};
 ghost use Rattle.extension_types.specs.ByName.{AreByName, pointed};
 ghost use Rattle.extension_types.specs.Refused.{IsRefused};
 
@@ -12,6 +13,7 @@ use crate::{
 };
 use policy_names::Name;
 use std::alloc::{AllocError, Global};
+use std::cmp::Ordering;
 use std::collections::{BTreeMap, BTreeSet};
 
 // The functions of the extensions, in their order.
@@ -40,6 +42,33 @@ fn add_functions<'a>(
         functions.push(function)?;
     }
     Ok(())
+}
+
+// Whether one of the extensions has a function of this name.
+pub(crate) fn have_function(extension_schemas: &[ExtensionSchema], name: &str) -> bool
+    ensures { result ≡ is_function (functions_in extension_schemas.now) name.now }
+{
+    for schema in extension_schemas {
+        if has_function(schema, name) {
+            return true;
+        }
+    }
+    false
+}
+
+fn has_function(schema: &ExtensionSchema, name: &str) -> bool
+    ensures { result ≡ is_function schema.now.function_types name.now }
+{
+    schema
+        .function_types()
+        .iter()
+        .any(|function| is_named(function, name))
+}
+
+fn is_named(function: &ExtensionFunctionType, name: &str) -> bool
+    ensures { result ≡ is_eq (text_cmp name.now function.now.name) }
+{
+    name.cmp(function.name().as_str()) == Ordering::Equal
 }
 
 // The functions under their names.

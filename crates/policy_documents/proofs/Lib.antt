@@ -1,4 +1,3 @@
-mod Bounds
+mod Added
 pub mod KeptLimits
-mod Limited
 pub mod OneReading

@@ -17,17 +17,18 @@ use Rattle.schema_core.specs.Declarations.{IsSchemaOf, IsRefused, declared_outli
 use Rattle.schema_core.proofs.OneSchema.{one_schema}
 use Rattle.schema_declarations.specs.declared.fault.SchemaFault.{SchemaFault}
 use Rattle.schema_declarations.specs.declared.fault.SchemaFault.TheVariants as refused
-use Rattle.policy_documents.specs.Faults.{Then}
+use Rattle.document_places.specs.Faults.{Then}
 use Rattle.policy_documents.specs.Parts.{DocumentParts, parts_of}
 use Rattle.policy_documents.specs.Policies.{no_policies, policies_of}
-use Rattle.policy_documents.specs.Request.{request_of}
-use Rattle.policy_documents.specs.Limits.{limited_schema_of}
-use Rattle.policy_documents.specs.Entities.{entities_of}
-use Rattle.policy_documents.specs.Store.{IsStoreOf, IsStoreFrom, IsStoreFault}
+use Rattle.store_documents.specs.Request.{request_of}
+use Rattle.policy_documents.specs.Limits.{declarations_of}
+use Rattle.store_documents.specs.Entities.{entities_of}
+use Rattle.store_documents.specs.Store.{IsStoreOf, IsStoreFrom, IsStoreFault}
 use Rattle.policy_documents.specs.Reading.{IsRead, IsReadFrom, IsReadBehindSchema, IsReadBehindPolicies, IsReadBehindStore, IsSchemaFrom, IsSchemaFault, document, or_place}
 use Rattle.policy_documents.specs.declared.document.Document.{Document}
-use Rattle.policy_documents.specs.declared.place.Place.{Place}
-use Rattle.policy_documents.specs.declared.place.Place.TheVariants as place
+use Rattle.document_places.specs.declared.width.Width.{Width}
+use Rattle.document_places.specs.declared.place.Place.{Place}
+use Rattle.document_places.specs.declared.place.Place.TheVariants as place
 
 -- a reading that comes to a value comes to nothing else
 abbrev IsOne : {A : Type 0} → (Result A Place → Type 0) → Type 0
@@ -74,6 +75,9 @@ no_schema_place d s place.Schema is fault = fault
 no_schema_place d s (place.Policy i) is fault = fault
 no_schema_place d s (place.PolicyNested i) is fault = fault
 no_schema_place d s (place.PolicyDuplicate i) is fault = fault
+no_schema_place d s (place.UnknownTemplate i) is fault = fault
+no_schema_place d s (place.SlotMissing i) is fault = fault
+no_schema_place d s (place.SlotExtra i) is fault = fault
 no_schema_place d s (place.Entity i) is fault = fault
 no_schema_place d s (place.EntityDuplicate i) is fault = fault
 no_schema_place d s (place.EntityCycle i) is fault = fault
@@ -94,6 +98,9 @@ no_store_place es s place.Schema is fault = fault
 no_store_place es s (place.Policy i) is fault = fault
 no_store_place es s (place.PolicyNested i) is fault = fault
 no_store_place es s (place.PolicyDuplicate i) is fault = fault
+no_store_place es s (place.UnknownTemplate i) is fault = fault
+no_store_place es s (place.SlotMissing i) is fault = fault
+no_store_place es s (place.SlotExtra i) is fault = fault
 no_store_place es s (place.Entity i) is fault = fault
 no_store_place es s place.Request is fault = fault
 
@@ -102,18 +109,18 @@ store_from (Err p) x r f g = absurd (cc (f))
 store_from (Ok es) x (Ok s) f g = ap Ok (one_store es s x g f)
 store_from (Ok es) x (Err p) f g = absurd (no_store_place es x p f g)
 
-behind_store : (parts : DocumentParts) (schema : SchemaData) (policies : PolicySetData) (entities : Store) → IsOne (IsReadBehindStore parts schema policies entities)
-behind_store parts schema policies entities = one_then _ _ (one_value (or_place place.Request (request_of parts.request))) (λ request. one_value (Ok (document schema policies entities request)))
+behind_store : (w : Width) (parts : DocumentParts) (schema : SchemaData) (policies : PolicySetData) (entities : Store) → IsOne (IsReadBehindStore w parts schema policies entities)
+behind_store w parts schema policies entities = one_then _ _ (one_value (or_place place.Request (request_of w parts.request))) (λ request. one_value (Ok (document schema policies entities request)))
 
-behind_policies : (parts : DocumentParts) (schema : SchemaData) (policies : PolicySetData) → IsOne (IsReadBehindPolicies parts schema policies)
-behind_policies parts schema policies = one_then _ _ (store_from (entities_of [] parts.entities)) (behind_store parts schema policies)
+behind_policies : (w : Width) (parts : DocumentParts) (schema : SchemaData) (policies : PolicySetData) → IsOne (IsReadBehindPolicies w parts schema policies)
+behind_policies w parts schema policies = one_then _ _ (store_from (entities_of w [] parts.entities)) (behind_store w parts schema policies)
 
-behind_schema : (parts : DocumentParts) (schema : SchemaData) → IsOne (IsReadBehindSchema parts schema)
-behind_schema parts schema = one_then _ _ (one_value (policies_of no_policies parts.policies)) (behind_policies parts schema)
+behind_schema : (w : Width) (parts : DocumentParts) (schema : SchemaData) → IsOne (IsReadBehindSchema w parts schema)
+behind_schema w parts schema = one_then _ _ (one_value (policies_of w 0 no_policies parts.policies)) (behind_policies w parts schema)
 
-read_from : (parts : DocumentParts) → IsOne (IsReadFrom parts)
-read_from parts = one_then _ _ (schema_once (limited_schema_of parts.schema)) (behind_schema parts)
+read_from : (w : Width) (parts : DocumentParts) → IsOne (IsReadFrom w parts)
+read_from w parts = one_then _ _ (schema_once (declarations_of w parts.schema)) (behind_schema w parts)
 
-pub one_reading : (v : Data) (d : Document) (r : Result Document Place) → IsRead v (Ok d) → IsRead v r → r ≡ Ok d
+pub one_reading : (w : Width) (v : Data) (d : Document) (r : Result Document Place) → IsRead w v (Ok d) → IsRead w v r → r ≡ Ok d
 unfolding IsRead
-one_reading v d r f g = one_then _ _ (one_value (or_place place.Form (parts_of v))) read_from d r f g
+one_reading w v d r f g = one_then _ _ (one_value (or_place place.Form (parts_of v))) (read_from w) d r f g

@@ -1,13 +1,5 @@
-pub mod Body
-pub mod Entities
-pub mod Faults
 pub mod Laws
 pub mod Limits
 pub mod Parts
-pub mod PlaceText
 pub mod Policies
-pub mod Policy
 pub mod Reading
-pub mod Request
-pub mod Store
-pub mod Values

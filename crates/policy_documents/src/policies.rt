@@ -1,60 +1,136 @@
 //! The set of policies of a document.
 
-ghost use Rattle.std.specs.Prelude.{◌≡◌, false};
+ghost use Rattle.std.specs.Prelude.{◌≡◌, IfOk, MatchResult, None, Option};
+ghost use Rattle.policy_set.specs.declared.policy_set.PolicySetError.{PolicySetError};
 ghost use Rattle.serde_json.specs.View.{view, items_view};
-ghost use Rattle.policy_set.specs.Condition.{has_scope_slot};
-ghost use Rattle.policy_documents.specs.Faults.{ComesTo};
-ghost use Rattle.policy_documents.specs.Policies.{added_policy, added_template, no_policies, policies_of, template_read};
+ghost use Rattle.policy_set.specs.PolicySet.{PolicySetData, id_fault, IsNotAdded};
+ghost use Rattle.document_places.specs.Faults.{ComesTo, Fails};
+ghost use Rattle.policy_documents.specs.Policies.{added, added_link, added_read, added_template, no_policies, policies_of, slot_pairs, unless_fault, with_written};
 
-use crate::place::{DocumentFault, Place};
-use crate::policy::{PolicyRead, read_policy};
+use document_places::{DocumentFault, Place, Width};
+use entry_documents::{PolicyRead, TemplateLink, read_entry};
+use policy_expressions::{SlotId, SlotValues};
+use policy_names::EntityUID;
 use policy_set::{PolicySet, PolicySetError, Template};
 use serde_json::Value;
-use std::alloc::Global;
+use std::alloc::{AllocError, Global};
 
-// The policy that was read at the index, or its fault.
-fn template_at(index: usize, read: Option<PolicyRead>) -> Result<Template, DocumentFault>
-    ensures { ComesTo (λ t. t) result (template_read index read) }
+// The fault for which the policy at the index is not added.
+fn fault_at(index: usize, error: PolicySetError) -> DocumentFault
+    ensures { (fault : Option PolicySetError) (set : PolicySetData) → IsNotAdded fault error → Fails result (unless_fault index fault set) }
+{
+    match error {
+        PolicySetError::DuplicateId(_) => DocumentFault::Place(Place::PolicyDuplicate(index)),
+        PolicySetError::UnknownTemplate(_) => DocumentFault::Place(Place::UnknownTemplate(index)),
+        PolicySetError::SlotMissing(_) => DocumentFault::Place(Place::SlotMissing(index)),
+        PolicySetError::SlotExtra(_) => DocumentFault::Place(Place::SlotExtra(index)),
+        PolicySetError::OutOfMemory => DocumentFault::OutOfMemory,
+    }
+}
+
+// Adds a template, or a static policy where no slot stands in its scope.
+fn add_written(policies: &mut PolicySet, template: Template) -> Result<(), PolicySetError>
+    ensures { MatchResult result (λ _. (id_fault policies.old template.id ≡ None) × (policies.new ≡ with_written template policies.old)) (IsNotAdded (id_fault policies.old template.id)) }
+{
+    if template.has_slot() {
+        policies.add_template(template)
+    } else {
+        policies.add_static(template)
+    }
+}
+
+fn add_template(
+    policies: &mut PolicySet,
+    index: usize,
+    template: Template,
+) -> Result<(), DocumentFault>
+    ensures { ComesTo (λ _. policies.new) result (added_template index policies.old template) }
+{
+    match add_written(policies, template) {
+        Ok(()) => Ok(()),
+        Err(error) => Err(fault_at(index, error)),
+    }
+}
+
+// The ids for slots, each beside its slot.
+fn slot_pairs(alloc: Global, values: SlotValues) -> Result<Vec<(SlotId, EntityUID)>, AllocError>
+    ensures { IfOk result (λ v. v.items ≡ slot_pairs values) }
+{
+    let SlotValues {
+        principal,
+        resource,
+    } = values;
+    let mut pairs = Vec::new(alloc);
+    if let Some(principal) = principal {
+        pairs.push((SlotId::Principal, principal))?;
+    }
+    if let Some(resource) = resource {
+        pairs.push((SlotId::Resource, resource))?;
+    }
+    Ok(pairs)
+}
+
+fn add_link(
+    alloc: Global,
+    policies: &mut PolicySet,
+    index: usize,
+    link: TemplateLink,
+) -> Result<(), DocumentFault>
+    ensures { ComesTo (λ _. policies.new) result (added_link index policies.old link) }
+{
+    let TemplateLink {
+        id,
+        template,
+        values,
+    } = link;
+    let pairs = slot_pairs(alloc, values)?;
+    match policies.link(&template, id, pairs) {
+        Ok(()) => Ok(()),
+        Err(error) => Err(fault_at(index, error)),
+    }
+}
+
+fn add_read(
+    alloc: Global,
+    policies: &mut PolicySet,
+    index: usize,
+    read: Option<PolicyRead>,
+) -> Result<(), DocumentFault>
+    ensures { ComesTo (λ _. policies.new) result (added_read index policies.old read) }
 {
     match read {
-        Some(PolicyRead::Policy(template)) => Ok(template),
+        Some(PolicyRead::Policy(template)) => add_template(policies, index, template),
+        Some(PolicyRead::Link(link)) => add_link(alloc, policies, index, link),
         Some(PolicyRead::Nested) => Err(DocumentFault::Place(Place::PolicyNested(index))),
         None => Err(DocumentFault::Place(Place::Policy(index))),
     }
 }
 
-fn add_template(policies: &mut PolicySet, template: Template) -> Result<(), DocumentFault>
-    requires { has_scope_slot template ≡ false }
-    ensures { ComesTo (λ _. policies.new) result (added_template policies.old template) }
+// Adds what the value is: a policy, a template or a link.
+fn add_entry(
+    alloc: Global,
+    width: Width,
+    policies: &mut PolicySet,
+    index: usize,
+    value: &Value,
+) -> Result<(), DocumentFault>
+    ensures { ComesTo (λ _. policies.new) result (added width index policies.old (view value.now)) }
 {
-    let index = policies.len();
-    match policies.add_static(template) {
-        Ok(()) => Ok(()),
-        Err(PolicySetError::DuplicateId(_)) => Err(DocumentFault::Place(Place::PolicyDuplicate(
-            index,
-        ))),
-        Err(PolicySetError::OutOfMemory) => Err(DocumentFault::OutOfMemory),
-    }
-}
-
-/// Adds the policy that the value is.
-#[tactic(auto, unfolding(crate::specs::Policies::added_policy))]
-fn add_policy(alloc: Global, policies: &mut PolicySet, value: &Value) -> Result<(), DocumentFault>
-    ensures { ComesTo (λ _. policies.new) result (added_policy policies.old (view value.now)) }
-{
-    let index = policies.len();
-    let read = read_policy(alloc, value)?;
-    let template = template_at(index, read)?;
-    add_template(policies, template)
+    let read = read_entry(alloc, width, value)?;
+    add_read(alloc, policies, index, read)
 }
 
 /// The policies of the items; else the place of the first fault.
-pub fn read_policies(alloc: Global, items: &[Value]) -> Result<PolicySet, DocumentFault>
-    ensures { ComesTo (λ s. s) result (policies_of no_policies (items_view items.now)) }
+pub fn read_policies(
+    alloc: Global,
+    width: Width,
+    items: &[Value],
+) -> Result<PolicySet, DocumentFault>
+    ensures { ComesTo (λ s. s) result (policies_of width 0 no_policies (items_view items.now)) }
 {
     let mut policies = PolicySet::new(alloc);
-    for item in items {
-        add_policy(alloc, &mut policies, item)?;
+    for (index, item) in items.iter().enumerate() {
+        add_entry(alloc, width, &mut policies, index, item)?;
     }
     Ok(policies)
 }

@@ -6,11 +6,11 @@ ghost use Rattle.std.specs.Prelude.{option_and_then, true};
 ghost use Rattle.serde_json.specs.Find.{as_array, as_object};
 ghost use Rattle.serde_json.specs.View.{view, items_view, members_view};
 ghost use Rattle.schema_documents.specs.Schema.{schema_of};
-ghost use Rattle.policy_documents.specs.Faults.{MayComeTo};
-ghost use Rattle.policy_documents.specs.Limits.{is_limited_to, types_keep_limits, actions_keep_limits, keeps_limits, limited_schema_of};
+ghost use Rattle.document_places.specs.Faults.{MayComeTo};
+ghost use Rattle.policy_documents.specs.Limits.{is_limited_to, types_keep_limits, actions_keep_limits, keeps_limits, declarations_of};
 ghost use Rattle.policy_documents.specs.Reading.{IsSchemaFrom};
 
-use crate::place::{DocumentFault, Place};
+use document_places::{DocumentFault, Place, Width};
 use json_parts::has_only;
 use schema_core::{SchemaFault, ValidatorSchema};
 use schema_documents::read_declarations;
@@ -66,7 +66,7 @@ fn list_keeps_limits(actions: Option<&Value>) -> bool
     }
 }
 
-/// Whether the schema keeps the limits of documents: an entity type says at most what it is a member of, an action at most
+/// Whether the schema keeps the limits of documents over ids: an entity type says at most what it is a member of, an action at most
 /// its id, what it applies to, and what it is a member of.
 pub fn keeps_limits(value: &Value) -> bool
     ensures { result ≡ keeps_limits (view value.now) }
@@ -88,11 +88,16 @@ pub fn read_schema(alloc: Global, value: &Value) -> Result<ValidatorSchema, Docu
     }
 }
 
-/// The schema that the value declares, where it keeps the limits of documents; what goes past them is a fault of form.
-pub fn read_limited_schema(alloc: Global, value: &Value) -> Result<ValidatorSchema, DocumentFault>
-    ensures { MayComeTo result (IsSchemaFrom (limited_schema_of (view value.now))) }
+/// The schema that the value declares, as far as the width goes: documents over ids keep the limits of schemas, and what
+/// goes past them is a fault of form.
+pub(crate) fn read_schema_within(
+    alloc: Global,
+    width: Width,
+    value: &Value,
+) -> Result<ValidatorSchema, DocumentFault>
+    ensures { MayComeTo result (IsSchemaFrom (declarations_of width (view value.now))) }
 {
-    if !keeps_limits(value) {
+    if width.asks_limits() && !keeps_limits(value) {
         return Err(DocumentFault::Place(Place::Schema));
     }
     read_schema(alloc, value)

@@ -16,7 +16,7 @@ use Rattle.policy_values.proofs.ReadSteps.{reads_grammars}
 use Rattle.json_parts.specs.Lists.{with_first, with_field}
 use Rattle.json_parts.specs.Names.{uid_of}
 use Rattle.json_parts.proofs.NameTest.{name_told}
-use Rattle.policy_documents.specs.Values.{extension_form, values_of, value_entries_of}
+use Rattle.value_documents.specs.Values.{extension_form, values_of, value_entries_of}
 use Rattle.policy_writing.specs.ValueJson.{items_data, members_data, uid_data}
 use Rattle.policy_writing.specs.ReadBack.{IsReadBack}
 

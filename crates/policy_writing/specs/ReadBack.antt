@@ -1,6 +1,6 @@
 -- Values that are written and read again.
 use Rattle.std.specs.Prelude.{◌≡◌, Some}
-use Rattle.policy_documents.specs.Values.{value_of}
+use Rattle.value_documents.specs.Values.{value_of}
 use Rattle.policy_values.specs.Value.{Val}
 use Rattle.serde_json.specs.Data.{Data}
 use Rattle.policy_writing.specs.ValueJson.{value_data}

@@ -5,7 +5,7 @@ ghost use Rattle.std.specs.List.{AllByRecursion};
 ghost use Rattle.policy_values.specs.Value.{long, entity, decimal, ip, datetime, duration, fields_of};
 ghost use Rattle.serde_json.specs.View.{view};
 ghost use Rattle.json_parts.specs.Names.{uid_of};
-ghost use Rattle.policy_documents.specs.Values.{value_of, value_fields_of};
+ghost use Rattle.value_documents.specs.Values.{value_of, value_fields_of};
 ghost use Rattle.policy_writing.specs.ValueJson.{pair_data, uid_data, alone, value_data, fields_data};
 ghost use Rattle.policy_writing.specs.ReadBack.{IsReadBack, IsWritten};
 

@@ -4,5 +4,5 @@ use Rattle.policy_documents.specs.Policies.{no_policies, policies_of}
 use Rattle.policy_documents.proofs.policies.read_policies.Given as goal
 
 -- with the policies so far, what is left gives all
-abbrev pub invariant-loop-item : goal.invariant-loop-item
-invariant-loop-item l = policies_of l.policies (items_view (drop l.item-index l.items)) ≡ policies_of no_policies (items_view l.items)
+abbrev pub invariant-loop-index : goal.invariant-loop-index
+invariant-loop-index l = policies_of l.width l.index l.policies (items_view (drop l.index l.items)) ≡ policies_of l.width 0 no_policies (items_view l.items)

@@ -7,7 +7,7 @@ use Rattle.policy_values.specs.ValueView.{val_of}
 use Rattle.serde_json.specs.Data.{array, object}
 use Rattle.serde_json.specs.View.{items_of, members_view}
 use Rattle.serde_json.proofs.Views.{view-Array, view-Object}
-use Rattle.policy_documents.specs.Values.{value_fields_of}
+use Rattle.value_documents.specs.Values.{value_fields_of}
 use Rattle.policy_writing.specs.ReadBack.{IsReadBack}
 use Rattle.policy_writing.specs.ValueJson.{value_data}
 use Rattle.policy_writing.proofs.ReadBack.{set_back, fields_back}

@@ -1,0 +1,3 @@
+mod Actions
+mod Bounds
+pub mod Limited

@@ -1,0 +1,5 @@
+pub mod Body
+pub mod Limits
+pub mod Link
+pub mod Policy
+pub mod Scope

@@ -1,0 +1,4 @@
+pub mod Entities
+pub mod Fields
+pub mod Request
+pub mod Store
