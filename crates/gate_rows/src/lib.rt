@@ -8,8 +8,6 @@ mod calls;
 #[cfg(test)]
 mod checks;
 #[cfg(test)]
-mod conditions;
-#[cfg(test)]
 mod documents;
 #[cfg(test)]
 mod expressions;
