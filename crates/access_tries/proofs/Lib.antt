@@ -1,0 +1,4 @@
+pub mod Chains
+pub mod Merging
+pub mod Order
+pub mod Unions

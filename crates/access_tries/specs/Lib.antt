@@ -1,0 +1,4 @@
+pub mod Edges
+pub mod Paths
+pub mod Table
+pub mod Walks
