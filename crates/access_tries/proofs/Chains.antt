@@ -96,6 +96,24 @@ closed_last old n l = record { each = λ i h. here i h (cases_lt (length old) i)
         let same : i ≡ length old = omega (arith, h, below) in
         rw same (rw (links_of_some (old ++ n ∷ []) (length old) n [] (slot_end old n) l) tt)
 
+pub ordered_more : (old new : Table) (n : NodeData) (e : Edge) (number : ℕ) → n.links ≡ record { edge = e; number = number } ∷ [] → Keeps (length (old ++ n ∷ [])) (old ++ n ∷ []) new → IsOrdered (length (old ++ n ∷ [])) new → IsOrdered (length old) new
+ordered_more old new n e number l k o = record { each = λ i h. here i h (cases_lt (length old) i) }
+  where
+    here : (i : ℕ) → length old ≤ i → (length old < i) ⊎ (i ≤ length old) → Ascend (links_at new i)
+    here i h (inl above) = o.each i (omega (arith, above, longer_by_one old n))
+    here i h (inr below) =
+        let same : i ≡ length old = omega (arith, h, below) in
+        rw same (rw (links_of_some new (length old) n _ (slot_now old new n k) l) (tt, tt))
+
+pub ordered_last : (old : Table) (n : NodeData) → n.links ≡ [] → IsOrdered (length old) (old ++ n ∷ [])
+ordered_last old n l = record { each = λ i h. here i h (cases_lt (length old) i) }
+  where
+    here : (i : ℕ) → length old ≤ i → (length old < i) ⊎ (i ≤ length old) → Ascend (links_at (old ++ n ∷ []) i)
+    here i h (inl above) = rw (ap (λ o. option_map_or (λ m. m.links) o []) (slice_get_past (old ++ n ∷ []) i (omega (arith, above, longer_by_one old n)))) tt
+    here i h (inr below) =
+        let same : i ≡ length old = omega (arith, h, below) in
+        rw same (rw (links_of_some (old ++ n ∷ []) (length old) n [] (slot_end old n) l) tt)
+
 take_whole : {X : Type 0} (xs : List X) → take (length xs) xs ≡ xs
 take_whole [] = refl
 take_whole (x ∷ xs) = ap (λ ys. x ∷ ys) (take_whole xs)

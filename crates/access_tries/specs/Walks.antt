@@ -1,7 +1,9 @@
 -- Walks through a table while it grows.
-use Rattle.std.specs.Prelude.{◌≡◌, ℕ, ◌<◌, ◌+◌, ◌⊎◌, ◌&&◌, Bool, true, false, List, [], ◌∷◌, length, drop, slice_get, Option, is_some}
+use Rattle.std.specs.Prelude.{◌≡◌, ℕ, ◌<◌, ◌+◌, ◌⊎◌, ◌&&◌, Bool, true, false, List, [], ◌∷◌, length, drop, slice_get, Option, is_some, map}
 use Rattle.std.specs.List.{list_any, AllByRecursion}
 use Rattle.std.specs.declared.cmp.Ordering.TheVariants.{Less}
+use Rattle.std.specs.declared.vec.Vec.{Vec}
+use Rattle.std.specs.declared.alloc.Global.{Global}
 use Rattle.access_tries.specs.declared.edge.Edge.{Edge}
 use Rattle.access_tries.specs.declared.table.Link.{Link}
 use Rattle.access_tries.specs.Edges.{Address, edge_cmp, edge_eq}
@@ -24,6 +26,10 @@ IsBeforeAll e ls = AllByRecursion (λ l. edge_cmp e l.edge ≡ Less) ls
 -- a path that begins with this edge, in one of these links
 abbrev pub any_link : (Option NodeData → Bool) → Table → Edge → Address → List Link → Bool
 any_link f ns e es ls = list_any (λ l. edge_eq l.edge e && at_path f ns l.number es) ls
+
+-- the addresses that vectors of edges are
+abbrev pub addresses_in : List (Vec Edge Global) → List Address
+addresses_in vs = map (λ v. v.items) vs
 
 -- from this number on each node leads by one edge to the next, and the last one nowhere
 abbrev pub IsChain : Table → ℕ → Address → Bool → Type 0

@@ -2,8 +2,10 @@
 #![tactic(auto)]
 
 mod edge;
+mod least;
 mod table;
 mod tries;
 
 pub use edge::{AccessPath, EntityRoot, Step};
+pub use least::least_trie;
 pub use tries::RootAccessTrie;
