@@ -1,4 +1,6 @@
-pub mod Chains
-pub mod Merging
-pub mod Order
-pub mod Unions
+mod Addresses
+mod Chains
+mod Merging
+mod Order
+mod UnionLaws
+mod Unions

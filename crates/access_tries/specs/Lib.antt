@@ -1,4 +1,5 @@
 pub mod Edges
+pub mod Laws
 pub mod Paths
 pub mod Table
 pub mod Walks

@@ -7,7 +7,8 @@ use Rattle.std.specs.declared.alloc.Global.{Global}
 use Rattle.access_tries.specs.declared.edge.Edge.{Edge}
 use Rattle.access_tries.specs.declared.table.Link.{Link}
 use Rattle.access_tries.specs.Edges.{Address, edge_cmp, edge_eq}
-use Rattle.access_tries.specs.Table.{Table, NodeData, at_path, links_at, has_mark}
+use Rattle.access_tries.specs.Table.{Table, NodeData, at_path, links_at, has_mark, leads, is_marked}
+use Rattle.access_tries.specs.Paths.{is_front, is_same}
 
 -- the first nodes are as before
 abbrev pub Keeps : ℕ → Table → Table → Type 0
@@ -30,6 +31,11 @@ any_link f ns e es ls = list_any (λ l. edge_eq l.edge e && at_path f ns l.numbe
 -- the addresses that vectors of edges are
 abbrev pub addresses_in : List (Vec Edge Global) → List Address
 addresses_in vs = map (λ v. v.items) vs
+
+-- a trie with exactly these addresses and their fronts, marked at all their ends or nowhere
+pub record IsOf (addresses : List Address) (mark : Bool) (t : Table) : Type 0 where
+  pub paths : (es : Address) → leads t es ≡ list_any (is_front es) addresses
+  pub marks : (es : Address) → is_marked t es ≡ (mark && list_any (is_same es) addresses)
 
 -- from this number on each node leads by one edge to the next, and the last one nowhere
 abbrev pub IsChain : Table → ℕ → Address → Bool → Type 0

@@ -1,11 +1,9 @@
 //! The least trie that has given paths and demands.
 
-ghost use Rattle.std.specs.Prelude.{◌≡◌, ◌<◌, ◌&&◌, ◌++◌, [], ◌∷◌, map, false, length, IfOk, OnOk};
-ghost use Rattle.std.specs.List.{list_any};
-ghost use Rattle.access_tries.specs.Edges.{Address};
-ghost use Rattle.access_tries.specs.Table.{IsClosed, IsOrdered, leads, is_marked};
-ghost use Rattle.access_tries.specs.Walks.{Keeps, IsChain, addresses_in};
-ghost use Rattle.access_tries.specs.Paths.{address_of, demand_of, is_front, is_same, IsLeast};
+ghost use Rattle.std.specs.Prelude.{◌≡◌, ◌<◌, ◌++◌, [], ◌∷◌, map, false, length, IfOk, OnOk};
+ghost use Rattle.access_tries.specs.Table.{IsClosed, IsOrdered};
+ghost use Rattle.access_tries.specs.Walks.{Keeps, IsChain, IsOf, addresses_in};
+ghost use Rattle.access_tries.specs.Paths.{address_of, demand_of, IsLeast};
 
 use crate::edge::{AccessPath, Edge};
 use crate::table::{Link, Node};
@@ -85,13 +83,8 @@ fn add_edges(edges: &mut Vec<Edge>, path: &AccessPath) -> Result<(), AllocError>
 }
 
 // The trie of all these addresses, half by half, so that no trie is copied more often than halves are made.
-fn all_of(
-    alloc: Global,
-    addresses: &[Vec<Edge>],
-    mark: bool,
-) -> Result<RootAccessTrie, AllocError>
-    ensures paths { IfOk result (λ t. (es : Address) → leads t es ≡ list_any (is_front es) (addresses_in addresses.now)) }
-    ensures marks { IfOk result (λ t. (es : Address) → is_marked t es ≡ (mark && list_any (is_same es) (addresses_in addresses.now))) }
+fn all_of(alloc: Global, addresses: &[Vec<Edge>], mark: bool) -> Result<RootAccessTrie, AllocError>
+    ensures { IfOk result (IsOf (addresses_in addresses.now) mark) }
 {
     match addresses {
         [] => Ok(RootAccessTrie::new(alloc)),
@@ -107,8 +100,7 @@ fn all_of(
 
 // The trie of one address.
 fn trie_of(alloc: Global, edges: &[Edge], mark: bool) -> Result<RootAccessTrie, AllocError>
-    ensures paths { IfOk result (λ t. (es : Address) → leads t es ≡ is_front es edges.now) }
-    ensures marks { IfOk result (λ t. (es : Address) → is_marked t es ≡ (mark && is_same es edges.now)) }
+    ensures { IfOk result (IsOf (edges.now ∷ []) mark) }
 {
     let mut nodes = Vec::new(alloc);
     chain(alloc, &mut nodes, edges, mark)?;
@@ -116,12 +108,7 @@ fn trie_of(alloc: Global, edges: &[Edge], mark: bool) -> Result<RootAccessTrie, 
 }
 
 // Appends one node an edge, and a last one.
-fn chain(
-    alloc: Global,
-    nodes: &mut Vec<Node>,
-    edges: &[Edge],
-    mark: bool,
-) -> Result<(), AllocError>
+fn chain(alloc: Global, nodes: &mut Vec<Node>, edges: &[Edge], mark: bool) -> Result<(), AllocError>
     ensures kept { OnOk result (Keeps (length nodes.old.items) nodes.old.items nodes.new.items) }
     ensures longer { OnOk result (length nodes.old.items < length nodes.new.items) }
     ensures closed { OnOk result (IsClosed (length nodes.old.items) nodes.new.items) }

@@ -2,10 +2,11 @@
 #![tactic(auto)]
 
 mod edge;
+pub mod laws;
 mod least;
 mod table;
 mod tries;
 
 pub use edge::{AccessPath, EntityRoot, Step};
 pub use least::least_trie;
-pub use tries::RootAccessTrie;
+pub use tries::{AccessTrie, RootAccessTrie};
