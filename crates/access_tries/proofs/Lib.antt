@@ -1,4 +1,5 @@
 mod Addresses
+mod Behind
 mod Chains
 mod Merging
 mod Order

@@ -127,7 +127,7 @@ pub(crate) fn compare(a: &Edge, b: &Edge) -> Ordering
 }
 
 // The order of roots, which is that of their edges.
-fn compare_roots(a: &EntityRoot, b: &EntityRoot) -> Ordering
+pub(crate) fn compare_roots(a: &EntityRoot, b: &EntityRoot) -> Ordering
     ensures { result ≡ edge_cmp (Root a.now) (Root b.now) }
 {
     match (a, b) {

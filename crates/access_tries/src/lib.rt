@@ -6,7 +6,9 @@ pub mod laws;
 mod least;
 mod table;
 mod tries;
+mod views;
 
 pub use edge::{AccessPath, EntityRoot, Step};
 pub use least::least_trie;
 pub use tries::{AccessTrie, RootAccessTrie};
+pub use views::TrieRef;

@@ -1,10 +1,14 @@
 //! Tries of access paths.
 
-ghost use Rattle.std.specs.Prelude.{◌≡◌, [], IfOk, OnOk, OnErr};
+ghost use Rattle.std.specs.Prelude.{◌≡◌, [], IfOk, OnOk, OnErr, MatchOption};
 ghost use Rattle.access_tries.specs.Table.{IsTable, is_marked};
 ghost use Rattle.access_tries.specs.Paths.{IsUnion};
+ghost use Rattle.access_tries.specs.Views.{LeadsNowhere, LeadsTo, whole};
+ghost use Rattle.access_tries.specs.declared.edge.Edge.TheVariants.{Root};
 
+use crate::edge::EntityRoot;
 use crate::table::{Node, mark_of, unite};
+use crate::views::TrieRef;
 use std::alloc::{AllocError, Global};
 use std::marker::Model;
 
@@ -35,6 +39,13 @@ impl RootAccessTrie {
         RootAccessTrie {
             nodes: Vec::new(alloc),
         }
+    }
+
+    /// What is read from a root, where something is.
+    pub fn trie(&self, root: &EntityRoot) -> Option<TrieRef<'_>>
+        ensures { MatchOption result (LeadsNowhere (Root root.now) (whole self.now)) (LeadsTo (Root root.now) (whole self.now)) }
+    {
+        TrieRef::new(&self.nodes, 0).ancestors_from(root)
     }
 
     // The trie that a table is.
@@ -109,6 +120,13 @@ impl AccessTrie {
         let united = self.union(alloc, other)?;
         *self = united;
         Ok(())
+    }
+
+    /// The trie, borrowed.
+    pub fn as_trie_ref(&self) -> TrieRef<'_>
+        ensures { result ≡ whole self.now }
+    {
+        TrieRef::new(&self.nodes, 0)
     }
 
     /// Whether the value is itself asked for as an ancestor.
