@@ -4,13 +4,13 @@ use Rattle.std.specs.Prelude.{option_map, find}
 use Rattle.std.specs.Option.{option_map_or}
 use Rattle.std.specs.List.{AllByRecursion}
 use Rattle.std.specs.Ordering.{is_eq, ordering_reverse}
-use Rattle.std.specs.declared.cmp.Ordering.TheVariants.{Less, Equal, Greater}
+use Rattle.std.specs.declared.cmp.Ordering.TheVariants.{Less}
 use Rattle.policy_names.proofs.Ties.{equal_of}
 use Rattle.access_tries.specs.declared.edge.Edge.{Edge}
 use Rattle.access_tries.specs.declared.table.Link.{Link}
 use Rattle.access_tries.specs.Edges.{Address, edge_cmp, edge_eq}
 use Rattle.access_tries.specs.Table.{Table, NodeData, at_path, has_mark, links_at, IsBefore, Ascend, IsTable}
-use Rattle.access_tries.specs.Views.{ViewData, LeadsNowhere, LeadsTo, number_at}
+use Rattle.access_tries.specs.Views.{LeadsNowhere, LeadsTo, number_at}
 use Rattle.access_tries.specs.Walks.{any_link}
 use Rattle.access_tries.proofs.Order.{edge_total, exact_edge}
 

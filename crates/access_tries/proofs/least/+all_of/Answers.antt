@@ -1,6 +1,5 @@
-use Rattle.std.proofs.Common.{◌||◌, ap, ◌∙◌}
 use Rattle.std.proofs.lemmas.Result.{IfOk-weaker}
-use Rattle.access_tries.specs.Paths.{is_front, is_same, IsUnion}
+use Rattle.access_tries.specs.Paths.{IsUnion}
 use Rattle.access_tries.specs.Walks.{IsOf, addresses_in}
 use Rattle.access_tries.proofs.Addresses.{none_in, none_of, halves_of}
 use Rattle.access_tries.proofs.least.+all_of.Goals as goal

@@ -1,4 +1,4 @@
-use Rattle.std.proofs.Common.{◌≡◌, ◌-◌, ◌∷◌, refl, sym, ap, ◌∙◌, subst, length, take, drop, arith}
+use Rattle.std.proofs.Common.{◌-◌, ◌∷◌, ap, ◌∙◌, subst, length, take, drop, arith}
 use Rattle.access_tries.specs.Walks.{IsChain}
 use Rattle.access_tries.proofs.Chains.{chain_kept, chain_more, closed_more, ordered_more, chain_last, parts_of, none_of}
 use Rattle.access_tries.proofs.least.+chain.Goals as goal

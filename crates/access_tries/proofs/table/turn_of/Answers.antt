@@ -1,4 +1,4 @@
-use Rattle.std.proofs.Common.{◌≡◌, ◌≢◌, ◌<◌, sym, ◌∙◌, arith}
+use Rattle.std.proofs.Common.{sym, ◌∙◌, arith}
 use Rattle.access_tries.proofs.Merging.{before_own, before_rest, takes_equal, before_equal, other_way}
 use Rattle.access_tries.proofs.table.turn_of.Goals as goal
 
