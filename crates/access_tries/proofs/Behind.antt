@@ -1,0 +1,47 @@
+-- An edge leads to the node of the one link that has it.
+use Rattle.std.proofs.Common.{◌≡◌, ℕ, Bool, true, false, ◌&&◌, ◌||◌, cond, List, [], ◌∷◌, Option, Some, None, is_some, refl, ap, ◌∙◌, subst, arith}
+use Rattle.std.specs.Prelude.{option_map, find}
+use Rattle.std.specs.Option.{option_map_or}
+use Rattle.std.specs.List.{AllByRecursion}
+use Rattle.std.specs.Ordering.{is_eq, ordering_reverse}
+use Rattle.std.specs.declared.cmp.Ordering.TheVariants.{Less}
+use Rattle.policy_names.proofs.Ties.{equal_of}
+use Rattle.access_tries.specs.declared.edge.Edge.{Edge}
+use Rattle.access_tries.specs.declared.table.Link.{Link}
+use Rattle.access_tries.specs.Edges.{Address, edge_cmp, edge_eq}
+use Rattle.access_tries.specs.Table.{Table, NodeData, at_path, has_mark, links_at, IsBefore, Ascend, IsTable}
+use Rattle.access_tries.specs.Views.{LeadsNowhere, LeadsTo, number_at}
+use Rattle.access_tries.specs.Walks.{any_link}
+use Rattle.access_tries.proofs.Order.{edge_total, exact_edge}
+
+-- behind an edge there is no other link with it
+other : (e : Edge) (l m : Link) → edge_eq l.edge e ≡ true → IsBefore l m → edge_eq m.edge e ≡ false
+other e l m same before =
+    let is : l.edge ≡ e = exact_edge l.edge e (equal_of (edge_cmp l.edge e) same) in
+    ap is_eq (edge_total.antisymm m.edge e ∙ ap ordering_reverse (subst (λ a. edge_cmp a m.edge ≡ Less) is before))
+
+none_behind : (f : Option NodeData → Bool) (ns : Table) (e : Edge) (es : Address) (l : Link) (ls : List Link) → edge_eq l.edge e ≡ true → AllByRecursion (IsBefore l) ls → any_link f ns e es ls ≡ false
+none_behind f ns e es l [] same all = refl
+none_behind f ns e es l (m ∷ ms) same all =
+    ap (λ b. (b && at_path f ns m.number es) || any_link f ns e es ms) (other e l m same all.0) ∙ none_behind f ns e es l ms same all.1
+
+or_false : (a : Bool) → (a || false) ≡ a
+or_false true = refl
+or_false false = refl
+
+pub by_number : (f : Option NodeData → Bool) (ns : Table) (e : Edge) (es : Address) (ls : List Link) → Ascend ls → any_link f ns e es ls ≡ option_map_or (λ n. at_path f ns n es) (number_at e ls) false
+by_number f ns e es [] up = refl
+by_number f ns e es (l ∷ ls) up = by (edge_eq l.edge e) refl (by_number f ns e es ls up.1) where
+  by : (b : Bool) → edge_eq l.edge e ≡ b → any_link f ns e es ls ≡ option_map_or (λ n. at_path f ns n es) (number_at e ls) false →
+      ((b && at_path f ns l.number es) || any_link f ns e es ls) ≡ option_map_or (λ n. at_path f ns n es) (option_map (λ m. m.number) (cond b (Some l) (find (λ m. edge_eq m.edge e) ls))) false
+  by true same later = ap (λ b. at_path f ns l.number es || b) (none_behind f ns e es l ls same up.0) ∙ or_false (at_path f ns l.number es)
+  by false same later = later
+
+pub found : (ns : Table) (i : ℕ) (e : Edge) (n : ℕ) → IsTable ns → number_at e (links_at ns i) ≡ Some n → LeadsTo e (record { nodes = ns; number = i }) (record { nodes = ns; number = n })
+found ns i e n table is = record {
+  paths = λ es. by_number is_some ns e es (links_at ns i) (table.ordered.each i (omega arith)) ∙ ap (λ o. option_map_or (λ n. at_path is_some ns n es) o false) is;
+  marks = λ es. by_number has_mark ns e es (links_at ns i) (table.ordered.each i (omega arith)) ∙ ap (λ o. option_map_or (λ n. at_path has_mark ns n es) o false) is;
+}
+
+pub not_found : (ns : Table) (i : ℕ) (e : Edge) → IsTable ns → number_at e (links_at ns i) ≡ None → LeadsNowhere e (record { nodes = ns; number = i })
+not_found ns i e table is = λ es. by_number is_some ns e es (links_at ns i) (table.ordered.each i (omega arith)) ∙ ap (λ o. option_map_or (λ n. at_path is_some ns n es) o false) is

@@ -1,0 +1,7 @@
+mod Addresses
+mod Behind
+mod Chains
+mod Merging
+mod Order
+mod UnionLaws
+mod Unions

@@ -1,0 +1,7 @@
+pub mod EdgeView
+pub mod Edges
+pub mod Laws
+pub mod Paths
+pub mod Table
+pub mod Views
+pub mod Walks

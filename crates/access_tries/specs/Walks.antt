@@ -1,0 +1,45 @@
+-- Walks through a table while it grows.
+use Rattle.std.specs.Prelude.{◌≡◌, ℕ, ◌<◌, ◌+◌, ◌⊎◌, ◌&&◌, Bool, true, false, List, [], ◌∷◌, length, drop, slice_get, Option, is_some, map}
+use Rattle.std.specs.List.{list_any, AllByRecursion}
+use Rattle.std.specs.declared.cmp.Ordering.TheVariants.{Less}
+use Rattle.std.specs.declared.vec.Vec.{Vec}
+use Rattle.std.specs.declared.alloc.Global.{Global}
+use Rattle.access_tries.specs.declared.edge.Edge.{Edge}
+use Rattle.access_tries.specs.declared.table.Link.{Link}
+use Rattle.access_tries.specs.Edges.{Address, edge_cmp, edge_eq}
+use Rattle.access_tries.specs.Table.{Table, NodeData, at_path, links_at, has_mark, leads, is_marked}
+use Rattle.access_tries.specs.Paths.{is_front, is_same}
+
+-- the first nodes are as before
+abbrev pub Keeps : ℕ → Table → Table → Type 0
+Keeps n old new = (k : ℕ) → k < n → slice_get new k ≡ slice_get old k
+
+-- the next link is this one, or the list stays where it is and there is nothing
+abbrev pub Takes : List Link → ℕ → ℕ → Edge → ℕ → ℕ → Type 0
+Takes ls p none e number next =
+    ((next ≡ p) × (number ≡ none))
+    ⊎ ((p < length ls) × (next ≡ p + 1) × (drop p ls ≡ record { edge = e; number = number } ∷ drop next ls))
+
+-- the edge comes before those of all these links
+abbrev pub IsBeforeAll : Edge → List Link → Type 0
+IsBeforeAll e ls = AllByRecursion (λ l. edge_cmp e l.edge ≡ Less) ls
+
+-- a path that begins with this edge, in one of these links
+abbrev pub any_link : (Option NodeData → Bool) → Table → Edge → Address → List Link → Bool
+any_link f ns e es ls = list_any (λ l. edge_eq l.edge e && at_path f ns l.number es) ls
+
+-- the addresses that vectors of edges are
+abbrev pub addresses_in : List (Vec Edge Global) → List Address
+addresses_in vs = map (λ v. v.items) vs
+
+-- a trie with exactly these addresses and their fronts, marked at all their ends or nowhere
+pub record IsOf (addresses : List Address) (mark : Bool) (t : Table) : Type 0 where
+  pub paths : (es : Address) → leads t es ≡ list_any (is_front es) addresses
+  pub marks : (es : Address) → is_marked t es ≡ (mark && list_any (is_same es) addresses)
+
+-- from this number on each node leads by one edge to the next, and the last one nowhere
+abbrev pub IsChain : Table → ℕ → Address → Bool → Type 0
+IsChain ns k [] mark = (is_some (slice_get ns k) ≡ true) × (links_at ns k ≡ []) × (has_mark (slice_get ns k) ≡ mark)
+IsChain ns k (e ∷ es) mark =
+    (is_some (slice_get ns k) ≡ true) × (links_at ns k ≡ record { edge = e; number = k + 1 } ∷ []) × (has_mark (slice_get ns k) ≡ false)
+    × IsChain ns (k + 1) es mark

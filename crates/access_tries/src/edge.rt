@@ -1,0 +1,139 @@
+//! Access paths, and the edges of tries.
+
+ghost use Rattle.std.specs.Prelude.{◌≡◌, IfOk};
+ghost use Rattle.access_tries.specs.Edges.{edge_cmp};
+ghost use Rattle.access_tries.specs.Paths.{edge_of};
+ghost use Rattle.access_tries.specs.declared.edge.Edge.TheVariants.{Root};
+
+use policy_expressions::Var;
+use policy_names::{EntityUID, Text};
+use std::alloc::AllocError;
+use std::cmp::Ordering;
+use std::marker::Model;
+
+/// Where a path begins.
+#[derive(Debug, Drop, PartialEq, Eq, PartialOrd, Ord, Hash)]
+pub enum EntityRoot {
+    /// At this entity.
+    Literal(EntityUID),
+    /// At this entry of the request.
+    Var(Var),
+}
+
+impl EntityRoot {
+    /// An equal root.
+    pub fn try_clone(&self) -> Result<EntityRoot, AllocError>
+        ensures { IfOk result (λ r. r ≡ self.now) }
+    {
+        match self {
+            EntityRoot::Literal(uid) => Ok(EntityRoot::Literal(uid.try_clone()?)),
+            EntityRoot::Var(var) => Ok(EntityRoot::Var(*var)),
+        }
+    }
+}
+
+/// A step of a path.
+#[derive(Debug, Drop, PartialEq, Eq, PartialOrd, Ord, Hash)]
+pub enum Step {
+    /// To what an attribute of an entity, or a field of a record, holds.
+    Field(Text),
+    /// To what any tag of an entity holds.
+    AnyTag,
+}
+
+/// A path into a store: a root, and steps from there.
+#[derive(Debug, Drop)]
+pub struct AccessPath {
+    root: EntityRoot,
+    steps: Vec<Step>,
+}
+
+impl Model for AccessPath {
+    ghost use Rattle.access_tries.specs.Paths.{PathData, coded_path};
+
+    ghost Value = { PathData };
+
+    ghost coded = { coded_path };
+
+    ghost view = { λ p. record { root = p.root; steps = p.steps.items } };
+}
+
+impl AccessPath {
+    /// The path from a root along these steps.
+    pub fn new(root: EntityRoot, steps: Vec<Step>) -> AccessPath
+        ensures { result ≡ record { root = root; steps = steps.items } }
+    {
+        AccessPath { root, steps }
+    }
+
+    /// Where it begins.
+    pub fn root(&self) -> &EntityRoot
+        ensures { result.now ≡ self.now.root }
+    {
+        &self.root
+    }
+
+    /// Its steps.
+    pub fn steps(&self) -> &[Step]
+        ensures { result.now ≡ self.now.steps }
+    {
+        self.steps.as_slice()
+    }
+}
+
+// What leads from a node to another: a step, or a root of what is asked of its ancestors.
+#[derive(Debug, Drop)]
+pub enum Edge {
+    Field(Text),
+    AnyTag,
+    Root(EntityRoot),
+}
+
+impl Edge {
+    pub(crate) fn try_clone(&self) -> Result<Edge, AllocError>
+        ensures { IfOk result (λ e. e ≡ self.now) }
+    {
+        match self {
+            Edge::Field(name) => Ok(Edge::Field(name.try_clone()?)),
+            Edge::AnyTag => Ok(Edge::AnyTag),
+            Edge::Root(root) => Ok(Edge::Root(root.try_clone()?)),
+        }
+    }
+
+    pub(crate) fn of_step(step: &Step) -> Result<Edge, AllocError>
+        ensures { IfOk result (λ e. e ≡ edge_of step.now) }
+    {
+        match step {
+            Step::Field(name) => Ok(Edge::Field(name.try_clone()?)),
+            Step::AnyTag => Ok(Edge::AnyTag),
+        }
+    }
+}
+
+// The order of edges.
+#[tactic(auto, using(crate::proofs::Order::then_end))]
+pub(crate) fn compare(a: &Edge, b: &Edge) -> Ordering
+    ensures { result ≡ edge_cmp a.now b.now }
+{
+    match (a, b) {
+        (Edge::Field(a), Edge::Field(b)) => a.cmp(b),
+        (Edge::Field(_), _) => Ordering::Less,
+        (_, Edge::Field(_)) => Ordering::Greater,
+        (Edge::AnyTag, Edge::AnyTag) => Ordering::Equal,
+        (Edge::AnyTag, _) => Ordering::Less,
+        (_, Edge::AnyTag) => Ordering::Greater,
+        (Edge::Root(a), Edge::Root(b)) => compare_roots(a, b),
+    }
+}
+
+// The order of roots, which is that of their edges.
+pub(crate) fn compare_roots(a: &EntityRoot, b: &EntityRoot) -> Ordering
+    ensures { result ≡ edge_cmp (Root a.now) (Root b.now) }
+{
+    match (a, b) {
+        (EntityRoot::Literal(a), EntityRoot::Literal(b)) => a.cmp(b),
+        (EntityRoot::Literal(_), EntityRoot::Var(_)) => Ordering::Less,
+        (EntityRoot::Var(_), EntityRoot::Literal(_)) => Ordering::Greater,
+        (EntityRoot::Var(a), EntityRoot::Var(b)) => a.cmp(b),
+    }
+}

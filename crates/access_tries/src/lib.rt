@@ -1,0 +1,14 @@
+//! Tries of access paths, as tables of nodes.
+#![tactic(auto)]
+
+mod edge;
+pub mod laws;
+mod least;
+mod table;
+mod tries;
+mod views;
+
+pub use edge::{AccessPath, EntityRoot, Step};
+pub use least::least_trie;
+pub use tries::{AccessTrie, RootAccessTrie};
+pub use views::TrieRef;

@@ -1,0 +1,152 @@
+//! Tries of access paths.
+
+ghost use Rattle.std.specs.Prelude.{◌≡◌, [], IfOk, OnOk, OnErr, MatchOption};
+ghost use Rattle.access_tries.specs.Table.{IsTable, is_marked};
+ghost use Rattle.access_tries.specs.Paths.{IsUnion};
+ghost use Rattle.access_tries.specs.Views.{LeadsNowhere, LeadsTo, whole};
+ghost use Rattle.access_tries.specs.declared.edge.Edge.TheVariants.{Root};
+
+use crate::edge::EntityRoot;
+use crate::table::{Node, mark_of, unite};
+use crate::views::TrieRef;
+use std::alloc::{AllocError, Global};
+use std::marker::Model;
+
+/// Each root with the trie of what is read from it.
+#[derive(Debug, Drop)]
+pub struct RootAccessTrie {
+    // The first node leads to the roots; without nodes there are none.
+    nodes: Vec<Node>,
+}
+
+impl Model for RootAccessTrie {
+    ghost use Rattle.access_tries.specs.Table.{Table, coded_table, IsTable};
+
+    ghost Value = { Table };
+
+    ghost coded = { coded_table };
+
+    ghost view = { λ t. t.nodes.items };
+
+    ghost invariant = { λ t. IsTable t.nodes.items };
+}
+
+impl RootAccessTrie {
+    /// The trie without roots.
+    pub fn new(alloc: Global) -> RootAccessTrie
+        ensures { result ≡ [] }
+    {
+        RootAccessTrie {
+            nodes: Vec::new(alloc),
+        }
+    }
+
+    /// What is read from a root, where something is.
+    pub fn trie(&self, root: &EntityRoot) -> Option<TrieRef<'_>>
+        ensures { MatchOption result (LeadsNowhere (Root root.now) (whole self.now)) (LeadsTo (Root root.now) (whole self.now)) }
+    {
+        TrieRef::new(&self.nodes, 0).ancestors_from(root)
+    }
+
+    // The trie that a table is.
+    pub(crate) fn from_nodes(nodes: Vec<Node>) -> RootAccessTrie
+        requires { IsTable nodes.items }
+        ensures { result ≡ nodes.items }
+    {
+        RootAccessTrie { nodes }
+    }
+
+    /// What either holds.
+    pub fn union(&self, alloc: Global, other: &RootAccessTrie) -> Result<RootAccessTrie, AllocError>
+        ensures { IfOk result (IsUnion self.now other.now) }
+    {
+        let nodes = united(alloc, &self.nodes, &other.nodes)?;
+        Ok(RootAccessTrie { nodes })
+    }
+
+    /// Adds what the other holds; without memory both stay as they are.
+    pub fn union_mut(&mut self, alloc: Global, other: &RootAccessTrie) -> Result<(), AllocError>
+        ensures ok { OnOk result (IsUnion self.old other.now self.new) }
+        ensures err { OnErr result (self.new ≡ self.old) }
+    {
+        let united = self.union(alloc, other)?;
+        *self = united;
+        Ok(())
+    }
+}
+
+/// What is read of a value: its fields and tags with what is read of these, and which ancestors are asked for.
+#[derive(Debug, Drop)]
+pub struct AccessTrie {
+    // The first node is the value's own; without nodes nothing more than the value is read.
+    nodes: Vec<Node>,
+}
+
+impl Model for AccessTrie {
+    ghost use Rattle.access_tries.specs.Table.{Table, coded_table, IsTable};
+
+    ghost Value = { Table };
+
+    ghost coded = { coded_table };
+
+    ghost view = { λ t. t.nodes.items };
+
+    ghost invariant = { λ t. IsTable t.nodes.items };
+}
+
+impl AccessTrie {
+    /// The trie of a value of which nothing more is read.
+    pub fn new(alloc: Global) -> AccessTrie
+        ensures { result ≡ [] }
+    {
+        AccessTrie {
+            nodes: Vec::new(alloc),
+        }
+    }
+
+    /// What either holds.
+    pub fn union(&self, alloc: Global, other: &AccessTrie) -> Result<AccessTrie, AllocError>
+        ensures { IfOk result (IsUnion self.now other.now) }
+    {
+        let nodes = united(alloc, &self.nodes, &other.nodes)?;
+        Ok(AccessTrie { nodes })
+    }
+
+    /// Adds what the other holds; without memory both stay as they are.
+    pub fn union_mut(&mut self, alloc: Global, other: &AccessTrie) -> Result<(), AllocError>
+        ensures ok { OnOk result (IsUnion self.old other.now self.new) }
+        ensures err { OnErr result (self.new ≡ self.old) }
+    {
+        let united = self.union(alloc, other)?;
+        *self = united;
+        Ok(())
+    }
+
+    /// The trie, borrowed.
+    pub fn as_trie_ref(&self) -> TrieRef<'_>
+        ensures { result ≡ whole self.now }
+    {
+        TrieRef::new(&self.nodes, 0)
+    }
+
+    /// Whether the value is itself asked for as an ancestor.
+    pub fn is_ancestor(&self) -> bool
+        ensures { result ≡ is_marked self.now [] }
+    {
+        mark_of(&self.nodes, 0)
+    }
+}
+
+// The table of what either table holds.
+fn united(alloc: Global, a: &[Node], b: &[Node]) -> Result<Vec<Node>, AllocError>
+    requires a_table { IsTable a.now }
+    requires b_table { IsTable b.now }
+    ensures table { IfOk result (λ t. IsTable t.items) }
+    ensures union { IfOk result (λ t. IsUnion a.now b.now t.items) }
+{
+    let mut nodes = Vec::new(alloc);
+    if 0 < a.len() || 0 < b.len() {
+        unite(alloc, &mut nodes, a, 0, b, 0)?;
+    }
+    Ok(nodes)
+}
