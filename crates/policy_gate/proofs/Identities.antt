@@ -7,7 +7,7 @@ use Rattle.policy_expressions.specs.declared.kinds.UnaryOp.TheVariants.{Not}
 use Rattle.policy_expressions.specs.declared.kinds.BinaryOp.TheVariants.{Eq, In}
 use Rattle.policy_set.specs.Data.{PolicyData}
 use Rattle.truth_types.specs.Sound.{IsTerm, IsIdentity}
-use Rattle.entity_manifest.specs.Cover.{AreOverIds}
+use Rattle.id_slices.specs.Cover.{AreOverIds}
 use Rattle.policy_documents.specs.Laws.{KeepLimits}
 use Rattle.entry_documents.specs.Limits.{is_id_operand, is_over_ids}
 

@@ -10,7 +10,7 @@ use Rattle.findings.specs.declared.error.ValidationError.{ValidationError}
 use Rattle.policy_validate.specs.Conformance.{first_request_fault, first_store_fault, RequestConforms, StoreConforms}
 use Rattle.policy_validate.specs.declared.request_error.RequestValidationError.{RequestValidationError}
 use Rattle.policy_validate.specs.declared.store_rule.StoreRule.{StoreRule}
-use Rattle.entity_manifest.proofs.Covering.{covers, allows, decision_same}
+use Rattle.id_slices.proofs.Covering.{covers, allows, decision_same}
 use Rattle.policy_gate.specs.Answer.{IsAnswer, IsAnswerIf, IsAnswerFor, IsAnswerTo, IsSliceAnswer, behind_errors, behind_store, behind_request, check_answer, slice_answer, checked_answer, found_in}
 use Rattle.policy_gate.specs.Headline.{HasAcceptedPolicies, IsChecked, IsDocumentOf, IsSliced, KeepsRules, KeepsRulesOf}
 use Rattle.json_parts.specs.Json.{json_of}

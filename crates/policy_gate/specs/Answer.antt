@@ -17,7 +17,7 @@ use Rattle.policy_validate.specs.Conformance.{first_request_fault, first_store_f
 use Rattle.policy_validate.specs.Written.{request_text, entity_text}
 use Rattle.policy_validate.specs.declared.request_error.RequestValidationError.{RequestValidationError}
 use Rattle.policy_validate.specs.declared.store_rule.StoreRule.{StoreRule}
-use Rattle.entity_manifest.specs.Cover.{restricted}
+use Rattle.id_slices.specs.Cover.{restricted}
 use Rattle.policy_writing.specs.SliceJson.{slice_text}
 use Rattle.policy_gate.specs.Command.{width_of}
 use Rattle.policy_gate.specs.Reply.{Answer, answer}

@@ -9,7 +9,7 @@ use Rattle.serde_json.specs.Data.{Data}
 use Rattle.finding_texts.specs.Written.{findings_text}
 use Rattle.policy_validate.specs.Accepted.{IsAccepted}
 use Rattle.policy_validate.specs.Conformance.{RequestConforms, StoreConforms}
-use Rattle.entity_manifest.specs.Cover.{restricted, Covers, AreAllowedBetween}
+use Rattle.id_slices.specs.Cover.{restricted, Covers, AreAllowedBetween}
 use Rattle.policy_writing.specs.SliceJson.{slice_text}
 use Rattle.json_parts.specs.Json.{json_of}
 use Rattle.policy_gate.specs.Answer.{found_in}

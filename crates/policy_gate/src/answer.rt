@@ -10,7 +10,7 @@ use crate::command::{Command, width_of};
 use crate::reply::{Reply, reply_with};
 use crate::status::Status;
 use authorizer::decide;
-use entity_manifest::restricted_store;
+use id_slices::restricted_store;
 use policy_documents::{Document, DocumentFault, parse_json, read_document_within};
 use policy_scope::{ValidationResult, findings_text};
 use policy_validate::{
