@@ -1,5 +1,5 @@
 -- A node and where its links lead.
-use Rattle.std.proofs.Common.{◌≡◌, ℕ, zero, suc, ◌<◌, ◌≤◌, ◌+◌, Bool, ◌&&◌, ◌||◌, Option, List, [], ◌∷◌, length, refl, sym, ap, ◌∙◌, is_some, arith}
+use Rattle.std.proofs.Common.{◌≡◌, ℕ, zero, suc, ◌<◌, ◌≤◌, ◌+◌, Bool, ◌&&◌, ◌||◌, Option, List, [], ◌∷◌, length, refl, sym, ap, ◌∙◌, arith}
 use Rattle.std.specs.Prelude.{slice_get}
 use Rattle.std.specs.List.{AllByRecursion}
 use Rattle.std.specs.Option.{option_map_or}
@@ -9,7 +9,7 @@ use Rattle.access_tries.specs.declared.table.Link.{Link}
 use Rattle.access_tries.specs.Edges.{Address, edge_eq}
 use Rattle.access_tries.specs.Table.{Table, NodeData, links_at, has_mark, at_path, IsClosed}
 use Rattle.access_tries.specs.Walks.{any_link}
-use Rattle.access_tries.specs.Trees.{Branch, branch, Branches, no_branches, leading, branches_by, branch_within, branch_at, passes, some_passes}
+use Rattle.access_tries.specs.Trees.{Branch, branch, leading, branches_by, branch_within, branch_at, passes, some_passes}
 
 same_branches : (f g : ℕ → Branch) (k n : ℕ) (ls : List Link) → AllByRecursion (λ l. (k < l.number) × (l.number < n)) ls → ((j : ℕ) → k < j → f j ≡ g j) → branches_by f ls ≡ branches_by g ls
 same_branches f g k n [] a h = refl

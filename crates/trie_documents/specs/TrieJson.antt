@@ -2,7 +2,7 @@
 use Rattle.std.specs.Prelude.{ℕ, Bool, List, [], ◌∷◌, ◌++◌, codes}
 use Rattle.policy_expressions.specs.declared.kinds.Var.{Var}
 use Rattle.policy_expressions.specs.declared.kinds.Var.TheVariants.{Principal, Action, Resource, Context}
-use Rattle.serde_json.specs.Data.{Data, string, boolean, array, object, Items, no_items, item, Members, no_members, member, put}
+use Rattle.serde_json.specs.Data.{Data, string, boolean, array, object, no_items, item, Members, no_members, member, put}
 use Rattle.serde_json.specs.View.{items_of}
 use Rattle.policy_writing.specs.ValueJson.{uid_data, alone}
 use Rattle.access_tries.specs.declared.edge.EntityRoot.{EntityRoot}
