@@ -1,5 +1,6 @@
 mod Addresses
 mod Behind
+pub mod Branching
 mod Chains
 mod Merging
 mod Order

@@ -48,8 +48,16 @@ impl RootAccessTrie {
         TrieRef::new(&self.nodes, 0).ancestors_from(root)
     }
 
-    // The trie that a table is.
-    pub(crate) fn from_nodes(nodes: Vec<Node>) -> RootAccessTrie
+    /// The table of its nodes: the first one leads to the roots.
+    pub fn nodes(&self) -> &[Node]
+        ensures nodes { result.now ≡ self.now }
+        ensures table { IsTable self.now }
+    {
+        self.nodes.as_slice()
+    }
+
+    /// The trie that a table is.
+    pub fn from_nodes(nodes: Vec<Node>) -> RootAccessTrie
         requires { IsTable nodes.items }
         ensures { result ≡ nodes.items }
     {
