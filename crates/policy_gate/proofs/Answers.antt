@@ -2,7 +2,7 @@
 use Rattle.std.proofs.Common.{◌≡◌, ℕ, List, inl, inr, Option, Some, None, sym, subst}
 use Rattle.serde_json.specs.Data.{Data}
 use Rattle.policy_documents.specs.declared.document.Document.{Document}
-use Rattle.policy_gate.specs.Answer.{IsAnswer, IsAnswerIf, IsAnswerFor, or_else, refusal, work}
+use Rattle.policy_gate.specs.Answer.{IsAnswer, IsAnswerIf, IsAnswerFor, IsRefusedOr, IsWork, refusal}
 use Rattle.json_parts.specs.Json.{json_of}
 use Rattle.policy_gate.specs.Reply.{Answer, answer}
 use Rattle.policy_gate.specs.Status.{IsOfDocument}
@@ -22,13 +22,13 @@ of_refusal status.Store h = tt
 of_refusal status.Findings h = tt
 of_refusal s h = absurd h
 
-of_answer : (r : Option Answer) (text : List ℕ) → IfSome r (λ a. IsRefusal a.status) → IsOf (or_else r (answer status.Done text))
-of_answer None text h = tt
-of_answer (Some a) text h = of_refusal a.status h
+of_answer : (r : Option Answer) (W : List ℕ → Type 0) (a : Answer) → IfSome r (λ b. IsRefusal b.status) → IsRefusedOr r W a → IsOf a
+of_answer None W a h is = subst IsOfDocument (sym is.0) tt
+of_answer (Some r) W a h is = subst IsOf (sym is) (of_refusal r.status h)
 
 of_value : (c : Command) (v : Data) (a : Answer) → IsAnswerFor c v a → IsOf a
 of_value c v a (inl (place, reads, is)) = subst IsOf (sym is) tt
-of_value c v a (inr (d, reads, made, is)) = subst IsOf (sym is) (of_answer (refusal c d) (work c d) (refuses c d))
+of_value c v a (inr (d, reads, made, is)) = of_answer (refusal c d) (IsWork c d) a (refuses c d) is
 
 of_bytes : (c : Command) (o : Option Data) (a : Answer) → IsAnswerIf c o a → IsOf a
 of_bytes c None a is = subst IsOf (sym is) tt

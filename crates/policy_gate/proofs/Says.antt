@@ -26,7 +26,7 @@ use Rattle.conformance.specs.Laws.{RequestRulesAreExact, StoreRulesAreExact}
 use Rattle.policy_typing.specs.Conforms.{RequestConforms, StoreConforms}
 use Rattle.policy_validate.specs.Laws.{NoErrorsWhereAccepted, AcceptedAreSound}
 use Rattle.id_slices.proofs.Covering.{covers, allows, decision_same}
-use Rattle.policy_gate.specs.Answer.{IsAnswer, IsAnswerIf, IsAnswerFor, IsWellMade, answer_to, or_else, found_in, is_whole, refusal, refused_data, refused_decision, refused_partial, refused_policies, refused_request, refused_store, refused_with, request_fault, store_fault, work}
+use Rattle.policy_gate.specs.Answer.{IsAnswer, IsAnswerIf, IsAnswerFor, IsWellMade, IsAnswerTo, IsRefusedOr, IsWork, found_in, is_whole, refusal, refused_data, refused_decision, refused_partial, refused_policies, refused_request, refused_store, refused_with, request_fault, store_fault}
 use Rattle.policy_gate.specs.Headline.{Conforms, HasAcceptedPolicies, IsDocumentOf, KeepsRules, KeepsRulesOf, IsChecked, IsSliced, IsDecided, Says}
 use Rattle.json_parts.specs.Json.{json_of}
 use Rattle.policy_gate.specs.Reply.{Answer, answer}
@@ -109,9 +109,9 @@ no_refusal : (s : Status) → IsRefusal s → s ≡ status.Done → ⊥
 no_refusal s h is = subst IsRefusal is h
 
 -- where 0 is due nothing is refused, and the work is done
-done : (r : Option Answer) (text text' : List ℕ) → Refuses r → answer status.Done text ≡ or_else r (answer status.Done text') → (r ≡ None) × (text ≡ text')
-done None text text' h is = (refl, ap (λ a. a.text) is)
-done (Some a) text text' h is = absurd (no_refusal a.status h (sym (ap (λ b. b.status) is)))
+done : (r : Option Answer) (W : List ℕ → Type 0) (text : List ℕ) → Refuses r → IsRefusedOr r W (answer status.Done text) → (r ≡ None) × W text
+done None W text h is = (refl, is.1)
+done (Some a) W text h is = absurd (no_refusal a.status h (sym (ap (λ b. b.status) is)))
 
 -- ---- the rules
 
@@ -216,13 +216,13 @@ module _ (laws : Laws) (d : Document) where
     all_allowed [] h = tt
     all_allowed (p ∷ ps) h = (allowed_here p h.0, all_allowed ps h.1)
 
-    decided : (text : List ℕ) → KeepsRules d → text ≡ work Decide d → IsDecided d text
+    decided : (text : List ℕ) → KeepsRules d → IsWork Decide d text → IsDecided d text
     decided text rules is = record {
       written = is;
       allowed = all_allowed d.policies.policies (laws.sound d.schema made.schema d.policies made.policies made.keys rules.policies d.request rules.request d.entities rules.store);
     }
 
-    sliced : (v : Data) (text : List ℕ) → IsRead (width_of Slice) v (Ok d) → KeepsRules d → text ≡ work Slice d → IsSliced d text
+    sliced : (v : Data) (text : List ℕ) → IsRead (width_of Slice) v (Ok d) → KeepsRules d → IsWork Slice d text → IsSliced d text
     sliced v text reads rules is =
         let over = over_ids d.policies.policies (kept v d reads).1 in
         record {
@@ -232,7 +232,7 @@ module _ (laws : Laws) (d : Document) where
           decision = decision_same d.schema d.request d.entities made.schema rules.whole rules.request rules.store d.policies.policies over;
         }
 
-    says : (c : Command) (v : Data) (text : List ℕ) → IsRead (width_of c) v (Ok d) → refusal c d ≡ None → text ≡ work c d → Says c d text
+    says : (c : Command) (v : Data) (text : List ℕ) → IsRead (width_of c) v (Ok d) → refusal c d ≡ None → IsWork c d text → Says c d text
     says Check v text reads none is = record { written = is; accepted = accepted none }
     says Conformance v text reads none is = conforming none
     says Slice v text reads none is = let rules = keeping none in (rules, sliced v text reads rules is)
@@ -279,9 +279,9 @@ found_policies Conformance d h = absurd (found_data d None (by (refused_data d) 
 found_policies Slice d h = found_data d (refused_policies d) (found_behind (refused_partial d) _ (no_partial d) h)
 found_policies Decide d h = found_data d (refused_policies d) (found_behind (refused_partial d) _ (no_partial d) h)
 
-found_answer : (r : Option Answer) (text text' : List ℕ) → answer status.Findings text ≡ or_else r (answer status.Done text') → IsFound r
-found_answer None text text' is = absurd (cc is)
-found_answer (Some a) text text' is = sym (ap (λ b. b.status) is)
+found_answer : (r : Option Answer) (W : List ℕ → Type 0) (text : List ℕ) → IsRefusedOr r W (answer status.Findings text) → IsFound r
+found_answer None W text is = absurd (cc (is.0))
+found_answer (Some a) W text is = sym (ap (λ b. b.status) is)
 
 not_accepted : (laws : Laws) (d : Document) → IsFound (refused_policies d) → ¬ HasAcceptedPolicies d
 not_accepted laws d h is = absurd (subst IsFound (not_refused laws d is) h)
@@ -296,7 +296,7 @@ module _ (laws : Laws) (c : Command) (bytes text : List ℕ) where
   done_value None json is = absurd (cc (ap (λ b. b.status) is))
   done_value (Some v) json (inl (place, reads, is)) = absurd (cc (ap (λ b. b.status) is))
   done_value (Some v) json (inr (d, reads, made, is)) =
-      let past = done (refusal c d) text (work c d) (refuses c d) is in
+      let past = done (refusal c d) (IsWork c d) text (refuses c d) is in
       (d, (v, json, reads), says laws d made c v text reads past.0 past.1)
 
   -- where 0 is due, it says this
@@ -311,7 +311,7 @@ module _ (laws : Laws) (c : Command) (bytes text : List ℕ) where
   refused_value None json is = absurd (cc (ap (λ b. b.status) is))
   refused_value (Some v) json (inl (place, reads, is)) = absurd (cc (ap (λ b. b.status) is))
   refused_value (Some v) json (inr (d, reads, made, is)) =
-      (d, (v, json, reads), not_accepted laws d (found_policies c d (found_answer (refusal c d) text (work c d) is)))
+      (d, (v, json, reads), not_accepted laws d (found_policies c d (found_answer (refusal c d) (IsWork c d) text is)))
 
   -- where 1 is due, the policies are not accepted
   pub says_refused : IsAnswer c bytes (answer status.Findings text) → (d : Document) × IsDocumentOf c bytes d × (¬ HasAcceptedPolicies d)
@@ -324,7 +324,7 @@ module _ (laws : Laws) (c : Command) where
   for_value v d a reads rules (inr (e, again, made, is)) =
       let same : e ≡ d = cc (one_reading (width_of c) v d (Ok e) reads again) in
       let none = kept_all laws e made c (subst (KeepsRulesOf c) (sym same) rules) in
-      ap (λ b. b.status) (is ∙ ap (λ r. or_else r (answer status.Done (work c e))) none)
+      (subst (λ r. IsRefusedOr r (IsWork c e) a) none is).0
 
   -- where every rule of the command holds, 0 is due
   pub kept_is_done : (bytes : List ℕ) (d : Document) (a : Answer) → IsDocumentOf c bytes d → KeepsRulesOf c d → IsAnswer c bytes a → a.status ≡ status.Done

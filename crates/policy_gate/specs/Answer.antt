@@ -7,6 +7,7 @@ use Rattle.json_parts.specs.Json.{json_of}
 use Rattle.policy_names.specs.declared.entity_uid.EntityUID.{EntityUID}
 use Rattle.policy_expressions.specs.Keys.{HasKeysOnce}
 use Rattle.policy_store.specs.declared.request.Request.{Request}
+use Rattle.policy_store.specs.Store.{Store}
 use Rattle.policy_set.specs.Data.{PolicyData}
 use Rattle.policy_set.specs.PolicySet.{IsPolicySet}
 use Rattle.schema_core.specs.Faults.{IsSchema}
@@ -81,22 +82,26 @@ refusal Conformance d = refused_data d
 refusal Slice d = refused_decision d
 refusal Decide d = refused_decision d
 
--- the text of a command's work: the findings; that all conforms; the store restricted to what the policies read on the request, with the
--- response on it; the response on the whole store
-abbrev pub work : Command → Document → List ℕ
-work Check d = findings_text (found_in d)
-work Conformance d = codes "conforms\n"
-work Slice d = let slice = restricted d.schema d.policies.policies d.request d.entities in slice_text (response d.policies.policies d.request slice) slice
-work Decide d = response_text (response d.policies.policies d.request d.entities)
+-- the document's store restricted to what its policies read on its request
+abbrev pub slice_of : Document → Store
+slice_of d = restricted d.schema d.policies.policies d.request d.entities
 
--- the first answer, where there is one
-abbrev pub or_else : Option Answer → Answer → Answer
-or_else None a = a
-or_else (Some r) a = r
+-- the text is that of the command's work: the findings; that all conforms; the restricted store, with the response on it; the response on
+-- the whole store
+abbrev pub IsWork : Command → Document → List ℕ → Type 0
+IsWork Check d text = text ≡ findings_text (found_in d)
+IsWork Conformance d text = text ≡ codes "conforms\n"
+IsWork Slice d text = text ≡ slice_text (response d.policies.policies d.request (slice_of d)) (slice_of d)
+IsWork Decide d text = text ≡ response_text (response d.policies.policies d.request d.entities)
 
--- what is due for a document
-abbrev pub answer_to : Command → Document → Answer
-answer_to c d = or_else (refusal c d) (answer status.Done (work c d))
+-- the refusal, where there is one, or else the work
+abbrev pub IsRefusedOr : Option Answer → (List ℕ → Type 0) → Answer → Type 0
+IsRefusedOr None IsDone a = (a.status ≡ status.Done) × IsDone a.text
+IsRefusedOr (Some r) IsDone a = a ≡ r
+
+-- this is due for a document
+abbrev pub IsAnswerTo : Command → Document → Answer → Type 0
+IsAnswerTo c d a = IsRefusedOr (refusal c d) (IsWork c d) a
 
 abbrev pub AreKeysOnce : List PolicyData → Type 0
 AreKeysOnce ps = AllByRecursion (λ p. HasKeysOnce p.condition) ps
@@ -110,7 +115,7 @@ pub record IsWellMade (d : Document) : Type 0 where
 -- what is due for a JSON value: the place of the first fault, where it is no document
 abbrev pub IsAnswerFor : Command → Data → Answer → Type 0
 IsAnswerFor c v a = ((place : Place) × IsRead (width_of c) v (Err place) × (a ≡ answer status.Document (place_text place ++ codes "\n")))
-    ⊎ ((d : Document) × IsRead (width_of c) v (Ok d) × IsWellMade d × (a ≡ answer_to c d))
+    ⊎ ((d : Document) × IsRead (width_of c) v (Ok d) × IsWellMade d × IsAnswerTo c d a)
 
 -- what is due where the bytes may be JSON
 abbrev pub IsAnswerIf : Command → Option Data → Answer → Type 0

@@ -1,7 +1,6 @@
 -- What status 0 says of each command.
 use Rattle.std.specs.Prelude.{◌≡◌, ℕ, List, [], Some, None, Ok}
 use Rattle.policy_store.specs.Request.{IsWhole}
-use Rattle.policy_store.specs.Store.{Store}
 use Rattle.authorizer.specs.Allowed.{AreAllowed}
 use Rattle.authorizer.specs.Response.{response}
 use Rattle.policy_documents.specs.Reading.{IsRead}
@@ -10,10 +9,10 @@ use Rattle.serde_json.specs.Data.{Data}
 use Rattle.finding_texts.specs.Written.{findings_text}
 use Rattle.policy_typing.specs.Conforms.{RequestConforms, StoreConforms}
 use Rattle.policy_validate.specs.Accepted.{IsAccepted}
-use Rattle.id_slices.specs.Cover.{restricted, Covers, AreAllowedBetween}
+use Rattle.id_slices.specs.Cover.{Covers, AreAllowedBetween}
 use Rattle.policy_writing.specs.SliceJson.{slice_text, response_text}
 use Rattle.json_parts.specs.Json.{json_of}
-use Rattle.policy_gate.specs.Answer.{found_in, request_fault}
+use Rattle.policy_gate.specs.Answer.{found_in, request_fault, slice_of}
 use Rattle.policy_gate.specs.Command.{width_of}
 use Rattle.policy_gate.specs.declared.command.Command.{Command}
 use Rattle.policy_gate.specs.declared.command.Command.TheVariants.{Check, Request, Slice, Decide}
@@ -52,10 +51,6 @@ KeepsRulesOf Decide d = KeepsRules d
 pub record IsChecked (d : Document) (text : List ℕ) : Type 0 where
   pub written : text ≡ findings_text (found_in d)
   pub accepted : HasAcceptedPolicies d
-
--- the document's store restricted to what its policies read on its request
-abbrev pub slice_of : Document → Store
-slice_of d = restricted d.schema d.policies.policies d.request d.entities
 
 -- the text is the slice with the decision. The slice covers the policies: on it, and on every store between it and the whole one,
 -- each policy has the outcome that it has on the whole store, which is a truth value, a missing entity or an overflow; so the response

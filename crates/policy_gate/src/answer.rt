@@ -1,9 +1,9 @@
 //! From a document's bytes to the reply.
-ghost use Rattle.std.specs.Prelude.{◌≡◌, None, IfOk, option_map};
+ghost use Rattle.std.specs.Prelude.{◌≡◌, None, IfOk, option_map, string_bytes};
 ghost use Rattle.serde_json.specs.View.{view};
 ghost use Rattle.policy_store.specs.Request.{IsWhole};
-ghost use Rattle.policy_gate.specs.Answer.{AreKeysOnce, IsAnswer, IsAnswerFor, IsWellMade, answer_to, found_in, is_whole, or_else, refused_data, refused_decision, refused_policies, refused_request, refused_store, refused_with, request_fault, store_fault, work};
-ghost use Rattle.policy_gate.specs.Reply.{answer, reply_view};
+ghost use Rattle.policy_gate.specs.Answer.{AreKeysOnce, IsAnswer, IsAnswerFor, IsWellMade, IsAnswerTo, IsWork, found_in, refused_data, refused_decision, refused_policies, refused_request, refused_store, request_fault, store_fault};
+ghost use Rattle.policy_gate.specs.Reply.{reply_view};
 
 use crate::command::{Command, width_of};
 use crate::reply::{Reply, reply_with};
@@ -83,7 +83,7 @@ fn have_keys_once(policies: &PolicySet)
 
 // The reply to a document.
 fn reply_to(alloc: Global, command: Command, document: &Document) -> Result<Reply, AllocError>
-    ensures { IfOk result (λ r. reply_view r ≡ answer_to command document.now) }
+    ensures { IfOk result (λ r. IsAnswerTo command document.now (reply_view r)) }
 {
     match command {
         Command::Check => with_findings(alloc, document),
@@ -95,7 +95,7 @@ fn reply_to(alloc: Global, command: Command, document: &Document) -> Result<Repl
 
 // The findings on the policies.
 fn with_findings(alloc: Global, document: &Document) -> Result<Reply, AllocError>
-    ensures { IfOk result (λ r. reply_view r ≡ answer_to Command.Check document.now) }
+    ensures { IfOk result (λ r. IsAnswerTo Command.Check document.now (reply_view r)) }
 {
     let found = found_in(alloc, document)?;
     let status = if found.validation_passed() {
@@ -109,7 +109,7 @@ fn with_findings(alloc: Global, document: &Document) -> Result<Reply, AllocError
 
 // Whether the request and the store conform.
 fn conforming(alloc: Global, document: &Document) -> Result<Reply, AllocError>
-    ensures { IfOk result (λ r. reply_view r ≡ answer_to Command.Request document.now) }
+    ensures { IfOk result (λ r. IsAnswerTo Command.Request document.now (reply_view r)) }
 {
     match refused_data(alloc, document)? {
         Some(reply) => Ok(reply),
@@ -119,7 +119,7 @@ fn conforming(alloc: Global, document: &Document) -> Result<Reply, AllocError>
 
 // The cut store with the decision on it, where the document keeps every rule.
 fn cut(alloc: Global, document: &Document) -> Result<Reply, AllocError>
-    ensures { IfOk result (λ r. reply_view r ≡ answer_to Command.Slice document.now) }
+    ensures { IfOk result (λ r. IsAnswerTo Command.Slice document.now (reply_view r)) }
 {
     match refused_decision(alloc, document)? {
         Some(reply) => Ok(reply),
@@ -129,7 +129,8 @@ fn cut(alloc: Global, document: &Document) -> Result<Reply, AllocError>
 
 fn sliced(alloc: Global, document: &Document) -> Result<Reply, AllocError>
     requires { IsWhole document.now.request }
-    ensures { IfOk result (λ r. reply_view r ≡ answer Status.Done (work Command.Slice document.now)) }
+    ensures done { IfOk result (λ r. r.status ≡ Status.Done) }
+    ensures work { IfOk result (λ r. IsWork Command.Slice document.now (string_bytes r.text)) }
 {
     let slice = restricted_store(
         alloc,
@@ -147,7 +148,7 @@ fn sliced(alloc: Global, document: &Document) -> Result<Reply, AllocError>
 
 // The decision on the whole store, where the document keeps every rule.
 fn decided(alloc: Global, document: &Document) -> Result<Reply, AllocError>
-    ensures { IfOk result (λ r. reply_view r ≡ answer_to Command.Decide document.now) }
+    ensures { IfOk result (λ r. IsAnswerTo Command.Decide document.now (reply_view r)) }
 {
     match refused_decision(alloc, document)? {
         Some(reply) => Ok(reply),
@@ -157,7 +158,8 @@ fn decided(alloc: Global, document: &Document) -> Result<Reply, AllocError>
 
 fn decision(alloc: Global, document: &Document) -> Result<Reply, AllocError>
     requires { IsWhole document.now.request }
-    ensures { IfOk result (λ r. reply_view r ≡ answer Status.Done (work Command.Decide document.now)) }
+    ensures done { IfOk result (λ r. r.status ≡ Status.Done) }
+    ensures work { IfOk result (λ r. IsWork Command.Decide document.now (string_bytes r.text)) }
 {
     let response = decide(alloc, &document.policies, &document.request, &document.entities)?;
     Ok(Reply {
