@@ -2,7 +2,8 @@ mod Addresses
 mod Behind
 pub mod Branching
 mod Chains
-mod Merging
-mod Order
+pub mod Making
+pub mod Merging
+pub mod Order
 mod UnionLaws
-mod Unions
+pub mod Unions
