@@ -2,6 +2,7 @@ mod Addresses
 mod Behind
 pub mod Branching
 mod Chains
+mod Listing
 pub mod Making
 pub mod Merging
 pub mod Order
