@@ -1,8 +1,7 @@
 -- What of a manifest a schema declares, and where the two do not fit.
-use Rattle.std.specs.Prelude.{◌≡◌, Bool, true, false, ◌&&◌, ◌||◌, List, [], ◌∷◌, Option, Some, None, is_some, if◌then◌else◌}
+use Rattle.std.specs.Prelude.{◌≡◌, Bool, true, false, ◌&&◌, ◌||◌, [], ◌∷◌, Option, Some, None, if◌then◌else◌}
 use Rattle.std.specs.Option.{option_or, option_and_then, option_map_or}
 use Rattle.policy_names.specs.declared.entity_uid.EntityUID.{EntityUID}
-use Rattle.policy_expressions.specs.declared.kinds.Var.{Var}
 use Rattle.policy_expressions.specs.declared.kinds.Var.TheVariants.{Principal, Action, Resource, Context}
 use Rattle.policy_store.specs.declared.request.RequestType.{RequestType}
 use Rattle.schema_types.specs.Ty.{Ty, never, no_attrs}
@@ -33,6 +32,10 @@ abbrev pub unless_there : {A : Type 0} → Option A → Mismatch → Option Mism
 unless_there (Some x) f = None
 unless_there None f = Some f
 
+-- a field or tags of a value that has none
+abbrev pub child_fault : Ty → Option Mismatch
+child_fault u = if is_entity u || is_record u then None else Some ChildOfPrimitive
+
 module _ (s : SchemaData) (t : RequestType) where
   -- the environment of requests of the type, with the attributes that its action's context declares
   abbrev pub environment_of : EnvData
@@ -51,10 +54,10 @@ module _ (s : SchemaData) (t : RequestType) where
   root_fault (Variable Resource) = unless_there (type_at s t.resource) not_strict
   root_fault (Variable Context) = unless_there (action_at s t.action) (missing t.action)
 
-  -- what is wrong with an edge that leads on from a value of the type: the value has no fields and is no entity
+  -- what is wrong with an edge that leads on from a value of the type
   abbrev pub edge_fault : Ty → Edge → Option Mismatch
   edge_fault u (Root r) = root_fault r
-  edge_fault u e = if is_entity u || is_record u then None else Some ChildOfPrimitive
+  edge_fault u e = child_fault u
 
   -- the type behind the edge, where that is declared
   abbrev pub type_behind : Ty → Edge → Option Ty
@@ -94,5 +97,5 @@ module _ (s : SchemaData) where
   -- each request type with what is declared of its trie
   abbrev pub AreTyped : Manifest → Manifest → Type 0
   AreTyped [] [] = Unit {0}
-  AreTyped (a ∷ as) (b ∷ bs) = (a.0 ≡ b.0) × IsTyped s a.0 a.1 b.1 × AreTyped as bs
-  AreTyped as bs = ⊥
+  AreTyped (a ∷ ms) (b ∷ ns) = (a.0 ≡ b.0) × IsTyped s a.0 a.1 b.1 × AreTyped ms ns
+  AreTyped ms ns = ⊥
