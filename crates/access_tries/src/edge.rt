@@ -122,16 +122,21 @@ fn steps_of(alloc: Global, steps: &[Step]) -> Result<Vec<Step>, AllocError>
     Ok(copies)
 }
 
-// What leads from a node to another: a step, or a root of what is asked of its ancestors.
+/// What leads from a node to another: a step, or a root of what is asked of its ancestors. Fields come first, then any tag,
+/// then roots: ids before entries of the request.
 #[derive(Debug, Drop)]
 pub enum Edge {
+    /// To what an attribute of an entity, or a field of a record, holds.
     Field(Text),
+    /// To what any tag of an entity holds.
     AnyTag,
+    /// To what is read from a root.
     Root(EntityRoot),
 }
 
 impl Edge {
-    pub(crate) fn try_clone(&self) -> Result<Edge, AllocError>
+    /// An equal edge.
+    pub fn try_clone(&self) -> Result<Edge, AllocError>
         ensures { IfOk result (λ e. e ≡ self.now) }
     {
         match self {
