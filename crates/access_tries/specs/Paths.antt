@@ -13,11 +13,11 @@ use Rattle.access_tries.specs.Edges.{Address, edge_eq}
 use Rattle.access_tries.specs.Table.{Table, leads, is_marked}
 
 -- a path: where it begins, and the steps from there
-pub record PathData : Type 0 where
+pub record AccessPath : Type 0 where
   pub root : EntityRoot
   pub steps : List Step
 
-abbrev pub coded_path : Coded PathData
+abbrev pub coded_path : Coded AccessPath
 coded_path = code_by (EntityRoot × List Step) (coded× root_row.coded (coded_list step_row.coded)) (λ p. (p.root, p.steps)) (λ q. record { root = q.0; steps = q.1 }) (λ _. refl)
 
 abbrev pub edge_of : Step → Edge
@@ -25,18 +25,18 @@ edge_of (step.Field n) = Field n
 edge_of step.AnyTag = AnyTag
 
 -- the edges along a path, and along a second one behind it: what is named by the second is asked of the first
-abbrev pub address_of : PathData → Address
+abbrev pub address_of : AccessPath → Address
 address_of p = Root p.root ∷ map edge_of p.steps
 
-abbrev pub demand_of : PathData × PathData → Address
+abbrev pub demand_of : AccessPath × AccessPath → Address
 demand_of d = address_of d.0 ++ address_of d.1
 
 -- whether the trie has the path
-abbrev pub has_path : Table → PathData → Bool
+abbrev pub has_path : Table → AccessPath → Bool
 has_path t p = leads t (address_of p)
 
 -- whether it asks at the first path for the ancestors that the second names
-abbrev pub asks : Table → PathData → PathData → Bool
+abbrev pub asks : Table → AccessPath → AccessPath → Bool
 asks t p r = is_marked t (demand_of (p, r))
 
 -- tries with the same paths and the same marks
@@ -67,5 +67,5 @@ pub record IsLeastOf (reads demands : List Address) (t : Table) : Type 0 where
   pub marks : (es : Address) → is_marked t es ≡ list_any (is_same es) demands
 
 -- exactly what is read and what is asked for
-abbrev pub IsLeast : List PathData → List (PathData × PathData) → Table → Type 0
+abbrev pub IsLeast : List AccessPath → List (AccessPath × AccessPath) → Table → Type 0
 IsLeast reads demands t = IsLeastOf (map address_of reads) (map demand_of demands) t

@@ -7,7 +7,7 @@ ghost use Rattle.access_tries.specs.declared.edge.Edge.TheVariants.{Root};
 
 use policy_expressions::Var;
 use policy_names::{EntityUID, Text};
-use std::alloc::AllocError;
+use std::alloc::{AllocError, Global};
 use std::cmp::Ordering;
 use std::marker::Model;
 
@@ -41,6 +41,18 @@ pub enum Step {
     AnyTag,
 }
 
+impl Step {
+    /// An equal step.
+    pub fn try_clone(&self) -> Result<Step, AllocError>
+        ensures { IfOk result (λ r. r ≡ self.now) }
+    {
+        match self {
+            Step::Field(name) => Ok(Step::Field(name.try_clone()?)),
+            Step::AnyTag => Ok(Step::AnyTag),
+        }
+    }
+}
+
 /// A path into a store: a root, and steps from there.
 #[derive(Debug, Drop)]
 pub struct AccessPath {
@@ -49,9 +61,9 @@ pub struct AccessPath {
 }
 
 impl Model for AccessPath {
-    ghost use Rattle.access_tries.specs.Paths.{PathData, coded_path};
+    ghost use Rattle.access_tries.specs.Paths.{AccessPath, coded_path};
 
-    ghost Value = { PathData };
+    ghost Value = { AccessPath };
 
     ghost coded = { coded_path };
 
@@ -64,6 +76,24 @@ impl AccessPath {
         ensures { result ≡ record { root = root; steps = steps.items } }
     {
         AccessPath { root, steps }
+    }
+
+    /// An equal path.
+    pub fn try_clone(&self, alloc: Global) -> Result<AccessPath, AllocError>
+        ensures { IfOk result (λ r. r ≡ self.now) }
+    {
+        let root = self.root.try_clone()?;
+        let steps = steps_of(alloc, &self.steps)?;
+        Ok(AccessPath { root, steps })
+    }
+
+    /// Its root and its steps.
+    pub fn into_parts(self) -> (EntityRoot, Vec<Step>)
+        ensures root { result.0 ≡ self.root }
+        ensures steps { result.1.items ≡ self.steps }
+    {
+        let AccessPath { root, steps } = self;
+        (root, steps)
     }
 
     /// Where it begins.
@@ -81,16 +111,32 @@ impl AccessPath {
     }
 }
 
-// What leads from a node to another: a step, or a root of what is asked of its ancestors.
+// The same steps.
+fn steps_of(alloc: Global, steps: &[Step]) -> Result<Vec<Step>, AllocError>
+    ensures { IfOk result (λ r. r.items ≡ steps.now) }
+{
+    let mut copies = Vec::new(alloc);
+    for step in steps {
+        copies.push(step.try_clone()?)?;
+    }
+    Ok(copies)
+}
+
+/// What leads from a node to another: a step, or a root of what is asked of its ancestors. Fields come first, then any tag,
+/// then roots: ids before entries of the request.
 #[derive(Debug, Drop)]
 pub enum Edge {
+    /// To what an attribute of an entity, or a field of a record, holds.
     Field(Text),
+    /// To what any tag of an entity holds.
     AnyTag,
+    /// To what is read from a root.
     Root(EntityRoot),
 }
 
 impl Edge {
-    pub(crate) fn try_clone(&self) -> Result<Edge, AllocError>
+    /// An equal edge.
+    pub fn try_clone(&self) -> Result<Edge, AllocError>
         ensures { IfOk result (λ e. e ≡ self.now) }
     {
         match self {

@@ -10,18 +10,20 @@ use std::alloc::{AllocError, Global};
 use std::cmp::Ordering;
 use std::marker::Model;
 
-// An edge, and the number of the node to which it leads.
+/// An edge, and the number of the node to which it leads.
 #[derive(Debug, Drop)]
 pub struct Link {
+    /// The edge.
     pub edge: Edge,
+    /// The number of the node behind it.
     pub number: usize,
 }
 
-// A node: where it leads, by ascending edges, and whether it is marked.
+/// A node: where it leads, by ascending edges, and whether it is marked.
 #[derive(Debug, Drop)]
 pub struct Node {
-    pub links: Vec<Link>,
-    pub mark: bool,
+    links: Vec<Link>,
+    mark: bool,
 }
 
 impl Model for Node {
@@ -35,27 +37,30 @@ impl Model for Node {
 }
 
 impl Node {
-    pub(crate) fn new(links: Vec<Link>, mark: bool) -> Node
+    /// The node with these links, marked or not.
+    pub fn new(links: Vec<Link>, mark: bool) -> Node
         ensures { result ≡ record { links = links.items; mark = mark } }
     {
         Node { links, mark }
     }
 
-    pub(crate) fn links(&self) -> &[Link]
+    /// Where it leads.
+    pub fn links(&self) -> &[Link]
         ensures { result.now ≡ self.now.links }
     {
         self.links.as_slice()
     }
 
-    pub(crate) fn is_marked(&self) -> bool
+    /// Whether it is marked.
+    pub fn is_marked(&self) -> bool
         ensures { result ≡ self.now.mark }
     {
         self.mark
     }
 }
 
-// The links of a node; none where there is no such node.
-pub(crate) fn links_of(nodes: &[Node], number: usize) -> &[Link]
+/// The links of a node; none where there is no such node.
+pub fn links_of(nodes: &[Node], number: usize) -> &[Link]
     ensures { result.now ≡ links_at nodes.now number }
 {
     match nodes.get(number) {
@@ -64,8 +69,8 @@ pub(crate) fn links_of(nodes: &[Node], number: usize) -> &[Link]
     }
 }
 
-// Whether a node is there, and is marked.
-pub(crate) fn mark_of(nodes: &[Node], number: usize) -> bool
+/// Whether a node is there, and is marked.
+pub fn mark_of(nodes: &[Node], number: usize) -> bool
     ensures { result ≡ has_mark (slice_get nodes.now number) }
 {
     match nodes.get(number) {

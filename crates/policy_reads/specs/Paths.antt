@@ -1,19 +1,15 @@
 -- Paths into a store, and the shapes of results.
 use Rattle.std.specs.Prelude.{ℕ, Bool, true, false, List, [], ◌∷◌, ◌++◌, map, cond}
 use Rattle.std.specs.Ordering.{is_eq}
-use Rattle.policy_names.specs.declared.entity_uid.EntityUID.{EntityUID}
 use Rattle.policy_names.specs.Uid.{text_cmp}
-use Rattle.policy_expressions.specs.declared.kinds.Var.{Var}
-
 -- where a path begins: at an entry of the request, or at an id
-pub data Root : Type 0 where
-  variable : Var → Root
-  an_id : EntityUID → Root
-
+pub use Rattle.access_tries.specs.declared.edge.EntityRoot.{EntityRoot as Root}
+pub use Rattle.access_tries.specs.declared.edge.EntityRoot.TheVariants.{Literal as an_id, Var as variable}
 -- a step of a path: along an attribute or a field, or along any tag
-pub data Step : Type 0 where
-  along : List ℕ → Step
-  any_tag : Step
+pub use Rattle.access_tries.specs.declared.edge.Step.{Step}
+pub use Rattle.access_tries.specs.declared.edge.Step.TheVariants.{Field as along, AnyTag as any_tag}
+-- a way into a store: from a root, step by step
+pub use Rattle.access_tries.specs.Paths.{AccessPath}
 
 -- a chain of names: of an attribute, and of fields below it
 abbrev pub Chain : Type 0
@@ -22,11 +18,6 @@ Chain = List (List ℕ)
 -- the steps along it
 abbrev pub steps_of : Chain → List Step
 steps_of c = map along c
-
--- a way into a store: from a root, step by step
-pub record AccessPath : Type 0 where
-  pub root : Root
-  pub steps : List Step
 
 -- the entity at the first path is asked whether the second names an ancestor of it
 abbrev pub Demand : Type 0

@@ -1,0 +1,13 @@
+-- Manifests: a trie for each type of requests.
+use Rattle.std.specs.Prelude.{List}
+use Rattle.std.specs.Coded.{Coded, coded_list, coded×}
+use Rattle.policy_store.specs.declared.request.RequestType.{RequestType}
+use Rattle.policy_store.specs.contracts.request.RequestType.{the_row as request_type_row}
+use Rattle.access_tries.specs.Table.{Table, coded_table}
+
+-- request types, ascending, each with its trie
+abbrev pub Manifest : Type 0
+Manifest = List (RequestType × Table)
+
+abbrev pub coded_manifest : Coded Manifest
+coded_manifest = coded_list (coded× request_type_row.coded coded_table)
