@@ -8,3 +8,4 @@ pub mod Merging
 pub mod Order
 mod UnionLaws
 pub mod Unions
+mod With

@@ -49,6 +49,14 @@ pub past : (f : Option NodeData → Bool) (ns : Table) (a : Address) → f None 
 past f ns [] h = ap f (slice_get_past ns (length ns) (omega arith)) ∙ h
 past f ns (e ∷ es) h = ap (λ o. any_link f ns e es (option_map_or (λ n. n.links) o [])) (slice_get_past ns (length ns) (omega arith))
 
+-- past the end there is no node
+no_node : (ns : Table) (i : ℕ) → length ns ≤ i → slice_get ns i ≡ slice_get ns (length ns)
+no_node ns i h = slice_get_past ns i h ∙ sym (slice_get_past ns (length ns) (omega arith))
+
+pub at_end : (f : Option NodeData → Bool) (ns : Table) (i : ℕ) (a : Address) → length ns ≤ i → at_path f ns i a ≡ at_path f ns (length ns) a
+at_end f ns i [] h = ap f (no_node ns i h)
+at_end f ns i (e ∷ es) h = ap (λ o. any_link f ns e es (option_map_or (λ n. n.links) o [])) (no_node ns i h)
+
 and_false : (a : Bool) → (a && false) ≡ false
 and_false true = refl
 and_false false = refl
@@ -191,7 +199,7 @@ paths_at_end f at old ns x y node i j xs ys p q h u ex ey px qy s m (e ∷ es) =
     ∙ ap (λ ls. any_link f x e es ls || any_link f y e es ys) ex
     ∙ ap (λ ls. any_link f x e es (links_at x i) || any_link f y e es ls) ey
 
-within : {X : Type 0} (xs : List X) (i : ℕ) → i < length xs → is_some (slice_get xs i) ≡ true
+pub within : {X : Type 0} (xs : List X) (i : ℕ) → i < length xs → is_some (slice_get xs i) ≡ true
 within [] i h = absurd (omega (arith, h))
 within (x ∷ xs) zero h = refl
 within (x ∷ xs) (suc i) h = within xs i (omega (arith, h))

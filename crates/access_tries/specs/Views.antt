@@ -1,5 +1,5 @@
 -- A node of a table with all below it.
-use Rattle.std.specs.Prelude.{◌≡◌, ℕ, Bool, false, List, [], ◌∷◌, Option, option_map, find, is_some, refl}
+use Rattle.std.specs.Prelude.{◌≡◌, ℕ, Bool, true, false, ◌||◌, List, [], ◌∷◌, Option, option_map, find, is_some, refl}
 use Rattle.std.specs.List.{AllByRecursion}
 use Rattle.std.specs.Coded.{Coded, coded_ℕ, coded_list, coded×, code_by}
 use Rattle.access_tries.specs.declared.edge.EntityRoot.{EntityRoot}
@@ -8,7 +8,7 @@ use Rattle.access_tries.specs.declared.edge.Edge.{Edge}
 use Rattle.access_tries.specs.declared.edge.Edge.TheVariants.{Field, AnyTag, Root}
 use Rattle.access_tries.specs.declared.table.Link.{Link}
 use Rattle.access_tries.specs.Edges.{Address, edge_eq}
-use Rattle.access_tries.specs.Table.{Table, coded_table, at_path, has_mark, links_at}
+use Rattle.access_tries.specs.Table.{Table, coded_table, at_path, has_mark, leads, is_marked, links_at}
 
 pub record ViewData : Type 0 where
   pub nodes : Table
@@ -32,8 +32,9 @@ view_marks v es = at_path has_mark v.nodes v.number es
 abbrev pub LeadsNowhere : Edge → ViewData → Type 0
 LeadsNowhere e v = (es : Address) → view_leads v (e ∷ es) ≡ false
 
--- the edge leads from the first to the second
+-- the edge leads from the first to the second, which is there
 pub record LeadsTo (e : Edge) (v w : ViewData) : Type 0 where
+  pub there : view_leads w [] ≡ true
   pub paths : (es : Address) → view_leads v (e ∷ es) ≡ view_leads w es
   pub marks : (es : Address) → view_marks v (e ∷ es) ≡ view_marks w es
 
@@ -77,3 +78,8 @@ AreChildren v = AllByRecursion (λ c. LeadsTo (Field c.0) v c.1)
 
 abbrev pub AreRoots : ViewData → List (EntityRoot × ViewData) → Type 0
 AreRoots v = AllByRecursion (λ c. LeadsTo (Root c.0) v c.1)
+
+-- a trie with the paths and the marks of another and of the view, and no others
+pub record IsWith (old : Table) (v : ViewData) (new : Table) : Type 0 where
+  pub paths : (es : Address) → leads new es ≡ (leads old es || view_leads v es)
+  pub marks : (es : Address) → is_marked new es ≡ (is_marked old es || view_marks v es)

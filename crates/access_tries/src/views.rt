@@ -37,11 +37,27 @@ impl<'a> Model for TrieRef<'a> {
 }
 
 impl<'a> TrieRef<'a> {
-    pub(crate) fn new(nodes: &'a [Node], number: usize) -> TrieRef<'a>
+    /// A node of a table, with all below it.
+    pub fn new(nodes: &'a [Node], number: usize) -> TrieRef<'a>
         requires { IsTable nodes.now }
         ensures { result ≡ record { nodes = nodes.now; number = number } }
     {
         TrieRef { nodes, number }
+    }
+
+    /// The table that it is borrowed from.
+    pub fn nodes(&self) -> &'a [Node]
+        ensures nodes { result.now ≡ self.now.nodes }
+        ensures table { IsTable self.now.nodes }
+    {
+        self.nodes
+    }
+
+    /// Its number in the table.
+    pub fn number(&self) -> usize
+        ensures { result ≡ self.now.number }
+    {
+        self.number
     }
 
     /// Whether the value is itself asked for as an ancestor.
