@@ -2,18 +2,14 @@
 use Rattle.std.proofs.Common.{◌≡◌, ℕ, List, [], ◌∷◌, ◌++◌, Option, Some, None, map, refl, ap, inl, inr}
 use Rattle.std.specs.Prelude.{◌↔◌}
 use Rattle.std.specs.List.{flat_map, AllByRecursion}
-use Rattle.schema_core.specs.declared.request_env.RequestEnv.{RequestEnv}
-use Rattle.schema_core.specs.EnvData.{action_in}
-use Rattle.schema_core.specs.RequestEnvs.{env_data_of}
 use Rattle.policy_scope.specs.Names.{distinct}
-use Rattle.policy_typing.specs.Typing.{Typed}
 use Rattle.policy_levels.specs.Findings.{LevelFault, needs_level, literal_target, IsIn, IsTold, LevelFaultsAreExact}
 use Rattle.level_checks.specs.Faults.{fault_cmp}
-use Rattle.level_checks.specs.Errors.{level_error, faults_in, dereferences_in, PassesIn, IsToldOf}
+use Rattle.level_checks.specs.Errors.{level_error, Condition, faults_in, dereferences_in, PassesIn, IsToldOf, LevelErrorsAreExact}
 use Rattle.level_checks.proofs.Once.{all_kept, none_distinct}
 
 abbrev Conditions : Type 0
-Conditions = List (RequestEnv × Typed)
+Conditions = List Condition
 
 first_none : {X : Type 0} (xs ys : List X) → xs ++ ys ≡ [] → (xs ≡ []) × (ys ≡ [])
 first_none [] ys h = (refl, h)
@@ -37,14 +33,14 @@ module _ (exact : LevelFaultsAreExact) (n : ℕ) where
   all_pass [] h = tt
   all_pass (c ∷ cs) h =
       let r = first_none (faults_in n c) (flat_map (faults_in n) cs) h in
-      ((exact (action_in (env_data_of c.0)) n c.1).0.0 r.0, all_pass cs r.1)
+      ((exact c.0 n c.1).0.0 r.0, all_pass cs r.1)
 
   none_found : (cs : Conditions) → AllByRecursion (PassesIn n) cs → flat_map (faults_in n) cs ≡ []
   none_found [] h = refl
-  none_found (c ∷ cs) h = (λ i. (exact (action_in (env_data_of c.0)) n c.1).0.1 h.0 i ++ none_found cs h.1 i)
+  none_found (c ∷ cs) h = (λ i. (exact c.0 n c.1).0.1 h.0 i ++ none_found cs h.1 i)
 
   -- no error exactly where each condition passes
-  pub none_exactly : (id : List ℕ) (cs : Conditions) → (map (level_error id n) (distinct fault_cmp (flat_map (faults_in n) cs)) ≡ []) ↔ AllByRecursion (PassesIn n) cs
+  none_exactly : (id : List ℕ) (cs : Conditions) → (map (level_error id n) (distinct fault_cmp (flat_map (faults_in n) cs)) ≡ []) ↔ AllByRecursion (PassesIn n) cs
   none_exactly id cs = (
     (λ h. all_pass cs (none_distinct (flat_map (faults_in n) cs) (none_mapped (level_error id n) (distinct fault_cmp (flat_map (faults_in n) cs)) h))),
     (λ h. ap (λ fs. map (level_error id n) (distinct fault_cmp fs)) (none_found cs h)),
@@ -63,7 +59,7 @@ module _ (exact : LevelFaultsAreExact) (n : ℕ) where
   all_told [] = tt
   all_told (c ∷ cs) =
       both_all (IsTold n (flat_map dereferences_in (c ∷ cs))) (faults_in n c) (flat_map (faults_in n) cs)
-      (more_told (dereferences_in c) (dereferences_in c ++ flat_map dereferences_in cs) (λ x h. in_left x (dereferences_in c) (flat_map dereferences_in cs) h) (faults_in n c) (exact (action_in (env_data_of c.0)) n c.1).1)
+      (more_told (dereferences_in c) (dereferences_in c ++ flat_map dereferences_in cs) (λ x h. in_left x (dereferences_in c) (flat_map dereferences_in cs) h) (faults_in n c) (exact c.0 n c.1).1)
       (more_told (flat_map dereferences_in cs) (dereferences_in c ++ flat_map dereferences_in cs) (λ x h. in_right x (dereferences_in c) (flat_map dereferences_in cs) h) (flat_map (faults_in n) cs) (all_told cs))
 
   as_errors : (id : List ℕ) (os : List (Option ℕ)) (fs : List LevelFault) → AllByRecursion (IsTold n os) fs → AllByRecursion (IsToldOf id n os) (map (level_error id n) fs)
@@ -72,7 +68,10 @@ module _ (exact : LevelFaultsAreExact) (n : ℕ) where
   as_errors id os (literal_target l ∷ fs) h = ((refl, h.0), as_errors id os fs h.1)
 
   -- each error tells of a dereference
-  pub told_exactly : (id : List ℕ) (cs : Conditions) → AllByRecursion (IsToldOf id n (flat_map dereferences_in cs)) (map (level_error id n) (distinct fault_cmp (flat_map (faults_in n) cs)))
+  told_exactly : (id : List ℕ) (cs : Conditions) → AllByRecursion (IsToldOf id n (flat_map dereferences_in cs)) (map (level_error id n) (distinct fault_cmp (flat_map (faults_in n) cs)))
   told_exactly id cs =
       as_errors id (flat_map dereferences_in cs) (distinct fault_cmp (flat_map (faults_in n) cs))
       (all_kept (IsTold n (flat_map dereferences_in cs)) [] (flat_map (faults_in n) cs) tt (all_told cs))
+
+pub errors_are_exact : LevelFaultsAreExact → LevelErrorsAreExact
+errors_are_exact exact id n cs = (none_exactly exact n id cs, told_exactly exact n id cs)

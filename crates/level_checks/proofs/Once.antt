@@ -1,5 +1,5 @@
 -- What is found, each once, and a set that says what was.
-use Rattle.std.proofs.Common.{◌≡◌, ℕ, ◌+◌, ◌<◌, length, get_or, drop, Bool, true, false, ◌||◌, cond, List, [], ◌∷◌, ◌++◌, Option, Some, None, fold, refl, sym, ap, ◌∙◌, subst}
+use Rattle.std.proofs.Common.{◌≡◌, ℕ, ◌+◌, ◌<◌, length, get_or, drop, Bool, true, false, ◌||◌, cond, List, [], ◌∷◌, ◌++◌, Option, Some, None, fold, refl, sym, ap, ◌∙◌, subst, map}
 use Rattle.std.specs.List.{list_any, flat_map, AllByRecursion}
 use Rattle.std.proofs.lemmas.List.{drop_more}
 use Rattle.std.specs.Cmp.{IsTotalOrder, on_total, then_total, nat_cmp_total}
@@ -14,7 +14,7 @@ use Rattle.policy_scope.specs.Names.{loc_cmp, with_new, distinct}
 use Rattle.policy_levels.specs.Findings.{LevelFault}
 use Rattle.policy_typing.specs.Typing.{Typed}
 use Rattle.schema_core.specs.declared.request_env.RequestEnv.{RequestEnv}
-use Rattle.level_checks.specs.Errors.{faults_in}
+use Rattle.level_checks.specs.Errors.{faults_in, condition_in}
 use Rattle.level_checks.specs.Faults.{fault_at, parts_of, parts_cmp, fault_cmp}
 use Rattle.level_checks.specs.Seen.{HasSeen}
 
@@ -70,12 +70,12 @@ fold_both f b (x ∷ xs) ys = fold_both f (f b x) xs ys
 
 -- one condition more
 pub next_rest : (n : ℕ) (cs : List (RequestEnv × Typed)) (i : ℕ) (c : RequestEnv × Typed) (before now whole : List LevelFault) → i < length cs → c ≡ get_or cs i c →
-    now ≡ fold (with_new fault_cmp) before (faults_in n c) → fold (with_new fault_cmp) before (flat_map (faults_in n) (drop i cs)) ≡ whole → fold (with_new fault_cmp) now (flat_map (faults_in n) (drop (i + 1) cs)) ≡ whole
+    now ≡ fold (with_new fault_cmp) before (faults_in n (condition_in c)) → fold (with_new fault_cmp) before (flat_map (faults_in n) (map condition_in (drop i cs))) ≡ whole → fold (with_new fault_cmp) now (flat_map (faults_in n) (map condition_in (drop (i + 1) cs))) ≡ whole
 next_rest n cs i c before now whole lt is made rest =
     let first : drop i cs ≡ c ∷ drop (i + 1) cs = drop_more cs i c lt ∙ ap (λ x. x ∷ drop (i + 1) cs) (sym is) in
-    ap (λ fs. fold (with_new fault_cmp) fs (flat_map (faults_in n) (drop (i + 1) cs))) made
-    ∙ sym (fold_both (with_new fault_cmp) before (faults_in n c) (flat_map (faults_in n) (drop (i + 1) cs)))
-    ∙ ap (λ xs. fold (with_new fault_cmp) before (flat_map (faults_in n) xs)) (sym first) ∙ rest
+    ap (λ fs. fold (with_new fault_cmp) fs (flat_map (faults_in n) (map condition_in (drop (i + 1) cs)))) made
+    ∙ sym (fold_both (with_new fault_cmp) before (faults_in n (condition_in c)) (flat_map (faults_in n) (map condition_in (drop (i + 1) cs))))
+    ∙ ap (λ xs. fold (with_new fault_cmp) before (flat_map (faults_in n) (map condition_in xs))) (sym first) ∙ rest
 
 -- what holds of all holds of all that is kept
 pub all_kept : (P : LevelFault → Type 0) (found left : List LevelFault) → AllByRecursion P found → AllByRecursion P left → AllByRecursion P (fold (with_new fault_cmp) found left)

@@ -5,17 +5,16 @@ ghost use Rattle.std.specs.List.{AllByRecursion, flat_map};
 ghost use Rattle.schema_core.specs.EnvData.{action_in};
 ghost use Rattle.schema_core.specs.RequestEnvs.{env_data_of};
 ghost use Rattle.policy_scope.specs.Names.{distinct, with_new};
-ghost use Rattle.policy_levels.specs.Levels.{dereferences, passes};
 ghost use Rattle.policy_levels.specs.Findings.{level_faults};
 ghost use Rattle.level_checks.specs.Faults.{fault_of, fault_cmp};
-ghost use Rattle.level_checks.specs.Errors.{level_error, faults_in, dereferences_in, PassesIn, IsToldOf};
+ghost use Rattle.level_checks.specs.Errors.{level_error, level_errors_in, faults_in, dereferences_in, PassesIn, IsToldOf, condition_in};
 ghost use Rattle.level_checks.specs.Seen.{HasSeen};
 
 use crate::fault::Fault;
+use crate::laws::level_errors_are_exact;
 use crate::walk::{Checked, check};
 use findings::ValidationError;
 use policy_expressions::{Expr, Loc};
-use policy_levels::laws::level_faults_are_exact;
 use policy_names::Text;
 use schema_core::RequestEnv;
 use schema_types::Type;
@@ -32,11 +31,11 @@ pub fn level_errors(
     max_level: u32,
     conditions: &Vec<(RequestEnv<'_>, Expr<Option<Type>>)>,
 ) -> Result<Vec<ValidationError>, AllocError>
-    ensures found { IfOk result (λ errors. errors.items ≡ map (level_error policy_id.now max_level) (distinct fault_cmp (flat_map (faults_in max_level) conditions.now.items))) }
-    ensures none { IfOk result (λ errors. (errors.items ≡ []) ↔ AllByRecursion (PassesIn max_level) conditions.now.items) }
-    ensures told { IfOk result (λ errors. AllByRecursion (IsToldOf policy_id.now max_level (flat_map dereferences_in conditions.now.items)) errors.items) }
+    ensures found { IfOk result (λ errors. errors.items ≡ level_errors_in policy_id.now max_level (map condition_in conditions.now.items)) }
+    ensures none { IfOk result (λ errors. (errors.items ≡ []) ↔ AllByRecursion (PassesIn max_level) (map condition_in conditions.now.items)) }
+    ensures told { IfOk result (λ errors. AllByRecursion (IsToldOf policy_id.now max_level (flat_map dereferences_in (map condition_in conditions.now.items))) errors.items) }
 {
-    level_faults_are_exact();
+    level_errors_are_exact();
     let faults = distinct_faults(alloc, max_level, conditions)?;
     errors_of(alloc, policy_id, max_level, &faults)
 }
@@ -47,7 +46,7 @@ fn distinct_faults(
     max_level: u32,
     conditions: &Vec<(RequestEnv<'_>, Expr<Option<Type>>)>,
 ) -> Result<Vec<Fault>, AllocError>
-    ensures { IfOk result (λ faults. map fault_of faults.items ≡ distinct fault_cmp (flat_map (faults_in max_level) conditions.now.items)) }
+    ensures { IfOk result (λ faults. map fault_of faults.items ≡ distinct fault_cmp (flat_map (faults_in max_level) (map condition_in conditions.now.items))) }
 {
     let mut seen = BTreeSet::new(alloc);
     let mut distinct = Vec::new(alloc);
