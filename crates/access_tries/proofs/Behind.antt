@@ -1,5 +1,5 @@
 -- An edge leads to the node of the one link that has it.
-use Rattle.std.proofs.Common.{◌≡◌, ℕ, Bool, true, false, ◌&&◌, ◌||◌, cond, List, [], ◌∷◌, Option, Some, None, is_some, refl, ap, ◌∙◌, subst, arith}
+use Rattle.std.proofs.Common.{◌≡◌, ℕ, ◌<◌, length, Bool, true, false, ◌&&◌, ◌||◌, cond, List, [], ◌∷◌, Option, Some, None, is_some, refl, ap, ◌∙◌, subst, arith}
 use Rattle.std.specs.Prelude.{option_map, find}
 use Rattle.std.specs.Option.{option_map_or}
 use Rattle.std.specs.List.{AllByRecursion}
@@ -13,6 +13,7 @@ use Rattle.access_tries.specs.Table.{Table, NodeData, at_path, has_mark, links_a
 use Rattle.access_tries.specs.Views.{LeadsNowhere, LeadsTo, number_at}
 use Rattle.access_tries.specs.Walks.{any_link}
 use Rattle.access_tries.proofs.Order.{edge_total, exact_edge}
+use Rattle.access_tries.proofs.Unions.{within}
 
 -- behind an edge there is no other link with it
 other : (e : Edge) (l m : Link) → edge_eq l.edge e ≡ true → IsBefore l m → edge_eq m.edge e ≡ false
@@ -37,8 +38,21 @@ by_number f ns e es (l ∷ ls) up = by (edge_eq l.edge e) refl (by_number f ns e
   by true same later = ap (λ b. at_path f ns l.number es || b) (none_behind f ns e es l ls same up.0) ∙ or_false (at_path f ns l.number es)
   by false same later = later
 
+-- the number that is found is that of a node
+number_within : (k : ℕ) (e : Edge) (n : ℕ) (ls : List Link) → AllByRecursion (λ l. l.number < k) ls → number_at e ls ≡ Some n → n < k
+number_within k e n [] all is = cc
+number_within k e n (l ∷ ls) all is = by (edge_eq l.edge e) is (number_within k e n ls all.1) where
+  by : (b : Bool) → option_map (λ m. m.number) (cond b (Some l) (find (λ m. edge_eq m.edge e) ls)) ≡ Some n → (number_at e ls ≡ Some n → n < k) → n < k
+  by true h later = let same : l.number ≡ n = cc in subst (λ i. i < k) same all.0
+  by false h later = later h
+
+below_end : (i k : ℕ) (ls : List Link) → AllByRecursion (λ l. (i < l.number) × (l.number < k)) ls → AllByRecursion (λ l. l.number < k) ls
+below_end i k [] all = tt
+below_end i k (l ∷ ls) all = (all.0.1, below_end i k ls all.1)
+
 pub found : (ns : Table) (i : ℕ) (e : Edge) (n : ℕ) → IsTable ns → number_at e (links_at ns i) ≡ Some n → LeadsTo e (record { nodes = ns; number = i }) (record { nodes = ns; number = n })
 found ns i e n table is = record {
+  there = within ns n (number_within (length ns) e n (links_at ns i) (below_end i (length ns) (links_at ns i) (table.closed.each i (omega arith))) is);
   paths = λ es. by_number is_some ns e es (links_at ns i) (table.ordered.each i (omega arith)) ∙ ap (λ o. option_map_or (λ n. at_path is_some ns n es) o false) is;
   marks = λ es. by_number has_mark ns e es (links_at ns i) (table.ordered.each i (omega arith)) ∙ ap (λ o. option_map_or (λ n. at_path has_mark ns n es) o false) is;
 }

@@ -31,7 +31,7 @@ wider k n m h [] a = a
 wider k n m h (l ∷ ls) (a, more) = ((a.0, omega (arith, a.1)), wider k n m h ls more)
 
 -- links to nodes that two tables share lead to the same
-any_same : (f : Option NodeData → Bool) (ns ms : Table) (k : ℕ) (e : Edge) (es : Address) (ls : List Link) → AllByRecursion (IsBetween k (length ns)) ls → ((j : ℕ) → k < j → j < length ns → at_path f ms j es ≡ at_path f ns j es) → any_link f ms e es ls ≡ any_link f ns e es ls
+pub any_same : (f : Option NodeData → Bool) (ns ms : Table) (k : ℕ) (e : Edge) (es : Address) (ls : List Link) → AllByRecursion (IsBetween k (length ns)) ls → ((j : ℕ) → k < j → j < length ns → at_path f ms j es ≡ at_path f ns j es) → any_link f ms e es ls ≡ any_link f ns e es ls
 any_same f ns ms k e es [] a h = refl
 any_same f ns ms k e es (l ∷ ls) (a, more) h =
     ap (λ b. (edge_eq l.edge e && b) || any_link f ms e es ls) (h l.number a.0 a.1)
@@ -48,6 +48,14 @@ same_walk f ns ms k s c (e ∷ es) i h j =
 pub past : (f : Option NodeData → Bool) (ns : Table) (a : Address) → f None ≡ false → at_path f ns (length ns) a ≡ false
 past f ns [] h = ap f (slice_get_past ns (length ns) (omega arith)) ∙ h
 past f ns (e ∷ es) h = ap (λ o. any_link f ns e es (option_map_or (λ n. n.links) o [])) (slice_get_past ns (length ns) (omega arith))
+
+-- past the end there is no node
+no_node : (ns : Table) (i : ℕ) → length ns ≤ i → slice_get ns i ≡ slice_get ns (length ns)
+no_node ns i h = slice_get_past ns i h ∙ sym (slice_get_past ns (length ns) (omega arith))
+
+pub at_end : (f : Option NodeData → Bool) (ns : Table) (i : ℕ) (a : Address) → length ns ≤ i → at_path f ns i a ≡ at_path f ns (length ns) a
+at_end f ns i [] h = ap f (no_node ns i h)
+at_end f ns i (e ∷ es) h = ap (λ o. any_link f ns e es (option_map_or (λ n. n.links) o [])) (no_node ns i h)
 
 and_false : (a : Bool) → (a && false) ≡ false
 and_false true = refl
@@ -127,13 +135,13 @@ set_below (x ∷ xs) zero j y h = absurd (omega (arith, h))
 set_below (x ∷ xs) (suc i) zero y h = refl
 set_below (x ∷ xs) (suc i) (suc j) y h = set_below xs i j y (omega (arith, h))
 
-set_above : {X : Type 0} (xs : List X) (i j : ℕ) (y : X) → i < j → slice_get (slice_set xs i y) j ≡ slice_get xs j
+pub set_above : {X : Type 0} (xs : List X) (i j : ℕ) (y : X) → i < j → slice_get (slice_set xs i y) j ≡ slice_get xs j
 set_above [] i j y h = refl
 set_above (x ∷ xs) i zero y h = absurd (omega (arith, h))
 set_above (x ∷ xs) zero (suc j) y h = refl
 set_above (x ∷ xs) (suc i) (suc j) y h = set_above xs i j y (omega (arith, h))
 
-set_here : {X : Type 0} (xs : List X) (i : ℕ) (y : X) → i < length xs → slice_get (slice_set xs i y) i ≡ Some y
+pub set_here : {X : Type 0} (xs : List X) (i : ℕ) (y : X) → i < length xs → slice_get (slice_set xs i y) i ≡ Some y
 set_here [] i y h = absurd (omega (arith, h))
 set_here (x ∷ xs) zero y h = refl
 set_here (x ∷ xs) (suc i) y h = set_here xs i y (omega (arith, h))
@@ -191,7 +199,7 @@ paths_at_end f at old ns x y node i j xs ys p q h u ex ey px qy s m (e ∷ es) =
     ∙ ap (λ ls. any_link f x e es ls || any_link f y e es ys) ex
     ∙ ap (λ ls. any_link f x e es (links_at x i) || any_link f y e es ls) ey
 
-within : {X : Type 0} (xs : List X) (i : ℕ) → i < length xs → is_some (slice_get xs i) ≡ true
+pub within : {X : Type 0} (xs : List X) (i : ℕ) → i < length xs → is_some (slice_get xs i) ≡ true
 within [] i h = absurd (omega (arith, h))
 within (x ∷ xs) zero h = refl
 within (x ∷ xs) (suc i) h = within xs i (omega (arith, h))

@@ -1,14 +1,14 @@
 //! Tries of access paths.
 
-ghost use Rattle.std.specs.Prelude.{◌≡◌, [], IfOk, OnOk, OnErr, MatchOption};
+ghost use Rattle.std.specs.Prelude.{◌≡◌, ◌≤◌, [], length, IfOk, OnOk, OnErr, MatchOption};
 ghost use Rattle.access_tries.specs.Table.{IsTable, is_marked};
 ghost use Rattle.access_tries.specs.Paths.{IsUnion};
-ghost use Rattle.access_tries.specs.Views.{LeadsNowhere, LeadsTo, whole};
+ghost use Rattle.access_tries.specs.Views.{IsWith, LeadsNowhere, LeadsTo, whole};
 ghost use Rattle.access_tries.specs.declared.edge.Edge.TheVariants.{Root};
 
 use crate::edge::EntityRoot;
 use crate::table::{Node, mark_of, unite};
-use crate::views::TrieRef;
+use crate::views::{RootTrieRef, TrieRef};
 use std::alloc::{AllocError, Global};
 use std::marker::Model;
 
@@ -46,6 +46,13 @@ impl RootAccessTrie {
         ensures { MatchOption result (LeadsNowhere (Root root.now) (whole self.now)) (LeadsTo (Root root.now) (whole self.now)) }
     {
         TrieRef::new(&self.nodes, 0).ancestors_from(root)
+    }
+
+    /// The roots, each with what is read from it, borrowed.
+    pub fn as_root_trie_ref(&self) -> RootTrieRef<'_>
+        ensures { result ≡ whole self.now }
+    {
+        TrieRef::new(&self.nodes, 0).ancestors_required()
     }
 
     /// The table of its nodes: the first one leads to the roots.
@@ -130,6 +137,16 @@ impl AccessTrie {
         Ok(())
     }
 
+    /// Adds what a borrowed trie holds; without memory the trie stays as it is.
+    pub fn add(&mut self, alloc: Global, trie: &TrieRef<'_>) -> Result<(), AllocError>
+        ensures ok { OnOk result (IsWith self.old trie.now self.new) }
+        ensures err { OnErr result (self.new ≡ self.old) }
+    {
+        let with = with_node(alloc, &self.nodes, trie.nodes(), trie.number())?;
+        self.nodes = with;
+        Ok(())
+    }
+
     /// The trie, borrowed.
     pub fn as_trie_ref(&self) -> TrieRef<'_>
         ensures { result ≡ whole self.now }
@@ -155,6 +172,39 @@ fn united(alloc: Global, a: &[Node], b: &[Node]) -> Result<Vec<Node>, AllocError
     let mut nodes = Vec::new(alloc);
     if 0 < a.len() || 0 < b.len() {
         unite(alloc, &mut nodes, a, 0, b, 0)?;
+    }
+    Ok(nodes)
+}
+
+// The table of what a table holds, and what a node of another does. A number past the end stands for no node.
+fn with_node(alloc: Global, a: &[Node], b: &[Node], number: usize) -> Result<Vec<Node>, AllocError>
+    requires a_table { IsTable a.now }
+    requires b_table { IsTable b.now }
+    ensures table { IfOk result (λ t. IsTable t.items) }
+    ensures with { IfOk result (λ t. IsWith a.now (record { nodes = b.now; number = number }) t.items) }
+{
+    if number < b.len() {
+        united_from(alloc, a, b, number)
+    } else {
+        united_from(alloc, a, b, b.len())
+    }
+}
+
+fn united_from(
+    alloc: Global,
+    a: &[Node],
+    b: &[Node],
+    number: usize,
+) -> Result<Vec<Node>, AllocError>
+    requires a_table { IsTable a.now }
+    requires b_table { IsTable b.now }
+    requires number_in { number ≤ length b.now }
+    ensures table { IfOk result (λ t. IsTable t.items) }
+    ensures with { IfOk result (λ t. IsWith a.now (record { nodes = b.now; number = number }) t.items) }
+{
+    let mut nodes = Vec::new(alloc);
+    if 0 < a.len() || number < b.len() {
+        unite(alloc, &mut nodes, a, 0, b, number)?;
     }
     Ok(nodes)
 }

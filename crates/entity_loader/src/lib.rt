@@ -1,0 +1,9 @@
+//! What gives entities, and what is asked of it.
+#![tactic(auto)]
+
+mod cut;
+mod loader;
+mod slicer;
+
+pub use loader::{AncestorsRequest, EntityAnswer, EntityLoader, EntityRequest, LoadError};
+pub use slicer::EntitySlicer;
