@@ -13,7 +13,7 @@ use Rattle.policy_gate.specs.declared.command.Command.{Command}
 use Rattle.policy_gate.specs.declared.status.Status.{Status}
 use Rattle.policy_gate.specs.declared.status.Status.TheVariants.{Done, Findings, Usage, Document, Request, Store, PartialRequest, ReadFault, WriteFault, OutOfMemory, TooLong}
 use Rattle.policy_documents.specs.declared.document.Document.{Document as ADocument}
-use Rattle.policy_gate.specs.Headline.{HasAcceptedPolicies, IsDocumentOf, KeepsRulesOf, Says}
+use Rattle.policy_gate.specs.Headline.{HasAcceptedPolicies, IsDocumentOf, KeepsRules, KeepsRulesOf, Says}
 use Rattle.policy_gate.proofs.Answers.{status_of_document}
 use Rattle.policy_gate.proofs.Says.{Laws, says_done, says_refused, kept_is_done}
 
@@ -171,6 +171,14 @@ module _ (laws : Laws) (command : Option Command) (source source' : SourceState)
     where
       at : Cause (Some c) source source' sink sink' Done → (bytes : List ℕ) × (text : List ℕ) × WasRead source source' bytes × ((d : ADocument) × IsDocumentOf c bytes d × Says c d text) × Appends sink.holds sink'.holds text
       at (text, (bytes, read, answer), written) = (bytes, text, read, says_done laws c bytes text answer, written)
+
+  -- where 0 says two things of a document, each
+  pub both_for : (c : Command) (P : ADocument → List ℕ → Type 0)
+      → ((bytes : List ℕ) × (text : List ℕ) × WasRead source source' bytes × ((d : ADocument) × IsDocumentOf c bytes d × (KeepsRules d × P d text)) × Appends sink.holds sink'.holds text)
+      → (bytes : List ℕ) × (text : List ℕ) × WasRead source source' bytes
+      × ((d : ADocument) × IsDocumentOf c bytes d × KeepsRules d × P d text)
+      × Appends sink.holds sink'.holds text
+  both_for c P (bytes, text, read, (d, of, said), written) = (bytes, text, read, (d, of, said.0, said.1), written)
 
   pub refused_for : status ≡ Findings
       → (c : Command) × (command ≡ Some c)

@@ -31,6 +31,7 @@ use Rattle.policy_gate.specs.Command.{width_of}
 use Rattle.policy_gate.specs.Reply.{Answer, answer}
 use Rattle.policy_gate.specs.declared.command.Command.{Command}
 use Rattle.policy_gate.specs.declared.command.Command.TheVariants.{Check, Request as Conformance, Slice, Decide}
+use Rattle.policy_gate.specs.declared.status.Status.{Status}
 use Rattle.policy_gate.specs.declared.status.Status.TheVariants as status
 
 -- what is found of the document's policies
@@ -68,6 +69,11 @@ refused_store d = option_map (λ f. answer status.Store (entity_text (record { u
 abbrev pub refused_with : List ValidationError → Findings → Option Answer
 refused_with [] found = None
 refused_with (e ∷ es) found = Some (answer status.Findings (findings_text found))
+
+-- how the findings end: with errors among them the policies are refused
+abbrev pub status_of : List ValidationError → Status
+status_of [] = status.Done
+status_of (e ∷ es) = status.Findings
 
 abbrev pub refused_policies : Document → Option Answer
 refused_policies d = refused_with (found_in d).errors (found_in d)

@@ -5,7 +5,8 @@ ghost use Rattle.policy_store.specs.Request.{IsWhole};
 ghost use Rattle.conformance.specs.Misfits.{knows};
 ghost use Rattle.conformance.specs.RequestRules.{first_request_fault};
 ghost use Rattle.conformance_errors.specs.Written.{request_text};
-ghost use Rattle.policy_gate.specs.Answer.{AreKeysOnce, IsAnswer, IsAnswerFor, IsWellMade, IsAnswerTo, IsWork, found_in, refused_data, refused_decision, refused_policies, refused_request, refused_store, request_fault, store_fault};
+ghost use Rattle.finding_texts.specs.Written.{findings_text};
+ghost use Rattle.policy_gate.specs.Answer.{AreKeysOnce, IsAnswer, IsAnswerFor, IsWellMade, IsAnswerTo, IsRefusedOr, IsWork, found_in, refused_data, refused_decision, refused_policies, refused_request, refused_store, refused_with, request_fault, status_of, store_fault};
 ghost use Rattle.policy_gate.specs.Reply.{reply_view};
 
 use crate::command::{Command, width_of};
@@ -101,13 +102,27 @@ fn with_findings(alloc: Global, document: &Document) -> Result<Reply, AllocError
     ensures { IfOk result (λ r. IsAnswerTo Command.Check document.now (reply_view r)) }
 {
     let found = found_in(alloc, document)?;
-    let status = if found.validation_passed() {
+    told(alloc, &found)
+}
+
+// The findings, with the status that they have.
+fn told(alloc: Global, found: &ValidationResult) -> Result<Reply, AllocError>
+    ensures { IfOk result (λ r. IsRefusedOr (refused_with found.now.errors found.now)
+        (λ text. text ≡ findings_text found.now) (reply_view r)) }
+{
+    let status = status_of(found);
+    let text = findings_text(alloc, found)?;
+    reply_with(alloc, status, text.as_str())
+}
+
+fn status_of(found: &ValidationResult) -> Status
+    ensures { result ≡ status_of found.now.errors }
+{
+    if found.validation_passed() {
         Status::Done
     } else {
         Status::Findings
-    };
-    let text = findings_text(alloc, &found)?;
-    reply_with(alloc, status, text.as_str())
+    }
 }
 
 // Whether the request and the store conform.
