@@ -4,11 +4,16 @@ use Rattle.std.specs.List.{AllByRecursion}
 use Rattle.std.specs.Option.{option_or, option_map}
 use Rattle.serde_json.specs.Data.{Data}
 use Rattle.policy_names.specs.declared.entity_uid.EntityUID.{EntityUID}
-use Rattle.policy_values.specs.Value.{Val, truth}
+use Rattle.policy_values.specs.Value.{Val, Fields, truth}
 use Rattle.policy_store.specs.declared.request.Request.{Request}
-use Rattle.policy_store.specs.Request.{IsWhole}
+use Rattle.policy_store.specs.Request.{IsWhole, principal_of, action_of, resource_of}
 use Rattle.policy_store.specs.Store.{Store}
-use Rattle.schema_core.specs.Schema.{SchemaData}
+use Rattle.schema_core.specs.Schema.{SchemaData, ActionData, action_at}
+use Rattle.schema_core.specs.Environments.{environment}
+use Rattle.schema_core.specs.EnvData.{unlinked}
+use Rattle.policy_expressions.specs.Plain.{Plain}
+use Rattle.policy_typing.specs.Typing.{Typing, types}
+use Rattle.policy_typing.specs.Conditions.{IsCondition}
 use Rattle.policy_core.specs.Eval.{eval}
 use Rattle.policy_core.specs.Allowed.{IsAllowedOutcome}
 use Rattle.policy_core.specs.declared.outcome.Outcome.{Outcome}
@@ -22,11 +27,12 @@ use Rattle.policy_documents.specs.Reading.{IsRead}
 use Rattle.policy_documents.specs.declared.document.Document.{Document}
 use Rattle.finding_texts.specs.Findings.{Findings}
 use Rattle.findings.specs.declared.error.ValidationError.{ValidationError}
+use Rattle.conformance_errors.specs.Written.{request_text, entity_text}
 use Rattle.conformance.specs.Laws.{RequestRulesAreExact, StoreRulesAreExact}
 use Rattle.policy_typing.specs.Conforms.{RequestConforms, StoreConforms}
 use Rattle.policy_validate.specs.Laws.{NoErrorsWhereAccepted, AcceptedAreSound}
 use Rattle.id_slices.proofs.Covering.{covers, allows, decision_same}
-use Rattle.policy_gate.specs.Answer.{IsAnswer, IsAnswerIf, IsAnswerFor, IsWellMade, IsAnswerTo, IsRefusedOr, IsWork, found_in, is_whole, refusal, refused_data, refused_decision, refused_partial, refused_policies, refused_request, refused_store, refused_with, request_fault, store_fault}
+use Rattle.policy_gate.specs.Answer.{IsAnswer, IsAnswerIf, IsAnswerFor, IsWellMade, IsAnswerTo, IsRefusedOr, IsWork, found_in, is_whole, partial_request, refusal, refused_data, refused_decision, refused_partial, refused_policies, refused_request, refused_store, refused_with, request_fault, store_fault}
 use Rattle.policy_gate.specs.Headline.{Conforms, HasAcceptedPolicies, IsDocumentOf, KeepsRules, KeepsRulesOf, IsChecked, IsSliced, IsDecided, Says}
 use Rattle.json_parts.specs.Json.{json_of}
 use Rattle.policy_gate.specs.Reply.{Answer, answer}
@@ -85,7 +91,7 @@ refuses_with (e ∷ es) found = tt
 refuses_partial : (d : Document) → Refuses (refused_partial d)
 refuses_partial d = by (is_whole d.request)
   where
-    by : (b : Bool) → Refuses (if b then None else Some (answer status.PartialRequest _))
+    by : (b : Bool) → Refuses (if b then None else Some partial_request)
     by true = tt
     by false = tt
 
@@ -94,7 +100,8 @@ mapped f None h = tt
 mapped f (Some x) h = h x
 
 refuses_data : (d : Document) → Refuses (refused_data d)
-refuses_data d = either (refused_request d) (refused_store d) (mapped _ (request_fault d) (λ x. tt)) (mapped _ (store_fault d) (λ x. tt))
+refuses_data d = either (refused_request d) (refused_store d) (mapped (λ e. answer status.Request (request_text e)) (request_fault d) (λ x. tt))
+    (mapped (λ f. answer status.Store (entity_text (record { uid = f.0; rule = f.1 }))) (store_fault d) (λ x. tt))
 
 refuses_decision : (d : Document) → Refuses (refused_decision d)
 refuses_decision d = either (refused_partial d) (option_or (refused_data d) (refused_policies d)) (refuses_partial d) (either (refused_data d) (refused_policies d) (refuses_data d) (refuses_with (found_in d).errors (found_in d)))
@@ -118,7 +125,7 @@ done (Some a) W text h is = absurd (no_refusal a.status h (sym (ap (λ b. b.stat
 whole_parts : (q : Request) → is_whole q ≡ true → IsWhole q
 whole_parts q h = by q.principal q.action q.resource q.context h
   where
-    by : (p a r : Option EntityUID) (c : _) → (is_some p && (is_some a && (is_some r && is_some c))) ≡ true → IsWhole (record { principal = p; action = a; resource = r; context = c })
+    by : (p a r : Option EntityUID) (c : Option Fields) → (is_some p && (is_some a && (is_some r && is_some c))) ≡ true → IsWhole (record { principal = p; action = a; resource = r; context = c })
     by (Some p) (Some a) (Some r) (Some c) h = record { principal = refl; action = refl; resource = refl; context = refl }
     by None a r c h = absurd (cc h)
     by (Some p) None r c h = absurd (cc h)
@@ -131,12 +138,12 @@ parts_whole q h = λ i. h.principal i && (h.action i && (h.resource i && h.conte
 pub partial_whole : (d : Document) → refused_partial d ≡ None → IsWhole d.request
 partial_whole d h = whole_parts d.request (by (is_whole d.request) h)
   where
-    by : (b : Bool) → (if b then None else Some (answer status.PartialRequest _)) ≡ None → b ≡ true
+    by : (b : Bool) → (if b then None else Some partial_request) ≡ None → b ≡ true
     by true h = refl
     by false h = absurd (cc h)
 
 whole_partial : (d : Document) → IsWhole d.request → refused_partial d ≡ None
-whole_partial d h = ap (λ b. if b then None else Some (answer status.PartialRequest _)) (parts_whole d.request h)
+whole_partial d h = ap (λ b. if b then None else Some partial_request) (parts_whole d.request h)
 
 none_with : (es : List ValidationError) (found : Findings) → refused_with es found ≡ None → es ≡ []
 none_with [] found h = refl
@@ -170,19 +177,19 @@ module _ (laws : Laws) (d : Document) where
 
     conforming : refused_data d ≡ None → Conforms d
     conforming h = record {
-      request = none_inside _ (request_fault d) (none_first (refused_request d) (refused_store d) h);
-      store = store_kept (none_inside _ (store_fault d) (none_rest (refused_request d) (refused_store d) h));
+      request = none_inside (λ e. answer status.Request (request_text e)) (request_fault d) (none_first (refused_request d) (refused_store d) h);
+      store = store_kept (none_inside (λ f. answer status.Store (entity_text (record { uid = f.0; rule = f.1 }))) (store_fault d) (none_rest (refused_request d) (refused_store d) h));
     }
 
     conforms : request_fault d ≡ None → StoreConforms d.schema d.entities → refused_data d ≡ None
-    conforms request store = neither (refused_request d) (refused_store d) (ap (option_map _) request) (ap (option_map _) (kept_store store))
+    conforms request store = neither (refused_request d) (refused_store d) (ap (option_map (λ e. answer status.Request (request_text e))) request) (ap (option_map (λ f. answer status.Store (entity_text (record { uid = f.0; rule = f.1 })))) (kept_store store))
 
     keeping : refused_decision d ≡ None → KeepsRules d
     keeping h =
         let later = none_rest (refused_partial d) (option_or (refused_data d) (refused_policies d)) h in
         let whole = partial_whole d (none_first (refused_partial d) (option_or (refused_data d) (refused_policies d)) h) in
-        let data = conforming (none_first (refused_data d) (refused_policies d) later) in
-        record { whole = whole; request = request_kept whole data.request; store = data.store; policies = accepted (none_rest (refused_data d) (refused_policies d) later) }
+        let both = conforming (none_first (refused_data d) (refused_policies d) later) in
+        record { whole = whole; request = request_kept whole both.request; store = both.store; policies = accepted (none_rest (refused_data d) (refused_policies d) later) }
 
     keeps : KeepsRules d → refused_decision d ≡ None
     keeps h = neither (refused_partial d) (option_or (refused_data d) (refused_policies d)) (whole_partial d h.whole) (neither (refused_data d) (refused_policies d) (conforms (kept_request h.whole h.request) h.store) (not_refused h.policies))
@@ -201,16 +208,19 @@ module _ (laws : Laws) (d : Document) where
     allowed_value (Value v) h = absurd h
     allowed_value (Error e) h = h
 
-    allowed_here : (p : PolicyData) → IsConditionFor d.schema p.condition d.request d.entities → IsAllowedOutcome (eval p.condition d.request d.entities)
-    allowed_here p h = outer _ h
-      where
-        inner : (o : _) → IsSomeAnd o (λ x. _) → IsAllowedOutcome (eval p.condition d.request d.entities)
-        inner None k = absurd k
-        inner (Some x) k = allowed_value _ k.value
+    allowed_typed : (e : Plain) (o : Option Typing) → IsSomeAnd o (IsCondition d.request d.entities (eval e d.request d.entities)) → IsAllowedOutcome (eval e d.request d.entities)
+    allowed_typed e None k = absurd k
+    allowed_typed e (Some x) k = allowed_value (eval e d.request d.entities) k.value
 
-        outer : (o : _) → IsSomeAnd o (λ a. _) → IsAllowedOutcome (eval p.condition d.request d.entities)
-        outer None k = absurd k
-        outer (Some a) k = inner _ k
+    abbrev TypingIn : Plain → ActionData → Option Typing
+    TypingIn e a = types d.schema (unlinked a (environment (principal_of d.request).entity_type a.name (resource_of d.request).entity_type)) [] e
+
+    allowed_in : (e : Plain) (o : Option ActionData) → IsSomeAnd o (λ a. IsSomeAnd (TypingIn e a) (IsCondition d.request d.entities (eval e d.request d.entities))) → IsAllowedOutcome (eval e d.request d.entities)
+    allowed_in e None k = absurd k
+    allowed_in e (Some a) k = allowed_typed e (TypingIn e a) k
+
+    allowed_here : (p : PolicyData) → IsConditionFor d.schema p.condition d.request d.entities → IsAllowedOutcome (eval p.condition d.request d.entities)
+    allowed_here p h = allowed_in p.condition (action_at d.schema (action_of d.request)) h
 
     all_allowed : (ps : List PolicyData) → AllByRecursion (λ p. IsConditionFor d.schema p.condition d.request d.entities) ps → AreAllowed ps d.request d.entities
     all_allowed [] h = tt
@@ -237,8 +247,7 @@ module _ (laws : Laws) (d : Document) where
     says Conformance v text reads none is = conforming none
     says Slice v text reads none is = let rules = keeping none in (rules, sliced v text reads rules is)
     says Decide v text reads none is = let rules = keeping none in (rules, decided text rules is)
-
-  -- ---- what 1 says
+    -- ---- what 1 says
 
 abbrev IsFound : Option Answer → Type 0
 IsFound o = IsSomeAnd o (λ a. a.status ≡ status.Findings)
@@ -254,20 +263,21 @@ mapped_other f (Some x) h = h x
 no_partial : (d : Document) → IfSome (refused_partial d) (λ r. r.status ≡ status.Findings → ⊥)
 no_partial d = by (is_whole d.request)
   where
-    by : (b : Bool) → IfSome (if b then None else Some (answer status.PartialRequest _)) (λ r. r.status ≡ status.Findings → ⊥)
+    by : (b : Bool) → IfSome (if b then None else Some partial_request) (λ r. r.status ≡ status.Findings → ⊥)
     by true = tt
     by false = λ is. absurd (cc is)
 
-found_data : (d : Document) (b : Option Answer) → IsFound (option_or (refused_data d) b) → IsFound b
-found_data d b h = by (request_fault d) (store_fault d) h
+-- a refusal of the request or the store is none for findings
+no_data : (d : Document) → IfSome (refused_data d) (λ r. r.status ≡ status.Findings → ⊥)
+no_data d = first (refused_request d) (refused_store d) (mapped_other (λ e. answer status.Request (request_text e)) (request_fault d) (λ x is. absurd (cc is)))
+    (mapped_other (λ f. answer status.Store (entity_text (record { uid = f.0; rule = f.1 }))) (store_fault d) (λ x is. absurd (cc is)))
   where
-    by : (r s : _) → IsFound (option_or (option_or (option_map _ r) (option_map _ s)) b) → IsFound b
-    by None None h = h
-    by None (Some s) h = absurd (cc h)
-    by (Some r) s h = absurd (cc h)
+    first : (a b : Option Answer) → IfSome a (λ r. r.status ≡ status.Findings → ⊥) → IfSome b (λ r. r.status ≡ status.Findings → ⊥) → IfSome (option_or a b) (λ r. r.status ≡ status.Findings → ⊥)
+    first None b h k = k
+    first (Some x) b h k = h
 
-none_found : (d : Document) → IsFound None → ⊥
-none_found d h = h
+found_data : (d : Document) (b : Option Answer) → IsFound (option_or (refused_data d) b) → IsFound b
+found_data d b h = found_behind (refused_data d) b (no_data d) h
 
 found_policies : (c : Command) (d : Document) → IsFound (refusal c d) → IsFound (refused_policies d)
 found_policies Check d h = h
@@ -276,8 +286,8 @@ found_policies Conformance d h = absurd (found_data d None (by (refused_data d) 
     by : (o : Option Answer) → IsFound o → IsFound (option_or o None)
     by None h = h
     by (Some a) h = h
-found_policies Slice d h = found_data d (refused_policies d) (found_behind (refused_partial d) _ (no_partial d) h)
-found_policies Decide d h = found_data d (refused_policies d) (found_behind (refused_partial d) _ (no_partial d) h)
+found_policies Slice d h = found_data d (refused_policies d) (found_behind (refused_partial d) (option_or (refused_data d) (refused_policies d)) (no_partial d) h)
+found_policies Decide d h = found_data d (refused_policies d) (found_behind (refused_partial d) (option_or (refused_data d) (refused_policies d)) (no_partial d) h)
 
 found_answer : (r : Option Answer) (W : List ℕ → Type 0) (text : List ℕ) → IsRefusedOr r W (answer status.Findings text) → IsFound r
 found_answer None W text is = absurd (cc (is.0))

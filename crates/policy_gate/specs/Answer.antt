@@ -49,9 +49,12 @@ store_fault d = first_store_fault d.schema d.entities
 abbrev pub is_whole : Request → Bool
 is_whole q = is_some q.principal && (is_some q.action && (is_some q.resource && is_some q.context))
 
+abbrev pub partial_request : Answer
+partial_request = answer status.PartialRequest (codes "request: entity slicing requires a fully concrete request. Got a partial request\n")
+
 -- What is answered in place of a command's work: that an entry of the request is not known,
 abbrev pub refused_partial : Document → Option Answer
-refused_partial d = if is_whole d.request then None else Some (answer status.PartialRequest (codes "request: entity slicing requires a fully concrete request. Got a partial request\n"))
+refused_partial d = if is_whole d.request then None else Some partial_request
 
 -- that the request breaks a rule,
 abbrev pub refused_request : Document → Option Answer

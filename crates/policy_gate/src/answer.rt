@@ -2,6 +2,9 @@
 ghost use Rattle.std.specs.Prelude.{◌≡◌, None, IfOk, option_map, string_bytes};
 ghost use Rattle.serde_json.specs.View.{view};
 ghost use Rattle.policy_store.specs.Request.{IsWhole};
+ghost use Rattle.conformance.specs.Misfits.{knows};
+ghost use Rattle.conformance.specs.RequestRules.{first_request_fault};
+ghost use Rattle.conformance_errors.specs.Written.{request_text};
 ghost use Rattle.policy_gate.specs.Answer.{AreKeysOnce, IsAnswer, IsAnswerFor, IsWellMade, IsAnswerTo, IsWork, found_in, refused_data, refused_decision, refused_policies, refused_request, refused_store, request_fault, store_fault};
 ghost use Rattle.policy_gate.specs.Reply.{reply_view};
 
@@ -18,10 +21,10 @@ use extension_types::{ExtensionSchemas, all_objects};
 use id_slices::restricted_store;
 use policy_documents::{Document, DocumentFault, parse_json, read_document_within};
 use policy_expressions::laws::keys_are_once;
+use policy_names::Text;
 use policy_scope::{ValidationResult, findings_text};
 use policy_set::PolicySet;
 use policy_set::laws::is_policy_set;
-use policy_store::Request;
 use policy_validate::{ValidationMode, Validator};
 use policy_writing::{response_text, slice_text};
 use serde_json::Value;
@@ -70,7 +73,7 @@ fn is_well_made(document: &Document)
 {
     is_policy_set(&document.policies);
     have_keys_once(&document.policies);
-    let _schema = &document.schema;
+    let _actions = document.schema.action_ids();
 }
 
 fn have_keys_once(policies: &PolicySet)
@@ -161,7 +164,12 @@ fn decision(alloc: Global, document: &Document) -> Result<Reply, AllocError>
     ensures done { IfOk result (λ r. r.status ≡ Status.Done) }
     ensures work { IfOk result (λ r. IsWork Command.Decide document.now (string_bytes r.text)) }
 {
-    let response = decide(alloc, &document.policies, &document.request, &document.entities)?;
+    let response = decide(
+        alloc,
+        &document.policies,
+        &document.request,
+        &document.entities,
+    )?;
     Ok(Reply {
         status: Status::Done,
         text: response_text(alloc, &response)?,
@@ -196,9 +204,8 @@ fn refused_data(alloc: Global, document: &Document) -> Result<Option<Reply>, All
 fn refused_request(alloc: Global, document: &Document) -> Result<Option<Reply>, AllocError>
     ensures { IfOk result (λ o. option_map reply_view o ≡ refused_request document.now) }
 {
-    match request_fault(alloc, document)? {
-        Some(error) => {
-            let text = request_text(alloc, &error)?;
+    match broken_rule(alloc, document)? {
+        Some(text) => {
             let reply = reply_with(alloc, Status::Request, text.as_str())?;
             Ok(Some(reply))
         }
@@ -206,21 +213,29 @@ fn refused_request(alloc: Global, document: &Document) -> Result<Option<Reply>, 
     }
 }
 
-// The first rule that the request breaks, if any.
-#[tactic(auto, unfolding(crate::specs::Answer::request_fault))]
-fn request_fault(
-    alloc: Global,
-    document: &Document,
-) -> Result<Option<RequestValidationError>, AllocError>
-    ensures { IfOk result (λ o. o ≡ request_fault document.now) }
+// The text on the first rule that the request breaks, if any.
+fn broken_rule(alloc: Global, document: &Document) -> Result<Option<Text>, AllocError>
+    ensures { IfOk result (λ o. o ≡ option_map request_text (request_fault document.now)) }
 {
     let objects = all_objects(alloc)?;
     let extensions = ExtensionSchemas::all_available(alloc, objects.as_slice())?;
     all_functions_are_known();
-    match validate_request(alloc, &document.schema, &document.request, &extensions) {
+    broken_with(alloc, document, &extensions)
+}
+
+// The same, where these extensions are there.
+fn broken_with(
+    alloc: Global,
+    document: &Document,
+    extensions: &ExtensionSchemas<'_>,
+) -> Result<Option<Text>, AllocError>
+    ensures { IfOk result (λ o. o ≡ option_map request_text
+        (first_request_fault document.now.schema (knows extensions.now) document.now.request)) }
+{
+    match validate_request(alloc, &document.schema, &document.request, extensions) {
         Ok(()) => Ok(None),
         Err(RequestValidationError::OutOfMemory) => Err(AllocError),
-        Err(error) => Ok(Some(error)),
+        Err(error) => Ok(Some(request_text(alloc, &error)?)),
     }
 }
 
