@@ -35,10 +35,7 @@ pub(crate) fn analyze(
             at.alloc,
             EntityRoot::Var(*var),
         )),
-        ExprKind::Slot(_) => Ok(EntityManifestAnalysisResult::from_shape(
-            at.alloc,
-            Shape::nothing(),
-        )),
+        ExprKind::Slot(_) => Ok(from_nothing(at.alloc)),
         ExprKind::If(x, y, z) => analyze_if(at, x, y, z),
         ExprKind::And(x, y) | ExprKind::Or(x, y) => analyze_sides(at, x, y),
         ExprKind::UnaryApp(op, x) => unary_result(at, *op, analyze(at, x)?),
@@ -66,10 +63,14 @@ fn literal_result(
             alloc,
             EntityRoot::Literal(uid.try_clone()?),
         )),
-        Literal::Bool(_) | Literal::Long(_) | Literal::String(_) => Ok(
-            EntityManifestAnalysisResult::from_shape(alloc, Shape::nothing()),
-        ),
+        Literal::Bool(_) | Literal::Long(_) | Literal::String(_) => Ok(from_nothing(alloc)),
     }
+}
+
+fn from_nothing(alloc: Global) -> EntityManifestAnalysisResult
+    ensures { result ≡ from_shape no_shape }
+{
+    EntityManifestAnalysisResult::from_shape(alloc, Shape::nothing())
 }
 
 #[cycle(analyze)]

@@ -39,7 +39,7 @@ use Rattle.policy_gate.specs.Reply.{Answer, answer}
 use Rattle.policy_gate.specs.declared.status.Status.{Status}
 use Rattle.policy_gate.specs.declared.status.Status.TheVariants as status
 use Rattle.policy_gate.specs.declared.command.Command.{Command}
-use Rattle.policy_gate.specs.declared.command.Command.TheVariants.{Check, Request as Conformance, Slice, Decide}
+use Rattle.policy_gate.specs.declared.command.Command.TheVariants.{Check, Request as Conformance, Manifest, Slice, Decide}
 use Rattle.policy_gate.specs.Command.{width_of}
 use Rattle.policy_documents.proofs.OneReading.{one_reading}
 use Rattle.policy_documents.proofs.KeptLimits.{kept}
@@ -109,6 +109,7 @@ refuses_decision d = either (refused_partial d) (option_or (refused_data d) (ref
 pub refuses : (c : Command) (d : Document) → Refuses (refusal c d)
 refuses Check d = refuses_with (found_in d).errors (found_in d)
 refuses Conformance d = refuses_data d
+refuses Manifest d = refuses_with (found_in d).errors (found_in d)
 refuses Slice d = refuses_decision d
 refuses Decide d = refuses_decision d
 
@@ -198,6 +199,7 @@ module _ (laws : Laws) (d : Document) where
     kept_all : (c : Command) → KeepsRulesOf c d → refusal c d ≡ None
     kept_all Check h = not_refused h
     kept_all Conformance h = conforms h.request h.store
+    kept_all Manifest h = not_refused h
     kept_all Slice h = keeps h
     kept_all Decide h = keeps h
 
@@ -245,6 +247,7 @@ module _ (laws : Laws) (d : Document) where
     says : (c : Command) (v : Data) (text : List ℕ) → IsRead (width_of c) v (Ok d) → refusal c d ≡ None → IsWork c d text → Says c d text
     says Check v text reads none is = record { written = is; accepted = accepted none }
     says Conformance v text reads none is = conforming none
+    says Manifest v text reads none is = record { manifest = is.0; computed = is.1.0; written = is.1.1; accepted = accepted none }
     says Slice v text reads none is = let rules = keeping none in (rules, sliced v text reads rules is)
     says Decide v text reads none is = let rules = keeping none in (rules, decided text rules is)
     -- ---- what 1 says
@@ -286,6 +289,7 @@ found_policies Conformance d h = absurd (found_data d None (by (refused_data d) 
     by : (o : Option Answer) → IsFound o → IsFound (option_or o None)
     by None h = h
     by (Some a) h = h
+found_policies Manifest d h = h
 found_policies Slice d h = found_data d (refused_policies d) (found_behind (refused_partial d) (option_or (refused_data d) (refused_policies d)) (no_partial d) h)
 found_policies Decide d h = found_data d (refused_policies d) (found_behind (refused_partial d) (option_or (refused_data d) (refused_policies d)) (no_partial d) h)
 

@@ -26,11 +26,15 @@ use Rattle.conformance_errors.specs.Written.{request_text, entity_text}
 use Rattle.conformance_errors.specs.declared.request_error.RequestValidationError.{RequestValidationError}
 use Rattle.conformance_errors.specs.declared.store_rule.StoreRule.{StoreRule}
 use Rattle.id_slices.specs.Cover.{restricted}
+use Rattle.serde_json.specs.Written.{compact_text}
+use Rattle.entity_manifest.specs.Manifest.{Manifest}
+use Rattle.entity_manifest.specs.ManifestJson.{manifest_data}
+use Rattle.manifest_computation.specs.Computed.{IsManifestOf}
 use Rattle.policy_writing.specs.SliceJson.{slice_text, response_text}
 use Rattle.policy_gate.specs.Command.{width_of}
 use Rattle.policy_gate.specs.Reply.{Answer, answer}
 use Rattle.policy_gate.specs.declared.command.Command.{Command}
-use Rattle.policy_gate.specs.declared.command.Command.TheVariants.{Check, Request as Conformance, Slice, Decide}
+use Rattle.policy_gate.specs.declared.command.Command.TheVariants.{Check, Request as Conformance, Manifest as Reads, Slice, Decide}
 use Rattle.policy_gate.specs.declared.status.Status.{Status}
 use Rattle.policy_gate.specs.declared.status.Status.TheVariants as status
 
@@ -88,6 +92,7 @@ refused_decision d = option_or (refused_partial d) (option_or (refused_data d) (
 abbrev pub refusal : Command → Document → Option Answer
 refusal Check d = refused_policies d
 refusal Conformance d = refused_data d
+refusal Reads d = refused_policies d
 refusal Slice d = refused_decision d
 refusal Decide d = refused_decision d
 
@@ -95,11 +100,16 @@ refusal Decide d = refused_decision d
 abbrev pub slice_of : Document → Store
 slice_of d = restricted d.schema d.policies.policies d.request d.entities
 
--- the text is that of the command's work: the findings; that all conforms; the restricted store, with the response on it; the response on
+-- a manifest's JSON without spaces, and a newline
+unfoldable pub manifest_text : Manifest → List ℕ
+manifest_text m = compact_text (manifest_data m) ++ codes "\n"
+
+-- the text is that of the command's work: the findings; that all conforms; the manifest of the policies; the restricted store, with the response on it; the response on
 -- the whole store
 abbrev pub IsWork : Command → Document → List ℕ → Type 0
 IsWork Check d text = text ≡ findings_text (found_in d)
 IsWork Conformance d text = text ≡ codes "conforms\n"
+IsWork Reads d text = (m : Manifest) × IsManifestOf d.schema d.policies.policies m × (text ≡ manifest_text m)
 IsWork Slice d text = text ≡ slice_text (response d.policies.policies d.request (slice_of d)) (slice_of d)
 IsWork Decide d text = text ≡ response_text (response d.policies.policies d.request d.entities)
 

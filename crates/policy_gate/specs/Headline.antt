@@ -12,10 +12,12 @@ use Rattle.policy_validate.specs.Accepted.{IsAccepted}
 use Rattle.id_slices.specs.Cover.{Covers, AreAllowedBetween}
 use Rattle.policy_writing.specs.SliceJson.{slice_text, response_text}
 use Rattle.json_parts.specs.Json.{json_of}
-use Rattle.policy_gate.specs.Answer.{found_in, request_fault, slice_of}
+use Rattle.entity_manifest.specs.Manifest.{Manifest as Tries}
+use Rattle.manifest_computation.specs.Computed.{IsManifestOf}
+use Rattle.policy_gate.specs.Answer.{found_in, manifest_text, request_fault, slice_of}
 use Rattle.policy_gate.specs.Command.{width_of}
 use Rattle.policy_gate.specs.declared.command.Command.{Command}
-use Rattle.policy_gate.specs.declared.command.Command.TheVariants.{Check, Request, Slice, Decide}
+use Rattle.policy_gate.specs.declared.command.Command.TheVariants.{Check, Request, Manifest, Slice, Decide}
 
 -- the document that the bytes are, among those that the command takes
 abbrev pub IsDocumentOf : Command → List ℕ → Document → Type 0
@@ -44,12 +46,20 @@ pub record KeepsRules (d : Document) : Type 0 where
 abbrev pub KeepsRulesOf : Command → Document → Type 0
 KeepsRulesOf Check d = HasAcceptedPolicies d
 KeepsRulesOf Request d = Conforms d
+KeepsRulesOf Manifest d = HasAcceptedPolicies d
 KeepsRulesOf Slice d = KeepsRules d
 KeepsRulesOf Decide d = KeepsRules d
 
 -- the text is the findings on the document's policies, which are accepted: there may be warnings
 pub record IsChecked (d : Document) (text : List ℕ) : Type 0 where
   pub written : text ≡ findings_text (found_in d)
+  pub accepted : HasAcceptedPolicies d
+
+-- the text is the manifest of the document's policies, which are accepted: what they read and ask for in each environment of the schema
+pub record IsManifested (d : Document) (text : List ℕ) : Type 0 where
+  pub manifest : Tries
+  pub computed : IsManifestOf d.schema d.policies.policies manifest
+  pub written : text ≡ manifest_text manifest
   pub accepted : HasAcceptedPolicies d
 
 -- the text is the slice with the decision. The slice covers the policies: on it, and on every store between it and the whole one,
@@ -70,5 +80,6 @@ pub record IsDecided (d : Document) (text : List ℕ) : Type 0 where
 abbrev pub Says : Command → Document → List ℕ → Type 0
 Says Check d text = IsChecked d text
 Says Request d text = Conforms d
+Says Manifest d text = IsManifested d text
 Says Slice d text = KeepsRules d × IsSliced d text
 Says Decide d text = KeepsRules d × IsDecided d text

@@ -6,7 +6,7 @@ ghost use Rattle.conformance.specs.Misfits.{knows};
 ghost use Rattle.conformance.specs.RequestRules.{first_request_fault};
 ghost use Rattle.conformance_errors.specs.Written.{request_text};
 ghost use Rattle.finding_texts.specs.Written.{findings_text};
-ghost use Rattle.policy_gate.specs.Answer.{AreKeysOnce, IsAnswer, IsAnswerFor, IsWellMade, IsAnswerTo, IsRefusedOr, IsWork, found_in, refused_data, refused_decision, refused_policies, refused_request, refused_store, refused_with, request_fault, status_of, store_fault};
+ghost use Rattle.policy_gate.specs.Answer.{AreKeysOnce, IsAnswer, IsAnswerFor, IsAnswerTo, IsRefusedOr, IsWellMade, IsWork, found_in, manifest_text, refused_data, refused_decision, refused_policies, refused_request, refused_store, refused_with, request_fault, status_of, store_fault};
 ghost use Rattle.policy_gate.specs.Reply.{reply_view};
 
 use crate::command::{Command, width_of};
@@ -19,13 +19,16 @@ use conformance::{
     request_text, validate_request,
 };
 use extension_types::{ExtensionSchemas, all_objects};
+use entity_manifest::EntityManifest;
 use id_slices::restricted_store;
+use manifest_computation::{EntityManifestError, compute_entity_manifest};
 use policy_documents::{Document, DocumentFault, parse_json, read_document_within};
 use policy_expressions::laws::keys_are_once;
 use policy_names::Text;
 use policy_scope::{ValidationResult, findings_text};
 use policy_set::PolicySet;
 use policy_set::laws::is_policy_set;
+use policy_validate::laws::no_errors_where_accepted;
 use policy_validate::{ValidationMode, Validator};
 use policy_writing::{response_text, slice_text};
 use serde_json::Value;
@@ -92,6 +95,7 @@ fn reply_to(alloc: Global, command: Command, document: &Document) -> Result<Repl
     match command {
         Command::Check => with_findings(alloc, document),
         Command::Request => conforming(alloc, document),
+        Command::Manifest => with_manifest(alloc, document),
         Command::Slice => cut(alloc, document),
         Command::Decide => decided(alloc, document),
     }
@@ -133,6 +137,33 @@ fn conforming(alloc: Global, document: &Document) -> Result<Reply, AllocError>
         Some(reply) => Ok(reply),
         None => reply_with(alloc, Status::Done, CONFORMS),
     }
+}
+
+// The manifest of the policies.
+fn with_manifest(alloc: Global, document: &Document) -> Result<Reply, AllocError>
+    ensures { IfOk result (λ r. IsAnswerTo Command.Manifest document.now (reply_view r)) }
+{
+    no_errors_where_accepted();
+    match compute_entity_manifest(alloc, &document.schema, &document.policies) {
+        Ok(manifest) => Ok(Reply {
+            status: Status::Done,
+            text: manifest_text(alloc, &manifest)?,
+        }),
+        Err(EntityManifestError::Validation(found)) => {
+            let text = findings_text(alloc, &found)?;
+            reply_with(alloc, Status::Findings, text.as_str())
+        }
+        Err(EntityManifestError::OutOfMemory) => Err(AllocError),
+    }
+}
+
+#[tactic(auto, unfolding(crate::specs::Answer::manifest_text))]
+fn manifest_text(alloc: Global, manifest: &EntityManifest) -> Result<String, AllocError>
+    ensures { IfOk result (λ s. string_bytes s ≡ manifest_text manifest.now) }
+{
+    let mut text = manifest.to_json(alloc)?.to_string(alloc)?;
+    text.push_str("\n")?;
+    Ok(text)
 }
 
 // The cut store with the decision on it, where the document keeps every rule.

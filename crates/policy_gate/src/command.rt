@@ -11,6 +11,8 @@ pub enum Command {
     Check,
     /// Say whether the document's request and its store conform to the schema.
     Request,
+    /// Say what the document's policies read of stores, for each type of requests.
+    Manifest,
     /// Cut the document's store to what its policies may read, and decide on the cut store.
     Slice,
     /// Decide on the whole store.
@@ -23,6 +25,7 @@ fn one_word(word: &str) -> Option<Command>
     match word {
         "check" => Some(Command::Check),
         "request" => Some(Command::Request),
+        "manifest" => Some(Command::Manifest),
         "slice" => Some(Command::Slice),
         "decide" => Some(Command::Decide),
         _ => None,
@@ -34,7 +37,7 @@ pub(crate) fn width_of(command: Command) -> Width
     ensures { result ≡ width_of command }
 {
     match command {
-        Command::Check | Command::Request | Command::Decide => Width::Whole,
+        Command::Check | Command::Request | Command::Manifest | Command::Decide => Width::Whole,
         Command::Slice => Width::OverIds,
     }
 }

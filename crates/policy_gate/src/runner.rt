@@ -6,7 +6,7 @@ ghost use Rattle.outside.specs.Steps.{IsQuiet};
 ghost use Rattle.policy_gate.specs.Answer.{IsAnswer};
 ghost use Rattle.policy_gate.specs.Command.{command_of};
 ghost use Rattle.policy_documents.specs.declared.document.Document.{Document};
-ghost use Rattle.policy_gate.specs.Headline.{Conforms, HasAcceptedPolicies, IsChecked, IsDecided, IsDocumentOf, IsSliced, KeepsRules, KeepsRulesOf};
+ghost use Rattle.policy_gate.specs.Headline.{Conforms, HasAcceptedPolicies, IsChecked, IsDecided, IsDocumentOf, IsManifested, IsSliced, KeepsRules, KeepsRulesOf};
 ghost use Rattle.policy_gate.specs.Reply.{answer, reply_view};
 ghost use Rattle.policy_gate.specs.Run.{Cause, Gives, IsDue, IsDueAfterReading, Runs};
 ghost use Rattle.policy_gate.specs.Status.{IsAfterEnd};
@@ -140,6 +140,14 @@ pub fn run<S: Source, K: Sink>(
         → result ≡ Status.Done
         → (bytes : List ℕ) × (text : List ℕ) × WasRead (S.state source.old) (S.state source.new) bytes
         × ((document : Document) × IsDocumentOf Command.Request bytes document × Conforms document)
+        × Appends (K.state sink.old).holds (K.state sink.new).holds text }
+
+    // Where `manifest` ends with 0 the document's policies are accepted, and the text is their manifest: for each environment of the schema
+    // what they read and ask for there.
+    ensures manifested { command_of (map string_bytes words.now.items) ≡ Some Command.Manifest
+        → result ≡ Status.Done
+        → (bytes : List ℕ) × (text : List ℕ) × WasRead (S.state source.old) (S.state source.new) bytes
+        × ((document : Document) × IsDocumentOf Command.Manifest bytes document × IsManifested document text)
         × Appends (K.state sink.old).holds (K.state sink.new).holds text }
 
     // Where `decide` ends with 0 the document keeps every rule, and the text is the response on its whole store, on which each policy's

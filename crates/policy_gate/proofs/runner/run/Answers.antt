@@ -1,5 +1,5 @@
 use Rattle.policy_gate.proofs.Runs.{both_for, causes, complete_for, done_for, exact_for, read_for, refused_for, too_long_for, too_long_told, usage_for}
-use Rattle.policy_gate.specs.declared.command.Command.TheVariants.{Check, Request, Slice, Decide}
+use Rattle.policy_gate.specs.declared.command.Command.TheVariants.{Check, Request, Manifest, Slice, Decide}
 use Rattle.policy_gate.specs.Headline.{IsSliced, IsDecided}
 use Rattle.policy_gate.proofs.Says.{Laws}
 use Rattle.policy_gate.proofs.runner.run.Goals as goal
@@ -33,6 +33,9 @@ returns-clause-checked g c is ends = done_for (record { errors = c.no_errors_whe
 
 pub returns-clause-conforming : goal.returns-clause-conforming
 returns-clause-conforming g c is ends = done_for (record { errors = c.no_errors_where_accepted.ensures; requests = c.request_rules_are_exact.ensures; stores = c.store_rules_are_exact.ensures; sound = c.accepted_are_sound.ensures }) _ _ _ _ _ _ c.outcome.ensures.runs Request is ends
+
+pub returns-clause-manifested : goal.returns-clause-manifested
+returns-clause-manifested g c is ends = done_for (record { errors = c.no_errors_where_accepted.ensures; requests = c.request_rules_are_exact.ensures; stores = c.store_rules_are_exact.ensures; sound = c.accepted_are_sound.ensures }) _ _ _ _ _ _ c.outcome.ensures.runs Manifest is ends
 
 pub returns-clause-decided : goal.returns-clause-decided
 returns-clause-decided g c is ends =

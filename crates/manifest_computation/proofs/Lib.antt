@@ -1,0 +1,4 @@
+mod Ascending
+mod Conditions
+mod Entries
+mod Shallow

@@ -1,0 +1,112 @@
+//! The tries of the environments of a schema.
+
+ghost use Rattle.std.specs.Prelude.{◌≡◌, ◌++◌, ◌∷◌, [], IfOk, OnOk, IfSome, IsSome};
+ghost use Rattle.std.specs.Option.{option_to_list};
+ghost use Rattle.std.specs.BTreeMap.{keys};
+ghost use Rattle.policy_store.specs.declared.request.RequestType.{RequestType};
+ghost use Rattle.access_tries.specs.Table.{Table};
+ghost use Rattle.schema_core.specs.EnvData.{request_type_in, unlinked_envs};
+ghost use Rattle.schema_core.specs.RequestEnvs.{env_data_of};
+ghost use Rattle.manifest_computation.specs.Computed.{IsEntryOf};
+ghost use Rattle.manifest_computation.specs.Found.{condition_told, found_conditions, AreEntries, IsBehind};
+
+use access_tries::RootAccessTrie;
+use path_analysis::conditions_trie;
+use policy_expressions::Expr;
+use policy_set::PolicySet;
+use policy_store::RequestType;
+use policy_typecheck::{PolicyCheck, Typechecker};
+use schema_core::{RequestEnv, ValidatorSchema};
+use schema_types::Type;
+use std::alloc::{AllocError, Global};
+use std::collections::BTreeMap;
+
+/// A trie for each environment of the schema, under its request type.
+pub(crate) fn tries_of(
+    alloc: Global,
+    schema: &ValidatorSchema,
+    typechecker: &Typechecker<'_, '_>,
+    policies: &PolicySet,
+) -> Result<BTreeMap<RequestType, RootAccessTrie>, AllocError>
+    requires { typechecker.now ≡ schema.now }
+    ensures { IfOk result (λ m. AreEntries schema.now policies.now.policies (unlinked_envs schema.now) m.entries) }
+{
+    let _actions = schema.action_ids();
+    let envs = schema.unlinked_request_envs(alloc)?;
+    let mut tries = BTreeMap::new(alloc);
+    for env in &envs {
+        add_trie_of(alloc, schema, typechecker, policies, env, &mut tries)?;
+    }
+    Ok(tries)
+}
+
+// Adds the trie of an environment, whose request type is the greatest yet.
+fn add_trie_of<'a>(
+    alloc: Global,
+    schema: &'a ValidatorSchema,
+    typechecker: &Typechecker<'_, '_>,
+    policies: &PolicySet,
+    env: &'a RequestEnv<'a>,
+    tries: &mut BTreeMap<RequestType, RootAccessTrie>,
+) -> Result<(), AllocError>
+    requires typechecker { typechecker.now ≡ schema.now }
+    requires declared { IsSome (request_type_in (env_data_of env.now)) }
+    requires next { IfSome (request_type_in (env_data_of env.now)) (λ q. IsBehind q (keys tries.old)) }
+    ensures { OnOk result ((e : RequestType × Table) × ((tries.new.entries ≡ tries.old.entries ++ e ∷ []) × IsEntryOf schema.now (env_data_of env.now) (found_conditions schema.now (env_data_of env.now) policies.now.policies) e)) }
+{
+    let conditions = conditions_in(alloc, typechecker, env, policies)?;
+    let trie = conditions_trie(alloc, schema, env, &conditions)?;
+    drop(conditions);
+    match env.to_request_type()? {
+        Some(request_type) => push_trie(tries, request_type, trie),
+        None => Ok(()),
+    }
+}
+
+// Adds a trie behind the others.
+fn push_trie(
+    tries: &mut BTreeMap<RequestType, RootAccessTrie>,
+    request_type: RequestType,
+    trie: RootAccessTrie,
+) -> Result<(), AllocError>
+    requires { IsBehind request_type (keys tries.old) }
+    ensures { OnOk result (tries.new.entries ≡ tries.old.entries ++ (request_type, trie) ∷ []) }
+{
+    tries.insert(request_type, trie)?;
+    Ok(())
+}
+
+// The conditions of the policies with their types in the environment, also where they are false there.
+fn conditions_in<'a>(
+    alloc: Global,
+    typechecker: &Typechecker<'_, '_>,
+    env: &'a RequestEnv<'a>,
+    policies: &'a PolicySet,
+) -> Result<Vec<Expr<Option<Type>>>, AllocError>
+    ensures { IfOk result (λ r. r.items ≡ found_conditions typechecker.now (env_data_of env.now) policies.now.policies) }
+{
+    let mut conditions = Vec::new(alloc);
+    for policy in policies.policies() {
+        let check = typechecker.typecheck_linked_in(alloc, policy, env)?;
+        add_condition(check, &mut conditions)?;
+    }
+    Ok(conditions)
+}
+
+fn add_condition(
+    check: PolicyCheck,
+    conditions: &mut Vec<Expr<Option<Type>>>,
+) -> Result<(), AllocError>
+    ensures { OnOk result (conditions.new.items ≡ conditions.old.items ++ option_to_list (condition_told check)) }
+{
+    match check {
+        PolicyCheck::Success(condition) | PolicyCheck::Irrelevant(condition) => {
+            conditions.push(condition)?;
+            Ok(())
+        }
+        PolicyCheck::Fail(found) => {
+            drop(found);
+            Ok(())
+        }
+    }
+}
