@@ -181,8 +181,8 @@ module _ (laws : Laws) (d : Document) where
     keeping h =
         let later = none_rest (refused_partial d) (option_or (refused_data d) (refused_policies d)) h in
         let whole = partial_whole d (none_first (refused_partial d) (option_or (refused_data d) (refused_policies d)) h) in
-        let data = conforming (none_first (refused_data d) (refused_policies d) later) in
-        record { whole = whole; request = request_kept whole data.request; store = data.store; policies = accepted (none_rest (refused_data d) (refused_policies d) later) }
+        let both = conforming (none_first (refused_data d) (refused_policies d) later) in
+        record { whole = whole; request = request_kept whole both.request; store = both.store; policies = accepted (none_rest (refused_data d) (refused_policies d) later) }
 
     keeps : KeepsRules d → refused_decision d ≡ None
     keeps h = neither (refused_partial d) (option_or (refused_data d) (refused_policies d)) (whole_partial d h.whole) (neither (refused_data d) (refused_policies d) (conforms (kept_request h.whole h.request) h.store) (not_refused h.policies))
@@ -237,8 +237,7 @@ module _ (laws : Laws) (d : Document) where
     says Conformance v text reads none is = conforming none
     says Slice v text reads none is = let rules = keeping none in (rules, sliced v text reads rules is)
     says Decide v text reads none is = let rules = keeping none in (rules, decided text rules is)
-
-  -- ---- what 1 says
+    -- ---- what 1 says
 
 abbrev IsFound : Option Answer → Type 0
 IsFound o = IsSomeAnd o (λ a. a.status ≡ status.Findings)

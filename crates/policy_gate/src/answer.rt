@@ -161,7 +161,12 @@ fn decision(alloc: Global, document: &Document) -> Result<Reply, AllocError>
     ensures done { IfOk result (λ r. r.status ≡ Status.Done) }
     ensures work { IfOk result (λ r. IsWork Command.Decide document.now (string_bytes r.text)) }
 {
-    let response = decide(alloc, &document.policies, &document.request, &document.entities)?;
+    let response = decide(
+        alloc,
+        &document.policies,
+        &document.request,
+        &document.entities,
+    )?;
     Ok(Reply {
         status: Status::Done,
         text: response_text(alloc, &response)?,

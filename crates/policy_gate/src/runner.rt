@@ -15,8 +15,8 @@ use crate::answer::reply;
 use crate::command::{Command, command_of};
 use crate::reply::{Reply, reply_with};
 use crate::status::Status;
-use outside::{DOCUMENT_LIMIT, ReadError, Sink, Source, read_document_bytes, write_text};
 use conformance::laws::{request_rules_are_exact, store_rules_are_exact};
+use outside::{DOCUMENT_LIMIT, ReadError, Sink, Source, read_document_bytes, write_text};
 use policy_validate::laws::{accepted_are_sound, no_errors_where_accepted};
 use std::alloc::{AllocError, Global};
 
