@@ -4,3 +4,5 @@ pub mod KnownNames
 pub mod NoErrors
 pub mod OwnConditions
 pub mod TypedConditions
+pub mod LevelErrors
+pub mod LevelsSound

@@ -34,7 +34,7 @@ module _ (schema : SchemaData) where
 
   -- what is written
   module _ (exact : CheckIsExact) (told : RefusalsAreTold) where
-    template_accepted : (t : TemplateData) → errors_of_written schema t ≡ [] → IsAcceptedTemplate schema t
+    pub template_accepted : (t : TemplateData) → errors_of_written schema t ≡ [] → IsAcceptedTemplate schema t
     template_accepted t h =
         let types = parts_empty (map UnrecognizedEntityType (entity_type_findings schema t.id (condition_of t))) _ h in
         let ids = parts_empty (map InvalidEnumEntity (enum_findings schema t.id (condition_of t))) _ types.1 in

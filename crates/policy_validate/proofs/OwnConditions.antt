@@ -25,12 +25,12 @@ use Rattle.policy_validate.specs.Laws.{AcceptedAreTyped, AcceptedAreSound}
 use Rattle.policy_validate.proofs.Empty.{all_both}
 use Rattle.policy_validate.proofs.AllWritten.{all_found, passed, all_written}
 
-either_false : (a b : Bool) → (a || b) ≡ false → (a ≡ false) × (b ≡ false)
+pub either_false : (a b : Bool) → (a || b) ≡ false → (a ≡ false) × (b ≡ false)
 either_false true b h = absurd (cc h)
 either_false false b h = (refl, h)
 
 -- a part of a scope has a slot exactly where its constraint asks for one
-part_slot : (i : SlotId) (c : PrincipalOrResourceConstraint) → has_slot (scope_part i c) ≡ asks_slot c
+pub part_slot : (i : SlotId) (c : PrincipalOrResourceConstraint) → has_slot (scope_part i c) ≡ asks_slot c
 part_slot i Any = refl
 part_slot i (Is n) = refl
 part_slot i (Eq (EUID u)) = refl

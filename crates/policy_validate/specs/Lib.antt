@@ -1,2 +1,4 @@
 pub mod Accepted
 pub mod Laws
+pub mod Levels
+pub mod Told

@@ -1,7 +1,10 @@
 //! What holds of the sets of policies that are accepted.
 
 ghost use Rattle.policy_validate.specs.Laws.{NoErrorsWhereAccepted, AcceptedAreTyped, AcceptedAreSound};
+ghost use Rattle.policy_validate.specs.Levels.{LevelErrorsOfAreExact, NoErrorsWhereAcceptedAt, AcceptedLevelsAreSound};
 
+use level_checks::laws::level_errors_are_exact;
+use policy_levels::laws::{link_levels_are_sound, static_levels_are_sound};
 use policy_links::laws::{links_are_typed, refusals_are_told, statics_are_typed, typed_are_sound};
 use typing_findings::laws::check_is_exact;
 
@@ -27,4 +30,31 @@ pub fn accepted_are_sound()
 {
     accepted_are_typed();
     typed_are_sound();
+}
+
+/// Where there are no other errors, there is none on levels exactly where a template or a static policy passes in each of its
+/// environments; each tells of a dereference.
+pub fn level_errors_of_are_exact()
+    ensures { LevelErrorsOfAreExact }
+{
+    check_is_exact();
+    refusals_are_told();
+    level_errors_are_exact();
+}
+
+/// No error is found exactly where the set is accepted at the level.
+pub fn no_errors_where_accepted_at()
+    ensures { NoErrorsWhereAcceptedAt }
+{
+    no_errors_where_accepted();
+    level_errors_of_are_exact();
+}
+
+/// Levels are sound: in a set that is accepted at a level each policy has, on the store cut at that level, the outcome that
+/// it has on the whole one.
+pub fn accepted_levels_are_sound()
+    ensures { AcceptedLevelsAreSound }
+{
+    static_levels_are_sound();
+    link_levels_are_sound();
 }

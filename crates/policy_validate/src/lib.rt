@@ -2,6 +2,7 @@
 #![tactic(auto)]
 
 pub mod laws;
+mod levels;
 mod validator;
 
 pub use schema_core::ValidationMode;

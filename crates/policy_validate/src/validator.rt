@@ -149,7 +149,7 @@ fn add_all_written(
 }
 
 // Adds the findings on a template or a static policy.
-fn add_written(
+pub(crate) fn add_written(
     alloc: Global,
     schema: &ValidatorSchema,
     typechecker: &Typechecker<'_, '_>,
@@ -192,7 +192,7 @@ fn add_typing(
 }
 
 // Adds the errors of all links.
-fn add_all_links(
+pub(crate) fn add_all_links(
     alloc: Global,
     schema: &ValidatorSchema,
     policies: &PolicySet,
