@@ -1,4 +1,5 @@
 mod Answers
 mod Identities
 mod Runs
+mod Manifests
 mod Says

@@ -18,8 +18,8 @@ use conformance::{
     ConformanceError, EntityDoesNotConform, RequestValidationError, conforms, entity_text,
     request_text, validate_request,
 };
-use extension_types::{ExtensionSchemas, all_objects};
 use entity_manifest::EntityManifest;
+use extension_types::{ExtensionSchemas, all_objects};
 use id_slices::restricted_store;
 use manifest_computation::{EntityManifestError, compute_entity_manifest};
 use policy_documents::{Document, DocumentFault, parse_json, read_document_within};
@@ -145,23 +145,28 @@ fn with_manifest(alloc: Global, document: &Document) -> Result<Reply, AllocError
 {
     no_errors_where_accepted();
     match compute_entity_manifest(alloc, &document.schema, &document.policies) {
-        Ok(manifest) => Ok(Reply {
-            status: Status::Done,
-            text: manifest_text(alloc, &manifest)?,
-        }),
-        Err(EntityManifestError::Validation(found)) => {
-            let text = findings_text(alloc, &found)?;
-            reply_with(alloc, Status::Findings, text.as_str())
-        }
+        Ok(manifest) => written_manifest(alloc, &manifest),
+        Err(EntityManifestError::Validation(found)) => told(alloc, &found),
         Err(EntityManifestError::OutOfMemory) => Err(AllocError),
     }
+}
+
+fn written_manifest(alloc: Global, manifest: &EntityManifest) -> Result<Reply, AllocError>
+    ensures { IfOk result (λ r. (r.status ≡ Status.Done) × (string_bytes r.text ≡ manifest_text manifest.now)) }
+{
+    let text = manifest_text(alloc, manifest)?;
+    Ok(Reply {
+        status: Status::Done,
+        text,
+    })
 }
 
 #[tactic(auto, unfolding(crate::specs::Answer::manifest_text))]
 fn manifest_text(alloc: Global, manifest: &EntityManifest) -> Result<String, AllocError>
     ensures { IfOk result (λ s. string_bytes s ≡ manifest_text manifest.now) }
 {
-    let mut text = manifest.to_json(alloc)?.to_string(alloc)?;
+    let written = manifest.to_json(alloc)?;
+    let mut text = written.to_string(alloc)?;
     text.push_str("\n")?;
     Ok(text)
 }
