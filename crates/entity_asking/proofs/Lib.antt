@@ -1,0 +1,4 @@
+mod PlaceSteps
+pub mod PointSteps
+mod FollowSteps
+mod DemandSteps

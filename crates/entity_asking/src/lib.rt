@@ -1,0 +1,9 @@
+//! What is asked of entities: where values lead along tries.
+#![tactic(auto)]
+
+mod demand;
+mod follow;
+mod place;
+
+pub use follow::{FollowError, follow_entity};
+pub use place::Place;
