@@ -2,3 +2,4 @@ mod PlaceSteps
 pub mod PointSteps
 mod FollowSteps
 mod DemandSteps
+mod BeginSteps

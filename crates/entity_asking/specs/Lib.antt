@@ -1,3 +1,4 @@
 pub mod Places
 pub mod Wants
 pub mod Stuck
+pub mod Begun

@@ -1,9 +1,11 @@
 //! What is asked of entities: where values lead along tries.
 #![tactic(auto)]
 
+mod begin;
 mod demand;
 mod follow;
 mod place;
 
+pub use begin::first_places;
 pub use follow::{FollowError, follow_entity};
 pub use place::Place;
