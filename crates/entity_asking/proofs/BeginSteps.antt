@@ -1,19 +1,17 @@
 -- Steps of the first requests.
-use Rattle.std.proofs.Common.{◌≡◌, ◌⊎◌, ℕ, ◌<◌, ◌≤◌, ◌+◌, Bool, true, false, List, [], ◌∷◌, length, map, refl, sym, ap, ◌∙◌, inl, inr, arith, is_some}
+use Rattle.std.proofs.Common.{◌≡◌, ◌⊎◌, ℕ, Bool, true, [], ◌∷◌, map, inl, inr, arith, is_some}
 use Rattle.std.specs.declared.option.Option.{Option}
-use Rattle.policy_names.specs.declared.entity_uid.EntityUID.{EntityUID}
 use Rattle.policy_values.specs.Value.{Val, truth, long, string, entity, set, rec, decimal, ip, datetime, duration, Fields, no_fields, field}
 use Rattle.policy_store.specs.declared.request.Request.{Request}
 use Rattle.access_tries.specs.declared.edge.Edge.{Edge}
 use Rattle.access_tries.specs.declared.edge.Edge.TheVariants.{Field, AnyTag, Root}
-use Rattle.access_tries.specs.declared.edge.EntityRoot.{EntityRoot}
 use Rattle.access_tries.specs.Edges.{Address}
 use Rattle.access_tries.specs.Paths.{edge_of}
 use Rattle.access_tries.specs.Table.{Table, NodeData, at_path, has_mark}
-use Rattle.access_tries.specs.Views.{ViewData, whole}
+use Rattle.access_tries.specs.Views.{whole}
 use Rattle.policy_reads.specs.Restrict.{root_value}
 use Rattle.entity_asking.specs.declared.place.Place.{Place}
-use Rattle.entity_asking.specs.Begun.{PathsWithin, IsFirst, IsRoot, RootSticks, SomeRootSticks}
+use Rattle.entity_asking.specs.Begun.{IsFirst, IsRoot, RootSticks, SomeRootSticks}
 use Rattle.entity_asking.specs.Places.{IsAtOrBelow}
 use Rattle.entity_asking.specs.Stuck.{Tests, tests_of, behind, GoesOn, Demands, Sticks, FieldsStick}
 

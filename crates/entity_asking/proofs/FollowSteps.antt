@@ -1,26 +1,22 @@
 -- Following values one after another.
-use Rattle.std.proofs.Common.{◌≡◌, ◌⊎◌, ℕ, zero, suc, ◌<◌, ◌≤◌, ◌+◌, Bool, true, false, ◌&&◌, ◌||◌, List, [], ◌∷◌, length, map, refl, sym, ap, ◌∙◌, subst, inl, inr, arith, is_some}
+use Rattle.std.proofs.Common.{◌≡◌, ◌⊎◌, ℕ, zero, suc, ◌<◌, ◌+◌, Bool, true, false, ◌||◌, List, [], ◌∷◌, length, map, refl, sym, ap, ◌∙◌, inl, inr, arith, is_some}
 use Rattle.std.specs.Prelude.{slice_get}
 use Rattle.std.specs.List.{list_any}
-use Rattle.std.specs.Option.{option_map_or}
-use Rattle.std.proofs.lemmas.Bool.{and_parts, and_from, false≢true}
 use Rattle.policy_names.specs.declared.entity_uid.EntityUID.{EntityUID}
-use Rattle.policy_names.specs.Uid.{uid_eq}
-use Rattle.policy_values.specs.Value.{Val, Fields, no_fields, field, fields_of}
+use Rattle.policy_values.specs.Value.{Val}
 use Rattle.access_tries.specs.declared.edge.Edge.{Edge}
-use Rattle.access_tries.specs.declared.edge.Edge.TheVariants.{Field, AnyTag}
 use Rattle.access_tries.specs.Edges.{Address}
 use Rattle.access_tries.specs.Paths.{edge_of}
 use Rattle.access_tries.specs.Table.{Table}
-use Rattle.access_tries.specs.Views.{ViewData, view_leads, view_marks, LeadsTo, LeadsNowhere}
+use Rattle.access_tries.specs.Views.{ViewData, view_leads, LeadsTo, LeadsNowhere}
 use Rattle.policy_reads.specs.Paths.{Step}
 use Rattle.policy_reads.proofs.Lists.{IsIn}
 use Rattle.entity_asking.specs.declared.place.Place.{Place}
 use Rattle.entity_asking.specs.declared.follow.FollowError.{FollowError}
 use Rattle.entity_asking.specs.declared.follow.FollowError.TheVariants as error
-use Rattle.entity_asking.specs.Places.{IsPlaced, Allows, IsAtOrBelow, IsBelow}
-use Rattle.entity_asking.specs.Wants.{Test, sees, wants, points, fields_point, Adds}
-use Rattle.entity_asking.specs.Stuck.{Tests, tests_of, behind, Sticks, FieldsStick, RefusedBy}
+use Rattle.entity_asking.specs.Places.{IsPlaced, IsAtOrBelow, IsBelow}
+use Rattle.entity_asking.specs.Wants.{Test, sees, wants, points, Adds}
+use Rattle.entity_asking.specs.Stuck.{tests_of, behind, RefusedBy}
 use Rattle.entity_asking.proofs.PointSteps.{points_none, any_point_none, no_mark}
 
 -- ---- what is asked

@@ -12,7 +12,7 @@ use Rattle.policy_names.specs.declared.entity_uid.EntityUID.{EntityUID}
 use Rattle.policy_names.specs.Uid.{uid_eq}
 use Rattle.policy_values.specs.Value.{Val, entity, rec, Fields, no_fields, field, fields_of}
 use Rattle.access_tries.specs.Edges.{Address}
-use Rattle.entity_asking.specs.Wants.{Test, points, fields_point}
+use Rattle.entity_asking.specs.Wants.{points, fields_point}
 
 none_right : (a : Bool) → (a && false) ≡ false
 none_right true = refl

@@ -2,3 +2,4 @@ pub mod Places
 pub mod Wants
 pub mod Stuck
 pub mod Begun
+pub mod Answered

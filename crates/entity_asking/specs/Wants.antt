@@ -11,6 +11,7 @@ use Rattle.access_tries.specs.Edges.{Address}
 use Rattle.access_tries.specs.Table.{Table}
 use Rattle.access_tries.specs.Views.{ViewData, view_leads, view_marks}
 use Rattle.entity_asking.specs.declared.place.Place.{Place}
+use Rattle.entity_asking.specs.Places.{node_of}
 
 -- a test on the addresses below a node
 abbrev pub Test : Type 0
@@ -23,7 +24,7 @@ sees true v = view_marks v
 
 -- whether some place asks the entity for the address
 abbrev pub wants : Bool → Table → List Place → EntityUID → Test
-wants b ns ps x a = list_any (λ p. uid_eq p.uid x && sees b (record { nodes = ns; number = p.number }) a) ps
+wants b ns ps x a = list_any (λ p. uid_eq p.uid x && sees b (node_of ns p) a) ps
 
 -- whether the value leads, through records alone and along addresses that go on to pass the test, to the entity, with that address left
 abbrev mutual

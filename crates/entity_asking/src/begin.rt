@@ -105,11 +105,7 @@ fn ask_entry(
     }
 }
 
-fn ask_at(
-    uid: &EntityUID,
-    trie: &TrieRef<'_>,
-    next: &mut BTreeSet<Place>,
-) -> Result<(), AllocError>
+fn ask_at(uid: &EntityUID, trie: &TrieRef<'_>, next: &mut BTreeSet<Place>) -> Result<(), AllocError>
     requires there { view_leads trie.now [] ≡ true }
     ensures asked { OnOk result (Adds trie.now.nodes (λ b. points (entity uid.now) (sees b trie.now)) next.old.keys next.new.keys) }
     ensures below { OnOk result ((q : Place) → IsIn q next.new.keys → IsIn q next.old.keys ⊎ IsAtOrBelow trie.now q) }

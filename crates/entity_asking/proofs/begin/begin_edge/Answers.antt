@@ -1,6 +1,4 @@
-use Rattle.std.proofs.Common.{sym}
 use Rattle.std.proofs.lemmas.Result.{on_ok_weaker}
-use Rattle.entity_asking.specs.Begun.{IsRoot}
 use Rattle.entity_asking.proofs.FollowSteps.{or_weaker}
 use Rattle.entity_asking.proofs.begin.begin_edge.Goals as goal
 

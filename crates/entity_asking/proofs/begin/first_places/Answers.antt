@@ -1,14 +1,13 @@
-use Rattle.std.proofs.Common.{◌≡◌, ◌⊎◌, ℕ, suc, inl, inr, sym, ap, ◌∙◌, subst, ◌+◌, ◌∷◌, drop, drop-cons, add-one, Option, Bool, true}
+use Rattle.std.proofs.Common.{◌≡◌, suc, inl, inr, sym, ap, ◌∙◌, subst, ◌+◌, ◌∷◌, drop, drop-cons, add-one}
 use Rattle.std.specs.List.{list_any}
-use Rattle.access_tries.specs.Edges.{Address}
-use Rattle.access_tries.specs.Table.{NodeData, links_at, at_path}
-use Rattle.entity_asking.specs.Begun.{root_points, RootSticks, SomeRootSticks, IsFirst, IsRoot}
+use Rattle.access_tries.specs.Table.{links_at}
+use Rattle.entity_asking.specs.Begun.{root_points, RootSticks, SomeRootSticks}
 use Rattle.entity_asking.specs.Places.{IsAtOrBelow}
 use Rattle.entity_asking.specs.Stuck.{tests_of}
 use Rattle.entity_asking.specs.Wants.{Adds}
 use Rattle.entity_asking.proofs.DemandSteps.{link_leads}
 use Rattle.entity_asking.proofs.BeginSteps.{root_sticks, first_at}
-use Rattle.entity_asking.proofs.FollowSteps.{IsFollowing, following_more, refused_weaker, or_weaker}
+use Rattle.entity_asking.proofs.FollowSteps.{following_more, refused_weaker, or_weaker}
 use Rattle.entity_asking.proofs.begin.first_places.Goals as goal
 
 pub returns-in-Err-clause-why : goal.returns-in-Err-clause-why
@@ -33,10 +32,10 @@ loop-link-preserved c =
     let same = c.new-below.ensures ∙ (λ j. record { nodes = c.nodes-nodes.ensures.nodes j; number = l.number }) in
     let split : drop i items ≡ l ∷ drop (i + 1) items = rw (add-one i) (drop-cons items i l c.loop-link-test.true ∙ ap (λ k. k ∷ drop (suc i) items) (sym c.link-item.is)) in
     following_more ns _ _ _ _ _ c.loop-link.invariant (λ b. root_points b (record { nodes = ns; number = l.number }) q l.edge)
-      (λ b x a. list_any (λ k. root_points b (record { nodes = ns; number = k.number }) q k.edge x a) (drop (i + 1) items)) c.begin_edge.new.next.keys
-      (λ b x a. ap (list_any (λ k. root_points b (record { nodes = ns; number = k.number }) q k.edge x a)) split)
-      (subst (λ v. Adds v.nodes (λ b. root_points b v q l.edge) c.loop-link.start.keys c.begin_edge.new.next.keys) same c.in_default.ensures.asked)
-      (λ p h. or_weaker (λ b. first_at ns l.number l.edge (link_leads ns 0 i l c.nodes-nodes.ensures.table items all c.loop-link-test.true c.link-item.is) p (b.0, subst (λ v. IsAtOrBelow v p) same b.1)) (c.in_default.ensures.below p h))
+    (λ b x a. list_any (λ k. root_points b (record { nodes = ns; number = k.number }) q k.edge x a) (drop (i + 1) items)) c.begin_edge.new.next.keys
+    (λ b x a. ap (list_any (λ k. root_points b (record { nodes = ns; number = k.number }) q k.edge x a)) split)
+    (subst (λ v. Adds v.nodes (λ b. root_points b v q l.edge) c.loop-link.start.keys c.begin_edge.new.next.keys) same c.in_default.ensures.asked)
+    (λ p h. or_weaker (λ b. first_at ns l.number l.edge (link_leads ns 0 i l c.nodes-nodes.ensures.table items all c.loop-link-test.true c.link-item.is) p (b.0, subst (λ v. IsAtOrBelow v p) same b.1)) (c.in_default.ensures.below p h))
 
 pub returns-clause-first : goal.returns-clause-first
 returns-clause-first c = λ q h. elim (c.loop-link.invariant.below q h) [

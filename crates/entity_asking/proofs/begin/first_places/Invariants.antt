@@ -1,4 +1,4 @@
-use Rattle.std.proofs.Common.{◌≡◌, ◌⊎◌, [], take, drop}
+use Rattle.std.proofs.Common.{[], drop}
 use Rattle.std.specs.List.{list_any}
 use Rattle.entity_asking.specs.Begun.{root_points, roots_point, IsFirst}
 use Rattle.entity_asking.proofs.FollowSteps.{IsFollowing}

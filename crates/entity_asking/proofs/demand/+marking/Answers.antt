@@ -1,7 +1,7 @@
-use Rattle.std.proofs.Common.{◌≡◌, sym, ap, ◌∙◌, subst}
+use Rattle.std.proofs.Common.{◌≡◌, sym, ◌∙◌, subst}
 use Rattle.access_tries.specs.Table.{links_at}
-use Rattle.entity_asking.specs.Stuck.{MarksSome, tests_of, is_step}
-use Rattle.entity_asking.proofs.DemandSteps.{link_marks, number_in}
+use Rattle.entity_asking.specs.Stuck.{MarksSome, tests_of}
+use Rattle.entity_asking.proofs.DemandSteps.{link_marks}
 use Rattle.entity_asking.proofs.demand.+marking.Goals as goal
 
 pub returns-then-marks_some : goal.returns-then-marks_some

@@ -1,6 +1,5 @@
-use Rattle.std.proofs.Common.{◌≡◌, sym, ap, ◌∙◌, subst}
+use Rattle.std.proofs.Common.{◌≡◌, sym, ◌∙◌}
 use Rattle.access_tries.specs.Table.{links_at}
-use Rattle.entity_asking.specs.Stuck.{MarksSome, tests_of, is_step}
 use Rattle.entity_asking.proofs.DemandSteps.{link_goes_on}
 use Rattle.entity_asking.proofs.demand.goes_on.Goals as goal
 

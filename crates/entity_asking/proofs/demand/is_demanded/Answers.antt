@@ -1,6 +1,6 @@
-use Rattle.std.proofs.Common.{◌≡◌, sym, ap, ◌∙◌, subst}
+use Rattle.std.proofs.Common.{◌≡◌, ◌∙◌, subst}
 use Rattle.access_tries.specs.Table.{links_at}
-use Rattle.entity_asking.specs.Stuck.{MarksSome, tests_of, is_step}
+use Rattle.entity_asking.specs.Stuck.{MarksSome, tests_of}
 use Rattle.entity_asking.proofs.DemandSteps.{link_demands}
 use Rattle.entity_asking.proofs.demand.is_demanded.Goals as goal
 

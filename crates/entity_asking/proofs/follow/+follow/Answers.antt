@@ -1,13 +1,12 @@
-use Rattle.std.proofs.Common.{◌≡◌, ◌⊎◌, inl, inr, Some, None, sym, ap, ◌∙◌, subst, arith, [], ◌∷◌, ◌||◌}
+use Rattle.std.proofs.Common.{inl, inr, sym, ap, ◌∙◌, subst, arith, ◌||◌}
 use Rattle.std.proofs.lemmas.Result.{on_ok_weaker}
 use Rattle.access_tries.specs.declared.edge.Edge.TheVariants.{Field}
 use Rattle.access_tries.specs.Views.{LeadsNowhere}
 use Rattle.policy_reads.specs.Paths.{along}
-use Rattle.policy_values.specs.Value.{Val, size_of_fields, fields_of}
-use Rattle.entity_asking.specs.Places.{IsBelow, IsAtOrBelow}
+use Rattle.policy_values.specs.Value.{size_of_fields, fields_of}
 use Rattle.entity_asking.specs.Wants.{sees, points, fields_point, Adds}
-use Rattle.entity_asking.specs.Stuck.{tests_of, behind, Sticks, FieldsStick}
-use Rattle.entity_asking.proofs.FollowSteps.{IsFollowing, following_more, following_skip, points_behind, points_nothing, tests_behind, placed_below, at_or_below, below_step, refused_weaker, or_weaker}
+use Rattle.entity_asking.specs.Stuck.{tests_of, Sticks, FieldsStick}
+use Rattle.entity_asking.proofs.FollowSteps.{following_more, following_skip, points_behind, points_nothing, tests_behind, placed_below, at_or_below, below_step, refused_weaker, or_weaker}
 use Rattle.entity_asking.proofs.follow.+follow.Goals as goal
 
 pub follow-returns-in_ok-ask-in-EntityUID-clause-below : goal.follow-returns-in_ok-ask-in-EntityUID-clause-below
@@ -35,9 +34,9 @@ follow_fields-loop-key-preserved-in_default-follow t c =
     let steps = c.in-Some.ensures.steps in
     record {
       following = following_more v.nodes _ _ _ _ _ c.loop-key.invariant.following (λ b. points value (sees b below)) (λ b. fields_point (fields_of c.next.new.self) (sees b v)) c.follow.new.next.keys
-        (λ b x a. ap (λ es. fields_point (fields_of es) (sees b v) x a) steps ∙ ap (λ p. p || fields_point (fields_of c.next.new.self) (sees b v) x a) (sym (points_behind (Field key) v below leads value b x a)))
-        (subst (λ ns. Adds ns (λ b. points value (sees b below)) c.loop-key.next.keys c.follow.new.next.keys) leads.table c.in_default-follow.ensures.asked)
-        (λ q h. or_weaker (below_step (along key) v below q leads) (c.in_default-follow.ensures.below q h));
+          (λ b x a. ap (λ es. fields_point (fields_of es) (sees b v) x a) steps ∙ ap (λ p. p || fields_point (fields_of c.next.new.self) (sees b v) x a) (sym (points_behind (Field key) v below leads value b x a)))
+          (subst (λ ns. Adds ns (λ b. points value (sees b below)) c.loop-key.next.keys c.follow.new.next.keys) leads.table c.in_default-follow.ensures.asked)
+          (λ q h. or_weaker (below_step (along key) v below q leads) (c.in_default-follow.ensures.below q h));
       stuck = λ u h. c.loop-key.invariant.stuck u (subst (λ es. FieldsStick (fields_of es) (tests_of v) u) (sym steps) (inr h));
       within = omega (arith, c.loop-key.invariant.within, ap (λ es. size_of_fields (fields_of es)) steps);
     }
@@ -50,7 +49,7 @@ follow_fields-loop-key-preserved t c =
     let nowhere : LeadsNowhere (Field key) v = c.in_default.ensures in
     record {
       following = following_skip v.nodes _ _ _ _ _ c.loop-key.invariant.following (λ b. fields_point (fields_of c.next.new.self) (sees b v))
-        (λ b x a. ap (λ es. fields_point (fields_of es) (sees b v) x a) steps ∙ ap (λ p. p || fields_point (fields_of c.next.new.self) (sees b v) x a) (points_nothing (Field key) v nowhere c.in-Some.value.now b x a));
+          (λ b x a. ap (λ es. fields_point (fields_of es) (sees b v) x a) steps ∙ ap (λ p. p || fields_point (fields_of c.next.new.self) (sees b v) x a) (points_nothing (Field key) v nowhere c.in-Some.value.now b x a));
       stuck = λ u h. c.loop-key.invariant.stuck u (subst (λ es. FieldsStick (fields_of es) (tests_of v) u) (sym steps) (inr h));
       within = omega (arith, c.loop-key.invariant.within, ap (λ es. size_of_fields (fields_of es)) steps);
     }

@@ -1,6 +1,5 @@
-use Rattle.std.proofs.Common.{◌≡◌, ◌+◌, ◌*◌, ◌≤◌, ◌⊎◌}
+use Rattle.std.proofs.Common.{◌+◌, ◌*◌, ◌≤◌}
 use Rattle.policy_values.specs.Value.{Val, size_of, size_of_fields, fields_of}
-use Rattle.policy_reads.proofs.Lists.{IsIn}
 use Rattle.entity_asking.specs.Places.{IsBelow}
 use Rattle.entity_asking.specs.Wants.{sees, fields_point}
 use Rattle.entity_asking.specs.Stuck.{tests_of, FieldsStick}

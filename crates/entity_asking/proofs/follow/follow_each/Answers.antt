@@ -1,11 +1,9 @@
-use Rattle.std.proofs.Common.{◌≡◌, ◌⊎◌, inl, inr, sym, ap, ◌∙◌, subst, ◌||◌}
+use Rattle.std.proofs.Common.{inr, sym, ap, ◌∙◌, subst}
 use Rattle.std.specs.List.{list_any}
-use Rattle.policy_values.specs.Value.{fields_of}
-use Rattle.policy_reads.specs.Restrict.{values_in}
 use Rattle.entity_asking.specs.Wants.{sees, points}
-use Rattle.entity_asking.specs.Stuck.{tests_of, Sticks, SomeSticks}
+use Rattle.entity_asking.specs.Stuck.{tests_of, SomeSticks}
 use Rattle.entity_asking.proofs.PointSteps.{values_are}
-use Rattle.entity_asking.proofs.FollowSteps.{following_same, following_more, following_done, refused_weaker}
+use Rattle.entity_asking.proofs.FollowSteps.{following_same, following_more}
 use Rattle.entity_asking.proofs.follow.follow_each.Goals as goal
 
 pub loop-value-init : goal.loop-value-init
@@ -27,6 +25,6 @@ loop-value-preserved c =
     let i = c.loop-value.invariant in
     record {
       following = following_more v.nodes _ _ _ _ _ i.following (λ b. points value (sees b v)) (λ b x a. list_any (λ u. points u (sees b v) x a) c.next.new.self) c.follow.new.next.keys
-        (λ b x a. ap (list_any (λ u. points u (sees b v) x a)) steps) c.in_default.ensures.asked c.in_default.ensures.below;
+          (λ b x a. ap (list_any (λ u. points u (sees b v) x a)) steps) c.in_default.ensures.asked c.in_default.ensures.below;
       stuck = λ u h. i.stuck u (subst (λ vs. SomeSticks vs (tests_of v) u) (sym steps) (inr h));
     }

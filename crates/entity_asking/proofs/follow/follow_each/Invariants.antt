@@ -1,4 +1,3 @@
-use Rattle.std.proofs.Common.{◌≡◌}
 use Rattle.std.specs.List.{list_any}
 use Rattle.policy_values.specs.Value.{Val, fields_of}
 use Rattle.policy_reads.specs.Restrict.{values_in}

@@ -1,5 +1,4 @@
-use Rattle.std.proofs.Common.{sym, subst}
-use Rattle.entity_asking.specs.Places.{IsPlaced}
+use Rattle.std.proofs.Common.{sym}
 use Rattle.entity_asking.proofs.PlaceSteps.{placed}
 use Rattle.entity_asking.proofs.place.ask.Goals as goal
 
