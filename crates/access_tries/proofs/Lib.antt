@@ -2,8 +2,10 @@ mod Addresses
 mod Behind
 pub mod Branching
 mod Chains
-mod Merging
-mod Order
+mod Listing
+pub mod Making
+pub mod Merging
+pub mod Order
 mod UnionLaws
-mod Unions
+pub mod Unions
 mod With

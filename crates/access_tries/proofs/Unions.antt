@@ -31,7 +31,7 @@ wider k n m h [] a = a
 wider k n m h (l ∷ ls) (a, more) = ((a.0, omega (arith, a.1)), wider k n m h ls more)
 
 -- links to nodes that two tables share lead to the same
-any_same : (f : Option NodeData → Bool) (ns ms : Table) (k : ℕ) (e : Edge) (es : Address) (ls : List Link) → AllByRecursion (IsBetween k (length ns)) ls → ((j : ℕ) → k < j → j < length ns → at_path f ms j es ≡ at_path f ns j es) → any_link f ms e es ls ≡ any_link f ns e es ls
+pub any_same : (f : Option NodeData → Bool) (ns ms : Table) (k : ℕ) (e : Edge) (es : Address) (ls : List Link) → AllByRecursion (IsBetween k (length ns)) ls → ((j : ℕ) → k < j → j < length ns → at_path f ms j es ≡ at_path f ns j es) → any_link f ms e es ls ≡ any_link f ns e es ls
 any_same f ns ms k e es [] a h = refl
 any_same f ns ms k e es (l ∷ ls) (a, more) h =
     ap (λ b. (edge_eq l.edge e && b) || any_link f ms e es ls) (h l.number a.0 a.1)
@@ -135,13 +135,13 @@ set_below (x ∷ xs) zero j y h = absurd (omega (arith, h))
 set_below (x ∷ xs) (suc i) zero y h = refl
 set_below (x ∷ xs) (suc i) (suc j) y h = set_below xs i j y (omega (arith, h))
 
-set_above : {X : Type 0} (xs : List X) (i j : ℕ) (y : X) → i < j → slice_get (slice_set xs i y) j ≡ slice_get xs j
+pub set_above : {X : Type 0} (xs : List X) (i j : ℕ) (y : X) → i < j → slice_get (slice_set xs i y) j ≡ slice_get xs j
 set_above [] i j y h = refl
 set_above (x ∷ xs) i zero y h = absurd (omega (arith, h))
 set_above (x ∷ xs) zero (suc j) y h = refl
 set_above (x ∷ xs) (suc i) (suc j) y h = set_above xs i j y (omega (arith, h))
 
-set_here : {X : Type 0} (xs : List X) (i : ℕ) (y : X) → i < length xs → slice_get (slice_set xs i y) i ≡ Some y
+pub set_here : {X : Type 0} (xs : List X) (i : ℕ) (y : X) → i < length xs → slice_get (slice_set xs i y) i ≡ Some y
 set_here [] i y h = absurd (omega (arith, h))
 set_here (x ∷ xs) zero y h = refl
 set_here (x ∷ xs) (suc i) y h = set_here xs i y (omega (arith, h))

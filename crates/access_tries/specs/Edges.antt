@@ -5,6 +5,7 @@ use Rattle.std.specs.Ordering.{nat_cmp, ordering_then, is_eq}
 use Rattle.policy_names.specs.Uid.{text_cmp}
 use Rattle.policy_expressions.specs.declared.kinds.Var.{Var}
 use Rattle.policy_expressions.specs.declared.kinds.Var.TheVariants.{Principal, Action, Resource, Context}
+use Rattle.access_tries.specs.declared.edge.EntityRoot.{EntityRoot}
 use Rattle.access_tries.specs.declared.edge.EntityRoot.TheVariants.{Literal, Var as Variable}
 use Rattle.access_tries.specs.declared.edge.Edge.{Edge}
 use Rattle.access_tries.specs.declared.edge.Edge.TheVariants.{Field, AnyTag, Root}
@@ -41,3 +42,7 @@ edge_cmp a b = ordering_then (nat_cmp (rank a) (rank b)) (ordering_then (text_cm
 -- the two edges are one
 abbrev pub edge_eq : Edge → Edge → Bool
 edge_eq a b = is_eq (edge_cmp a b)
+
+-- the order of roots
+abbrev pub root_cmp : EntityRoot → EntityRoot → Ordering
+root_cmp a b = edge_cmp (Root a) (Root b)

@@ -12,4 +12,4 @@ pub use edge::{AccessPath, Edge, EntityRoot, Step};
 pub use least::least_trie;
 pub use table::{Link, Node, links_of, mark_of};
 pub use tries::{AccessTrie, RootAccessTrie};
-pub use views::TrieRef;
+pub use views::{Children, RootTrieRef, Roots, TrieRef};

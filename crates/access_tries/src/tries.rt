@@ -8,7 +8,7 @@ ghost use Rattle.access_tries.specs.declared.edge.Edge.TheVariants.{Root};
 
 use crate::edge::EntityRoot;
 use crate::table::{Node, mark_of, unite};
-use crate::views::TrieRef;
+use crate::views::{RootTrieRef, TrieRef};
 use std::alloc::{AllocError, Global};
 use std::marker::Model;
 
@@ -46,6 +46,13 @@ impl RootAccessTrie {
         ensures { MatchOption result (LeadsNowhere (Root root.now) (whole self.now)) (LeadsTo (Root root.now) (whole self.now)) }
     {
         TrieRef::new(&self.nodes, 0).ancestors_from(root)
+    }
+
+    /// The roots, each with what is read from it, borrowed.
+    pub fn as_root_trie_ref(&self) -> RootTrieRef<'_>
+        ensures { result ≡ whole self.now }
+    {
+        TrieRef::new(&self.nodes, 0).ancestors_required()
     }
 
     /// The table of its nodes: the first one leads to the roots.

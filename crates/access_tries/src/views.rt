@@ -1,9 +1,12 @@
 //! Views of tries: a node with all below it, borrowed from its table.
 
-ghost use Rattle.std.specs.Prelude.{◌≡◌, [], MatchOption};
-ghost use Rattle.access_tries.specs.Edges.{edge_eq};
+ghost use Rattle.std.specs.Prelude.{◌≡◌, [], map, MatchOption};
+ghost use Rattle.std.specs.Iterator.{YieldsFirstBy, item_count};
+ghost use Rattle.std.specs.List.Sorted.{IsStrictlySortedBy};
+ghost use Rattle.policy_names.specs.Uid.{text_cmp};
+ghost use Rattle.access_tries.specs.Edges.{edge_eq, root_cmp};
 ghost use Rattle.access_tries.specs.Table.{IsTable};
-ghost use Rattle.access_tries.specs.Views.{view_marks, LeadsNowhere, LeadsTo, number_at};
+ghost use Rattle.access_tries.specs.Views.{view_marks, LeadsNowhere, LeadsTo, number_at, children_of, roots_of, AreChildren, AreRoots};
 ghost use Rattle.access_tries.specs.EdgeView.{edge_in};
 ghost use Rattle.access_tries.specs.declared.edge.Edge.TheVariants.{Field, AnyTag, Root};
 
@@ -85,6 +88,47 @@ impl<'a> TrieRef<'a> {
         self.behind(&EdgeRef::Root(root))
     }
 
+    /// What names the ancestors that are asked for of this value: roots, with what is followed from them.
+    pub fn ancestors_required(&self) -> RootTrieRef<'a>
+        ensures { result ≡ self.now }
+    {
+        RootTrieRef {
+            node: TrieRef::new(self.nodes, self.number),
+        }
+    }
+
+    /// The fields that are read, ascending, each with what is read of it.
+    #[tactic(auto, using(crate::proofs::Listing::children_lead, crate::proofs::Listing::children_ascend))]
+    pub fn children(&self) -> Children<'a>
+        ensures children { result ≡ children_of self.now }
+        ensures lead { AreChildren self.now result }
+        ensures ascending { IsStrictlySortedBy text_cmp (map (λ c. c.0) result) }
+    {
+        self.fields()
+    }
+
+    // The fields, each with what is read of it.
+    fn fields(&self) -> Children<'a>
+        ensures children { result ≡ children_of self.now }
+        ensures table { IsTable self.now.nodes }
+    {
+        Children {
+            nodes: self.nodes,
+            links: links_of(self.nodes, self.number),
+        }
+    }
+
+    // The roots, each with what is read from it.
+    fn roots(&self) -> Roots<'a>
+        ensures roots { result ≡ roots_of self.now }
+        ensures table { IsTable self.now.nodes }
+    {
+        Roots {
+            nodes: self.nodes,
+            links: links_of(self.nodes, self.number),
+        }
+    }
+
     // The node to which an edge leads.
     fn behind(&self, edge: &EdgeRef<'_>) -> Option<TrieRef<'a>>
         ensures { MatchOption result (LeadsNowhere (edge_in edge.now) self.now) (LeadsTo (edge_in edge.now) self.now) }
@@ -96,6 +140,120 @@ impl<'a> TrieRef<'a> {
             }),
             None => None,
         }
+    }
+}
+
+/// Roots with what is read from them, as they stand in a trie.
+#[derive(Debug, Drop)]
+pub struct RootTrieRef<'a> {
+    node: TrieRef<'a>,
+}
+
+impl<'a> Model for RootTrieRef<'a> {
+    ghost use Rattle.access_tries.specs.Views.{ViewData, coded_view};
+
+    ghost Value = { ViewData };
+
+    ghost coded = { coded_view };
+
+    ghost view = { λ t. t.node };
+}
+
+impl<'a> RootTrieRef<'a> {
+    /// What is read from a root, where something is.
+    pub fn trie(&self, root: &EntityRoot) -> Option<TrieRef<'a>>
+        ensures { MatchOption result (LeadsNowhere (Root root.now) self.now) (LeadsTo (Root root.now) self.now) }
+    {
+        self.node.ancestors_from(root)
+    }
+
+    /// The roots, ids before entries of the request, each with what is read from it.
+    #[tactic(auto, using(crate::proofs::Listing::roots_lead, crate::proofs::Listing::roots_ascend))]
+    pub fn roots(&self) -> Roots<'a>
+        ensures roots { result ≡ roots_of self.now }
+        ensures lead { AreRoots self.now result }
+        ensures ascending { IsStrictlySortedBy root_cmp (map (λ c. c.0) result) }
+    {
+        self.node.roots()
+    }
+}
+
+/// The fields of a node, each with what is read of it.
+#[derive(Debug, Drop)]
+pub struct Children<'a> {
+    nodes: &'a [Node],
+    links: &'a [Link],
+}
+
+impl<'a> Model for Children<'a> {
+    ghost use Rattle.std.specs.Prelude.{List, ℕ};
+    ghost use Rattle.access_tries.specs.Table.{IsTable};
+    ghost use Rattle.access_tries.specs.Views.{ViewData, coded_children, children_in};
+
+    ghost Value = { List (List ℕ × ViewData) };
+
+    ghost coded = { coded_children };
+
+    ghost view = { λ c. children_in c.nodes.now c.links.now };
+
+    ghost invariant = { λ c. IsTable c.nodes.now };
+}
+
+impl<'a> Iterator for Children<'a> {
+    type Item = (&'a Text, TrieRef<'a>);
+
+    ghost next_gives = { YieldsFirstBy (λ item. (item.0.now, item.1)) (λ rest. rest) };
+
+    ghost remaining = { item_count (λ rest. rest) };
+
+    fn next(&mut self) -> Option<(&'a Text, TrieRef<'a>)> {
+        while let Some((link, rest)) = self.links.split_first() {
+            self.links = rest;
+            if let Edge::Field(name) = &link.edge {
+                return Some((name, TrieRef::new(self.nodes, link.number)));
+            }
+        }
+        None
+    }
+}
+
+/// The roots of a trie, each with what is read from it.
+#[derive(Debug, Drop)]
+pub struct Roots<'a> {
+    nodes: &'a [Node],
+    links: &'a [Link],
+}
+
+impl<'a> Model for Roots<'a> {
+    ghost use Rattle.std.specs.Prelude.{List};
+    ghost use Rattle.access_tries.specs.Table.{IsTable};
+    ghost use Rattle.access_tries.specs.declared.edge.EntityRoot.{EntityRoot};
+    ghost use Rattle.access_tries.specs.Views.{ViewData, coded_roots, roots_in};
+
+    ghost Value = { List (EntityRoot × ViewData) };
+
+    ghost coded = { coded_roots };
+
+    ghost view = { λ r. roots_in r.nodes.now r.links.now };
+
+    ghost invariant = { λ r. IsTable r.nodes.now };
+}
+
+impl<'a> Iterator for Roots<'a> {
+    type Item = (&'a EntityRoot, TrieRef<'a>);
+
+    ghost next_gives = { YieldsFirstBy (λ item. (item.0.now, item.1)) (λ rest. rest) };
+
+    ghost remaining = { item_count (λ rest. rest) };
+
+    fn next(&mut self) -> Option<(&'a EntityRoot, TrieRef<'a>)> {
+        while let Some((link, rest)) = self.links.split_first() {
+            self.links = rest;
+            if let Edge::Root(root) = &link.edge {
+                return Some((root, TrieRef::new(self.nodes, link.number)));
+            }
+        }
+        None
     }
 }
 

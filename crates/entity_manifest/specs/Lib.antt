@@ -1,2 +1,4 @@
 pub mod Manifest
 pub mod ManifestJson
+pub mod Mismatches
+pub mod Refusals

@@ -1,8 +1,11 @@
 -- Manifests: a trie for each type of requests.
-use Rattle.std.specs.Prelude.{List}
+use Rattle.std.specs.Prelude.{◌≡◌, List}
+use Rattle.std.specs.List.{AllByRecursion}
+use Rattle.std.specs.declared.cmp.Ordering.TheVariants.{Greater}
 use Rattle.std.specs.Coded.{Coded, coded_list, coded×}
 use Rattle.policy_store.specs.declared.request.RequestType.{RequestType}
 use Rattle.policy_store.specs.contracts.request.RequestType.{the_row as request_type_row}
+use Rattle.policy_store.specs.Request.{request_type_cmp}
 use Rattle.access_tries.specs.Table.{Table, coded_table}
 
 -- request types, ascending, each with its trie
@@ -11,3 +14,7 @@ Manifest = List (RequestType × Table)
 
 abbrev pub coded_manifest : Coded Manifest
 coded_manifest = coded_list (coded× request_type_row.coded coded_table)
+
+-- the request type is greater than all these
+abbrev pub IsNext : RequestType → List RequestType → Type 0
+IsNext t ts = AllByRecursion (λ u. request_type_cmp t u ≡ Greater) ts

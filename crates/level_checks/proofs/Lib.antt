@@ -1,0 +1,5 @@
+mod Fields
+mod Depths
+mod Branches
+mod Once
+mod Exact

@@ -1,0 +1,7 @@
+mod Chains
+mod ConditionSteps
+mod Fields
+mod OneType
+mod PairSteps
+mod PartSteps
+mod Sizes

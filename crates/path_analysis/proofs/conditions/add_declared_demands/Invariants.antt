@@ -1,0 +1,11 @@
+use Rattle.std.proofs.Common.{◌≡◌, ◌++◌, filter}
+use Rattle.std.specs.Vec.Iter.{into_iter_items}
+use Rattle.schema_core.specs.RequestEnvs.{env_data_of}
+use Rattle.policy_reads.specs.Reads.{are_declared}
+use Rattle.path_analysis.proofs.conditions.add_declared_demands.Given as goal
+
+-- what was added, and what is left
+abbrev pub invariant-loop-demand : goal.invariant-loop-demand
+invariant-loop-demand l =
+    l.demands.items ++ filter (are_declared l.at.schema.now (env_data_of l.at.env.now)) (into_iter_items l.demand-iterator)
+    ≡ l.fn.demands.items ++ filter (are_declared l.at.schema.now (env_data_of l.at.env.now)) l.fn.found.items

@@ -1,0 +1,6 @@
+pub mod Analysis
+pub mod Parts
+pub mod PathView
+pub mod ShapeCode
+pub mod ShapeFalls
+pub mod ShapeView

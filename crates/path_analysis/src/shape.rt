@@ -1,0 +1,203 @@
+//! Where results come from.
+
+ghost use Rattle.std.specs.Prelude.{◌≡◌, ◌++◌, ◌∷◌, [], IfOk, OnOk};
+ghost use Rattle.policy_reads.specs.Paths.{no_shape, at_path, set_shape, record_shape, one_of, beyond, paths, field_paths, shape_at, extended, shape_along};
+ghost use Rattle.path_analysis.specs.ShapeView.{shape_in, one_of_all, field_shapes};
+
+use access_tries::{AccessPath, Step};
+use policy_names::Text;
+use std::alloc::{AllocError, Global};
+use std::collections::BTreeMap;
+use std::marker::Model;
+
+/// Where the result of an expression comes from.
+#[derive(Debug, Drop)]
+#[cycle(shape)]
+pub(crate) struct Shape {
+    kind: ShapeKind,
+}
+
+#[derive(Debug, Drop)]
+#[cycle(shape)]
+enum ShapeKind {
+    // From nothing that is read.
+    Nothing,
+    // From what the path leads to.
+    Path(AccessPath),
+    // A set of what comes from there.
+    Set(Vec<Shape>),
+    // A record whose fields come from there.
+    Record(BTreeMap<Text, Shape>),
+    // From one of the two.
+    OneOf(Box<Shape>, Box<Shape>),
+}
+
+impl Model for Shape {
+    ghost use Rattle.policy_reads.specs.Paths.{Shape};
+    ghost use Rattle.path_analysis.specs.ShapeCode.{coded_shape};
+
+    ghost Value = { Shape };
+
+    ghost coded = { coded_shape };
+
+    ghost use Rattle.path_analysis.specs.ShapeView.{shape_in, size_of};
+
+    ghost view = { λ a. shape_in a.kind };
+
+    ghost size = { size_of };
+
+    ghost use Rattle.path_analysis.specs.ShapeFalls.{falls};
+
+    ghost size_decreases = { λ a h. falls a };
+}
+
+impl Shape {
+    pub(crate) fn nothing() -> Shape
+        ensures { result ≡ no_shape }
+    {
+        Shape {
+            kind: ShapeKind::Nothing,
+        }
+    }
+
+    pub(crate) fn path(path: AccessPath) -> Shape
+        ensures { result ≡ at_path path }
+    {
+        Shape {
+            kind: ShapeKind::Path(path),
+        }
+    }
+
+    pub(crate) fn set(items: Vec<Shape>) -> Shape
+        ensures { result ≡ set_shape (one_of_all items.items) }
+    {
+        Shape {
+            kind: ShapeKind::Set(items),
+        }
+    }
+
+    pub(crate) fn record(fields: BTreeMap<Text, Shape>) -> Shape
+        ensures { result ≡ record_shape (field_shapes fields.entries) }
+    {
+        Shape {
+            kind: ShapeKind::Record(fields),
+        }
+    }
+
+    pub(crate) fn one_of(alloc: Global, a: Shape, b: Shape) -> Result<Shape, AllocError>
+        ensures { IfOk result (λ r. r ≡ one_of a b) }
+    {
+        let a = Box::new(alloc, a)?;
+        let b = Box::new(alloc, b)?;
+        Ok(Shape {
+            kind: ShapeKind::OneOf(a, b),
+        })
+    }
+
+    /// One step on: a path gets longer, a record gives what it has there, one of two gives one of both, and nothing else
+    /// gives anything.
+    pub(crate) fn extended(self, alloc: Global, step: &Step) -> Result<Shape, AllocError>
+        ensures { IfOk result (λ r. r ≡ extended self step.now) }
+    {
+        match self.kind {
+            ShapeKind::Path(path) => Ok(Shape::path(longer(path, step.try_clone()?)?)),
+            ShapeKind::Record(fields) => Ok(shape_along(fields, step)),
+            ShapeKind::OneOf(a, b) => {
+                let a = Box::into_inner(a).extended(alloc, step)?;
+                let b = Box::into_inner(b).extended(alloc, step)?;
+                Shape::one_of(alloc, a, b)
+            }
+            ShapeKind::Nothing | ShapeKind::Set(_) => Ok(Shape::nothing()),
+        }
+    }
+
+    /// The paths that stand anywhere in it.
+    pub(crate) fn paths(&self, alloc: Global) -> Result<Vec<AccessPath>, AllocError>
+        ensures { IfOk result (λ r. r.items ≡ paths self.now) }
+    {
+        let mut found = Vec::new(alloc);
+        add_paths(alloc, self, &mut found)?;
+        Ok(found)
+    }
+}
+
+#[cycle(add_paths)]
+fn add_paths(alloc: Global, shape: &Shape, found: &mut Vec<AccessPath>) -> Result<(), AllocError>
+    ensures { OnOk result (found.new.items ≡ found.old.items ++ paths shape.now) }
+{
+    match &shape.kind {
+        ShapeKind::Nothing => Ok(()),
+        ShapeKind::Path(path) => add_path(alloc, path, found),
+        ShapeKind::Set(items) => add_paths_of_all(alloc, items, found),
+        ShapeKind::Record(fields) => add_paths_of_fields(alloc, fields, found),
+        ShapeKind::OneOf(a, b) => {
+            add_paths(alloc, a, found)?;
+            add_paths(alloc, b, found)
+        }
+    }
+}
+
+fn add_path(alloc: Global, path: &AccessPath, found: &mut Vec<AccessPath>) -> Result<(), AllocError>
+    ensures { OnOk result (found.new.items ≡ found.old.items ++ path.now ∷ []) }
+{
+    found.push(path.try_clone(alloc)?)?;
+    Ok(())
+}
+
+#[cycle(add_paths)]
+#[tactic(auto, using(crate::proofs::Sizes::size_in))]
+fn add_paths_of_all(
+    alloc: Global,
+    items: &Vec<Shape>,
+    found: &mut Vec<AccessPath>,
+) -> Result<(), AllocError>
+    ensures { OnOk result (found.new.items ≡ found.old.items ++ paths (one_of_all items.now.items)) }
+{
+    for item in items {
+        add_paths(alloc, item, found)?;
+    }
+    Ok(())
+}
+
+#[cycle(add_paths)]
+fn add_paths_of_fields(
+    alloc: Global,
+    fields: &BTreeMap<Text, Shape>,
+    found: &mut Vec<AccessPath>,
+) -> Result<(), AllocError>
+    ensures { OnOk result (found.new.items ≡ found.old.items ++ field_paths (field_shapes fields.now.entries)) }
+{
+    for (_, value) in fields.iter() {
+        add_paths(alloc, value, found)?;
+    }
+    Ok(())
+}
+
+// The path that goes on with the step.
+pub(crate) fn longer(path: AccessPath, step: Step) -> Result<AccessPath, AllocError>
+    ensures { IfOk result (λ r. r ≡ beyond path (step ∷ [])) }
+{
+    let (root, mut steps) = path.into_parts();
+    steps.push(step)?;
+    Ok(AccessPath::new(root, steps))
+}
+
+// What a record has one step on.
+fn shape_along(fields: BTreeMap<Text, Shape>, step: &Step) -> Shape
+    ensures { result ≡ shape_along (field_shapes fields.entries) step.now }
+{
+    match step {
+        Step::Field(name) => shape_at(fields, name),
+        Step::AnyTag => Shape::nothing(),
+    }
+}
+
+#[tactic(auto, using(crate::proofs::Fields::shape_found, crate::proofs::Fields::shape_missing))]
+fn shape_at(mut fields: BTreeMap<Text, Shape>, name: &Text) -> Shape
+    ensures { result ≡ shape_at (field_shapes fields.entries) name.now }
+{
+    match fields.remove(name) {
+        Some(shape) => shape,
+        None => Shape::nothing(),
+    }
+}
