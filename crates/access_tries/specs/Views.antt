@@ -1,14 +1,9 @@
 -- A node of a table with all below it.
-<<<<<<< HEAD
 use Rattle.std.specs.Prelude.{◌≡◌, ℕ, ◌<◌, Bool, true, false, ◌||◌, List, [], ◌∷◌, Option, option_map, find, is_some, refl}
-use Rattle.std.specs.Coded.{Coded, coded_ℕ, coded×, code_by}
-=======
-use Rattle.std.specs.Prelude.{◌≡◌, ℕ, Bool, true, false, ◌||◌, List, [], ◌∷◌, Option, option_map, find, is_some, refl}
 use Rattle.std.specs.List.{AllByRecursion}
 use Rattle.std.specs.Coded.{Coded, coded_ℕ, coded_list, coded×, code_by}
 use Rattle.access_tries.specs.declared.edge.EntityRoot.{EntityRoot}
 use Rattle.access_tries.specs.contracts.edge.EntityRoot.{the_row as root_row}
->>>>>>> 9f51b212acc9c862511df1af1af0b24db803e3cb
 use Rattle.access_tries.specs.declared.edge.Edge.{Edge}
 use Rattle.access_tries.specs.declared.edge.Edge.TheVariants.{Field, AnyTag, Root}
 use Rattle.access_tries.specs.declared.table.Link.{Link}
