@@ -1,3 +1,4 @@
 mod Entries
 mod Keeping
 mod TagSteps
+mod TypedAgain
