@@ -1,1 +1,4 @@
+pub mod Parts
+pub mod Places
+pub mod Reading
 pub mod TrieJson
