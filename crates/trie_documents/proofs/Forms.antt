@@ -4,7 +4,7 @@ use Rattle.std.proofs.lemmas.Bool.{cases_lt}
 use Rattle.std.proofs.lemmas.List.{append-nil, append_assoc}
 use Rattle.access_tries.specs.declared.edge.Edge.{Edge}
 use Rattle.access_tries.specs.declared.edge.Edge.TheVariants.{AnyTag}
-use Rattle.access_tries.specs.Trees.{Branch, branch, Branches, no_branches, leading}
+use Rattle.access_tries.specs.Trees.{Branch, Branches, no_branches, leading}
 use Rattle.trie_documents.specs.Places.{Place, behind, places_of, places_in}
 use Rattle.trie_documents.specs.Parts.{led_places, node_places}
 use Rattle.trie_documents.specs.Reading.{led_to, entries_form, joined, node_form}

@@ -132,10 +132,12 @@ fn is_among(edges: &[Edge], edge: &Edge) -> bool
 fn are_distinct(edges: &[Edge]) -> bool
     ensures { result ≡ are_distinct edges.now }
 {
-    match edges {
-        [] => true,
-        [first, rest @ ..] => !is_among(rest, first) && are_distinct(rest),
+    for (i, edge) in edges.iter().enumerate() {
+        if is_among(&edges[i + 1..], edge) {
+            return false;
+        }
     }
+    true
 }
 
 /// The edges of the entries of a list, where each has one and none stands twice.

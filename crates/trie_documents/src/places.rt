@@ -1,11 +1,12 @@
 //! The nodes of a trie by their addresses, in the order of a document.
 
-ghost use Rattle.std.specs.Prelude.{◌≡◌, [], ◌∷◌, ◌++◌, map, option_map, IfOk, OnOk};
+ghost use Rattle.std.specs.Prelude.{◌≡◌, [], ◌∷◌, ◌++◌, map, filter, option_map, IfOk, OnOk};
+ghost use Rattle.access_tries.specs.Walks.{addresses_in};
 ghost use Rattle.access_tries.specs.declared.edge.Edge.TheVariants.{AnyTag};
-ghost use Rattle.trie_documents.specs.Places.{behind};
+ghost use Rattle.trie_documents.specs.Places.{behind, IsOfPlaces};
 ghost use Rattle.trie_documents.specs.Parts.{node_places, led_places, place_lists};
 
-use access_tries::Edge;
+use access_tries::{Edge, RootAccessTrie, all_of};
 use std::alloc::{AllocError, Global};
 use std::marker::Model;
 
@@ -150,4 +151,55 @@ pub(crate) fn tags_led_to(
     let mut all = Vec::new(alloc);
     add_behind(alloc, &mut all, &Edge::AnyTag, places.as_slice())?;
     Ok(Some(all))
+}
+
+/// The trie of these places.
+pub fn trie_of_places(alloc: Global, places: &[Place]) -> Result<RootAccessTrie, AllocError>
+    ensures { IfOk result (IsOfPlaces places.now) }
+{
+    let addresses = addresses_of(alloc, places)?;
+    let read = all_of(alloc, addresses.as_slice(), false)?;
+    let addresses = marked_addresses(alloc, places)?;
+    let marked = all_of(alloc, addresses.as_slice(), true)?;
+    read.union(alloc, &marked)
+}
+
+fn copied(alloc: Global, edges: &[Edge]) -> Result<Vec<Edge>, AllocError>
+    ensures { IfOk result (λ v. v.items ≡ edges.now) }
+{
+    let mut all = Vec::new(alloc);
+    for edge in edges {
+        all.push(edge.try_clone()?)?;
+    }
+    Ok(all)
+}
+
+fn addresses_of(alloc: Global, places: &[Place]) -> Result<Vec<Vec<Edge>>, AllocError>
+    ensures { IfOk result (λ v. addresses_in v.items ≡ map (λ p. p.0) places.now) }
+{
+    let mut all = Vec::new(alloc);
+    for place in places {
+        all.push(copied(alloc, place.edges())?)?;
+    }
+    Ok(all)
+}
+
+// Those of places that are marked.
+fn marked_addresses(alloc: Global, places: &[Place]) -> Result<Vec<Vec<Edge>>, AllocError>
+    ensures { IfOk result (λ v. addresses_in v.items ≡ map (λ p. p.0) (filter (λ p. p.1) places.now)) }
+{
+    let mut all = Vec::new(alloc);
+    for place in places {
+        add_marked(alloc, &mut all, place)?;
+    }
+    Ok(all)
+}
+
+fn add_marked(alloc: Global, all: &mut Vec<Vec<Edge>>, place: &Place) -> Result<(), AllocError>
+    ensures { OnOk result (addresses_in all.new.items ≡ addresses_in all.old.items ++ map (λ p. p.0) (filter (λ p. p.1) (place.now ∷ []))) }
+{
+    if place.is_marked() {
+        all.push(copied(alloc, place.edges())?)?;
+    }
+    Ok(())
 }
