@@ -160,7 +160,7 @@ or_right true b h = refl
 or_right false b h = h
 
 -- each element is in its list
-each_has : (us : List EntityUID) → AllByRecursion (λ u. has uid_cmp us u ≡ true) us
+pub each_has : (us : List EntityUID) → AllByRecursion (λ u. has uid_cmp us u ≡ true) us
 each_has [] = tt
 each_has (x ∷ us) = (
   ap (λ o. is_eq o || has uid_cmp us x) (tied_itself uid_cmp_total x),

@@ -13,7 +13,7 @@ use Rattle.policy_store.specs.Store.{Store, entity_at}
 use Rattle.policy_values.specs.Value.{Val, truth, entity, rec, Fields, no_fields, field}
 use Rattle.schema_core.specs.Schema.{SchemaData}
 use Rattle.schema_core.specs.Faults.{IsSchema}
-use Rattle.policy_validate.specs.Conformance.{RequestConforms, StoreConforms}
+use Rattle.policy_typing.specs.Conforms.{RequestConforms, StoreConforms}
 use Rattle.schema_core.specs.Environments.{Environment}
 use Rattle.policy_expressions.specs.declared.kinds.Literal.TheVariants as literal
 use Rattle.policy_expressions.specs.declared.kinds.Var.TheVariants.{Principal, Action, Resource}
@@ -154,12 +154,12 @@ module _ (d : SchemaData) (g : Environment) (q : Request) (whole s : Store) (is 
 
 pub covers : RestrictedCovers
 covers d q whole schema is_whole conforms stored ps i s low high =
-    outcomes_same d (env_of q) q whole s (request_of_env d q schema is_whole conforms) (store_keeps d whole stored) (demands_of d (env_of q) ps) low high ps i (λ f h. h)
+    outcomes_same d (env_of q) q whole s (request_of_env d q schema conforms) (store_keeps d whole stored) (demands_of d (env_of q) ps) low high ps i (λ f h. h)
 
 pub allows : RestrictedAllows
 allows d q whole schema is_whole conforms stored ps i s low high =
     let ds = demands_of d (env_of q) ps in
-    let of_env = request_of_env d q schema is_whole conforms in
+    let of_env = request_of_env d q schema conforms in
     let kept = store_keeps d whole stored in
     subst (AllByRecursion IsAllowedOutcome) (sym (covers d q whole schema is_whole conforms stored ps i s low high)) (outcomes_allowed d (env_of q) q whole s of_env kept ds low high ps i)
 

@@ -11,7 +11,7 @@ use Rattle.policy_set.specs.Data.{PolicyData}
 use Rattle.authorizer.specs.Allowed.{AreAllowed}
 use Rattle.authorizer.specs.Response.{outcomes}
 use Rattle.truth_types.specs.Sound.{IsIdentity}
-use Rattle.policy_validate.specs.Conformance.{RequestConforms, StoreConforms}
+use Rattle.policy_typing.specs.Conforms.{RequestConforms, StoreConforms}
 use Rattle.id_slices.specs.Reads.{at_roots, demands_of, read_paths}
 use Rattle.id_slices.specs.Restrict.{Keep, part, restrict}
 

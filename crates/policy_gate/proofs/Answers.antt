@@ -1,55 +1,34 @@
 -- What is known of every answer to a document.
-use Rattle.std.proofs.Common.{◌≡◌, ℕ, List, [], ◌∷◌, inl, inr, Option, Some, None, sym, subst}
+use Rattle.std.proofs.Common.{◌≡◌, ℕ, List, inl, inr, Option, Some, None, sym, subst}
 use Rattle.serde_json.specs.Data.{Data}
-use Rattle.policy_names.specs.declared.entity_uid.EntityUID.{EntityUID}
 use Rattle.policy_documents.specs.declared.document.Document.{Document}
-use Rattle.finding_texts.specs.Findings.{Findings}
-use Rattle.findings.specs.declared.error.ValidationError.{ValidationError}
-use Rattle.policy_validate.specs.Conformance.{first_request_fault, first_store_fault}
-use Rattle.policy_validate.specs.declared.request_error.RequestValidationError.{RequestValidationError}
-use Rattle.policy_validate.specs.declared.store_rule.StoreRule.{StoreRule}
-use Rattle.policy_gate.specs.Answer.{IsAnswer, IsAnswerIf, IsAnswerFor, IsAnswerTo, IsSliceAnswer, behind_errors, behind_store, behind_request, slice_answer, checked_answer, found_in}
+use Rattle.policy_gate.specs.Answer.{IsAnswer, IsAnswerIf, IsAnswerFor, IsRefusedOr, IsWork, refusal}
 use Rattle.json_parts.specs.Json.{json_of}
 use Rattle.policy_gate.specs.Reply.{Answer, answer}
 use Rattle.policy_gate.specs.Status.{IsOfDocument}
-use Rattle.finding_texts.specs.Written.{findings_text}
+use Rattle.std.specs.Prelude.{IfSome}
 use Rattle.policy_gate.specs.declared.command.Command.{Command}
-use Rattle.policy_gate.specs.declared.command.Command.TheVariants.{Check, Slice}
-use Rattle.policy_gate.specs.declared.status.Status.TheVariants.{Done}
+use Rattle.policy_gate.specs.declared.status.Status.{Status}
+use Rattle.policy_gate.specs.declared.status.Status.TheVariants as status
+use Rattle.policy_gate.proofs.Says.{IsRefusal, refuses}
 
 abbrev IsOf : Answer → Type 0
 IsOf a = IsOfDocument a.status
 
-of_errors : (es : List ValidationError) (found : Findings) (next : Answer) → IsOf next → IsOf (behind_errors es found next)
-of_errors [] found next h = h
-of_errors (e ∷ es) found next h = tt
+of_refusal : (s : Status) → IsRefusal s → IsOfDocument s
+of_refusal status.PartialRequest h = tt
+of_refusal status.Request h = tt
+of_refusal status.Store h = tt
+of_refusal status.Findings h = tt
+of_refusal s h = absurd h
 
-of_store : (o : Option (EntityUID × StoreRule)) (next : Answer) → IsOf next → IsOf (behind_store o next)
-of_store None next h = h
-of_store (Some f) next h = tt
-
-of_request : (o : Option RequestValidationError) (next : Answer) → IsOf next → IsOf (behind_request o next)
-of_request None next h = h
-of_request (Some f) next h = tt
-
-of_checked : (d : Document) → IsOf (checked_answer d)
-of_checked d =
-    let found = found_in d in
-    of_request (first_request_fault d.schema d.request) _ (of_store (first_store_fault d.schema d.entities) _ (of_errors found.errors found (slice_answer d) tt))
-
-of_slice : (d : Document) (a : Answer) → IsSliceAnswer d a → IsOf a
-of_slice d a (inl (whole, is)) = subst IsOf (sym is) (of_checked d)
-of_slice d a (inr (partial, is)) = subst IsOf (sym is) tt
-
-of_document : (c : Command) (d : Document) (a : Answer) → IsAnswerTo c d a → IsOf a
-of_document Check d a is =
-    let found = found_in d in
-    subst IsOf (sym is) (of_errors found.errors found (answer Done (findings_text found)) tt)
-of_document Slice d a is = of_slice d a is
+of_answer : (r : Option Answer) (W : List ℕ → Type 0) (a : Answer) → IfSome r (λ b. IsRefusal b.status) → IsRefusedOr r W a → IsOf a
+of_answer None W a h is = subst IsOfDocument (sym is.0) tt
+of_answer (Some r) W a h is = subst IsOf (sym is) (of_refusal r.status h)
 
 of_value : (c : Command) (v : Data) (a : Answer) → IsAnswerFor c v a → IsOf a
 of_value c v a (inl (place, reads, is)) = subst IsOf (sym is) tt
-of_value c v a (inr (d, reads, is)) = of_document c d a is
+of_value c v a (inr (d, reads, made, is)) = of_answer (refusal c d) (IsWork c d) a (refuses c d) is
 
 of_bytes : (c : Command) (o : Option Data) (a : Answer) → IsAnswerIf c o a → IsOf a
 of_bytes c None a is = subst IsOf (sym is) tt

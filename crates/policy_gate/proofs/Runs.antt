@@ -10,14 +10,12 @@ use Rattle.policy_gate.specs.Reply.{Answer, answer}
 use Rattle.policy_gate.specs.Run.{Cause, Gives, IsDocumentDue, IsDue, IsDueAfterReading, Runs}
 use Rattle.policy_gate.specs.Status.{IsAfterEnd, IsOfDocument, after_fault}
 use Rattle.policy_gate.specs.declared.command.Command.{Command}
-use Rattle.policy_gate.specs.declared.command.Command.TheVariants.{Check, Slice}
 use Rattle.policy_gate.specs.declared.status.Status.{Status}
 use Rattle.policy_gate.specs.declared.status.Status.TheVariants.{Done, Findings, Usage, Document, Request, Store, PartialRequest, ReadFault, WriteFault, OutOfMemory, TooLong}
 use Rattle.policy_documents.specs.declared.document.Document.{Document as ADocument}
-use Rattle.policy_gate.specs.Headline.{HasAcceptedPolicies, IsChecked, IsDocumentOf, IsSliced, KeepsRules, KeepsRulesOf}
-use Rattle.policy_validate.specs.Laws.{NoErrorsWhereAccepted}
+use Rattle.policy_gate.specs.Headline.{HasAcceptedPolicies, IsDocumentOf, KeepsRules, KeepsRulesOf, Says}
 use Rattle.policy_gate.proofs.Answers.{status_of_document}
-use Rattle.policy_gate.proofs.Says.{says_slice, says_check, says_refused, kept_is_done}
+use Rattle.policy_gate.proofs.Says.{Laws, says_done, says_refused, kept_is_done}
 
 -- ---- each status has its cause
 
@@ -158,30 +156,29 @@ module _ (bytes : List ℕ) (source source' : SourceState) (sink sink' : SinkSta
 
 -- ---- what 0 and 1 say, and that 0 comes where every rule holds
 
-module _ (law : NoErrorsWhereAccepted) (command : Option Command) (source source' : SourceState) (sink sink' : SinkState) (status : Status) (runs : Runs command source source' sink sink' status) where
+module _ (laws : Laws) (command : Option Command) (source source' : SourceState) (sink sink' : SinkState) (status : Status) (runs : Runs command source source' sink sink' status) where
   -- what was due where the words are the command
   cause_at : (c : Command) (t : Status) → command ≡ Some c → status ≡ t → Cause (Some c) source source' sink sink' t
   cause_at c t is ends =
       subst (λ o. Cause o source source' sink sink' t) is
       (subst (Cause command source source' sink sink') ends (causes command source source' sink sink' status runs))
 
-  pub headline_for : command ≡ Some Slice → status ≡ Done
+  pub done_for : (c : Command) → command ≡ Some c → status ≡ Done
       → (bytes : List ℕ) × (text : List ℕ) × WasRead source source' bytes
-      × ((d : ADocument) × IsDocumentOf Slice bytes d × KeepsRules d × IsSliced d text)
+      × ((d : ADocument) × IsDocumentOf c bytes d × Says c d text)
       × Appends sink.holds sink'.holds text
-  headline_for is ends = at (cause_at Slice Done is ends)
+  done_for c is ends = at (cause_at c Done is ends)
     where
-      at : Cause (Some Slice) source source' sink sink' Done → (bytes : List ℕ) × (text : List ℕ) × WasRead source source' bytes × ((d : ADocument) × IsDocumentOf Slice bytes d × KeepsRules d × IsSliced d text) × Appends sink.holds sink'.holds text
-      at (text, (bytes, read, answer), written) = (bytes, text, read, says_slice law bytes text answer, written)
+      at : Cause (Some c) source source' sink sink' Done → (bytes : List ℕ) × (text : List ℕ) × WasRead source source' bytes × ((d : ADocument) × IsDocumentOf c bytes d × Says c d text) × Appends sink.holds sink'.holds text
+      at (text, (bytes, read, answer), written) = (bytes, text, read, says_done laws c bytes text answer, written)
 
-  pub checked_for : command ≡ Some Check → status ≡ Done
+  -- where 0 says two things of a document, each
+  pub both_for : (c : Command) (P : ADocument → List ℕ → Type 0)
+      → ((bytes : List ℕ) × (text : List ℕ) × WasRead source source' bytes × ((d : ADocument) × IsDocumentOf c bytes d × (KeepsRules d × P d text)) × Appends sink.holds sink'.holds text)
       → (bytes : List ℕ) × (text : List ℕ) × WasRead source source' bytes
-      × ((d : ADocument) × IsDocumentOf Check bytes d × IsChecked d text)
+      × ((d : ADocument) × IsDocumentOf c bytes d × KeepsRules d × P d text)
       × Appends sink.holds sink'.holds text
-  checked_for is ends = at (cause_at Check Done is ends)
-    where
-      at : Cause (Some Check) source source' sink sink' Done → (bytes : List ℕ) × (text : List ℕ) × WasRead source source' bytes × ((d : ADocument) × IsDocumentOf Check bytes d × IsChecked d text) × Appends sink.holds sink'.holds text
-      at (text, (bytes, read, answer), written) = (bytes, text, read, says_check law bytes text answer, written)
+  both_for c P (bytes, text, read, (d, of, said), written) = (bytes, text, read, (d, of, said.0, said.1), written)
 
   pub refused_for : status ≡ Findings
       → (c : Command) × (command ≡ Some c)
@@ -190,13 +187,13 @@ module _ (law : NoErrorsWhereAccepted) (command : Option Command) (source source
     where
       at : (o : Option Command) → command ≡ o → Cause o source source' sink sink' Findings → (c : Command) × (command ≡ Some c) × ((bytes : List ℕ) × WasRead source source' bytes × ((d : ADocument) × IsDocumentOf c bytes d × (¬ HasAcceptedPolicies d)))
       at None is (text, due) = absurd due
-      at (Some c) is (text, (bytes, read, answer)) = (c, is, (bytes, read, says_refused law c bytes text answer))
+      at (Some c) is (text, (bytes, read, answer)) = (c, is, (bytes, read, says_refused laws c bytes text answer))
 
-pub complete_for : (law : NoErrorsWhereAccepted) (bytes : List ℕ) (d : ADocument) (source source' : SourceState) (sink sink' : SinkState) (status : Status) (told : source.left ≡ Some bytes) (q : IsQuiet source.faults source'.faults) (command : Option Command) (c : Command)
+pub complete_for : (laws : Laws) (bytes : List ℕ) (d : ADocument) (source source' : SourceState) (sink sink' : SinkState) (status : Status) (told : source.left ≡ Some bytes) (q : IsQuiet source.faults source'.faults) (command : Option Command) (c : Command)
     → Runs command source source' sink sink' status → command ≡ Some c → length bytes ≤ DOCUMENT_LIMIT → IsQuiet sink.faults sink'.faults
     → IsDocumentOf c bytes d → KeepsRulesOf c d → (status ≡ Done) ⊎ (status ≡ OutOfMemory)
-complete_for law bytes d source source' sink sink' status told q command c runs is short q' of keeps =
+complete_for laws bytes d source source' sink sink' status told q command c runs is short q' of keeps =
     elim (exact_for bytes source source' sink sink' status told q command c runs is short q') [
-      | inl (text, answer, written) ↦ inl (kept_is_done law c bytes d _ of keeps answer)
+      | inl (text, answer, written) ↦ inl (kept_is_done laws c bytes d _ of keeps answer)
       | inr none ↦ inr none
     ]

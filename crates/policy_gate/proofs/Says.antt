@@ -1,190 +1,342 @@
 -- What an answer with status 0 or 1 says, and when 0 is due.
-use Rattle.std.proofs.Common.{◌≡◌, ◌⊎◌, ℕ, List, [], ◌∷◌, inl, inr, Option, Some, None, Ok, Err, sym, ◌∙◌, ap, refl, subst}
+use Rattle.std.proofs.Common.{◌≡◌, ◌⊎◌, ◌&&◌, ℕ, Bool, true, false, List, [], ◌∷◌, inl, inr, Option, Some, None, is_some, IsSome, IfSome, IsSomeAnd, IsTrue, Ok, Err, sym, ◌∙◌, ap, refl, subst, if◌then◌else◌}
+use Rattle.std.specs.List.{AllByRecursion}
+use Rattle.std.specs.Option.{option_or, option_map}
 use Rattle.serde_json.specs.Data.{Data}
 use Rattle.policy_names.specs.declared.entity_uid.EntityUID.{EntityUID}
-use Rattle.policy_store.specs.Request.{IsWhole}
+use Rattle.policy_values.specs.Value.{Val, Fields, truth}
+use Rattle.policy_store.specs.declared.request.Request.{Request}
+use Rattle.policy_store.specs.Request.{IsWhole, principal_of, action_of, resource_of}
+use Rattle.policy_store.specs.Store.{Store}
+use Rattle.schema_core.specs.Schema.{SchemaData, ActionData, action_at}
+use Rattle.schema_core.specs.Environments.{environment}
+use Rattle.schema_core.specs.EnvData.{unlinked}
+use Rattle.policy_expressions.specs.Plain.{Plain}
+use Rattle.policy_typing.specs.Typing.{Typing, types}
+use Rattle.policy_typing.specs.Conditions.{IsCondition}
+use Rattle.policy_core.specs.Eval.{eval}
+use Rattle.policy_core.specs.Allowed.{IsAllowedOutcome}
+use Rattle.policy_core.specs.declared.outcome.Outcome.{Outcome}
+use Rattle.policy_core.specs.declared.outcome.Outcome.TheVariants.{Value, Error}
+use Rattle.policy_set.specs.Data.{PolicyData}
+use Rattle.policy_typing.specs.Signatures.{bool_type}
+use Rattle.policy_typing.specs.Sound.{IsOfType}
+use Rattle.policy_links.specs.Laws.{IsConditionFor}
+use Rattle.authorizer.specs.Allowed.{AreAllowed}
 use Rattle.policy_documents.specs.Reading.{IsRead}
 use Rattle.policy_documents.specs.declared.document.Document.{Document}
 use Rattle.finding_texts.specs.Findings.{Findings}
 use Rattle.findings.specs.declared.error.ValidationError.{ValidationError}
-use Rattle.policy_validate.specs.Conformance.{first_request_fault, first_store_fault, RequestConforms, StoreConforms}
-use Rattle.policy_validate.specs.declared.request_error.RequestValidationError.{RequestValidationError}
-use Rattle.policy_validate.specs.declared.store_rule.StoreRule.{StoreRule}
+use Rattle.conformance_errors.specs.Written.{request_text, entity_text}
+use Rattle.conformance.specs.Laws.{RequestRulesAreExact, StoreRulesAreExact}
+use Rattle.policy_typing.specs.Conforms.{RequestConforms, StoreConforms}
+use Rattle.policy_validate.specs.Laws.{NoErrorsWhereAccepted, AcceptedAreSound}
 use Rattle.id_slices.proofs.Covering.{covers, allows, decision_same}
-use Rattle.policy_gate.specs.Answer.{IsAnswer, IsAnswerIf, IsAnswerFor, IsAnswerTo, IsSliceAnswer, behind_errors, behind_store, behind_request, check_answer, slice_answer, checked_answer, found_in}
-use Rattle.policy_gate.specs.Headline.{HasAcceptedPolicies, IsChecked, IsDocumentOf, IsSliced, KeepsRules, KeepsRulesOf}
+use Rattle.policy_gate.specs.Answer.{IsAnswer, IsAnswerIf, IsAnswerFor, IsWellMade, IsAnswerTo, IsRefusedOr, IsWork, found_in, is_whole, partial_request, refusal, refused_data, refused_decision, refused_partial, refused_policies, refused_request, refused_store, refused_with, request_fault, store_fault}
+use Rattle.policy_gate.specs.Headline.{Conforms, HasAcceptedPolicies, IsDocumentOf, KeepsRules, KeepsRulesOf, IsChecked, IsSliced, IsDecided, Says}
 use Rattle.json_parts.specs.Json.{json_of}
 use Rattle.policy_gate.specs.Reply.{Answer, answer}
 use Rattle.policy_gate.specs.declared.status.Status.{Status}
-use Rattle.policy_gate.specs.declared.status.Status.TheVariants.{Done, Findings as Found}
+use Rattle.policy_gate.specs.declared.status.Status.TheVariants as status
 use Rattle.policy_gate.specs.declared.command.Command.{Command}
-use Rattle.policy_gate.specs.declared.command.Command.TheVariants.{Check, Slice}
+use Rattle.policy_gate.specs.declared.command.Command.TheVariants.{Check, Request as Conformance, Slice, Decide}
 use Rattle.policy_gate.specs.Command.{width_of}
-use Rattle.document_places.specs.declared.width.Width.TheVariants.{OverIds}
-use Rattle.finding_texts.specs.Written.{findings_text}
-use Rattle.policy_validate.specs.Laws.{NoErrorsWhereAccepted}
 use Rattle.policy_documents.proofs.OneReading.{one_reading}
 use Rattle.policy_documents.proofs.KeptLimits.{kept}
 use Rattle.policy_gate.proofs.Identities.{over_ids}
 
-abbrev IsDone : Answer → Type 0
-IsDone a = a.status ≡ Done
+-- what the proofs stand on
+pub record Laws : Type 0 where
+  pub errors : NoErrorsWhereAccepted
+  pub requests : RequestRulesAreExact
+  pub stores : StoreRulesAreExact
+  pub sound : AcceptedAreSound
 
-past_errors : (es : List ValidationError) (found : Findings) (next : Answer) → IsDone (behind_errors es found next) → (es ≡ []) × (behind_errors es found next ≡ next)
-past_errors [] found next h = (refl, refl)
-past_errors (e ∷ es) found next h = absurd (cc (h))
+-- ---- refusals
 
-past_store : (o : Option (EntityUID × StoreRule)) (next : Answer) → IsDone (behind_store o next) → (o ≡ None) × (behind_store o next ≡ next)
-past_store None next h = (refl, refl)
-past_store (Some f) next h = absurd (cc (h))
+none_first : {X : Type 0} (a b : Option X) → option_or a b ≡ None → a ≡ None
+none_first None b h = refl
+none_first (Some x) b h = absurd (cc h)
 
-past_request : (o : Option RequestValidationError) (next : Answer) → IsDone (behind_request o next) → (o ≡ None) × (behind_request o next ≡ next)
-past_request None next h = (refl, refl)
-past_request (Some f) next h = absurd (cc (h))
+none_rest : {X : Type 0} (a b : Option X) → option_or a b ≡ None → b ≡ None
+none_rest None b h = h
+none_rest (Some x) b h = absurd (cc h)
 
-module _ (law : NoErrorsWhereAccepted) where
-  -- the policies are accepted exactly where they have no errors
-  no_errors : (d : Document) → (found_in d).errors ≡ [] → HasAcceptedPolicies d
+neither : {X : Type 0} (a b : Option X) → a ≡ None → b ≡ None → option_or a b ≡ None
+neither a b h k = ap (λ o. option_or o b) h ∙ k
+
+none_inside : {X Y : Type 0} (f : X → Y) (o : Option X) → option_map f o ≡ None → o ≡ None
+none_inside f None h = refl
+none_inside f (Some x) h = absurd (cc h)
+
+-- a refusal has a status of its own
+abbrev pub IsRefusal : Status → Type 0
+IsRefusal status.PartialRequest = Unit {0}
+IsRefusal status.Request = Unit {0}
+IsRefusal status.Store = Unit {0}
+IsRefusal status.Findings = Unit {0}
+IsRefusal s = ⊥
+
+abbrev Refuses : Option Answer → Type 0
+Refuses o = IfSome o (λ a. IsRefusal a.status)
+
+either : (a b : Option Answer) → Refuses a → Refuses b → Refuses (option_or a b)
+either None b h k = k
+either (Some x) b h k = h
+
+refuses_with : (es : List ValidationError) (found : Findings) → Refuses (refused_with es found)
+refuses_with [] found = tt
+refuses_with (e ∷ es) found = tt
+
+refuses_partial : (d : Document) → Refuses (refused_partial d)
+refuses_partial d = by (is_whole d.request)
+  where
+    by : (b : Bool) → Refuses (if b then None else Some partial_request)
+    by true = tt
+    by false = tt
+
+mapped : {X : Type 0} (f : X → Answer) (o : Option X) → ((x : X) → IsRefusal (f x).status) → Refuses (option_map f o)
+mapped f None h = tt
+mapped f (Some x) h = h x
+
+refuses_data : (d : Document) → Refuses (refused_data d)
+refuses_data d = either (refused_request d) (refused_store d) (mapped (λ e. answer status.Request (request_text e)) (request_fault d) (λ x. tt))
+    (mapped (λ f. answer status.Store (entity_text (record { uid = f.0; rule = f.1 }))) (store_fault d) (λ x. tt))
+
+refuses_decision : (d : Document) → Refuses (refused_decision d)
+refuses_decision d = either (refused_partial d) (option_or (refused_data d) (refused_policies d)) (refuses_partial d) (either (refused_data d) (refused_policies d) (refuses_data d) (refuses_with (found_in d).errors (found_in d)))
+
+pub refuses : (c : Command) (d : Document) → Refuses (refusal c d)
+refuses Check d = refuses_with (found_in d).errors (found_in d)
+refuses Conformance d = refuses_data d
+refuses Slice d = refuses_decision d
+refuses Decide d = refuses_decision d
+
+no_refusal : (s : Status) → IsRefusal s → s ≡ status.Done → ⊥
+no_refusal s h is = subst IsRefusal is h
+
+-- where 0 is due nothing is refused, and the work is done
+done : (r : Option Answer) (W : List ℕ → Type 0) (text : List ℕ) → Refuses r → IsRefusedOr r W (answer status.Done text) → (r ≡ None) × W text
+done None W text h is = (refl, is.1)
+done (Some a) W text h is = absurd (no_refusal a.status h (sym (ap (λ b. b.status) is)))
+
+-- ---- the rules
+
+whole_parts : (q : Request) → is_whole q ≡ true → IsWhole q
+whole_parts q h = by q.principal q.action q.resource q.context h
+  where
+    by : (p a r : Option EntityUID) (c : Option Fields) → (is_some p && (is_some a && (is_some r && is_some c))) ≡ true → IsWhole (record { principal = p; action = a; resource = r; context = c })
+    by (Some p) (Some a) (Some r) (Some c) h = record { principal = refl; action = refl; resource = refl; context = refl }
+    by None a r c h = absurd (cc h)
+    by (Some p) None r c h = absurd (cc h)
+    by (Some p) (Some a) None c h = absurd (cc h)
+    by (Some p) (Some a) (Some r) None h = absurd (cc h)
+
+pub parts_whole : (q : Request) → IsWhole q → is_whole q ≡ true
+parts_whole q h = λ i. h.principal i && (h.action i && (h.resource i && h.context i))
+
+pub partial_whole : (d : Document) → refused_partial d ≡ None → IsWhole d.request
+partial_whole d h = whole_parts d.request (by (is_whole d.request) h)
+  where
+    by : (b : Bool) → (if b then None else Some partial_request) ≡ None → b ≡ true
+    by true h = refl
+    by false h = absurd (cc h)
+
+whole_partial : (d : Document) → IsWhole d.request → refused_partial d ≡ None
+whole_partial d h = ap (λ b. if b then None else Some partial_request) (parts_whole d.request h)
+
+none_with : (es : List ValidationError) (found : Findings) → refused_with es found ≡ None → es ≡ []
+none_with [] found h = refl
+none_with (e ∷ es) found h = absurd (cc h)
+
+module _ (laws : Laws) (d : Document) where
+  accepted : refused_policies d ≡ None → HasAcceptedPolicies d
   unfolding found_in
-  no_errors d none = (law d.schema d.policies).0 none
+  accepted h = (laws.errors d.schema d.policies).0 (none_with (found_in d).errors (found_in d) h)
 
-  accepted_errors : (d : Document) → HasAcceptedPolicies d → (found_in d).errors ≡ []
+  pub not_refused : HasAcceptedPolicies d → refused_policies d ≡ None
   unfolding found_in
-  accepted_errors d is = (law d.schema d.policies).1 is
+  not_refused is = ap (λ es. refused_with es (found_in d)) ((laws.errors d.schema d.policies).1 is)
 
-  -- where 0 is due for a document, it keeps every rule
-  past_all : (d : Document) → IsWhole d.request → IsDone (checked_answer d) → KeepsRules d × (checked_answer d ≡ slice_answer d)
-  past_all d whole h =
-      let found = found_in d in
-      let r = past_request (first_request_fault d.schema d.request) _ h in
-      let s = past_store (first_store_fault d.schema d.entities) (behind_errors found.errors found (slice_answer d)) (sym (ap (λ b. b.status) r.1) ∙ h) in
-      let e = past_errors found.errors found (slice_answer d) (sym (ap (λ b. b.status) (r.1 ∙ s.1)) ∙ h) in
-      (record { whole = whole; request = r.0; store = s.0; policies = no_errors d e.0 }, r.1 ∙ s.1 ∙ e.1)
+  module _ (made : IsWellMade d) where
+    request_kept : IsWhole d.request → request_fault d ≡ None → RequestConforms d.schema d.request
+    unfolding request_fault
+    request_kept whole h = (laws.requests d.schema made.schema d.request whole).0 h
 
-  sliced : (v : Data) (d : Document) (text : List ℕ) → IsRead OverIds v (Ok d) → KeepsRules d → answer Done text ≡ slice_answer d → IsSliced d text
-  sliced v d text reads keeps is =
-      let good = kept v d reads in
-      let over = over_ids d.policies.policies good.1 in
-      record {
-        written = ap (λ b. b.text) is;
-        covers = covers d.schema d.request d.entities good.0 keeps.whole keeps.request keeps.store d.policies.policies over;
-        allowed = allows d.schema d.request d.entities good.0 keeps.whole keeps.request keeps.store d.policies.policies over;
-        decision = decision_same d.schema d.request d.entities good.0 keeps.whole keeps.request keeps.store d.policies.policies over;
-      }
+    kept_request : IsWhole d.request → RequestConforms d.schema d.request → request_fault d ≡ None
+    unfolding request_fault
+    kept_request whole h = (laws.requests d.schema made.schema d.request whole).1 h
 
-  -- ---- what 0 says
+    store_kept : store_fault d ≡ None → StoreConforms d.schema d.entities
+    unfolding store_fault
+    store_kept h = (laws.stores d.schema made.schema d.entities).0 h
 
-  abbrev Slices : List ℕ → List ℕ → Type 0
-  Slices bytes text = (d : Document) × IsDocumentOf Slice bytes d × KeepsRules d × IsSliced d text
+    kept_store : StoreConforms d.schema d.entities → store_fault d ≡ None
+    unfolding store_fault
+    kept_store h = (laws.stores d.schema made.schema d.entities).1 h
 
-  slices_document : (bytes text : List ℕ) (v : Data) (d : Document) → json_of bytes ≡ Some v → IsRead OverIds v (Ok d) → IsSliceAnswer d (answer Done text) → Slices bytes text
-  slices_document bytes text v d json reads (inl (whole, is)) =
-      let past = past_all d whole (sym (ap (λ b. b.status) is)) in
-      (d, (v, json, reads), past.0, sliced v d text reads past.0 (is ∙ past.1))
-  slices_document bytes text v d json reads (inr (partial, is)) = absurd (cc (ap (λ b. b.status) is))
+    conforming : refused_data d ≡ None → Conforms d
+    conforming h = record {
+      request = none_inside (λ e. answer status.Request (request_text e)) (request_fault d) (none_first (refused_request d) (refused_store d) h);
+      store = store_kept (none_inside (λ f. answer status.Store (entity_text (record { uid = f.0; rule = f.1 }))) (store_fault d) (none_rest (refused_request d) (refused_store d) h));
+    }
 
-  slices_value : (bytes text : List ℕ) (o : Option Data) → json_of bytes ≡ o → IsAnswerIf Slice o (answer Done text) → Slices bytes text
-  slices_value bytes text None json is = absurd (cc (ap (λ b. b.status) is))
-  slices_value bytes text (Some v) json (inl (place, reads, is)) = absurd (cc (ap (λ b. b.status) is))
-  slices_value bytes text (Some v) json (inr (d, reads, is)) = slices_document bytes text v d json reads is
+    conforms : request_fault d ≡ None → StoreConforms d.schema d.entities → refused_data d ≡ None
+    conforms request store = neither (refused_request d) (refused_store d) (ap (option_map (λ e. answer status.Request (request_text e))) request) (ap (option_map (λ f. answer status.Store (entity_text (record { uid = f.0; rule = f.1 })))) (kept_store store))
 
-  pub says_slice : (bytes text : List ℕ) → IsAnswer Slice bytes (answer Done text) → (d : Document) × IsDocumentOf Slice bytes d × KeepsRules d × IsSliced d text
+    keeping : refused_decision d ≡ None → KeepsRules d
+    keeping h =
+        let later = none_rest (refused_partial d) (option_or (refused_data d) (refused_policies d)) h in
+        let whole = partial_whole d (none_first (refused_partial d) (option_or (refused_data d) (refused_policies d)) h) in
+        let both = conforming (none_first (refused_data d) (refused_policies d) later) in
+        record { whole = whole; request = request_kept whole both.request; store = both.store; policies = accepted (none_rest (refused_data d) (refused_policies d) later) }
+
+    keeps : KeepsRules d → refused_decision d ≡ None
+    keeps h = neither (refused_partial d) (option_or (refused_data d) (refused_policies d)) (whole_partial d h.whole) (neither (refused_data d) (refused_policies d) (conforms (kept_request h.whole h.request) h.store) (not_refused h.policies))
+
+    -- where every rule of the command holds nothing is refused
+    kept_all : (c : Command) → KeepsRulesOf c d → refusal c d ≡ None
+    kept_all Check h = not_refused h
+    kept_all Conformance h = conforms h.request h.store
+    kept_all Slice h = keeps h
+    kept_all Decide h = keeps h
+
+    -- ---- what 0 says
+
+    allowed_value : (o : Outcome) → IsOfType bool_type o → IsAllowedOutcome o
+    allowed_value (Value (truth b)) h = tt
+    allowed_value (Value v) h = absurd h
+    allowed_value (Error e) h = h
+
+    allowed_typed : (e : Plain) (o : Option Typing) → IsSomeAnd o (IsCondition d.request d.entities (eval e d.request d.entities)) → IsAllowedOutcome (eval e d.request d.entities)
+    allowed_typed e None k = absurd k
+    allowed_typed e (Some x) k = allowed_value (eval e d.request d.entities) k.value
+
+    abbrev TypingIn : Plain → ActionData → Option Typing
+    TypingIn e a = types d.schema (unlinked a (environment (principal_of d.request).entity_type a.name (resource_of d.request).entity_type)) [] e
+
+    allowed_in : (e : Plain) (o : Option ActionData) → IsSomeAnd o (λ a. IsSomeAnd (TypingIn e a) (IsCondition d.request d.entities (eval e d.request d.entities))) → IsAllowedOutcome (eval e d.request d.entities)
+    allowed_in e None k = absurd k
+    allowed_in e (Some a) k = allowed_typed e (TypingIn e a) k
+
+    allowed_here : (p : PolicyData) → IsConditionFor d.schema p.condition d.request d.entities → IsAllowedOutcome (eval p.condition d.request d.entities)
+    allowed_here p h = allowed_in p.condition (action_at d.schema (action_of d.request)) h
+
+    all_allowed : (ps : List PolicyData) → AllByRecursion (λ p. IsConditionFor d.schema p.condition d.request d.entities) ps → AreAllowed ps d.request d.entities
+    all_allowed [] h = tt
+    all_allowed (p ∷ ps) h = (allowed_here p h.0, all_allowed ps h.1)
+
+    decided : (text : List ℕ) → KeepsRules d → IsWork Decide d text → IsDecided d text
+    decided text rules is = record {
+      written = is;
+      allowed = all_allowed d.policies.policies (laws.sound d.schema made.schema d.policies made.policies made.keys rules.policies d.request rules.request d.entities rules.store);
+    }
+
+    sliced : (v : Data) (text : List ℕ) → IsRead (width_of Slice) v (Ok d) → KeepsRules d → IsWork Slice d text → IsSliced d text
+    sliced v text reads rules is =
+        let over = over_ids d.policies.policies (kept v d reads).1 in
+        record {
+          written = is;
+          covers = covers d.schema d.request d.entities made.schema rules.whole rules.request rules.store d.policies.policies over;
+          allowed = allows d.schema d.request d.entities made.schema rules.whole rules.request rules.store d.policies.policies over;
+          decision = decision_same d.schema d.request d.entities made.schema rules.whole rules.request rules.store d.policies.policies over;
+        }
+
+    says : (c : Command) (v : Data) (text : List ℕ) → IsRead (width_of c) v (Ok d) → refusal c d ≡ None → IsWork c d text → Says c d text
+    says Check v text reads none is = record { written = is; accepted = accepted none }
+    says Conformance v text reads none is = conforming none
+    says Slice v text reads none is = let rules = keeping none in (rules, sliced v text reads rules is)
+    says Decide v text reads none is = let rules = keeping none in (rules, decided text rules is)
+    -- ---- what 1 says
+
+abbrev IsFound : Option Answer → Type 0
+IsFound o = IsSomeAnd o (λ a. a.status ≡ status.Findings)
+
+found_behind : (a b : Option Answer) → IfSome a (λ r. r.status ≡ status.Findings → ⊥) → IsFound (option_or a b) → IsFound b
+found_behind None b h f = f
+found_behind (Some r) b h f = absurd (h f)
+
+mapped_other : {X : Type 0} (f : X → Answer) (o : Option X) → ((x : X) → (f x).status ≡ status.Findings → ⊥) → IfSome (option_map f o) (λ r. r.status ≡ status.Findings → ⊥)
+mapped_other f None h = tt
+mapped_other f (Some x) h = h x
+
+no_partial : (d : Document) → IfSome (refused_partial d) (λ r. r.status ≡ status.Findings → ⊥)
+no_partial d = by (is_whole d.request)
+  where
+    by : (b : Bool) → IfSome (if b then None else Some partial_request) (λ r. r.status ≡ status.Findings → ⊥)
+    by true = tt
+    by false = λ is. absurd (cc is)
+
+-- a refusal of the request or the store is none for findings
+no_data : (d : Document) → IfSome (refused_data d) (λ r. r.status ≡ status.Findings → ⊥)
+no_data d = first (refused_request d) (refused_store d) (mapped_other (λ e. answer status.Request (request_text e)) (request_fault d) (λ x is. absurd (cc is)))
+    (mapped_other (λ f. answer status.Store (entity_text (record { uid = f.0; rule = f.1 }))) (store_fault d) (λ x is. absurd (cc is)))
+  where
+    first : (a b : Option Answer) → IfSome a (λ r. r.status ≡ status.Findings → ⊥) → IfSome b (λ r. r.status ≡ status.Findings → ⊥) → IfSome (option_or a b) (λ r. r.status ≡ status.Findings → ⊥)
+    first None b h k = k
+    first (Some x) b h k = h
+
+found_data : (d : Document) (b : Option Answer) → IsFound (option_or (refused_data d) b) → IsFound b
+found_data d b h = found_behind (refused_data d) b (no_data d) h
+
+found_policies : (c : Command) (d : Document) → IsFound (refusal c d) → IsFound (refused_policies d)
+found_policies Check d h = h
+found_policies Conformance d h = absurd (found_data d None (by (refused_data d) h))
+  where
+    by : (o : Option Answer) → IsFound o → IsFound (option_or o None)
+    by None h = h
+    by (Some a) h = h
+found_policies Slice d h = found_data d (refused_policies d) (found_behind (refused_partial d) (option_or (refused_data d) (refused_policies d)) (no_partial d) h)
+found_policies Decide d h = found_data d (refused_policies d) (found_behind (refused_partial d) (option_or (refused_data d) (refused_policies d)) (no_partial d) h)
+
+found_answer : (r : Option Answer) (W : List ℕ → Type 0) (text : List ℕ) → IsRefusedOr r W (answer status.Findings text) → IsFound r
+found_answer None W text is = absurd (cc (is.0))
+found_answer (Some a) W text is = sym (ap (λ b. b.status) is)
+
+not_accepted : (laws : Laws) (d : Document) → IsFound (refused_policies d) → ¬ HasAcceptedPolicies d
+not_accepted laws d h is = absurd (subst IsFound (not_refused laws d is) h)
+
+-- ---- over the bytes
+
+module _ (laws : Laws) (c : Command) (bytes text : List ℕ) where
+  abbrev SaysDone : Type 0
+  SaysDone = (d : Document) × IsDocumentOf c bytes d × Says c d text
+
+  done_value : (o : Option Data) → json_of bytes ≡ o → IsAnswerIf c o (answer status.Done text) → SaysDone
+  done_value None json is = absurd (cc (ap (λ b. b.status) is))
+  done_value (Some v) json (inl (place, reads, is)) = absurd (cc (ap (λ b. b.status) is))
+  done_value (Some v) json (inr (d, reads, made, is)) =
+      let past = done (refusal c d) (IsWork c d) text (refuses c d) is in
+      (d, (v, json, reads), says laws d made c v text reads past.0 past.1)
+
+  -- where 0 is due, it says this
+  pub says_done : IsAnswer c bytes (answer status.Done text) → (d : Document) × IsDocumentOf c bytes d × Says c d text
   unfolding IsAnswer
-  says_slice bytes text is = slices_value bytes text (json_of bytes) refl is
+  says_done is = done_value (json_of bytes) refl is
 
-  abbrev Checks : List ℕ → List ℕ → Type 0
-  Checks bytes text = (d : Document) × IsDocumentOf Check bytes d × IsChecked d text
+  abbrev SaysRefused : Type 0
+  SaysRefused = (d : Document) × IsDocumentOf c bytes d × (¬ HasAcceptedPolicies d)
 
-  checked : (d : Document) (text : List ℕ) → answer Done text ≡ check_answer d → IsChecked d text
-  checked d text is =
-      let found = found_in d in
-      let past = past_errors found.errors found (answer Done (findings_text found)) (sym (ap (λ b. b.status) is)) in
-      record { written = ap (λ b. b.text) (is ∙ past.1); accepted = no_errors d past.0 }
+  refused_value : (o : Option Data) → json_of bytes ≡ o → IsAnswerIf c o (answer status.Findings text) → SaysRefused
+  refused_value None json is = absurd (cc (ap (λ b. b.status) is))
+  refused_value (Some v) json (inl (place, reads, is)) = absurd (cc (ap (λ b. b.status) is))
+  refused_value (Some v) json (inr (d, reads, made, is)) =
+      (d, (v, json, reads), not_accepted laws d (found_policies c d (found_answer (refusal c d) (IsWork c d) text is)))
 
-  checks_value : (bytes text : List ℕ) (o : Option Data) → json_of bytes ≡ o → IsAnswerIf Check o (answer Done text) → Checks bytes text
-  checks_value bytes text None json is = absurd (cc (ap (λ b. b.status) is))
-  checks_value bytes text (Some v) json (inl (place, reads, is)) = absurd (cc (ap (λ b. b.status) is))
-  checks_value bytes text (Some v) json (inr (d, reads, is)) = (d, (v, json, reads), checked d text is)
-
-  pub says_check : (bytes text : List ℕ) → IsAnswer Check bytes (answer Done text) → (d : Document) × IsDocumentOf Check bytes d × IsChecked d text
+  -- where 1 is due, the policies are not accepted
+  pub says_refused : IsAnswer c bytes (answer status.Findings text) → (d : Document) × IsDocumentOf c bytes d × (¬ HasAcceptedPolicies d)
   unfolding IsAnswer
-  says_check bytes text is = checks_value bytes text (json_of bytes) refl is
+  says_refused is = refused_value (json_of bytes) refl is
 
-  -- ---- what 1 says
-
-  abbrev IsFound : Answer → Type 0
-  IsFound a = a.status ≡ Found
-
-  -- where 1 is due for a document, there are errors, or it is due for what comes behind them
-  some_errors : (es : List ValidationError) (found : Findings) (next : Answer) → IsFound (behind_errors es found next) → (es ≡ [] → ⊥) ⊎ IsFound next
-  some_errors [] found next h = inr h
-  some_errors (e ∷ es) found next h = inl (λ is. absurd (cc is))
-
-  found_behind_store : (o : Option (EntityUID × StoreRule)) (next : Answer) → IsFound (behind_store o next) → IsFound next
-  found_behind_store None next h = h
-  found_behind_store (Some f) next h = absurd (cc (h))
-
-  found_behind_request : (o : Option RequestValidationError) (next : Answer) → IsFound (behind_request o next) → IsFound next
-  found_behind_request None next h = h
-  found_behind_request (Some f) next h = absurd (cc (h))
-
-  not_accepted : (d : Document) (text : List ℕ) → IsFound (behind_errors (found_in d).errors (found_in d) (answer Done text)) → ¬ HasAcceptedPolicies d
-  not_accepted d text h is =
-      let found = found_in d in
-      elim (some_errors found.errors found (answer Done text) h) [
-        | inl some ↦ some (accepted_errors d is)
-        | inr done ↦ absurd (cc done)
-      ]
-
-  refuses_slice : (d : Document) (a : Answer) → IsSliceAnswer d a → IsFound a → ¬ HasAcceptedPolicies d
-  refuses_slice d a (inl (whole, is)) h =
-      let found = found_in d in
-      not_accepted d (slice_answer d).text
-      (found_behind_store (first_store_fault d.schema d.entities) (behind_errors found.errors found (slice_answer d))
-      (found_behind_request (first_request_fault d.schema d.request) _ (sym (ap (λ b. b.status) is) ∙ h)))
-  refuses_slice d a (inr (partial, is)) h = absurd (cc (sym (ap (λ b. b.status) is) ∙ h))
-
-  refuses_document : (c : Command) (d : Document) (a : Answer) → IsAnswerTo c d a → IsFound a → ¬ HasAcceptedPolicies d
-  refuses_document Check d a is h =
-      let found = found_in d in
-      not_accepted d (findings_text found) (sym (ap (λ b. b.status) is) ∙ h)
-  refuses_document Slice d a is h = refuses_slice d a is h
-
-  abbrev Refuses : Command → List ℕ → Type 0
-  Refuses c bytes = (d : Document) × IsDocumentOf c bytes d × (¬ HasAcceptedPolicies d)
-
-  refuses_value : (c : Command) (bytes text : List ℕ) (o : Option Data) → json_of bytes ≡ o → IsAnswerIf c o (answer Found text) → Refuses c bytes
-  refuses_value c bytes text None json is = absurd (cc (ap (λ b. b.status) is))
-  refuses_value c bytes text (Some v) json (inl (place, reads, is)) = absurd (cc (ap (λ b. b.status) is))
-  refuses_value c bytes text (Some v) json (inr (d, reads, is)) = (d, (v, json, reads), refuses_document c d (answer Found text) is refl)
-
-  pub says_refused : (c : Command) (bytes text : List ℕ) → IsAnswer c bytes (answer Found text) → (d : Document) × IsDocumentOf c bytes d × (¬ HasAcceptedPolicies d)
-  unfolding IsAnswer
-  says_refused c bytes text is = refuses_value c bytes text (json_of bytes) refl is
-
-  -- ---- where every rule of the command holds, 0 is due
-
-  kept_slice : (d : Document) (a : Answer) → KeepsRules d → IsSliceAnswer d a → IsDone a
-  kept_slice d a keeps (inl (whole, is)) =
-      let found = found_in d in
-      ap (λ b. b.status) (is
-      ∙ ap (λ o. behind_request o (behind_store (first_store_fault d.schema d.entities) (behind_errors found.errors found (slice_answer d)))) keeps.request
-      ∙ ap (λ o. behind_store o (behind_errors found.errors found (slice_answer d))) keeps.store
-      ∙ ap (λ es. behind_errors es found (slice_answer d)) (accepted_errors d keeps.policies))
-  kept_slice d a keeps (inr (partial, is)) = absurd (partial keeps.whole)
-
-  kept_done : (c : Command) (d : Document) (a : Answer) → KeepsRulesOf c d → IsAnswerTo c d a → IsDone a
-  kept_done Check d a accepted is =
-      let found = found_in d in
-      ap (λ b. b.status) (is ∙ ap (λ es. behind_errors es found (answer Done (findings_text found))) (accepted_errors d accepted))
-  kept_done Slice d a keeps is = kept_slice d a keeps is
-
-  for_value : (c : Command) (v : Data) (d : Document) (a : Answer) → IsRead (width_of c) v (Ok d) → KeepsRulesOf c d → IsAnswerFor c v a → IsDone a
-  for_value c v d a reads keeps (inl (place, faulty, is)) = absurd (cc (one_reading (width_of c) v d (Err place) reads faulty))
-  for_value c v d a reads keeps (inr (e, again, is)) =
+module _ (laws : Laws) (c : Command) where
+  for_value : (v : Data) (d : Document) (a : Answer) → IsRead (width_of c) v (Ok d) → KeepsRulesOf c d → IsAnswerFor c v a → a.status ≡ status.Done
+  for_value v d a reads rules (inl (place, faulty, is)) = absurd (cc (one_reading (width_of c) v d (Err place) reads faulty))
+  for_value v d a reads rules (inr (e, again, made, is)) =
       let same : e ≡ d = cc (one_reading (width_of c) v d (Ok e) reads again) in
-      kept_done c d a keeps (subst (λ x. IsAnswerTo c x a) same is)
+      let none = kept_all laws e made c (subst (KeepsRulesOf c) (sym same) rules) in
+      (subst (λ r. IsRefusedOr r (IsWork c e) a) none is).0
 
-  pub kept_is_done : (c : Command) (bytes : List ℕ) (d : Document) (a : Answer) → IsDocumentOf c bytes d → KeepsRulesOf c d → IsAnswer c bytes a → a.status ≡ Done
+  -- where every rule of the command holds, 0 is due
+  pub kept_is_done : (bytes : List ℕ) (d : Document) (a : Answer) → IsDocumentOf c bytes d → KeepsRulesOf c d → IsAnswer c bytes a → a.status ≡ status.Done
   unfolding IsAnswer
-  kept_is_done c bytes d a (v, json, reads) keeps is = for_value c v d a reads keeps (subst (λ o. IsAnswerIf c o a) json is)
+  kept_is_done bytes d a (v, json, reads) rules is = for_value v d a reads rules (subst (λ o. IsAnswerIf c o a) json is)

@@ -1,9 +1,16 @@
 -- Which status and text are due for a command and the bytes of a document.
-use Rattle.std.specs.Prelude.{◌≡◌, ◌⊎◌, ℕ, List, [], ◌∷◌, ◌++◌, Option, Some, None, Ok, Err, codes}
+use Rattle.std.specs.Prelude.{◌≡◌, ◌⊎◌, ◌&&◌, ℕ, Bool, true, List, [], ◌∷◌, ◌++◌, Option, Some, None, is_some, Ok, Err, codes, option_map, if◌then◌else◌}
+use Rattle.std.specs.List.{AllByRecursion}
+use Rattle.std.specs.Option.{option_or}
 use Rattle.serde_json.specs.Data.{Data}
 use Rattle.json_parts.specs.Json.{json_of}
 use Rattle.policy_names.specs.declared.entity_uid.EntityUID.{EntityUID}
-use Rattle.policy_store.specs.Request.{IsWhole}
+use Rattle.policy_expressions.specs.Keys.{HasKeysOnce}
+use Rattle.policy_store.specs.declared.request.Request.{Request}
+use Rattle.policy_store.specs.Store.{Store}
+use Rattle.policy_set.specs.Data.{PolicyData}
+use Rattle.policy_set.specs.PolicySet.{IsPolicySet}
+use Rattle.schema_core.specs.Faults.{IsSchema}
 use Rattle.authorizer.specs.Response.{response}
 use Rattle.document_places.specs.PlaceText.{place_text}
 use Rattle.policy_documents.specs.Reading.{IsRead}
@@ -13,80 +20,117 @@ use Rattle.finding_texts.specs.Findings.{Findings}
 use Rattle.finding_texts.specs.Written.{findings_text}
 use Rattle.findings.specs.declared.error.ValidationError.{ValidationError}
 use Rattle.policy_validate.specs.Accepted.{findings_of}
-use Rattle.policy_validate.specs.Conformance.{first_request_fault, first_store_fault}
-use Rattle.policy_validate.specs.Written.{request_text, entity_text}
-use Rattle.policy_validate.specs.declared.request_error.RequestValidationError.{RequestValidationError}
-use Rattle.policy_validate.specs.declared.store_rule.StoreRule.{StoreRule}
+use Rattle.conformance.specs.RequestRules.{first_request_fault}
+use Rattle.conformance.specs.StoreRules.{first_store_fault}
+use Rattle.conformance_errors.specs.Written.{request_text, entity_text}
+use Rattle.conformance_errors.specs.declared.request_error.RequestValidationError.{RequestValidationError}
+use Rattle.conformance_errors.specs.declared.store_rule.StoreRule.{StoreRule}
 use Rattle.id_slices.specs.Cover.{restricted}
-use Rattle.policy_writing.specs.SliceJson.{slice_text}
+use Rattle.policy_writing.specs.SliceJson.{slice_text, response_text}
 use Rattle.policy_gate.specs.Command.{width_of}
 use Rattle.policy_gate.specs.Reply.{Answer, answer}
 use Rattle.policy_gate.specs.declared.command.Command.{Command}
-use Rattle.policy_gate.specs.declared.command.Command.TheVariants.{Check, Slice}
+use Rattle.policy_gate.specs.declared.command.Command.TheVariants.{Check, Request as Conformance, Slice, Decide}
+use Rattle.policy_gate.specs.declared.status.Status.{Status}
 use Rattle.policy_gate.specs.declared.status.Status.TheVariants as status
-
--- errors in the policies come first; a warning alone does not matter
-abbrev pub behind_errors : List ValidationError → Findings → Answer → Answer
-behind_errors [] found next = next
-behind_errors (e ∷ es) found next = answer status.Findings (findings_text found)
 
 -- what is found of the document's policies
 unfoldable pub found_in : Document → Findings
 found_in d = findings_of d.schema d.policies
 
--- the findings; with errors among them the policies are refused
-abbrev pub told : Findings → Answer
-told found = behind_errors found.errors found (answer status.Done (findings_text found))
+-- the first rule that its request breaks, where all extensions are there
+unfoldable pub request_fault : Document → Option RequestValidationError
+request_fault d = first_request_fault d.schema (λ _. true) d.request
 
--- the findings on the document's policies
-abbrev pub check_answer : Document → Answer
-check_answer d = told (found_in d)
+-- the first entity that breaks a rule, and the first rule that it breaks
+unfoldable pub store_fault : Document → Option (EntityUID × StoreRule)
+store_fault d = first_store_fault d.schema d.entities
 
--- the store restricted to what the document's policies read on its request, with the response on it
-abbrev pub slice_answer : Document → Answer
-slice_answer d =
-    let slice = restricted d.schema d.policies.policies d.request d.entities in
-    answer status.Done (slice_text (response d.policies.policies d.request slice) slice)
-
--- before that, the first rule that the store breaks
-abbrev pub behind_store : Option (EntityUID × StoreRule) → Answer → Answer
-behind_store None next = next
-behind_store (Some fault) next = answer status.Store (entity_text (record { uid = fault.0; rule = fault.1 }))
-
--- and before that, the first rule that the request breaks
-abbrev pub behind_request : Option RequestValidationError → Answer → Answer
-behind_request None next = next
-behind_request (Some fault) next = answer status.Request (request_text fault)
-
--- what is due for a document whose request is whole
-abbrev pub checked_answer : Document → Answer
-checked_answer d =
-    behind_request (first_request_fault d.schema d.request)
-    (behind_store (first_store_fault d.schema d.entities)
-    (behind_errors (found_in d).errors (found_in d) (slice_answer d)))
+-- all four entries of a request are there
+abbrev pub is_whole : Request → Bool
+is_whole q = is_some q.principal && (is_some q.action && (is_some q.resource && is_some q.context))
 
 abbrev pub partial_request : Answer
 partial_request = answer status.PartialRequest (codes "request: entity slicing requires a fully concrete request. Got a partial request\n")
 
--- what is due for a document whose store is to be cut
-abbrev pub IsSliceAnswer : Document → Answer → Type 0
-IsSliceAnswer d a = (IsWhole d.request × (a ≡ checked_answer d)) ⊎ ((¬ IsWhole d.request) × (a ≡ partial_request))
+-- What is answered in place of a command's work: that an entry of the request is not known,
+abbrev pub refused_partial : Document → Option Answer
+refused_partial d = if is_whole d.request then None else Some partial_request
 
--- what is due for a document
+-- that the request breaks a rule,
+abbrev pub refused_request : Document → Option Answer
+refused_request d = option_map (λ e. answer status.Request (request_text e)) (request_fault d)
+
+-- that the store breaks one,
+abbrev pub refused_store : Document → Option Answer
+refused_store d = option_map (λ f. answer status.Store (entity_text (record { uid = f.0; rule = f.1 }))) (store_fault d)
+
+-- or that there are errors in the policies; a warning alone does not matter
+abbrev pub refused_with : List ValidationError → Findings → Option Answer
+refused_with [] found = None
+refused_with (e ∷ es) found = Some (answer status.Findings (findings_text found))
+
+-- how the findings end: with errors among them the policies are refused
+abbrev pub status_of : List ValidationError → Status
+status_of [] = status.Done
+status_of (e ∷ es) = status.Findings
+
+abbrev pub refused_policies : Document → Option Answer
+refused_policies d = refused_with (found_in d).errors (found_in d)
+
+-- the first that there is of these, in the order of the rules that a command looks at
+abbrev pub refused_data : Document → Option Answer
+refused_data d = option_or (refused_request d) (refused_store d)
+
+abbrev pub refused_decision : Document → Option Answer
+refused_decision d = option_or (refused_partial d) (option_or (refused_data d) (refused_policies d))
+
+abbrev pub refusal : Command → Document → Option Answer
+refusal Check d = refused_policies d
+refusal Conformance d = refused_data d
+refusal Slice d = refused_decision d
+refusal Decide d = refused_decision d
+
+-- the document's store restricted to what its policies read on its request
+abbrev pub slice_of : Document → Store
+slice_of d = restricted d.schema d.policies.policies d.request d.entities
+
+-- the text is that of the command's work: the findings; that all conforms; the restricted store, with the response on it; the response on
+-- the whole store
+abbrev pub IsWork : Command → Document → List ℕ → Type 0
+IsWork Check d text = text ≡ findings_text (found_in d)
+IsWork Conformance d text = text ≡ codes "conforms\n"
+IsWork Slice d text = text ≡ slice_text (response d.policies.policies d.request (slice_of d)) (slice_of d)
+IsWork Decide d text = text ≡ response_text (response d.policies.policies d.request d.entities)
+
+-- the refusal, where there is one, or else the work
+abbrev pub IsRefusedOr : Option Answer → (List ℕ → Type 0) → Answer → Type 0
+IsRefusedOr None IsDone a = (a.status ≡ status.Done) × IsDone a.text
+IsRefusedOr (Some r) IsDone a = a ≡ r
+
+-- this is due for a document
 abbrev pub IsAnswerTo : Command → Document → Answer → Type 0
-IsAnswerTo Check d a = a ≡ check_answer d
-IsAnswerTo Slice d a = IsSliceAnswer d a
+IsAnswerTo c d a = IsRefusedOr (refusal c d) (IsWork c d) a
+
+abbrev pub AreKeysOnce : List PolicyData → Type 0
+AreKeysOnce ps = AllByRecursion (λ p. HasKeysOnce p.condition) ps
+
+-- what holds of each document that is read: its schema is one, its policies are a set, and each record of a condition has each of its keys once
+pub record IsWellMade (d : Document) : Type 0 where
+  pub schema : IsSchema d.schema
+  pub policies : IsPolicySet d.policies
+  pub keys : AreKeysOnce d.policies.policies
 
 -- what is due for a JSON value: the place of the first fault, where it is no document
 abbrev pub IsAnswerFor : Command → Data → Answer → Type 0
-IsAnswerFor command v a = ((place : Place) × IsRead (width_of command) v (Err place) × (a ≡ answer status.Document (place_text place ++ codes "\n")))
-    ⊎ ((d : Document) × IsRead (width_of command) v (Ok d) × IsAnswerTo command d a)
+IsAnswerFor c v a = ((place : Place) × IsRead (width_of c) v (Err place) × (a ≡ answer status.Document (place_text place ++ codes "\n")))
+    ⊎ ((d : Document) × IsRead (width_of c) v (Ok d) × IsWellMade d × IsAnswerTo c d a)
 
 -- what is due where the bytes may be JSON
 abbrev pub IsAnswerIf : Command → Option Data → Answer → Type 0
-IsAnswerIf command None a = a ≡ answer status.Document (codes "document: json\n")
-IsAnswerIf command (Some v) a = IsAnswerFor command v a
+IsAnswerIf c None a = a ≡ answer status.Document (codes "document: json\n")
+IsAnswerIf c (Some v) a = IsAnswerFor c v a
 
 -- this status and text are due for a document of these bytes
 unfoldable pub IsAnswer : Command → List ℕ → Answer → Type 0
-IsAnswer command bytes a = IsAnswerIf command (json_of bytes) a
+IsAnswer c bytes a = IsAnswerIf c (json_of bytes) a

@@ -2,13 +2,17 @@
 use Rattle.std.specs.Prelude.{ℕ, List, [], ◌∷◌, if◌then◌else◌, Option, Some, None, codes}
 use Rattle.std.specs.Str.{bytes_eq}
 use Rattle.policy_gate.specs.declared.command.Command.{Command}
-use Rattle.policy_gate.specs.declared.command.Command.TheVariants.{Check, Slice}
+use Rattle.policy_gate.specs.declared.command.Command.TheVariants.{Check, Request, Slice, Decide}
 use Rattle.document_places.specs.declared.width.Width.{Width}
 use Rattle.document_places.specs.declared.width.Width.TheVariants.{Whole, OverIds}
 
 -- a command of one word
 abbrev pub one_word : List ℕ → Option Command
-one_word word = if bytes_eq word (codes "check") then Some Check else (if bytes_eq word (codes "slice") then Some Slice else None)
+one_word word =
+    if bytes_eq word (codes "check") then Some Check else
+    (if bytes_eq word (codes "request") then Some Request else
+    (if bytes_eq word (codes "slice") then Some Slice else
+    (if bytes_eq word (codes "decide") then Some Decide else None)))
 
 -- the command that the words are, if they are one
 abbrev pub command_of : List (List ℕ) → Option Command
@@ -19,4 +23,6 @@ command_of (word ∷ other ∷ words) = None
 -- which documents the command takes
 abbrev pub width_of : Command → Width
 width_of Check = Whole
+width_of Request = Whole
 width_of Slice = OverIds
+width_of Decide = Whole

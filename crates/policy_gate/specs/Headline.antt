@@ -1,21 +1,21 @@
--- What status 0 says. For `slice`: the slice that is written is enough for every policy of the document. For `check`: the policies are accepted.
+-- What status 0 says of each command.
 use Rattle.std.specs.Prelude.{◌≡◌, ℕ, List, [], Some, None, Ok}
 use Rattle.policy_store.specs.Request.{IsWhole}
-use Rattle.policy_store.specs.Store.{Store}
+use Rattle.authorizer.specs.Allowed.{AreAllowed}
 use Rattle.authorizer.specs.Response.{response}
 use Rattle.policy_documents.specs.Reading.{IsRead}
 use Rattle.policy_documents.specs.declared.document.Document.{Document}
 use Rattle.serde_json.specs.Data.{Data}
 use Rattle.finding_texts.specs.Written.{findings_text}
+use Rattle.policy_typing.specs.Conforms.{RequestConforms, StoreConforms}
 use Rattle.policy_validate.specs.Accepted.{IsAccepted}
-use Rattle.policy_validate.specs.Conformance.{RequestConforms, StoreConforms}
-use Rattle.id_slices.specs.Cover.{restricted, Covers, AreAllowedBetween}
-use Rattle.policy_writing.specs.SliceJson.{slice_text}
+use Rattle.id_slices.specs.Cover.{Covers, AreAllowedBetween}
+use Rattle.policy_writing.specs.SliceJson.{slice_text, response_text}
 use Rattle.json_parts.specs.Json.{json_of}
-use Rattle.policy_gate.specs.Answer.{found_in}
+use Rattle.policy_gate.specs.Answer.{found_in, request_fault, slice_of}
 use Rattle.policy_gate.specs.Command.{width_of}
 use Rattle.policy_gate.specs.declared.command.Command.{Command}
-use Rattle.policy_gate.specs.declared.command.Command.TheVariants.{Check, Slice}
+use Rattle.policy_gate.specs.declared.command.Command.TheVariants.{Check, Request, Slice, Decide}
 
 -- the document that the bytes are, among those that the command takes
 abbrev pub IsDocumentOf : Command → List ℕ → Document → Type 0
@@ -24,6 +24,11 @@ IsDocumentOf command bytes d = (v : Data) × (json_of bytes ≡ Some v) × IsRea
 -- the policies of the document are accepted
 abbrev pub HasAcceptedPolicies : Document → Type 0
 HasAcceptedPolicies d = IsAccepted d.schema d.policies
+
+-- its request breaks no rule (entries that are not known break none), and its store conforms to the schema
+pub record Conforms (d : Document) : Type 0 where
+  pub request : request_fault d ≡ None
+  pub store : StoreConforms d.schema d.entities
 
 -- the document keeps every rule
 pub record KeepsRules (d : Document) : Type 0 where
@@ -38,16 +43,14 @@ pub record KeepsRules (d : Document) : Type 0 where
 -- it keeps every rule of the command
 abbrev pub KeepsRulesOf : Command → Document → Type 0
 KeepsRulesOf Check d = HasAcceptedPolicies d
+KeepsRulesOf Request d = Conforms d
 KeepsRulesOf Slice d = KeepsRules d
+KeepsRulesOf Decide d = KeepsRules d
 
 -- the text is the findings on the document's policies, which are accepted: there may be warnings
 pub record IsChecked (d : Document) (text : List ℕ) : Type 0 where
   pub written : text ≡ findings_text (found_in d)
   pub accepted : HasAcceptedPolicies d
-
--- the document's store restricted to what its policies read on its request
-abbrev pub slice_of : Document → Store
-slice_of d = restricted d.schema d.policies.policies d.request d.entities
 
 -- the text is the slice with the decision. The slice covers the policies: on it, and on every store between it and the whole one,
 -- each policy has the outcome that it has on the whole store, which is a truth value, a missing entity or an overflow; so the response
@@ -57,3 +60,15 @@ pub record IsSliced (d : Document) (text : List ℕ) : Type 0 where
   pub covers : Covers d.policies.policies d.request (slice_of d) d.entities
   pub allowed : AreAllowedBetween d.policies.policies d.request (slice_of d) d.entities
   pub decision : response d.policies.policies d.request (slice_of d) ≡ response d.policies.policies d.request d.entities
+
+-- the text is the response on the whole store, on which the outcome of each policy is a truth value, a missing entity or an overflow
+pub record IsDecided (d : Document) (text : List ℕ) : Type 0 where
+  pub written : text ≡ response_text (response d.policies.policies d.request d.entities)
+  pub allowed : AreAllowed d.policies.policies d.request d.entities
+
+-- what 0 says
+abbrev pub Says : Command → Document → List ℕ → Type 0
+Says Check d text = IsChecked d text
+Says Request d text = Conforms d
+Says Slice d text = KeepsRules d × IsSliced d text
+Says Decide d text = KeepsRules d × IsDecided d text

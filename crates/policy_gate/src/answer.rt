@@ -1,27 +1,39 @@
 //! From a document's bytes to the reply.
-ghost use Rattle.std.specs.Prelude.{◌≡◌, IfOk};
+ghost use Rattle.std.specs.Prelude.{◌≡◌, None, IfOk, option_map, string_bytes};
 ghost use Rattle.serde_json.specs.View.{view};
 ghost use Rattle.policy_store.specs.Request.{IsWhole};
-ghost use Rattle.policy_validate.specs.Conformance.{RequestConforms, StoreConforms, first_store_fault};
-ghost use Rattle.policy_gate.specs.Answer.{IsAnswer, IsAnswerFor, IsAnswerTo, IsSliceAnswer, behind_errors, behind_store, check_answer, checked_answer, found_in, slice_answer, told};
+ghost use Rattle.conformance.specs.Misfits.{knows};
+ghost use Rattle.conformance.specs.RequestRules.{first_request_fault};
+ghost use Rattle.conformance_errors.specs.Written.{request_text};
+ghost use Rattle.finding_texts.specs.Written.{findings_text};
+ghost use Rattle.policy_gate.specs.Answer.{AreKeysOnce, IsAnswer, IsAnswerFor, IsWellMade, IsAnswerTo, IsRefusedOr, IsWork, found_in, refused_data, refused_decision, refused_policies, refused_request, refused_store, refused_with, request_fault, status_of, store_fault};
 ghost use Rattle.policy_gate.specs.Reply.{reply_view};
 
 use crate::command::{Command, width_of};
 use crate::reply::{Reply, reply_with};
 use crate::status::Status;
 use authorizer::decide;
-use id_slices::restricted_store;
-use policy_documents::{Document, DocumentFault, parse_json, read_document_within};
-use policy_scope::{ValidationResult, findings_text};
-use policy_validate::{
-    ConformanceError, RequestValidationError, ValidationMode, Validator, conforms, entity_text,
+use conformance::laws::all_functions_are_known;
+use conformance::{
+    ConformanceError, EntityDoesNotConform, RequestValidationError, conforms, entity_text,
     request_text, validate_request,
 };
-use policy_writing::slice_text;
+use extension_types::{ExtensionSchemas, all_objects};
+use id_slices::restricted_store;
+use policy_documents::{Document, DocumentFault, parse_json, read_document_within};
+use policy_expressions::laws::keys_are_once;
+use policy_names::Text;
+use policy_scope::{ValidationResult, findings_text};
+use policy_set::PolicySet;
+use policy_set::laws::is_policy_set;
+use policy_validate::{ValidationMode, Validator};
+use policy_writing::{response_text, slice_text};
 use serde_json::Value;
 use std::alloc::{AllocError, Global};
 
 const NO_JSON: &str = "document: json\n";
+
+const CONFORMS: &str = "conforms\n";
 
 const PARTIAL_REQUEST: &str =
     "request: entity slicing requires a fully concrete request. Got a partial request\n";
@@ -43,6 +55,7 @@ fn reply_to_value(alloc: Global, command: Command, value: &Value) -> Result<Repl
 {
     match read_document_within(alloc, value, width_of(command)) {
         Ok(document) => {
+            is_well_made(&document);
             let reply = reply_to(alloc, command, &document);
             drop(document);
             reply
@@ -55,19 +68,38 @@ fn reply_to_value(alloc: Global, command: Command, value: &Value) -> Result<Repl
     }
 }
 
+// What holds of each document.
+fn is_well_made(document: &Document)
+    ensures { IsWellMade document.now }
+{
+    is_policy_set(&document.policies);
+    have_keys_once(&document.policies);
+    let _actions = document.schema.action_ids();
+}
+
+fn have_keys_once(policies: &PolicySet)
+    ensures { AreKeysOnce policies.now.policies }
+{
+    for policy in policies.policies() {
+        keys_are_once(policy.condition());
+    }
+}
+
 // The reply to a document.
 fn reply_to(alloc: Global, command: Command, document: &Document) -> Result<Reply, AllocError>
     ensures { IfOk result (λ r. IsAnswerTo command document.now (reply_view r)) }
 {
     match command {
         Command::Check => with_findings(alloc, document),
+        Command::Request => conforming(alloc, document),
         Command::Slice => cut(alloc, document),
+        Command::Decide => decided(alloc, document),
     }
 }
 
 // The findings on the policies.
 fn with_findings(alloc: Global, document: &Document) -> Result<Reply, AllocError>
-    ensures { IfOk result (λ r. reply_view r ≡ check_answer document.now) }
+    ensures { IfOk result (λ r. IsAnswerTo Command.Check document.now (reply_view r)) }
 {
     let found = found_in(alloc, document)?;
     told(alloc, &found)
@@ -75,91 +107,48 @@ fn with_findings(alloc: Global, document: &Document) -> Result<Reply, AllocError
 
 // The findings, with the status that they have.
 fn told(alloc: Global, found: &ValidationResult) -> Result<Reply, AllocError>
-    ensures { IfOk result (λ r. reply_view r ≡ told found.now) }
+    ensures { IfOk result (λ r. IsRefusedOr (refused_with found.now.errors found.now)
+        (λ text. text ≡ findings_text found.now) (reply_view r)) }
 {
-    let status = if found.validation_passed() {
-        Status::Done
-    } else {
-        Status::Findings
-    };
+    let status = status_of(found);
     let text = findings_text(alloc, found)?;
     reply_with(alloc, status, text.as_str())
 }
 
-// What is found of the document's policies.
-#[tactic(auto, unfolding(crate::specs::Answer::found_in))]
-fn found_in(alloc: Global, document: &Document) -> Result<ValidationResult, AllocError>
-    ensures { IfOk result (λ found. found ≡ found_in document.now) }
+fn status_of(found: &ValidationResult) -> Status
+    ensures { result ≡ status_of found.now.errors }
 {
-    let validator = Validator::new(&document.schema);
-    validator.validate(alloc, &document.policies, ValidationMode::Strict)
-}
-
-// The cut store with the decision, where the document keeps every rule.
-fn cut(alloc: Global, document: &Document) -> Result<Reply, AllocError>
-    ensures { IfOk result (λ r. IsSliceAnswer document.now (reply_view r)) }
-{
-    if document.request.is_whole() {
-        checked(alloc, document)
-    } else {
-        reply_with(alloc, Status::PartialRequest, PARTIAL_REQUEST)
-    }
-}
-
-// The request's first broken rule, or what follows.
-fn checked(alloc: Global, document: &Document) -> Result<Reply, AllocError>
-    requires { IsWhole document.now.request }
-    ensures { IfOk result (λ r. reply_view r ≡ checked_answer document.now) }
-{
-    match validate_request(alloc, &document.schema, &document.request) {
-        Ok(()) => with_request(alloc, document),
-        Err(RequestValidationError::OutOfMemory) => Err(AllocError),
-        Err(error) => {
-            let text = request_text(alloc, &error)?;
-            reply_with(alloc, Status::Request, text.as_str())
-        }
-    }
-}
-
-// The store's first broken rule, or what follows.
-fn with_request(alloc: Global, document: &Document) -> Result<Reply, AllocError>
-    requires whole { IsWhole document.now.request }
-    requires request { RequestConforms document.now.schema document.now.request }
-    ensures { IfOk result (λ r. reply_view r ≡ behind_store (first_store_fault document.now.schema document.now.entities)
-        (behind_errors (found_in document.now).errors (found_in document.now) (slice_answer document.now))) }
-{
-    match conforms(&document.schema, &document.entities) {
-        Ok(()) => with_store(alloc, document),
-        Err(ConformanceError::OutOfMemory) => Err(AllocError),
-        Err(ConformanceError::EntityDoesNotConform(error)) => {
-            let text = entity_text(alloc, &error)?;
-            reply_with(alloc, Status::Store, text.as_str())
-        }
-    }
-}
-
-// The findings, where there is an error among them, or the slice.
-fn with_store(alloc: Global, document: &Document) -> Result<Reply, AllocError>
-    requires whole { IsWhole document.now.request }
-    requires request { RequestConforms document.now.schema document.now.request }
-    requires store { StoreConforms document.now.schema document.now.entities }
-    ensures { IfOk result (λ r. reply_view r ≡ behind_errors (found_in document.now).errors
-        (found_in document.now) (slice_answer document.now)) }
-{
-    let found = found_in(alloc, document)?;
     if found.validation_passed() {
-        return sliced(alloc, document);
+        Status::Done
+    } else {
+        Status::Findings
     }
-    let text = findings_text(alloc, &found)?;
-    reply_with(alloc, Status::Findings, text.as_str())
 }
 
-// The slice with the decision on it.
+// Whether the request and the store conform.
+fn conforming(alloc: Global, document: &Document) -> Result<Reply, AllocError>
+    ensures { IfOk result (λ r. IsAnswerTo Command.Request document.now (reply_view r)) }
+{
+    match refused_data(alloc, document)? {
+        Some(reply) => Ok(reply),
+        None => reply_with(alloc, Status::Done, CONFORMS),
+    }
+}
+
+// The cut store with the decision on it, where the document keeps every rule.
+fn cut(alloc: Global, document: &Document) -> Result<Reply, AllocError>
+    ensures { IfOk result (λ r. IsAnswerTo Command.Slice document.now (reply_view r)) }
+{
+    match refused_decision(alloc, document)? {
+        Some(reply) => Ok(reply),
+        None => sliced(alloc, document),
+    }
+}
+
 fn sliced(alloc: Global, document: &Document) -> Result<Reply, AllocError>
-    requires whole { IsWhole document.now.request }
-    requires request { RequestConforms document.now.schema document.now.request }
-    requires store { StoreConforms document.now.schema document.now.entities }
-    ensures { IfOk result (λ r. reply_view r ≡ slice_answer document.now) }
+    requires { IsWhole document.now.request }
+    ensures done { IfOk result (λ r. r.status ≡ Status.Done) }
+    ensures work { IfOk result (λ r. IsWork Command.Slice document.now (string_bytes r.text)) }
 {
     let slice = restricted_store(
         alloc,
@@ -173,4 +162,140 @@ fn sliced(alloc: Global, document: &Document) -> Result<Reply, AllocError>
         status: Status::Done,
         text: slice_text(alloc, &response, &slice)?,
     })
+}
+
+// The decision on the whole store, where the document keeps every rule.
+fn decided(alloc: Global, document: &Document) -> Result<Reply, AllocError>
+    ensures { IfOk result (λ r. IsAnswerTo Command.Decide document.now (reply_view r)) }
+{
+    match refused_decision(alloc, document)? {
+        Some(reply) => Ok(reply),
+        None => decision(alloc, document),
+    }
+}
+
+fn decision(alloc: Global, document: &Document) -> Result<Reply, AllocError>
+    requires { IsWhole document.now.request }
+    ensures done { IfOk result (λ r. r.status ≡ Status.Done) }
+    ensures work { IfOk result (λ r. IsWork Command.Decide document.now (string_bytes r.text)) }
+{
+    let response = decide(
+        alloc,
+        &document.policies,
+        &document.request,
+        &document.entities,
+    )?;
+    Ok(Reply {
+        status: Status::Done,
+        text: response_text(alloc, &response)?,
+    })
+}
+
+// What is answered in place of a decision, if anything; else the request is whole.
+fn refused_decision(alloc: Global, document: &Document) -> Result<Option<Reply>, AllocError>
+    ensures told { IfOk result (λ o. option_map reply_view o ≡ refused_decision document.now) }
+    ensures whole { IfOk result (λ o. o ≡ None → IsWhole document.now.request) }
+{
+    if !document.request.is_whole() {
+        let reply = reply_with(alloc, Status::PartialRequest, PARTIAL_REQUEST)?;
+        return Ok(Some(reply));
+    }
+    match refused_data(alloc, document)? {
+        Some(reply) => Ok(Some(reply)),
+        None => refused_policies(alloc, document),
+    }
+}
+
+// The first rule that the request breaks, or else the store, if any.
+fn refused_data(alloc: Global, document: &Document) -> Result<Option<Reply>, AllocError>
+    ensures { IfOk result (λ o. option_map reply_view o ≡ refused_data document.now) }
+{
+    match refused_request(alloc, document)? {
+        Some(reply) => Ok(Some(reply)),
+        None => refused_store(alloc, document),
+    }
+}
+
+fn refused_request(alloc: Global, document: &Document) -> Result<Option<Reply>, AllocError>
+    ensures { IfOk result (λ o. option_map reply_view o ≡ refused_request document.now) }
+{
+    match broken_rule(alloc, document)? {
+        Some(text) => {
+            let reply = reply_with(alloc, Status::Request, text.as_str())?;
+            Ok(Some(reply))
+        }
+        None => Ok(None),
+    }
+}
+
+// The text on the first rule that the request breaks, if any.
+fn broken_rule(alloc: Global, document: &Document) -> Result<Option<Text>, AllocError>
+    ensures { IfOk result (λ o. o ≡ option_map request_text (request_fault document.now)) }
+{
+    let objects = all_objects(alloc)?;
+    let extensions = ExtensionSchemas::all_available(alloc, objects.as_slice())?;
+    all_functions_are_known();
+    broken_with(alloc, document, &extensions)
+}
+
+// The same, where these extensions are there.
+fn broken_with(
+    alloc: Global,
+    document: &Document,
+    extensions: &ExtensionSchemas<'_>,
+) -> Result<Option<Text>, AllocError>
+    ensures { IfOk result (λ o. o ≡ option_map request_text
+        (first_request_fault document.now.schema (knows extensions.now) document.now.request)) }
+{
+    match validate_request(alloc, &document.schema, &document.request, extensions) {
+        Ok(()) => Ok(None),
+        Err(RequestValidationError::OutOfMemory) => Err(AllocError),
+        Err(error) => Ok(Some(request_text(alloc, &error)?)),
+    }
+}
+
+fn refused_store(alloc: Global, document: &Document) -> Result<Option<Reply>, AllocError>
+    ensures { IfOk result (λ o. option_map reply_view o ≡ refused_store document.now) }
+{
+    match store_fault(document)? {
+        Some(error) => {
+            let text = entity_text(alloc, &error)?;
+            let reply = reply_with(alloc, Status::Store, text.as_str())?;
+            Ok(Some(reply))
+        }
+        None => Ok(None),
+    }
+}
+
+// The first entity that breaks a rule, with that rule, if any.
+#[tactic(auto, unfolding(crate::specs::Answer::store_fault))]
+fn store_fault(document: &Document) -> Result<Option<EntityDoesNotConform>, AllocError>
+    ensures { IfOk result (λ o. option_map (λ e. (e.uid, e.rule)) o ≡ store_fault document.now) }
+{
+    match conforms(&document.schema, &document.entities) {
+        Ok(()) => Ok(None),
+        Err(ConformanceError::OutOfMemory) => Err(AllocError),
+        Err(ConformanceError::EntityDoesNotConform(error)) => Ok(Some(error)),
+    }
+}
+
+fn refused_policies(alloc: Global, document: &Document) -> Result<Option<Reply>, AllocError>
+    ensures { IfOk result (λ o. option_map reply_view o ≡ refused_policies document.now) }
+{
+    let found = found_in(alloc, document)?;
+    if found.validation_passed() {
+        return Ok(None);
+    }
+    let text = findings_text(alloc, &found)?;
+    let reply = reply_with(alloc, Status::Findings, text.as_str())?;
+    Ok(Some(reply))
+}
+
+// What is found of the document's policies.
+#[tactic(auto, unfolding(crate::specs::Answer::found_in))]
+fn found_in(alloc: Global, document: &Document) -> Result<ValidationResult, AllocError>
+    ensures { IfOk result (λ found. found ≡ found_in document.now) }
+{
+    let validator = Validator::new(&document.schema);
+    validator.validate(alloc, &document.policies, ValidationMode::Strict)
 }

@@ -9,8 +9,12 @@ use policy_documents::Width;
 pub enum Command {
     /// Say what is found of the document's policies.
     Check,
+    /// Say whether the document's request and its store conform to the schema.
+    Request,
     /// Cut the document's store to what its policies may read, and decide on the cut store.
     Slice,
+    /// Decide on the whole store.
+    Decide,
 }
 
 fn one_word(word: &str) -> Option<Command>
@@ -18,7 +22,9 @@ fn one_word(word: &str) -> Option<Command>
 {
     match word {
         "check" => Some(Command::Check),
+        "request" => Some(Command::Request),
         "slice" => Some(Command::Slice),
+        "decide" => Some(Command::Decide),
         _ => None,
     }
 }
@@ -28,7 +34,7 @@ pub(crate) fn width_of(command: Command) -> Width
     ensures { result ≡ width_of command }
 {
     match command {
-        Command::Check => Width::Whole,
+        Command::Check | Command::Request | Command::Decide => Width::Whole,
         Command::Slice => Width::OverIds,
     }
 }

@@ -6,7 +6,7 @@ ghost use Rattle.outside.specs.Steps.{IsQuiet};
 ghost use Rattle.policy_gate.specs.Answer.{IsAnswer};
 ghost use Rattle.policy_gate.specs.Command.{command_of};
 ghost use Rattle.policy_documents.specs.declared.document.Document.{Document};
-ghost use Rattle.policy_gate.specs.Headline.{HasAcceptedPolicies, IsChecked, IsDocumentOf, IsSliced, KeepsRules, KeepsRulesOf};
+ghost use Rattle.policy_gate.specs.Headline.{Conforms, HasAcceptedPolicies, IsChecked, IsDecided, IsDocumentOf, IsSliced, KeepsRules, KeepsRulesOf};
 ghost use Rattle.policy_gate.specs.Reply.{answer, reply_view};
 ghost use Rattle.policy_gate.specs.Run.{Cause, Gives, IsDue, IsDueAfterReading, Runs};
 ghost use Rattle.policy_gate.specs.Status.{IsAfterEnd};
@@ -15,8 +15,9 @@ use crate::answer::reply;
 use crate::command::{Command, command_of};
 use crate::reply::{Reply, reply_with};
 use crate::status::Status;
+use conformance::laws::{request_rules_are_exact, store_rules_are_exact};
 use outside::{DOCUMENT_LIMIT, ReadError, Sink, Source, read_document_bytes, write_text};
-use policy_validate::laws::no_errors_where_accepted;
+use policy_validate::laws::{accepted_are_sound, no_errors_where_accepted};
 use std::alloc::{AllocError, Global};
 
 const USAGE: &str =
@@ -134,6 +135,21 @@ pub fn run<S: Source, K: Sink>(
         × ((document : Document) × IsDocumentOf Command.Check bytes document × IsChecked document text)
         × Appends (K.state sink.old).holds (K.state sink.new).holds text }
 
+    // Where `request` ends with 0 the document's request breaks no rule, and its store conforms.
+    ensures conforming { command_of (map string_bytes words.now.items) ≡ Some Command.Request
+        → result ≡ Status.Done
+        → (bytes : List ℕ) × (text : List ℕ) × WasRead (S.state source.old) (S.state source.new) bytes
+        × ((document : Document) × IsDocumentOf Command.Request bytes document × Conforms document)
+        × Appends (K.state sink.old).holds (K.state sink.new).holds text }
+
+    // Where `decide` ends with 0 the document keeps every rule, and the text is the response on its whole store, on which each policy's
+    // outcome is a truth value, a missing entity or an overflow.
+    ensures decided { command_of (map string_bytes words.now.items) ≡ Some Command.Decide
+        → result ≡ Status.Done
+        → (bytes : List ℕ) × (text : List ℕ) × WasRead (S.state source.old) (S.state source.new) bytes
+        × ((document : Document) × IsDocumentOf Command.Decide bytes document × KeepsRules document × IsDecided document text)
+        × Appends (K.state sink.old).holds (K.state sink.new).holds text }
+
     // A command finds errors in the policies of no other documents than those whose policies are not accepted.
     ensures refused { result ≡ Status.Findings
         → (command : Command) × (command_of (map string_bytes words.now.items) ≡ Some command)
@@ -150,5 +166,8 @@ pub fn run<S: Source, K: Sink>(
         → (result ≡ Status.Done) ⊎ (result ≡ Status.OutOfMemory) }
 {
     no_errors_where_accepted();
+    request_rules_are_exact();
+    store_rules_are_exact();
+    accepted_are_sound();
     outcome(alloc, words, source, sink)
 }

@@ -124,6 +124,18 @@ impl<'a, 'x> Typechecker<'a, 'x> {
         self.check_in_each(alloc, envs, p.id(), p.condition())
     }
 
+    /// The check of a policy's own condition in one environment of the schema.
+    pub fn typecheck_linked_in<'b>(
+        &self,
+        alloc: Global,
+        p: &'b Policy,
+        env: &'b RequestEnv<'b>,
+    ) -> Result<PolicyCheck, AllocError>
+        ensures { IfOk result (λ r. Tells p.now.id (checked self.now (env_data_of env.now) p.now.condition) r) }
+    {
+        self.check_in(alloc, env, p.id(), p.condition())
+    }
+
     fn check_in_each(
         &self,
         alloc: Global,

@@ -9,7 +9,7 @@ use Rattle.serde_json.specs.Find.{is_float, of_integer}
 use Rattle.serde_json.specs.View.{items_of}
 use Rattle.serde_json.specs.Written.{has_float, items_have_float, members_have_float}
 use Rattle.policy_writing.specs.ValueJson.{uid_data, value_data, items_data, members_data}
-use Rattle.policy_writing.specs.SliceJson.{entity_data, failure_data, slice_data}
+use Rattle.policy_writing.specs.SliceJson.{entity_data, failure_data, response_data, slice_data}
 
 integer_has_none : (n : ℤ) → is_float (of_integer n) ≡ false
 integer_has_none (pos n) = refl
@@ -42,6 +42,9 @@ list_has_none f none (x ∷ xs) = rw (none x) (list_has_none f none xs)
 
 entity_has_none : (e : StoredEntity) → has_float (entity_data e) ≡ false
 entity_has_none e = rw (list_has_none uid_data (λ _. refl) e.ancestors, fields_have_none e.attrs, fields_have_none e.tags) refl
+
+pub response_has_none : (r : ResponseData) → has_float (response_data r) ≡ false
+response_has_none r = rw (list_has_none failure_data (λ _. refl) r.errors, list_has_none json.string (λ _. refl) r.reasons) refl
 
 pub slice_has_none : (r : ResponseData) (s : Store) → has_float (slice_data r s) ≡ false
 slice_has_none r s =

@@ -26,7 +26,17 @@ decision_text Deny = codes "Deny"
 abbrev pub failure_data : PolicyFailure → Data
 failure_data f = pair_data f.id (error_text f.error)
 
--- the decision, the policies that have no value, those that led to the decision, and the entities
+-- the decision, the policies that have no value, and those that led to the decision
+abbrev pub response_data : ResponseData → Data
+response_data r = object (member (codes "decision") (string (decision_text r.decision))
+    (member (codes "errors") (array (items_of (map failure_data r.errors)))
+    (member (codes "reasons") (array (items_of (map string r.reasons))) no_members)))
+
+-- its JSON without spaces, and a newline
+unfoldable pub response_text : ResponseData → List ℕ
+response_text r = compact_text (response_data r) ++ codes "\n"
+
+-- the same with the entities
 abbrev pub slice_data : ResponseData → Store → Data
 slice_data r s = object (member (codes "decision") (string (decision_text r.decision))
     (member (codes "errors") (array (items_of (map failure_data r.errors)))

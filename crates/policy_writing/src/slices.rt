@@ -4,7 +4,7 @@ ghost use Rattle.std.specs.Prelude.{◌≡◌, IfOk, map, string_bytes};
 ghost use Rattle.serde_json.specs.Data.{string, array};
 ghost use Rattle.serde_json.specs.View.{view, items_of};
 ghost use Rattle.policy_writing.specs.ValueJson.{uid_data};
-ghost use Rattle.policy_writing.specs.SliceJson.{entity_data, decision_text, failure_data, slice_data, slice_text};
+ghost use Rattle.policy_writing.specs.SliceJson.{entity_data, decision_text, failure_data, response_data, response_text, slice_data, slice_text};
 
 use crate::values::{write_fields, write_pair, write_uid};
 use authorizer::{Decision, PolicyFailure, Response};
@@ -85,6 +85,30 @@ fn write_ids(alloc: Global, ids: &[Text]) -> Result<Json, AllocError>
         written.push(Json::try_from_str(alloc, id.as_str())?)?;
     }
     Ok(Json::Array(written))
+}
+
+fn write_response(alloc: Global, response: &Response) -> Result<Json, AllocError>
+    ensures { IfOk result (λ v. view v ≡ response_data response.now) }
+{
+    let decision = write_decision(alloc, response.decision())?;
+    let errors = write_failures(alloc, response.errors())?;
+    let reasons = write_ids(alloc, response.reasons())?;
+    let mut members = Map::new(alloc);
+    put(&mut members, alloc, "decision", decision)?;
+    put(&mut members, alloc, "errors", errors)?;
+    put(&mut members, alloc, "reasons", reasons)?;
+    Ok(Json::Object(members))
+}
+
+/// The decision on a request, the policies that have no value, and those that led to the decision: one line of JSON without
+/// spaces, and a newline.
+#[tactic(auto, unfolding(crate::specs::SliceJson::response_text))]
+pub fn response_text(alloc: Global, response: &Response) -> Result<String, AllocError>
+    ensures { IfOk result (λ s. string_bytes s ≡ response_text response.now) }
+{
+    let mut text = write_response(alloc, response)?.to_string(alloc)?;
+    text.push_str("\n")?;
+    Ok(text)
 }
 
 fn write_slice(alloc: Global, response: &Response, entities: &Entities) -> Result<Json, AllocError>

@@ -1,7 +1,0 @@
-use Rattle.std.proofs.Common.{◌≡◌, find}
-use Rattle.policy_validate.specs.Conformance.{lacks_it}
-use Rattle.policy_validate.proofs.store.first_without.Given as goal
-
--- what is left has the answer of the whole
-abbrev pub invariant-loop-uid : goal.invariant-loop-uid
-invariant-loop-uid l = find (lacks_it l.entities l.action) l.uid-iterator ≡ find (lacks_it l.entities l.action) l.action.descendants
