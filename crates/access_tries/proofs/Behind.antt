@@ -38,21 +38,23 @@ by_number f ns e es (l ∷ ls) up = by (edge_eq l.edge e) refl (by_number f ns e
   by true same later = ap (λ b. at_path f ns l.number es || b) (none_behind f ns e es l ls same up.0) ∙ or_false (at_path f ns l.number es)
   by false same later = later
 
--- the number that is found is that of a node
-number_within : (k : ℕ) (e : Edge) (n : ℕ) (ls : List Link) → AllByRecursion (λ l. l.number < k) ls → number_at e ls ≡ Some n → n < k
-number_within k e n [] all is = cc
-number_within k e n (l ∷ ls) all is = by (edge_eq l.edge e) is (number_within k e n ls all.1) where
-  by : (b : Bool) → option_map (λ m. m.number) (cond b (Some l) (find (λ m. edge_eq m.edge e) ls)) ≡ Some n → (number_at e ls ≡ Some n → n < k) → n < k
-  by true h later = let same : l.number ≡ n = cc in subst (λ i. i < k) same all.0
+-- what holds of the numbers of all links holds of the one that is found
+number_of : (P : ℕ → Type 0) (e : Edge) (n : ℕ) (ls : List Link) → AllByRecursion (λ l. P l.number) ls → number_at e ls ≡ Some n → P n
+number_of P e n [] all is = cc
+number_of P e n (l ∷ ls) all is = by (edge_eq l.edge e) is (number_of P e n ls all.1) where
+  by : (b : Bool) → option_map (λ m. m.number) (cond b (Some l) (find (λ m. edge_eq m.edge e) ls)) ≡ Some n → (number_at e ls ≡ Some n → P n) → P n
+  by true h later = let same : l.number ≡ n = cc in subst P same all.0
   by false h later = later h
 
-below_end : (i k : ℕ) (ls : List Link) → AllByRecursion (λ l. (i < l.number) × (l.number < k)) ls → AllByRecursion (λ l. l.number < k) ls
-below_end i k [] all = tt
-below_end i k (l ∷ ls) all = (all.0.1, below_end i k ls all.1)
+-- the number that is found is that of a later node
+number_within : (ns : Table) (i : ℕ) (e : Edge) (n : ℕ) → IsTable ns → number_at e (links_at ns i) ≡ Some n → (i < n) × (n < length ns)
+number_within ns i e n table is = number_of (λ m. (i < m) × (m < length ns)) e n (links_at ns i) (table.closed.each i (omega arith)) is
 
 pub found : (ns : Table) (i : ℕ) (e : Edge) (n : ℕ) → IsTable ns → number_at e (links_at ns i) ≡ Some n → LeadsTo e (record { nodes = ns; number = i }) (record { nodes = ns; number = n })
 found ns i e n table is = record {
-  there = within ns n (number_within (length ns) e n (links_at ns i) (below_end i (length ns) (links_at ns i) (table.closed.each i (omega arith))) is);
+  there = within ns n (number_within ns i e n table is).1;
+  table = refl;
+  later = (number_within ns i e n table is).0;
   paths = λ es. by_number is_some ns e es (links_at ns i) (table.ordered.each i (omega arith)) ∙ ap (λ o. option_map_or (λ n. at_path is_some ns n es) o false) is;
   marks = λ es. by_number has_mark ns e es (links_at ns i) (table.ordered.each i (omega arith)) ∙ ap (λ o. option_map_or (λ n. at_path has_mark ns n es) o false) is;
 }

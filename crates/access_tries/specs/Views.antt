@@ -1,5 +1,5 @@
 -- A node of a table with all below it.
-use Rattle.std.specs.Prelude.{◌≡◌, ℕ, Bool, true, false, ◌||◌, List, [], ◌∷◌, Option, option_map, find, is_some, refl}
+use Rattle.std.specs.Prelude.{◌≡◌, ℕ, ◌<◌, Bool, true, false, ◌||◌, List, [], ◌∷◌, Option, option_map, find, is_some, refl}
 use Rattle.std.specs.List.{AllByRecursion}
 use Rattle.std.specs.Coded.{Coded, coded_ℕ, coded_list, coded×, code_by}
 use Rattle.access_tries.specs.declared.edge.EntityRoot.{EntityRoot}
@@ -32,9 +32,11 @@ view_marks v es = at_path has_mark v.nodes v.number es
 abbrev pub LeadsNowhere : Edge → ViewData → Type 0
 LeadsNowhere e v = (es : Address) → view_leads v (e ∷ es) ≡ false
 
--- the edge leads from the first to the second, which is there
+-- the edge leads from the first to the second, which is there, later in the same table
 pub record LeadsTo (e : Edge) (v w : ViewData) : Type 0 where
   pub there : view_leads w [] ≡ true
+  pub table : w.nodes ≡ v.nodes
+  pub later : v.number < w.number
   pub paths : (es : Address) → view_leads v (e ∷ es) ≡ view_leads w es
   pub marks : (es : Address) → view_marks v (e ∷ es) ≡ view_marks w es
 

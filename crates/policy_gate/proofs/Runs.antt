@@ -13,7 +13,7 @@ use Rattle.policy_gate.specs.declared.command.Command.{Command}
 use Rattle.policy_gate.specs.declared.status.Status.{Status}
 use Rattle.policy_gate.specs.declared.status.Status.TheVariants.{Done, Findings, Usage, Document, Request, Store, PartialRequest, ReadFault, WriteFault, OutOfMemory, TooLong}
 use Rattle.policy_documents.specs.declared.document.Document.{Document as ADocument}
-use Rattle.policy_gate.specs.Headline.{HasAcceptedPolicies, IsDocumentOf, KeepsRules, KeepsRulesOf, Says}
+use Rattle.policy_gate.specs.Headline.{HasPoliciesFor, IsDocumentOf, KeepsRules, KeepsRulesOf, Says}
 use Rattle.policy_gate.proofs.Answers.{status_of_document}
 use Rattle.policy_gate.proofs.Says.{Laws, says_done, says_refused, kept_is_done}
 
@@ -182,10 +182,10 @@ module _ (laws : Laws) (command : Option Command) (source source' : SourceState)
 
   pub refused_for : status ≡ Findings
       → (c : Command) × (command ≡ Some c)
-      × ((bytes : List ℕ) × WasRead source source' bytes × ((d : ADocument) × IsDocumentOf c bytes d × (¬ HasAcceptedPolicies d)))
+      × ((bytes : List ℕ) × WasRead source source' bytes × ((d : ADocument) × IsDocumentOf c bytes d × (¬ HasPoliciesFor c d)))
   refused_for ends = at command refl (subst (Cause command source source' sink sink') ends (causes command source source' sink sink' status runs))
     where
-      at : (o : Option Command) → command ≡ o → Cause o source source' sink sink' Findings → (c : Command) × (command ≡ Some c) × ((bytes : List ℕ) × WasRead source source' bytes × ((d : ADocument) × IsDocumentOf c bytes d × (¬ HasAcceptedPolicies d)))
+      at : (o : Option Command) → command ≡ o → Cause o source source' sink sink' Findings → (c : Command) × (command ≡ Some c) × ((bytes : List ℕ) × WasRead source source' bytes × ((d : ADocument) × IsDocumentOf c bytes d × (¬ HasPoliciesFor c d)))
       at None is (text, due) = absurd due
       at (Some c) is (text, (bytes, read, answer)) = (c, is, (bytes, read, says_refused laws c bytes text answer))
 

@@ -31,15 +31,16 @@ use Rattle.conformance_errors.specs.Written.{request_text, entity_text}
 use Rattle.conformance.specs.Laws.{RequestRulesAreExact, StoreRulesAreExact}
 use Rattle.policy_typing.specs.Conforms.{RequestConforms, StoreConforms}
 use Rattle.policy_validate.specs.Laws.{NoErrorsWhereAccepted, AcceptedAreSound}
+use Rattle.policy_validate.specs.Levels.{NoErrorsWhereAcceptedAt, AcceptedLevelsAreSound}
 use Rattle.id_slices.proofs.Covering.{covers, allows, decision_same}
-use Rattle.policy_gate.specs.Answer.{IsAnswer, IsAnswerIf, IsAnswerFor, IsWellMade, IsAnswerTo, IsRefusedOr, IsWork, found_in, is_whole, partial_request, refusal, refused_data, refused_decision, refused_partial, refused_policies, refused_request, refused_store, refused_with, request_fault, store_fault}
-use Rattle.policy_gate.specs.Headline.{Conforms, HasAcceptedPolicies, IsDocumentOf, KeepsRules, KeepsRulesOf, IsChecked, IsSliced, IsDecided, Says}
+use Rattle.policy_gate.specs.Answer.{IsAnswer, IsAnswerIf, IsAnswerFor, IsWellMade, IsAnswerTo, IsRefusedOr, IsWork, found_in, found_at, refused_levels, is_whole, partial_request, refusal, refused_data, refused_decision, refused_partial, refused_policies, refused_request, refused_store, refused_with, request_fault, store_fault}
+use Rattle.policy_gate.specs.Headline.{Conforms, HasAcceptedPolicies, HasPoliciesAt, HasPoliciesFor, IsDocumentOf, KeepsRules, KeepsRulesOf, IsChecked, IsSliced, IsDecided, Says}
 use Rattle.json_parts.specs.Json.{json_of}
 use Rattle.policy_gate.specs.Reply.{Answer, answer}
 use Rattle.policy_gate.specs.declared.status.Status.{Status}
 use Rattle.policy_gate.specs.declared.status.Status.TheVariants as status
 use Rattle.policy_gate.specs.declared.command.Command.{Command}
-use Rattle.policy_gate.specs.declared.command.Command.TheVariants.{Check, Request as Conformance, Manifest, Slice, Decide}
+use Rattle.policy_gate.specs.declared.command.Command.TheVariants.{Check, Level, Request as Conformance, Manifest, Slice, Decide}
 use Rattle.policy_gate.specs.Command.{width_of}
 use Rattle.policy_documents.proofs.OneReading.{one_reading}
 use Rattle.policy_documents.proofs.KeptLimits.{kept}
@@ -51,6 +52,8 @@ pub record Laws : Type 0 where
   pub requests : RequestRulesAreExact
   pub stores : StoreRulesAreExact
   pub sound : AcceptedAreSound
+  pub errors_at : NoErrorsWhereAcceptedAt
+  pub levels : AcceptedLevelsAreSound
 
 -- ---- refusals
 
@@ -108,6 +111,7 @@ refuses_decision d = either (refused_partial d) (option_or (refused_data d) (ref
 
 pub refuses : (c : Command) (d : Document) → Refuses (refusal c d)
 refuses Check d = refuses_with (found_in d).errors (found_in d)
+refuses (Level n) d = refuses_with (found_at n d).errors (found_at n d)
 refuses Conformance d = refuses_data d
 refuses Manifest d = refuses_with (found_in d).errors (found_in d)
 refuses Slice d = refuses_decision d
@@ -159,6 +163,14 @@ module _ (laws : Laws) (d : Document) where
   unfolding found_in
   not_refused is = ap (λ es. refused_with es (found_in d)) ((laws.errors d.schema d.policies).1 is)
 
+  accepted_at : (n : ℕ) → refused_levels n d ≡ None → HasPoliciesAt n d
+  unfolding found_at
+  accepted_at n h = (laws.errors_at d.schema n d.policies).0 (none_with (found_at n d).errors (found_at n d) h)
+
+  pub not_refused_at : (n : ℕ) → HasPoliciesAt n d → refused_levels n d ≡ None
+  unfolding found_at
+  not_refused_at n is = ap (λ es. refused_with es (found_at n d)) ((laws.errors_at d.schema n d.policies).1 is)
+
   module _ (made : IsWellMade d) where
     request_kept : IsWhole d.request → request_fault d ≡ None → RequestConforms d.schema d.request
     unfolding request_fault
@@ -198,6 +210,7 @@ module _ (laws : Laws) (d : Document) where
     -- where every rule of the command holds nothing is refused
     kept_all : (c : Command) → KeepsRulesOf c d → refusal c d ≡ None
     kept_all Check h = not_refused h
+    kept_all (Level n) h = not_refused_at n h
     kept_all Conformance h = conforms h.request h.store
     kept_all Manifest h = not_refused h
     kept_all Slice h = keeps h
@@ -246,6 +259,9 @@ module _ (laws : Laws) (d : Document) where
 
     says : (c : Command) (v : Data) (text : List ℕ) → IsRead (width_of c) v (Ok d) → refusal c d ≡ None → IsWork c d text → Says c d text
     says Check v text reads none is = record { written = is; accepted = accepted none }
+    says (Level n) v text reads none is =
+        let at = accepted_at n none in
+        record { written = is; accepted = at; enough = laws.levels d.schema made.schema n d.policies made.policies made.keys at }
     says Conformance v text reads none is = conforming none
     says Manifest v text reads none is = record { manifest = is.0; computed = is.1.0; written = is.1.1; accepted = accepted none }
     says Slice v text reads none is = let rules = keeping none in (rules, sliced v text reads rules is)
@@ -282,23 +298,27 @@ no_data d = first (refused_request d) (refused_store d) (mapped_other (λ e. ans
 found_data : (d : Document) (b : Option Answer) → IsFound (option_or (refused_data d) b) → IsFound b
 found_data d b h = found_behind (refused_data d) b (no_data d) h
 
-found_policies : (c : Command) (d : Document) → IsFound (refusal c d) → IsFound (refused_policies d)
-found_policies Check d h = h
-found_policies Conformance d h = absurd (found_data d None (by (refused_data d) h))
+not_accepted : (laws : Laws) (d : Document) → IsFound (refused_policies d) → ¬ HasAcceptedPolicies d
+not_accepted laws d h is = absurd (subst IsFound (not_refused laws d is) h)
+
+not_accepted_at : (laws : Laws) (n : ℕ) (d : Document) → IsFound (refused_levels n d) → ¬ HasPoliciesAt n d
+not_accepted_at laws n d h is = absurd (subst IsFound (not_refused_at laws d n is) h)
+
+found_policies : (laws : Laws) (c : Command) (d : Document) → IsFound (refusal c d) → ¬ HasPoliciesFor c d
+found_policies laws Check d h = not_accepted laws d h
+found_policies laws (Level n) d h = not_accepted_at laws n d h
+found_policies laws Conformance d h = absurd (found_data d None (by (refused_data d) h))
   where
     by : (o : Option Answer) → IsFound o → IsFound (option_or o None)
     by None h = h
     by (Some a) h = h
-found_policies Manifest d h = h
-found_policies Slice d h = found_data d (refused_policies d) (found_behind (refused_partial d) (option_or (refused_data d) (refused_policies d)) (no_partial d) h)
-found_policies Decide d h = found_data d (refused_policies d) (found_behind (refused_partial d) (option_or (refused_data d) (refused_policies d)) (no_partial d) h)
+found_policies laws Manifest d h = not_accepted laws d h
+found_policies laws Slice d h = not_accepted laws d (found_data d (refused_policies d) (found_behind (refused_partial d) (option_or (refused_data d) (refused_policies d)) (no_partial d) h))
+found_policies laws Decide d h = not_accepted laws d (found_data d (refused_policies d) (found_behind (refused_partial d) (option_or (refused_data d) (refused_policies d)) (no_partial d) h))
 
 found_answer : (r : Option Answer) (W : List ℕ → Type 0) (text : List ℕ) → IsRefusedOr r W (answer status.Findings text) → IsFound r
 found_answer None W text is = absurd (cc (is.0))
 found_answer (Some a) W text is = sym (ap (λ b. b.status) is)
-
-not_accepted : (laws : Laws) (d : Document) → IsFound (refused_policies d) → ¬ HasAcceptedPolicies d
-not_accepted laws d h is = absurd (subst IsFound (not_refused laws d is) h)
 
 -- ---- over the bytes
 
@@ -319,16 +339,16 @@ module _ (laws : Laws) (c : Command) (bytes text : List ℕ) where
   says_done is = done_value (json_of bytes) refl is
 
   abbrev SaysRefused : Type 0
-  SaysRefused = (d : Document) × IsDocumentOf c bytes d × (¬ HasAcceptedPolicies d)
+  SaysRefused = (d : Document) × IsDocumentOf c bytes d × (¬ HasPoliciesFor c d)
 
   refused_value : (o : Option Data) → json_of bytes ≡ o → IsAnswerIf c o (answer status.Findings text) → SaysRefused
   refused_value None json is = absurd (cc (ap (λ b. b.status) is))
   refused_value (Some v) json (inl (place, reads, is)) = absurd (cc (ap (λ b. b.status) is))
   refused_value (Some v) json (inr (d, reads, made, is)) =
-      (d, (v, json, reads), not_accepted laws d (found_policies c d (found_answer (refusal c d) (IsWork c d) text is)))
+      (d, (v, json, reads), found_policies laws c d (found_answer (refusal c d) (IsWork c d) text is))
 
   -- where 1 is due, the policies are not accepted
-  pub says_refused : IsAnswer c bytes (answer status.Findings text) → (d : Document) × IsDocumentOf c bytes d × (¬ HasAcceptedPolicies d)
+  pub says_refused : IsAnswer c bytes (answer status.Findings text) → (d : Document) × IsDocumentOf c bytes d × (¬ HasPoliciesFor c d)
   unfolding IsAnswer
   says_refused is = refused_value (json_of bytes) refl is
 

@@ -20,6 +20,7 @@ use Rattle.finding_texts.specs.Findings.{Findings}
 use Rattle.finding_texts.specs.Written.{findings_text}
 use Rattle.findings.specs.declared.error.ValidationError.{ValidationError}
 use Rattle.policy_validate.specs.Accepted.{findings_of}
+use Rattle.policy_validate.specs.Levels.{level_findings_of}
 use Rattle.conformance.specs.RequestRules.{first_request_fault}
 use Rattle.conformance.specs.StoreRules.{first_store_fault}
 use Rattle.conformance_errors.specs.Written.{request_text, entity_text}
@@ -34,13 +35,17 @@ use Rattle.policy_writing.specs.SliceJson.{slice_text, response_text}
 use Rattle.policy_gate.specs.Command.{width_of}
 use Rattle.policy_gate.specs.Reply.{Answer, answer}
 use Rattle.policy_gate.specs.declared.command.Command.{Command}
-use Rattle.policy_gate.specs.declared.command.Command.TheVariants.{Check, Request as Conformance, Manifest as Reads, Slice, Decide}
+use Rattle.policy_gate.specs.declared.command.Command.TheVariants.{Check, Level, Request as Conformance, Manifest as Reads, Slice, Decide}
 use Rattle.policy_gate.specs.declared.status.Status.{Status}
 use Rattle.policy_gate.specs.declared.status.Status.TheVariants as status
 
 -- what is found of the document's policies
 unfoldable pub found_in : Document → Findings
 found_in d = findings_of d.schema d.policies
+
+-- and where they are checked for a level
+unfoldable pub found_at : ℕ → Document → Findings
+found_at n d = level_findings_of d.schema n d.policies
 
 -- the first rule that its request breaks, where all extensions are there
 unfoldable pub request_fault : Document → Option RequestValidationError
@@ -82,6 +87,9 @@ status_of (e ∷ es) = status.Findings
 abbrev pub refused_policies : Document → Option Answer
 refused_policies d = refused_with (found_in d).errors (found_in d)
 
+abbrev pub refused_levels : ℕ → Document → Option Answer
+refused_levels n d = refused_with (found_at n d).errors (found_at n d)
+
 -- the first that there is of these, in the order of the rules that a command looks at
 abbrev pub refused_data : Document → Option Answer
 refused_data d = option_or (refused_request d) (refused_store d)
@@ -91,6 +99,7 @@ refused_decision d = option_or (refused_partial d) (option_or (refused_data d) (
 
 abbrev pub refusal : Command → Document → Option Answer
 refusal Check d = refused_policies d
+refusal (Level n) d = refused_levels n d
 refusal Conformance d = refused_data d
 refusal Reads d = refused_policies d
 refusal Slice d = refused_decision d
@@ -108,6 +117,7 @@ manifest_text m = compact_text (manifest_data m) ++ codes "\n"
 -- the whole store
 abbrev pub IsWork : Command → Document → List ℕ → Type 0
 IsWork Check d text = text ≡ findings_text (found_in d)
+IsWork (Level n) d text = text ≡ findings_text (found_at n d)
 IsWork Conformance d text = text ≡ codes "conforms\n"
 IsWork Reads d text = (m : Manifest) × IsManifestOf d.schema d.policies.policies m × (text ≡ manifest_text m)
 IsWork Slice d text = text ≡ slice_text (response d.policies.policies d.request (slice_of d)) (slice_of d)

@@ -9,15 +9,16 @@ use Rattle.serde_json.specs.Data.{Data}
 use Rattle.finding_texts.specs.Written.{findings_text}
 use Rattle.policy_typing.specs.Conforms.{RequestConforms, StoreConforms}
 use Rattle.policy_validate.specs.Accepted.{IsAccepted}
+use Rattle.policy_validate.specs.Levels.{IsAcceptedAt, CutIsEnough}
 use Rattle.id_slices.specs.Cover.{Covers, AreAllowedBetween}
 use Rattle.policy_writing.specs.SliceJson.{slice_text, response_text}
 use Rattle.json_parts.specs.Json.{json_of}
 use Rattle.entity_manifest.specs.Manifest.{Manifest as Tries}
 use Rattle.manifest_computation.specs.Computed.{IsManifestOf}
-use Rattle.policy_gate.specs.Answer.{found_in, manifest_text, request_fault, slice_of}
+use Rattle.policy_gate.specs.Answer.{found_in, found_at, manifest_text, request_fault, slice_of}
 use Rattle.policy_gate.specs.Command.{width_of}
 use Rattle.policy_gate.specs.declared.command.Command.{Command}
-use Rattle.policy_gate.specs.declared.command.Command.TheVariants.{Check, Request, Manifest, Slice, Decide}
+use Rattle.policy_gate.specs.declared.command.Command.TheVariants.{Check, Level, Request, Manifest, Slice, Decide}
 
 -- the document that the bytes are, among those that the command takes
 abbrev pub IsDocumentOf : Command → List ℕ → Document → Type 0
@@ -26,6 +27,10 @@ IsDocumentOf command bytes d = (v : Data) × (json_of bytes ≡ Some v) × IsRea
 -- the policies of the document are accepted
 abbrev pub HasAcceptedPolicies : Document → Type 0
 HasAcceptedPolicies d = IsAccepted d.schema d.policies
+
+-- they are accepted at a level
+abbrev pub HasPoliciesAt : ℕ → Document → Type 0
+HasPoliciesAt n d = IsAcceptedAt d.schema n d.policies
 
 -- its request breaks no rule (entries that are not known break none), and its store conforms to the schema
 pub record Conforms (d : Document) : Type 0 where
@@ -45,15 +50,28 @@ pub record KeepsRules (d : Document) : Type 0 where
 -- it keeps every rule of the command
 abbrev pub KeepsRulesOf : Command → Document → Type 0
 KeepsRulesOf Check d = HasAcceptedPolicies d
+KeepsRulesOf (Level n) d = HasPoliciesAt n d
 KeepsRulesOf Request d = Conforms d
 KeepsRulesOf Manifest d = HasAcceptedPolicies d
 KeepsRulesOf Slice d = KeepsRules d
 KeepsRulesOf Decide d = KeepsRules d
 
+-- the policies keep what the command asks of policies
+abbrev pub HasPoliciesFor : Command → Document → Type 0
+HasPoliciesFor (Level n) d = HasPoliciesAt n d
+HasPoliciesFor c d = HasAcceptedPolicies d
+
 -- the text is the findings on the document's policies, which are accepted: there may be warnings
 pub record IsChecked (d : Document) (text : List ℕ) : Type 0 where
   pub written : text ≡ findings_text (found_in d)
   pub accepted : HasAcceptedPolicies d
+
+-- the text is the findings on the document's policies, which are accepted at the level. So on the store cut at the level each of them has the
+-- outcome that it has on the whole store, for each request and store that conform
+pub record IsCheckedAt (n : ℕ) (d : Document) (text : List ℕ) : Type 0 where
+  pub written : text ≡ findings_text (found_at n d)
+  pub accepted : HasPoliciesAt n d
+  pub enough : CutIsEnough d.schema n d.policies
 
 -- the text is the manifest of the document's policies, which are accepted: what they read and ask for in each environment of the schema
 pub record IsManifested (d : Document) (text : List ℕ) : Type 0 where
@@ -79,6 +97,7 @@ pub record IsDecided (d : Document) (text : List ℕ) : Type 0 where
 -- what 0 says
 abbrev pub Says : Command → Document → List ℕ → Type 0
 Says Check d text = IsChecked d text
+Says (Level n) d text = IsCheckedAt n d text
 Says Request d text = Conforms d
 Says Manifest d text = IsManifested d text
 Says Slice d text = KeepsRules d × IsSliced d text

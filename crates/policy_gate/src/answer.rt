@@ -6,7 +6,7 @@ ghost use Rattle.conformance.specs.Misfits.{knows};
 ghost use Rattle.conformance.specs.RequestRules.{first_request_fault};
 ghost use Rattle.conformance_errors.specs.Written.{request_text};
 ghost use Rattle.finding_texts.specs.Written.{findings_text};
-ghost use Rattle.policy_gate.specs.Answer.{AreKeysOnce, IsAnswer, IsAnswerFor, IsAnswerTo, IsRefusedOr, IsWellMade, IsWork, found_in, manifest_text, refused_data, refused_decision, refused_policies, refused_request, refused_store, refused_with, request_fault, status_of, store_fault};
+ghost use Rattle.policy_gate.specs.Answer.{AreKeysOnce, IsAnswer, IsAnswerFor, IsAnswerTo, IsRefusedOr, IsWellMade, IsWork, found_at, found_in, manifest_text, refused_data, refused_decision, refused_policies, refused_request, refused_store, refused_with, request_fault, status_of, store_fault};
 ghost use Rattle.policy_gate.specs.Reply.{reply_view};
 
 use crate::command::{Command, width_of};
@@ -94,6 +94,7 @@ fn reply_to(alloc: Global, command: Command, document: &Document) -> Result<Repl
 {
     match command {
         Command::Check => with_findings(alloc, document),
+        Command::Level(level) => with_levels(alloc, document, level),
         Command::Request => conforming(alloc, document),
         Command::Manifest => with_manifest(alloc, document),
         Command::Slice => cut(alloc, document),
@@ -106,6 +107,14 @@ fn with_findings(alloc: Global, document: &Document) -> Result<Reply, AllocError
     ensures { IfOk result (λ r. IsAnswerTo Command.Check document.now (reply_view r)) }
 {
     let found = found_in(alloc, document)?;
+    told(alloc, &found)
+}
+
+// The findings on the policies, which are checked for a level.
+fn with_levels(alloc: Global, document: &Document, level: u32) -> Result<Reply, AllocError>
+    ensures { IfOk result (λ r. IsAnswerTo (Command.Level level) document.now (reply_view r)) }
+{
+    let found = found_at(alloc, document, level)?;
     told(alloc, &found)
 }
 
@@ -334,4 +343,13 @@ fn found_in(alloc: Global, document: &Document) -> Result<ValidationResult, Allo
 {
     let validator = Validator::new(&document.schema);
     validator.validate(alloc, &document.policies, ValidationMode::Strict)
+}
+
+// And where they are checked for a level.
+#[tactic(auto, unfolding(crate::specs::Answer::found_at))]
+fn found_at(alloc: Global, document: &Document, level: u32) -> Result<ValidationResult, AllocError>
+    ensures { IfOk result (λ found. found ≡ found_at level document.now) }
+{
+    let validator = Validator::new(&document.schema);
+    validator.validate_with_level(alloc, &document.policies, ValidationMode::Strict, level)
 }

@@ -6,7 +6,7 @@ ghost use Rattle.outside.specs.Steps.{IsQuiet};
 ghost use Rattle.policy_gate.specs.Answer.{IsAnswer};
 ghost use Rattle.policy_gate.specs.Command.{command_of};
 ghost use Rattle.policy_documents.specs.declared.document.Document.{Document};
-ghost use Rattle.policy_gate.specs.Headline.{Conforms, HasAcceptedPolicies, IsChecked, IsDecided, IsDocumentOf, IsManifested, IsSliced, KeepsRules, KeepsRulesOf};
+ghost use Rattle.policy_gate.specs.Headline.{Conforms, HasPoliciesFor, IsChecked, IsCheckedAt, IsDecided, IsDocumentOf, IsManifested, IsSliced, KeepsRules, KeepsRulesOf};
 ghost use Rattle.policy_gate.specs.Reply.{answer, reply_view};
 ghost use Rattle.policy_gate.specs.Run.{Cause, Gives, IsDue, IsDueAfterReading, Runs};
 ghost use Rattle.policy_gate.specs.Status.{IsAfterEnd};
@@ -17,7 +17,10 @@ use crate::reply::{Reply, reply_with};
 use crate::status::Status;
 use conformance::laws::{request_rules_are_exact, store_rules_are_exact};
 use outside::{DOCUMENT_LIMIT, ReadError, Sink, Source, read_document_bytes, write_text};
-use policy_validate::laws::{accepted_are_sound, no_errors_where_accepted};
+use policy_validate::laws::{
+    accepted_are_sound, accepted_levels_are_sound, no_errors_where_accepted,
+    no_errors_where_accepted_at,
+};
 use std::alloc::{AllocError, Global};
 
 const USAGE: &str =
@@ -135,6 +138,14 @@ pub fn run<S: Source, K: Sink>(
         × ((document : Document) × IsDocumentOf Command.Check bytes document × IsChecked document text)
         × Appends (K.state sink.old).holds (K.state sink.new).holds text }
 
+    // Where `level` ends with 0 the policies are accepted at the level, and the text is what is found of them: warnings alone. Then on a store cut
+    // at the level each policy has the outcome that it has on the whole store, where request and store conform.
+    ensures levelled { (level : ℕ) → command_of (map string_bytes words.now.items) ≡ Some (Command.Level level)
+        → result ≡ Status.Done
+        → (bytes : List ℕ) × (text : List ℕ) × WasRead (S.state source.old) (S.state source.new) bytes
+        × ((document : Document) × IsDocumentOf (Command.Level level) bytes document × IsCheckedAt level document text)
+        × Appends (K.state sink.old).holds (K.state sink.new).holds text }
+
     // Where `request` ends with 0 the document's request breaks no rule, and its store conforms.
     ensures conforming { command_of (map string_bytes words.now.items) ≡ Some Command.Request
         → result ≡ Status.Done
@@ -158,11 +169,11 @@ pub fn run<S: Source, K: Sink>(
         × ((document : Document) × IsDocumentOf Command.Decide bytes document × KeepsRules document × IsDecided document text)
         × Appends (K.state sink.old).holds (K.state sink.new).holds text }
 
-    // A command finds errors in the policies of no other documents than those whose policies are not accepted.
+    // A command finds errors in the policies of no other documents than those whose policies are not accepted, for `level` at the level.
     ensures refused { result ≡ Status.Findings
         → (command : Command) × (command_of (map string_bytes words.now.items) ≡ Some command)
         × ((bytes : List ℕ) × WasRead (S.state source.old) (S.state source.new) bytes
-        × ((document : Document) × IsDocumentOf command bytes document × (¬ HasAcceptedPolicies document))) }
+        × ((document : Document) × IsDocumentOf command bytes document × (¬ HasPoliciesFor command document))) }
 
     // And 0 comes wherever every rule of the command holds, unless memory runs out.
     ensures complete { (command : Command) (bytes : List ℕ) (document : Document)
@@ -177,5 +188,7 @@ pub fn run<S: Source, K: Sink>(
     request_rules_are_exact();
     store_rules_are_exact();
     accepted_are_sound();
+    no_errors_where_accepted_at();
+    accepted_levels_are_sound();
     outcome(alloc, words, source, sink)
 }

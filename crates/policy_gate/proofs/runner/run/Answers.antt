@@ -1,5 +1,5 @@
 use Rattle.policy_gate.proofs.Runs.{both_for, causes, complete_for, done_for, exact_for, read_for, refused_for, too_long_for, too_long_told, usage_for}
-use Rattle.policy_gate.specs.declared.command.Command.TheVariants.{Check, Request, Manifest, Slice, Decide}
+use Rattle.policy_gate.specs.declared.command.Command.TheVariants.{Check, Level, Request, Manifest, Slice, Decide}
 use Rattle.policy_gate.specs.Headline.{IsSliced, IsDecided}
 use Rattle.policy_gate.proofs.Says.{Laws}
 use Rattle.policy_gate.proofs.runner.run.Goals as goal
@@ -26,24 +26,27 @@ returns-clause-exact g c command bytes is told short q q' =
 
 pub returns-clause-headline : goal.returns-clause-headline
 returns-clause-headline g c is ends =
-    both_for (record { errors = c.no_errors_where_accepted.ensures; requests = c.request_rules_are_exact.ensures; stores = c.store_rules_are_exact.ensures; sound = c.accepted_are_sound.ensures }) _ _ _ _ _ _ c.outcome.ensures.runs Slice IsSliced (done_for (record { errors = c.no_errors_where_accepted.ensures; requests = c.request_rules_are_exact.ensures; stores = c.store_rules_are_exact.ensures; sound = c.accepted_are_sound.ensures }) _ _ _ _ _ _ c.outcome.ensures.runs Slice is ends)
+    both_for (record { errors = c.no_errors_where_accepted.ensures; requests = c.request_rules_are_exact.ensures; stores = c.store_rules_are_exact.ensures; sound = c.accepted_are_sound.ensures; errors_at = c.no_errors_where_accepted_at.ensures; levels = c.accepted_levels_are_sound.ensures }) _ _ _ _ _ _ c.outcome.ensures.runs Slice IsSliced (done_for (record { errors = c.no_errors_where_accepted.ensures; requests = c.request_rules_are_exact.ensures; stores = c.store_rules_are_exact.ensures; sound = c.accepted_are_sound.ensures; errors_at = c.no_errors_where_accepted_at.ensures; levels = c.accepted_levels_are_sound.ensures }) _ _ _ _ _ _ c.outcome.ensures.runs Slice is ends)
 
 pub returns-clause-checked : goal.returns-clause-checked
-returns-clause-checked g c is ends = done_for (record { errors = c.no_errors_where_accepted.ensures; requests = c.request_rules_are_exact.ensures; stores = c.store_rules_are_exact.ensures; sound = c.accepted_are_sound.ensures }) _ _ _ _ _ _ c.outcome.ensures.runs Check is ends
+returns-clause-checked g c is ends = done_for (record { errors = c.no_errors_where_accepted.ensures; requests = c.request_rules_are_exact.ensures; stores = c.store_rules_are_exact.ensures; sound = c.accepted_are_sound.ensures; errors_at = c.no_errors_where_accepted_at.ensures; levels = c.accepted_levels_are_sound.ensures }) _ _ _ _ _ _ c.outcome.ensures.runs Check is ends
+
+pub returns-clause-levelled : goal.returns-clause-levelled
+returns-clause-levelled g c level is ends = done_for (record { errors = c.no_errors_where_accepted.ensures; requests = c.request_rules_are_exact.ensures; stores = c.store_rules_are_exact.ensures; sound = c.accepted_are_sound.ensures; errors_at = c.no_errors_where_accepted_at.ensures; levels = c.accepted_levels_are_sound.ensures }) _ _ _ _ _ _ c.outcome.ensures.runs (Level level) is ends
 
 pub returns-clause-conforming : goal.returns-clause-conforming
-returns-clause-conforming g c is ends = done_for (record { errors = c.no_errors_where_accepted.ensures; requests = c.request_rules_are_exact.ensures; stores = c.store_rules_are_exact.ensures; sound = c.accepted_are_sound.ensures }) _ _ _ _ _ _ c.outcome.ensures.runs Request is ends
+returns-clause-conforming g c is ends = done_for (record { errors = c.no_errors_where_accepted.ensures; requests = c.request_rules_are_exact.ensures; stores = c.store_rules_are_exact.ensures; sound = c.accepted_are_sound.ensures; errors_at = c.no_errors_where_accepted_at.ensures; levels = c.accepted_levels_are_sound.ensures }) _ _ _ _ _ _ c.outcome.ensures.runs Request is ends
 
 pub returns-clause-manifested : goal.returns-clause-manifested
-returns-clause-manifested g c is ends = done_for (record { errors = c.no_errors_where_accepted.ensures; requests = c.request_rules_are_exact.ensures; stores = c.store_rules_are_exact.ensures; sound = c.accepted_are_sound.ensures }) _ _ _ _ _ _ c.outcome.ensures.runs Manifest is ends
+returns-clause-manifested g c is ends = done_for (record { errors = c.no_errors_where_accepted.ensures; requests = c.request_rules_are_exact.ensures; stores = c.store_rules_are_exact.ensures; sound = c.accepted_are_sound.ensures; errors_at = c.no_errors_where_accepted_at.ensures; levels = c.accepted_levels_are_sound.ensures }) _ _ _ _ _ _ c.outcome.ensures.runs Manifest is ends
 
 pub returns-clause-decided : goal.returns-clause-decided
 returns-clause-decided g c is ends =
-    both_for (record { errors = c.no_errors_where_accepted.ensures; requests = c.request_rules_are_exact.ensures; stores = c.store_rules_are_exact.ensures; sound = c.accepted_are_sound.ensures }) _ _ _ _ _ _ c.outcome.ensures.runs Decide IsDecided (done_for (record { errors = c.no_errors_where_accepted.ensures; requests = c.request_rules_are_exact.ensures; stores = c.store_rules_are_exact.ensures; sound = c.accepted_are_sound.ensures }) _ _ _ _ _ _ c.outcome.ensures.runs Decide is ends)
+    both_for (record { errors = c.no_errors_where_accepted.ensures; requests = c.request_rules_are_exact.ensures; stores = c.store_rules_are_exact.ensures; sound = c.accepted_are_sound.ensures; errors_at = c.no_errors_where_accepted_at.ensures; levels = c.accepted_levels_are_sound.ensures }) _ _ _ _ _ _ c.outcome.ensures.runs Decide IsDecided (done_for (record { errors = c.no_errors_where_accepted.ensures; requests = c.request_rules_are_exact.ensures; stores = c.store_rules_are_exact.ensures; sound = c.accepted_are_sound.ensures; errors_at = c.no_errors_where_accepted_at.ensures; levels = c.accepted_levels_are_sound.ensures }) _ _ _ _ _ _ c.outcome.ensures.runs Decide is ends)
 
 pub returns-clause-refused : goal.returns-clause-refused
-returns-clause-refused g c ends = refused_for (record { errors = c.no_errors_where_accepted.ensures; requests = c.request_rules_are_exact.ensures; stores = c.store_rules_are_exact.ensures; sound = c.accepted_are_sound.ensures }) _ _ _ _ _ _ c.outcome.ensures.runs ends
+returns-clause-refused g c ends = refused_for (record { errors = c.no_errors_where_accepted.ensures; requests = c.request_rules_are_exact.ensures; stores = c.store_rules_are_exact.ensures; sound = c.accepted_are_sound.ensures; errors_at = c.no_errors_where_accepted_at.ensures; levels = c.accepted_levels_are_sound.ensures }) _ _ _ _ _ _ c.outcome.ensures.runs ends
 
 pub returns-clause-complete : goal.returns-clause-complete
 returns-clause-complete g c command bytes document is told short q q' of keeps =
-    complete_for (record { errors = c.no_errors_where_accepted.ensures; requests = c.request_rules_are_exact.ensures; stores = c.store_rules_are_exact.ensures; sound = c.accepted_are_sound.ensures }) bytes document _ _ _ _ _ told q _ command c.outcome.ensures.runs is short q' of keeps
+    complete_for (record { errors = c.no_errors_where_accepted.ensures; requests = c.request_rules_are_exact.ensures; stores = c.store_rules_are_exact.ensures; sound = c.accepted_are_sound.ensures; errors_at = c.no_errors_where_accepted_at.ensures; levels = c.accepted_levels_are_sound.ensures }) bytes document _ _ _ _ _ told q _ command c.outcome.ensures.runs is short q' of keeps

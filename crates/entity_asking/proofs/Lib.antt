@@ -1,0 +1,5 @@
+mod PlaceSteps
+pub mod PointSteps
+mod FollowSteps
+mod DemandSteps
+mod BeginSteps

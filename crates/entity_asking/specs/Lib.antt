@@ -1,0 +1,5 @@
+pub mod Places
+pub mod Wants
+pub mod Stuck
+pub mod Begun
+pub mod Answered
