@@ -263,7 +263,7 @@ module _ (laws : Laws) (d : Document) where
         let at = accepted_at n none in
         record { written = is; accepted = at; enough = laws.levels d.schema made.schema n d.policies made.policies made.keys at }
     says Conformance v text reads none is = conforming none
-    says Manifest v text reads none is = record { manifest = is.0; computed = is.1.0; written = is.1.1; accepted = accepted none }
+    says Manifest v text reads none is = record { manifest = is.0; computed = is.1; written = is.2; accepted = accepted none }
     says Slice v text reads none is = let rules = keeping none in (rules, sliced v text reads rules is)
     says Decide v text reads none is = let rules = keeping none in (rules, decided text rules is)
     -- ---- what 1 says
