@@ -39,3 +39,7 @@ pub same_paths : (f : Option NodeData → Bool) (g : Bool → Bool) (ns : Table)
 same_paths f g ns c h [] i u = h i u ∙ sym (ap (λ b. passes g b []) (branch_is ns c i))
 same_paths f g ns c h (e ∷ es) i u =
     some_same f g ns e es (same_paths f g ns c h es) i (links_at ns i) (c.each i (omega arith)) ∙ sym (ap (λ b. passes g b (e ∷ es)) (branch_is ns c i))
+
+-- behind the first edge too, whether the node is there or not
+pub same_below : (f : Option NodeData → Bool) (g : Bool → Bool) (ns : Table) → IsClosed 0 ns → ((i : ℕ) → i < length ns → f (slice_get ns i) ≡ g (has_mark (slice_get ns i))) → (i : ℕ) (e : Edge) (es : Address) → at_path f ns i (e ∷ es) ≡ some_passes g (branches_by (branch_at ns) (links_at ns i)) e es
+same_below f g ns c h i e es = some_same f g ns e es (same_paths f g ns c h es) i (links_at ns i) (c.each i (omega arith))

@@ -156,9 +156,9 @@ impl Edge {
     }
 }
 
-// The order of edges.
+/// The order of edges.
 #[tactic(auto, using(crate::proofs::Order::then_end))]
-pub(crate) fn compare(a: &Edge, b: &Edge) -> Ordering
+pub fn compare(a: &Edge, b: &Edge) -> Ordering
     ensures { result ≡ edge_cmp a.now b.now }
 {
     match (a, b) {

@@ -82,8 +82,13 @@ fn add_edges(edges: &mut Vec<Edge>, path: &AccessPath) -> Result<(), AllocError>
     Ok(())
 }
 
-// The trie of all these addresses, half by half, so that no trie is copied more often than halves are made.
-fn all_of(alloc: Global, addresses: &[Vec<Edge>], mark: bool) -> Result<RootAccessTrie, AllocError>
+/// The trie of all these addresses and their fronts, marked at all their ends or nowhere. It is made half by half, so that no
+/// trie is copied more often than halves are made.
+pub fn all_of(
+    alloc: Global,
+    addresses: &[Vec<Edge>],
+    mark: bool,
+) -> Result<RootAccessTrie, AllocError>
     ensures { IfOk result (IsOf (addresses_in addresses.now) mark) }
 {
     match addresses {

@@ -8,8 +8,8 @@ mod table;
 mod tries;
 mod views;
 
-pub use edge::{AccessPath, Edge, EntityRoot, Step};
-pub use least::least_trie;
+pub use edge::{AccessPath, Edge, EntityRoot, Step, compare};
+pub use least::{all_of, least_trie};
 pub use table::{Link, Node, links_of, mark_of};
 pub use tries::{AccessTrie, RootAccessTrie};
 pub use views::{Children, RootTrieRef, Roots, TrieRef};

@@ -1,3 +1,5 @@
 mod Entries
+pub mod Floats
 mod Keeping
 mod TagSteps
+mod TypedAgain

@@ -1,3 +1,4 @@
+pub mod Laws
 pub mod Manifest
 pub mod ManifestJson
 pub mod Mismatches

@@ -4,6 +4,7 @@
 mod declared;
 mod error;
 mod faults;
+pub mod laws;
 mod manifest;
 mod types;
 mod write;
