@@ -1,5 +1,5 @@
 -- No manifest is written with a float.
-use Rattle.std.proofs.Common.{◌≡◌, List, [], ◌∷◌, map, false, refl}
+use Rattle.std.proofs.Common.{◌≡◌, [], ◌∷◌, map, false, refl}
 use Rattle.serde_json.specs.View.{items_of}
 use Rattle.serde_json.specs.Written.{has_float, items_have_float}
 use Rattle.trie_documents.proofs.Floats.{root_trie_has_none}

@@ -1,5 +1,5 @@
 -- What is typed stays as it is when it is typed again.
-use Rattle.std.specs.Prelude.{◌≡◌, List, [], ◌∷◌, None}
+use Rattle.std.specs.Prelude.{◌≡◌, [], ◌∷◌, None}
 use Rattle.std.specs.List.{AllByRecursion}
 use Rattle.schema_core.specs.Schema.{SchemaData}
 use Rattle.access_tries.specs.Table.{IsTable}

@@ -1,5 +1,5 @@
 -- Merging field by field, and uniting id by id.
-use Rattle.std.proofs.Common.{◌≡◌, ℕ, List, [], ◌∷◌, Option, Some, None, cond, refl, sym, ap, ◌∙◌, subst}
+use Rattle.std.proofs.Common.{◌≡◌, ℕ, Bool, true, false, List, [], ◌∷◌, Option, Some, None, cond, refl, sym, ap, ◌∙◌, subst}
 use Rattle.std.specs.declared.cmp.Ordering.{Ordering}
 use Rattle.std.specs.declared.cmp.Ordering.TheVariants.{Less, Equal, Greater}
 use Rattle.std.specs.Ordering.{is_eq, match_ordering, ordering_reverse}
@@ -128,3 +128,8 @@ united_more (x ∷ xs) y ys up = by (uid_cmp y x) refl (united_more xs y ys up) 
 pub later_ids : (y : EntityUID) (ys : List EntityUID) → IsStrictlySortedBy uid_cmp (y ∷ ys) → IsStrictlySortedBy uid_cmp ys
 unfolding IsStrictlySortedBy
 later_ids y ys up = up.1
+
+-- what stands at an id after the old entity was taken away and another put there
+pub kept_at : {X : Type 0} (b : Bool) (new made old mid : Option X) → new ≡ made → mid ≡ cond b None old → cond b new mid ≡ cond b made old
+kept_at true new made old mid e f = e
+kept_at false new made old mid e f = f
