@@ -109,11 +109,7 @@ fn read_request_type(alloc: Global, value: &Value) -> Result<Option<RequestType>
     }
 }
 
-fn read_pair(
-    alloc: Global,
-    request_type: &Value,
-    trie: &Value,
-) -> Result<Option<Entry>, AllocError>
+fn read_pair(alloc: Global, request_type: &Value, trie: &Value) -> Result<Option<Entry>, AllocError>
     ensures { IfOk result (λ o. o ≡ entry_form (request_type_of (view request_type.now)) (option_map places_in (trie_of (view trie.now)))) }
 {
     let Some(request_type) = read_request_type(alloc, request_type)? else {
