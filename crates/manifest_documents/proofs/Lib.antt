@@ -1,0 +1,4 @@
+mod Filling
+mod Items
+mod Saying
+mod TagSteps
