@@ -1,7 +1,6 @@
 -- What a schema tells of its entity types, actions and contexts.
-use Rattle.std.specs.Prelude.{ℕ, List, [], Option, Some, None, map, refl}
+use Rattle.std.specs.Prelude.{ℕ, List, Option, Some, None, map, refl}
 use Rattle.std.specs.List.{filter}
-use Rattle.std.specs.Option.{option_map}
 use Rattle.std.specs.Coded.{Coded, coded×, coded_ℕ, coded_list, coded_option, code_by}
 use Rattle.policy_names.specs.declared.entity_uid.EntityUID.{EntityUID}
 use Rattle.policy_store.specs.Store.{StoredEntity}

@@ -81,10 +81,7 @@ fn describe(
 }
 
 // The ids that the type lists, where it is enumerated.
-fn listed(
-    alloc: Global,
-    declared: &ValidatorEntityType,
-) -> Result<Option<Vec<Eid>>, AllocError>
+fn listed(alloc: Global, declared: &ValidatorEntityType) -> Result<Option<Vec<Eid>>, AllocError>
     ensures { IfOk result (λ eids. option_map (λ v. v.items) eids ≡ listed_in declared.now.kind) }
 {
     match declared.kind() {
@@ -104,10 +101,7 @@ fn copies_of(alloc: Global, eids: &Vec<Eid>) -> Result<Vec<Eid>, AllocError>
 }
 
 // The type of the tags, where there are tags.
-fn tags_of(
-    alloc: Global,
-    declared: &ValidatorEntityType,
-) -> Result<Option<SchemaType>, AllocError>
+fn tags_of(alloc: Global, declared: &ValidatorEntityType) -> Result<Option<SchemaType>, AllocError>
     requires { IfSome (tags_in declared.now.kind) (λ t. plain t ≡ Some t) }
     ensures { IfOk result (λ tags. tags ≡ tags_in declared.now.kind) }
 {

@@ -48,6 +48,7 @@ impl<'a> CoreSchema<'a> {
 
 impl<'a> Schema for CoreSchema<'a> {
     type EntityTypeDescription = EntityTypeDescription;
+
     type ActionEntity = Entity;
 
     ghost described_types = { described_types };

@@ -1,6 +1,5 @@
 use Rattle.std.proofs.Common.{ap, ◌∙◌, refl}
-use Rattle.core_schema.specs.Described.{action_of, ancestors_of}
-use Rattle.schema_types.specs.CoreSchema.{ActionDescription}
+use Rattle.core_schema.specs.Described.{action_of}
 use Rattle.core_schema.proofs.Found.{ancestors_are}
 use Rattle.core_schema.proofs.actions.action_entity.Goals as goal
 
