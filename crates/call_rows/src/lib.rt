@@ -3,8 +3,10 @@
 
 use entity_merging::merge_values;
 use level_slices::slice_at_level;
-use policy_documents::{parse_json, read_document, read_value};
+use policy_documents::{Document, parse_json, read_document, read_value};
+use policy_store::{Entities, Entity};
 use policy_writing::{write_entity, write_value};
+use serde_json::Value;
 use std::alloc::Global;
 use std::test::Fail;
 
@@ -23,23 +25,50 @@ const BOB: &str =
 
 // The document's store cut at the level, a bar behind each entity.
 fn cut(alloc: Global, level: u32) -> Result<String, Fail> {
-    let mut text = String::new(alloc);
-    let Some(value) = parse_json(alloc, DOCUMENT.as_bytes())? else {
-        return Ok(text);
-    };
-    let Ok(document) = read_document(alloc, &value) else {
-        return Ok(text);
-    };
+    match parse_json(alloc, DOCUMENT.as_bytes())? {
+        Some(value) => {
+            let text = cut_value(alloc, &value, level);
+            drop(value);
+            text
+        }
+        None => Ok(String::new(alloc)),
+    }
+}
+
+fn cut_value(alloc: Global, value: &Value, level: u32) -> Result<String, Fail> {
+    match read_document(alloc, value) {
+        Ok(document) => {
+            let text = cut_store(alloc, &document, level);
+            drop(document);
+            text
+        }
+        Err(_) => Ok(String::new(alloc)),
+    }
+}
+
+fn cut_store(alloc: Global, document: &Document, level: u32) -> Result<String, Fail> {
     if !document.request.is_whole() {
-        return Ok(text);
+        return Ok(String::new(alloc));
     }
     let store = slice_at_level(alloc, &document.request, &document.entities, level)?;
+    let text = written(alloc, &store);
+    drop(store);
+    text
+}
+
+fn written(alloc: Global, store: &Entities) -> Result<String, Fail> {
+    let mut text = String::new(alloc);
     for entity in store.iter() {
-        let written = write_entity(alloc, entity)?.to_string(alloc)?;
-        text.push_str(written.as_str())?;
-        text.push_str("|")?;
+        add_entity(alloc, &mut text, entity)?;
     }
     Ok(text)
+}
+
+fn add_entity(alloc: Global, text: &mut String, entity: &Entity) -> Result<(), Fail> {
+    let written = write_entity(alloc, entity)?.to_string(alloc)?;
+    text.push_str(written.as_str())?;
+    text.push_str("|")?;
+    Ok(())
 }
 
 #[test]
@@ -63,17 +92,33 @@ fn stores_are_cut_at_levels(rt: HostRuntime) -> Result<(), Fail> {
 
 // The values that two JSON texts say, merged; `none` where they do not merge, and nothing where one says no value.
 fn merged(alloc: Global, a: &str, b: &str) -> Result<String, Fail> {
-    let (Some(a), Some(b)) = (
-        parse_json(alloc, a.as_bytes())?,
-        parse_json(alloc, b.as_bytes())?,
-    ) else {
-        return Ok(String::new(alloc));
-    };
-    let (Some(a), Some(b)) = (read_value(alloc, &a)?, read_value(alloc, &b)?) else {
-        return Ok(String::new(alloc));
-    };
-    match merge_values(alloc, &a, &b)? {
-        Some(value) => Ok(write_value(alloc, &value)?.to_string(alloc)?),
+    match (value_of(alloc, a)?, value_of(alloc, b)?) {
+        (Some(a), Some(b)) => merged_values(alloc, &a, &b),
+        _ => Ok(String::new(alloc)),
+    }
+}
+
+fn value_of(alloc: Global, text: &str) -> Result<Option<policy_values::Value>, Fail> {
+    match parse_json(alloc, text.as_bytes())? {
+        Some(json) => {
+            let value = read_value(alloc, &json);
+            drop(json);
+            Ok(value?)
+        }
+        None => Ok(None),
+    }
+}
+
+fn merged_values(
+    alloc: Global,
+    a: &policy_values::Value,
+    b: &policy_values::Value,
+) -> Result<String, Fail> {
+    match merge_values(alloc, a, b)? {
+        Some(value) => {
+            let text = write_value(alloc, &value)?.to_string(alloc)?;
+            Ok(text)
+        }
         None => Ok(String::from_str(alloc, "none")?),
     }
 }
