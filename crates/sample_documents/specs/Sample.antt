@@ -36,10 +36,10 @@ sample_schema = codes "{\"schema\":{\"entityTypes\":{\"Group\":{},\"User\":{\"me
 unfoldable pub sample_policies : List ℕ
 sample_policies = codes ",\"policies\":[{\"id\":\"p0\",\"effect\":\"permit\",\"body\":[{\"when\":{\"<=\":[{\"get\":[{\"var\":\"principal\"},\"manager\",\"level\"]},{\"get\":[{\"var\":\"resource\"},\"level\"]}]}}]},{\"id\":\"p1\",\"effect\":\"forbid\",\"principal\":{\"in\":[\"Group\",\"g0\"]}}]"
 
--- the first of size users asks to view the last
+-- the first user asks to view another
 unfoldable pub sample_request : ℕ → List ℕ
-sample_request size = codes ",\"request\":{\"principal\":[\"User\",\"u0\"],\"action\":[\"Action\",\"view\"],\"resource\":[\"User\",\"u" ++ (decimal (size - 1) ++ codes "\"],\"context\":{}}")
+sample_request other = codes ",\"request\":{\"principal\":[\"User\",\"u0\"],\"action\":[\"Action\",\"view\"],\"resource\":[\"User\",\"u" ++ (decimal other ++ codes "\"],\"context\":{}}")
 
--- the document of a seed with size users
+-- the document of a seed with size users: the first asks to view the last
 abbrev pub sample_document : ℕ → ℕ → List ℕ
-sample_document seed size = sample_schema ++ sample_policies ++ sample_request size ++ codes ",\"entities\":[" ++ users_text seed size size ++ codes "]}"
+sample_document seed size = sample_schema ++ sample_policies ++ sample_request (size - 1) ++ codes ",\"entities\":[" ++ users_text seed size size ++ codes "]}"

@@ -1,6 +1,6 @@
 //! The text of a document.
 
-ghost use Rattle.std.specs.Prelude.{◌≡◌, ◌≤◌, ◌++◌, IfOk, OnOk, string_bytes};
+ghost use Rattle.std.specs.Prelude.{◌≡◌, ◌<◌, ◌++◌, IfOk, OnOk, string_bytes};
 ghost use Rattle.std.specs.Fn.{iterate};
 ghost use Rattle.sample_documents.specs.Sample.{comma, drawn_user, next_state, sample_document, sample_policies, sample_request, sample_schema, user_text, users_text};
 
@@ -21,36 +21,32 @@ const POLICIES: &str =
 /// Fails where there is no memory.
 #[tactic(auto, unfolding(crate::specs::Sample::sample_schema, crate::specs::Sample::sample_policies))]
 pub fn sample_document(alloc: Global, seed: u64, size: u64) -> Result<String, AllocError>
-    requires { 1 ≤ size }
     ensures { IfOk result (λ text. string_bytes text ≡ sample_document seed size) }
 {
     let mut text = String::new(alloc);
     text.push_str(SCHEMA)?;
     text.push_str(POLICIES)?;
-    add_request(&mut text, size)?;
+    add_request(&mut text, size.saturating_sub(1))?;
     text.push_str(r#","entities":["#)?;
     add_users(&mut text, seed, size)?;
     text.push_str("]}")?;
     Ok(text)
 }
 
-// Adds the request: the first user asks to view the last.
+// Adds the request: the first user asks to view the user number `other`.
 #[tactic(auto, unfolding(crate::specs::Sample::sample_request))]
-fn add_request(text: &mut String, size: u64) -> Result<(), AllocError>
-    requires { 1 ≤ size }
-    ensures { OnOk result (string_bytes text.new ≡ string_bytes text.old ++ sample_request size) }
+fn add_request(text: &mut String, other: u64) -> Result<(), AllocError>
+    ensures { OnOk result (string_bytes text.new ≡ string_bytes text.old ++ sample_request other) }
 {
-    let last = size - 1;
     write!(
         text,
-        ",\"request\":{{\"principal\":[\"User\",\"u0\"],\"action\":[\"Action\",\"view\"],\"resource\":[\"User\",\"u{last}\"],\"context\":{{}}}}"
+        ",\"request\":{{\"principal\":[\"User\",\"u0\"],\"action\":[\"Action\",\"view\"],\"resource\":[\"User\",\"u{other}\"],\"context\":{{}}}}"
     )?;
     Ok(())
 }
 
 // Adds the users.
 fn add_users(text: &mut String, seed: u64, size: u64) -> Result<(), AllocError>
-    requires { 1 ≤ size }
     ensures { OnOk result (string_bytes text.new ≡ string_bytes text.old ++ users_text seed size size) }
 {
     let mut draws = Draws::new(seed);
@@ -73,7 +69,7 @@ fn add_comma(text: &mut String, i: u64) -> Result<(), AllocError>
 
 // Adds the user number `i`, with the next three draws.
 fn add_user(text: &mut String, draws: &mut Draws, i: u64, size: u64) -> Result<(), AllocError>
-    requires { 1 ≤ size }
+    requires { i < size }
     ensures steps { draws.new.state ≡ iterate next_state 3 draws.old.state }
     ensures added { OnOk result (string_bytes text.new ≡ string_bytes text.old ++ drawn_user draws.old.state size i) }
 {
