@@ -1,0 +1,12 @@
+mod LendSteps
+mod AskSteps
+mod AnswerSteps
+mod KeepSteps
+mod RoundSteps
+mod NoteSteps
+mod PointSteps
+mod ReachSteps
+mod KeptSteps
+mod StateSteps
+mod AddSteps
+mod StoreSteps

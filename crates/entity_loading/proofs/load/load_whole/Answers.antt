@@ -1,0 +1,39 @@
+use Rattle.std.proofs.Common.{sym, subst, arith}
+use Rattle.entity_asking.specs.Begun.{PathsWithin, IsFirst}
+use Rattle.entity_loading.proofs.load.load_whole.Goals as goal
+
+pub load_rounds-requires-clause-start : goal.load_rounds-requires-clause-start
+load_rounds-requires-clause-start g c = λ q h. subst (λ ns. IsFirst ns q) (sym c.nodes.ensures.nodes) (c.in-Ok.ensures.first q h)
+
+pub returns-in-Err-load_rounds-clause-rounds : goal.returns-in-Err-load_rounds-clause-rounds
+returns-in-Err-load_rounds-clause-rounds g c = λ n w. c.load_rounds.ensures.rounds n (subst (λ ns. PathsWithin ns n) (sym c.nodes.ensures.nodes) w)
+
+pub returns-in-Err-load_rounds-clause-steps : goal.returns-in-Err-load_rounds-clause-steps
+returns-in-Err-load_rounds-clause-steps g c = λ n w. c.load_rounds.ensures.steps n (subst (λ ns. PathsWithin ns n) (sym c.nodes.ensures.nodes) w)
+
+pub returns-in-Err-with_ancestors-clause-rounds : goal.returns-in-Err-with_ancestors-clause-rounds
+returns-in-Err-with_ancestors-clause-rounds g c = λ n w.
+    let a = c.load_rounds.ensures.rounds n (subst (λ ns. PathsWithin ns n) (sym c.nodes.ensures.nodes) w) in
+    let b = c.with_ancestors.ensures.rounds in
+    omega (arith, a, b)
+
+pub returns-in-Err-with_ancestors-clause-steps : goal.returns-in-Err-with_ancestors-clause-steps
+returns-in-Err-with_ancestors-clause-steps g c = λ n w. c.load_rounds.ensures.steps n (subst (λ ns. PathsWithin ns n) (sym c.nodes.ensures.nodes) w)
+
+pub returns-in_err-store_of-clause-rounds : goal.returns-in_err-store_of-clause-rounds
+returns-in_err-store_of-clause-rounds g c = λ n w.
+    let a = c.load_rounds.ensures.rounds n (subst (λ ns. PathsWithin ns n) (sym c.nodes.ensures.nodes) w) in
+    let b = c.with_ancestors.ensures.rounds in
+    omega (arith, a, b)
+
+pub returns-in_err-store_of-clause-steps : goal.returns-in_err-store_of-clause-steps
+returns-in_err-store_of-clause-steps g c = λ n w. c.load_rounds.ensures.steps n (subst (λ ns. PathsWithin ns n) (sym c.nodes.ensures.nodes) w)
+
+pub returns-clause-rounds : goal.returns-clause-rounds
+returns-clause-rounds g c = λ n w.
+    let a = c.load_rounds.ensures.rounds n (subst (λ ns. PathsWithin ns n) (sym c.nodes.ensures.nodes) w) in
+    let b = c.with_ancestors.ensures.rounds in
+    omega (arith, a, b)
+
+pub returns-clause-steps : goal.returns-clause-steps
+returns-clause-steps g c = λ n w. c.load_rounds.ensures.steps n (subst (λ ns. PathsWithin ns n) (sym c.nodes.ensures.nodes) w)
