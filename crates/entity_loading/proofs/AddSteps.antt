@@ -4,6 +4,7 @@ use Rattle.std.specs.BTreeMap.{BTreeMap, get}
 use Rattle.std.specs.List.{AllByRecursion}
 use Rattle.std.specs.List.Sorted.{IsStrictlySortedBy}
 use Rattle.std.specs.Map.{keys_of}
+use Rattle.std.specs.Option.{option_map}
 use Rattle.std.specs.declared.cmp.Ordering.TheVariants.{Less}
 use Rattle.policy_names.specs.declared.entity_uid.EntityUID.{EntityUID}
 use Rattle.policy_names.specs.Uid.{uid_cmp, uid_eq}
@@ -12,6 +13,7 @@ use Rattle.policy_reads.proofs.Lists.{same_uid}
 use Rattle.entity_loader.specs.declared.loader.AncestorsRequest.{AncestorsRequest}
 use Rattle.entity_loading.specs.declared.lent.Lent.{Lent}
 use Rattle.entity_loading.specs.Answering.{AreUnderIds}
+use Rattle.entity_loading.specs.KeptPart.{bare, AreAlike}
 
 -- an entity is put under its id
 pub under_put : (old new : BTreeMap EntityUID StoredEntity) (u : EntityUID) (e : StoredEntity) → AreUnderIds old → ((x : EntityUID) → get uid_cmp new x ≡ cond (uid_eq u x) (Some e) (get uid_cmp old x)) → e.uid ≡ u → AreUnderIds new
@@ -54,3 +56,12 @@ ids_done rs rest e h = subst (IsStrictlySortedBy uid_cmp) (ap (λ es. ids_of rs 
     nil_right : (xs : List EntityUID) → xs ++ [] ≡ xs
     nil_right [] = refl
     nil_right (x ∷ xs) = ap (λ ys. x ∷ ys) (nil_right xs)
+
+-- ---- the same but for ancestors
+
+pub alike_put : (old new : BTreeMap EntityUID StoredEntity) (u : EntityUID) (e d : StoredEntity) → get uid_cmp old u ≡ Some d → bare e ≡ bare d → ((x : EntityUID) → get uid_cmp new x ≡ cond (uid_eq u x) (Some e) (get uid_cmp old x)) → AreAlike (get uid_cmp new) (get uid_cmp old)
+alike_put old new u e d had same put x = by (uid_eq u x) refl
+  where
+    by : (b : Bool) → uid_eq u x ≡ b → option_map bare (get uid_cmp new x) ≡ option_map bare (get uid_cmp old x)
+    by true f = ap (option_map bare) (put x ∙ ap (λ c. cond c (Some e) (get uid_cmp old x)) f) ∙ ap Some same ∙ ap (option_map bare) (sym had ∙ ap (get uid_cmp old) (same_uid u x f))
+    by false f = ap (option_map bare) (put x ∙ ap (λ c. cond c (Some e) (get uid_cmp old x)) f)

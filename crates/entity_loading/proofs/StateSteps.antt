@@ -27,7 +27,8 @@ use Rattle.entity_loader.specs.declared.loader.EntityRequest.{EntityRequest}
 use Rattle.entity_loading.specs.Keeping.{Found}
 use Rattle.entity_loading.specs.Reached.{IsReached, HasOrder}
 use Rattle.entity_loading.specs.Rounds.{AsksFor, AreAnswers, IsRound, IsComplete, IsSound}
-use Rattle.entity_loading.specs.KeptPart.{IsState, IsBegun}
+use Rattle.std.specs.Option.{option_map}
+use Rattle.entity_loading.specs.KeptPart.{IsState, IsBegun, IsLoaded, AreAlike, bare, along}
 use Rattle.entity_loading.proofs.KeptSteps.{kept_more, kept_start}
 use Rattle.entity_loading.proofs.PointSteps.{entity_or, entity_any, fields_kept, tags_kept, fields_cut, tags_cut}
 use Rattle.entity_loading.proofs.ReachSteps.{front_leads, start_reached, entity_leads, further_reached, reached_asked}
@@ -154,4 +155,15 @@ state_start exact ns q s start old begun none = record {
   complete = complete_start ns q s start begun.asked;
   sound = sound_start ns q s start begun.asked begun.context;
   part = kept_start exact s ns old none;
+}
+
+-- what is loaded, where what is found is alike what is kept
+pub loaded : (exact : Bool) (ns : Table) (q : Request) (s found : Store) (asked : List Place) (kept : Found) → IsState exact ns q s asked [] kept → AreAlike (entity_at found) kept → IsLoaded exact ns q s found
+loaded exact ns q s found asked kept t alike = record {
+  choice = t.part.choice;
+  is = λ x. alike x ∙ ap (option_map bare) (t.part.is x);
+  chains = λ x c r. t.part.chains x c (asked_reached ns q s asked t.complete false x (along c) r);
+  tags = λ x n c r. t.part.tags x n c (asked_reached ns q s asked t.complete false x (AnyTag ∷ along c) r);
+  only_chains = λ e x c h. t.sound.reached false x (along c) (or_true (wants false ns asked x (along c)) (wants false ns [] x (along c)) (t.part.only_chains e x c h));
+  only_tags = λ e x n c h. t.sound.reached false x (AnyTag ∷ along c) (or_true (wants false ns asked x (AnyTag ∷ along c)) (wants false ns [] x (AnyTag ∷ along c)) (t.part.only_tags e x n c h));
 }

@@ -17,7 +17,7 @@ use Rattle.entity_asking.specs.Begun.{roots_point}
 use Rattle.entity_asking.specs.Wants.{Adds, wants}
 use Rattle.entity_asking.specs.declared.place.Place.{Place}
 use Rattle.entity_loading.specs.Keeping.{Found}
-use Rattle.entity_loading.specs.Reached.{HasOrder}
+use Rattle.entity_loading.specs.Reached.{IsReached, HasOrder}
 use Rattle.entity_loading.specs.Rounds.{IsComplete, IsSound}
 
 -- what a choice leaves of an entity
@@ -49,3 +49,21 @@ pub record IsBegun (ns : Table) (q : Request) (s : Store) (start : List Place) :
   pub asked : Adds ns (roots_point ns q) [] start
   pub order : HasOrder s
   pub context : (r : EntityRoot) → IsOrdered (root_value q r)
+
+-- an entity without its ancestors
+abbrev pub bare : StoredEntity → StoredEntity
+bare e = record e { ancestors = [] }
+
+-- the same entities with the same attributes and tags
+abbrev pub AreAlike : Found → Found → Type 0
+AreAlike f g = (x : EntityUID) → option_map bare (f x) ≡ option_map bare (g x)
+
+-- what is found has, but for ancestors, what a choice leaves of the store: at least what paths of the trie reach; where the loader is exact,
+-- just that
+pub record IsLoaded (exact : Bool) (ns : Table) (q : Request) (s found : Store) : Type 0 where
+  pub choice : Keep
+  pub is : AreAlike (entity_at found) (λ x. left choice x (entity_at s x))
+  pub chains : (x : EntityUID) (c : Chain) → IsReached false ns q s x (along c) → choice.chains x c ≡ true
+  pub tags : (x : EntityUID) (n : List ℕ) (c : Chain) → IsReached false ns q s x (AnyTag ∷ along c) → choice.tags x (n ∷ c) ≡ true
+  pub only_chains : exact ≡ true → (x : EntityUID) (c : Chain) → choice.chains x c ≡ true → IsReached false ns q s x (along c)
+  pub only_tags : exact ≡ true → (x : EntityUID) (n : List ℕ) (c : Chain) → choice.tags x (n ∷ c) ≡ true → IsReached false ns q s x (AnyTag ∷ along c)

@@ -1,6 +1,7 @@
 //! The ancestors that are asked for after the last round.
 
 ghost use Rattle.std.specs.Prelude.{◌≡◌, length, map, Some, IfOk, IfErr, OnOk};
+ghost use Rattle.std.specs.BTreeMap.{get};
 ghost use Rattle.std.specs.List.{AllZip};
 ghost use Rattle.std.specs.List.Sorted.{IsStrictlySortedBy};
 ghost use Rattle.access_tries.specs.Table.{IsTable};
@@ -11,6 +12,7 @@ ghost use Rattle.policy_store.specs.Request.{IsWhole};
 ghost use Rattle.policy_store.specs.Store.{Store};
 ghost use Rattle.entity_loading.specs.Answering.{AreUnderIds};
 ghost use Rattle.entity_loading.specs.Causes.{CauseOf, IsRight};
+ghost use Rattle.entity_loading.specs.KeptPart.{bare, AreAlike};
 
 use crate::error::EntitySliceError;
 use crate::lent::lent_tries;
@@ -39,6 +41,7 @@ pub(crate) fn with_ancestors<D: EntityLoader>(
     ensures goes_on { Continues (D.state loader.old) (D.state loader.new) }
     ensures rounds { (D.state loader.new).rounds ≡ (D.state loader.old).rounds }
     ensures ids { IfOk result AreUnderIds }
+    ensures alike { IfOk result (λ found. AreAlike (get uid_cmp found) (get uid_cmp loaded.kept)) }
     ensures cause { IfErr result (CauseOf (λ v. ⊥) (D.state loader.old) (D.state loader.new)) }
 {
     let Loaded { asked, mut kept } = loaded;
@@ -126,7 +129,8 @@ fn add_all(
     kept: &mut BTreeMap<EntityUID, Entity>,
 ) -> Result<(), AllocError>
     requires { AreUnderIds kept.old }
-    ensures { OnOk result (AreUnderIds kept.new) }
+    ensures ids { OnOk result (AreUnderIds kept.new) }
+    ensures alike { OnOk result (AreAlike (get uid_cmp kept.new) (get uid_cmp kept.old)) }
 {
     let mut lists = lists.into_iter();
     for request in requests {
@@ -144,7 +148,8 @@ fn add_ancestors(
     kept: &mut BTreeMap<EntityUID, Entity>,
 ) -> Result<(), AllocError>
     requires { AreUnderIds kept.old }
-    ensures { OnOk result (AreUnderIds kept.new) }
+    ensures ids { OnOk result (AreUnderIds kept.new) }
+    ensures alike { OnOk result (AreAlike (get uid_cmp kept.new) (get uid_cmp kept.old)) }
 {
     let Some(entity) = kept.get(uid) else {
         return Ok(());
@@ -155,7 +160,7 @@ fn add_ancestors(
 }
 
 fn with_more(alloc: Global, entity: &Entity, ids: Vec<EntityUID>) -> Result<Entity, AllocError>
-    ensures { IfOk result (λ e. e.uid ≡ entity.now.uid) }
+    ensures { IfOk result (λ e. bare e ≡ bare entity.now) }
 {
     let mut ancestors = entity.ancestors().clone()?;
     for id in ids {

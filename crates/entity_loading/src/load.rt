@@ -1,12 +1,20 @@
 //! Loading the entities that a trie reads.
 
-ghost use Rattle.std.specs.Prelude.{◌≡◌, ◌⊎◌, ◌≤◌, ◌+◌, ◌↔◌, ℕ, IfOk, IfErr};
-ghost use Rattle.std.specs.BTreeMap.{values};
+ghost use Rattle.std.specs.Prelude.{◌≡◌, ◌⊎◌, ◌≤◌, ◌+◌, ◌↔◌, ℕ, Some, IfOk, IfErr};
+ghost use Rattle.std.specs.BTreeMap.{get, values};
+ghost use Rattle.access_tries.specs.declared.edge.EntityRoot.{EntityRoot};
 ghost use Rattle.entity_asking.specs.Begun.{PathsWithin, SomeRootSticks};
 ghost use Rattle.entity_loader.specs.State.{Continues};
+ghost use Rattle.policy_names.specs.Uid.{uid_cmp};
+ghost use Rattle.policy_names.specs.declared.entity_uid.EntityUID.{EntityUID};
+ghost use Rattle.policy_reads.specs.Merge.{IsOrdered};
+ghost use Rattle.policy_reads.specs.Restrict.{root_value};
 ghost use Rattle.policy_store.specs.Request.{IsWhole};
+ghost use Rattle.policy_store.specs.Store.{Store, entity_at};
 ghost use Rattle.entity_loading.specs.Answering.{AreUnderIds};
 ghost use Rattle.entity_loading.specs.Causes.{CauseOf, IsPartial};
+ghost use Rattle.entity_loading.specs.KeptPart.{IsLoaded};
+ghost use Rattle.entity_loading.specs.Reached.{HasOrder};
 ghost use Rattle.entity_loading.specs.Rounds.{Sticks};
 
 use crate::ancestors::with_ancestors;
@@ -36,6 +44,7 @@ pub fn load_trie<D: EntityLoader, L: Ledger>(
     ensures rounds { (n : ℕ) → PathsWithin trie.now n → (D.state loader.new).rounds ≤ (D.state loader.old).rounds + (n + 1) }
     ensures steps { (n : ℕ) → PathsWithin trie.now n → steps.new ≤ steps.old + (n + 1) }
     ensures partial { IsPartial result ↔ (IsWhole request.now → ⊥) }
+    ensures honest { (s : Store) → (D.state loader.old).store ≡ Some s → HasOrder s → ((r : EntityRoot) → IsOrdered (root_value request.now r)) → IfOk result (IsLoaded (D.state loader.old).exact trie.now request.now s) }
     ensures cause { IsWhole request.now → IfErr result (CauseOf (λ v. SomeRootSticks trie.now request.now v ⊎ Sticks trie.now v) (D.state loader.old) (D.state loader.new)) }
 {
     if !request.is_whole() {
@@ -56,6 +65,7 @@ fn load_whole<D: EntityLoader, L: Ledger>(
     ensures goes_on { Continues (D.state loader.old) (D.state loader.new) }
     ensures rounds { (n : ℕ) → PathsWithin trie.now n → (D.state loader.new).rounds ≤ (D.state loader.old).rounds + (n + 1) }
     ensures steps { (n : ℕ) → PathsWithin trie.now n → steps.new ≤ steps.old + (n + 1) }
+    ensures honest { (s : Store) → (D.state loader.old).store ≡ Some s → HasOrder s → ((r : EntityRoot) → IsOrdered (root_value request.now r)) → IfOk result (IsLoaded (D.state loader.old).exact trie.now request.now s) }
     ensures cause { IfErr result (CauseOf (λ v. SomeRootSticks trie.now request.now v ⊎ Sticks trie.now v) (D.state loader.old) (D.state loader.new)) }
 {
     let start = match first_places(alloc, request, trie) {
@@ -76,7 +86,8 @@ fn load_whole<D: EntityLoader, L: Ledger>(
 // The store of what is kept.
 fn store_of(alloc: Global, mut kept: BTreeMap<EntityUID, Entity>) -> Result<Entities, AllocError>
     requires { AreUnderIds kept }
-    ensures { IfOk result (λ s. s ≡ values kept) }
+    ensures values { IfOk result (λ s. s ≡ values kept) }
+    ensures at { IfOk result (λ s. (x : EntityUID) → entity_at s x ≡ get uid_cmp kept x) }
 {
     let mut store = Entities::new(alloc);
     while let Some((_uid, entity)) = kept.pop_first() {

@@ -1,4 +1,9 @@
-use Rattle.std.proofs.Common.{sym, subst, arith}
+use Rattle.std.proofs.Common.{[], sym, ap, ◌∙◌, subst, arith}
+use Rattle.std.specs.BTreeMap.{get}
+use Rattle.std.specs.Option.{option_map}
+use Rattle.policy_names.specs.Uid.{uid_cmp}
+use Rattle.entity_loading.specs.KeptPart.{IsState, IsBegun, bare}
+use Rattle.entity_loading.proofs.StateSteps.{loaded}
 use Rattle.entity_asking.specs.Begun.{PathsWithin, IsFirst}
 use Rattle.entity_loading.proofs.load.load_whole.Goals as goal
 
@@ -37,3 +42,14 @@ returns-clause-rounds g c = λ n w.
 
 pub returns-clause-steps : goal.returns-clause-steps
 returns-clause-steps g c = λ n w. c.load_rounds.ensures.steps n (subst (λ ns. PathsWithin ns n) (sym c.nodes.ensures.nodes) w)
+
+pub returns-clause-honest : goal.returns-clause-honest
+returns-clause-honest g c = λ s told order context.
+    let ns = c.args.trie.now in
+    let q = c.args.request.now in
+    let exact = (g.D.EntityLoader.state c.args.loader.now).exact in
+    let begun : IsBegun ns q s c.in-Ok.start.keys = record { asked = c.in-Ok.ensures.asked; order = order; context = context } in
+    let state = subst (λ t. IsState exact t q s c.in-Ok-load_rounds.loaded.asked.keys [] (get uid_cmp c.in-Ok-load_rounds.loaded.kept)) c.nodes.ensures.nodes
+    (c.in-Ok-load_rounds.ensures.honest s told q (subst (λ t. IsBegun t q s c.in-Ok.start.keys) (sym c.nodes.ensures.nodes) begun)) in
+    loaded exact ns q s c.in_ok-store_of.field-0 c.in-Ok-load_rounds.loaded.asked.keys (get uid_cmp c.in-Ok-load_rounds.loaded.kept) state
+    (λ x. ap (option_map bare) (c.in_ok-store_of.ensures.at x) ∙ c.in-Ok-with_ancestors.ensures.alike x)
