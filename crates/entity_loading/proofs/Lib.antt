@@ -10,3 +10,4 @@ mod KeptSteps
 mod StateSteps
 mod AddSteps
 mod StoreSteps
+mod RightSteps

@@ -5,3 +5,4 @@ pub mod Reached
 pub mod Rounds
 pub mod KeptPart
 pub mod Causes
+pub mod Right

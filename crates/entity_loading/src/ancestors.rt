@@ -43,6 +43,7 @@ pub(crate) fn with_ancestors<D: EntityLoader>(
     ensures ids { IfOk result AreUnderIds }
     ensures alike { IfOk result (λ found. AreAlike (get uid_cmp found) (get uid_cmp loaded.kept)) }
     ensures cause { IfErr result (CauseOf (λ v. ⊥) (D.state loader.old) (D.state loader.new)) }
+    ensures right { (s : Store) → (D.state loader.old).store ≡ Some s → IfErr result (IsRight (λ v. ⊥) (D.state loader.old) (D.state loader.new)) }
 {
     let Loaded { asked, mut kept } = loaded;
     let requests = ancestors_requests(alloc, nodes, request, &asked, &kept)?;

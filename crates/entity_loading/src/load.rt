@@ -12,9 +12,10 @@ ghost use Rattle.policy_reads.specs.Restrict.{root_value};
 ghost use Rattle.policy_store.specs.Request.{IsWhole};
 ghost use Rattle.policy_store.specs.Store.{Store, entity_at};
 ghost use Rattle.entity_loading.specs.Answering.{AreUnderIds};
-ghost use Rattle.entity_loading.specs.Causes.{CauseOf, IsPartial};
+ghost use Rattle.entity_loading.specs.Causes.{CauseOf, IsPartial, IsRight};
 ghost use Rattle.entity_loading.specs.KeptPart.{IsLoaded};
 ghost use Rattle.entity_loading.specs.Reached.{HasOrder};
+ghost use Rattle.entity_loading.specs.Right.{IsStuck};
 ghost use Rattle.entity_loading.specs.Rounds.{Sticks};
 
 use crate::ancestors::with_ancestors;
@@ -46,6 +47,7 @@ pub fn load_trie<D: EntityLoader, L: Ledger>(
     ensures partial { IsPartial result ↔ (IsWhole request.now → ⊥) }
     ensures honest { (s : Store) → (D.state loader.old).store ≡ Some s → HasOrder s → ((r : EntityRoot) → IsOrdered (root_value request.now r)) → IfOk result (IsLoaded (D.state loader.old).exact trie.now request.now s) }
     ensures cause { IsWhole request.now → IfErr result (CauseOf (λ v. SomeRootSticks trie.now request.now v ⊎ Sticks trie.now v) (D.state loader.old) (D.state loader.new)) }
+    ensures right { IsWhole request.now → (s : Store) → (D.state loader.old).store ≡ Some s → HasOrder s → ((r : EntityRoot) → IsOrdered (root_value request.now r)) → IfErr result (IsRight (λ v. SomeRootSticks trie.now request.now v ⊎ IsStuck trie.now request.now s v) (D.state loader.old) (D.state loader.new)) }
 {
     if !request.is_whole() {
         return Err(EntitySliceError::PartialRequest(PartialRequestError {}));
@@ -67,6 +69,7 @@ fn load_whole<D: EntityLoader, L: Ledger>(
     ensures steps { (n : ℕ) → PathsWithin trie.now n → steps.new ≤ steps.old + (n + 1) }
     ensures honest { (s : Store) → (D.state loader.old).store ≡ Some s → HasOrder s → ((r : EntityRoot) → IsOrdered (root_value request.now r)) → IfOk result (IsLoaded (D.state loader.old).exact trie.now request.now s) }
     ensures cause { IfErr result (CauseOf (λ v. SomeRootSticks trie.now request.now v ⊎ Sticks trie.now v) (D.state loader.old) (D.state loader.new)) }
+    ensures right { (s : Store) → (D.state loader.old).store ≡ Some s → HasOrder s → ((r : EntityRoot) → IsOrdered (root_value request.now r)) → IfErr result (IsRight (λ v. SomeRootSticks trie.now request.now v ⊎ IsStuck trie.now request.now s v) (D.state loader.old) (D.state loader.new)) }
 {
     let start = match first_places(alloc, request, trie) {
         Ok(start) => start,

@@ -15,6 +15,7 @@ ghost use Rattle.policy_store.specs.declared.request.Request.{Request};
 ghost use Rattle.entity_loading.specs.KeptPart.{IsState, IsBegun};
 ghost use Rattle.entity_loading.specs.Answering.{AreUnderIds};
 ghost use Rattle.entity_loading.specs.Causes.{CauseOf, IsRight};
+ghost use Rattle.entity_loading.specs.Right.{IsStuck, IsRefused};
 ghost use Rattle.entity_loading.specs.Rounds.{AreAnswers, IsRound, Sticks, AreNoted};
 
 use crate::answers::answers_for;
@@ -81,6 +82,7 @@ fn one_round<D: EntityLoader, L: Ledger>(
     ensures below { IfOk result (λ next. (q : Place) → IsIn q next.keys → IsBelowSome nodes.now pending.now.keys q) }
     ensures cause { IfErr result (CauseOf (Sticks nodes.now) (D.state loader.old) (D.state loader.new)) }
     ensures honest { (s : Store) → (D.state loader.old).store ≡ Some s → IfOk result (λ next. IsRound (D.state loader.old).exact s nodes.now pending.now.keys (get uid_cmp kept.old) (get uid_cmp kept.new) next.keys) }
+    ensures right { (s : Store) → (D.state loader.old).store ≡ Some s → IfErr result (IsRefused (D.state loader.old).exact s nodes.now pending.now.keys (get uid_cmp kept.old) (D.state loader.old) (D.state loader.new)) }
 {
     steps.tick();
     let found = match answers_at(alloc, nodes, pending, loader) {
@@ -123,6 +125,7 @@ pub(crate) fn load_rounds<D: EntityLoader, L: Ledger>(
     ensures none { start.keys ≡ [] → ((D.state loader.new).rounds ≡ (D.state loader.old).rounds) × (steps.new ≡ steps.old) }
     ensures ids { IfOk result (λ loaded. AreUnderIds loaded.kept) }
     ensures honest { (s : Store) → (D.state loader.old).store ≡ Some s → (q : Request) → IsBegun nodes.now q s start.keys → IfOk result (λ loaded. IsState (D.state loader.old).exact nodes.now q s loaded.asked.keys [] (get uid_cmp loaded.kept)) }
+    ensures right { (s : Store) → (D.state loader.old).store ≡ Some s → (q : Request) → IsBegun nodes.now q s start.keys → IfErr result (IsRight (IsStuck nodes.now q s) (D.state loader.old) (D.state loader.new)) }
     ensures cause { IfErr result (CauseOf (Sticks nodes.now) (D.state loader.old) (D.state loader.new)) }
 {
     let mut asked = BTreeSet::new(alloc);

@@ -10,6 +10,8 @@ use Rattle.entity_loading.specs.KeptPart.{IsState}
 use Rattle.entity_loading.specs.Rounds.{IsRound, Sticks}
 use Rattle.entity_loading.proofs.KeepSteps.{none_there}
 use Rattle.entity_loading.proofs.RoundSteps.{AreDeep, deep_first, deep_more, longest, round_within, goes_on_here, goes_later, cause_later}
+use Rattle.entity_loading.specs.Right.{IsRefused}
+use Rattle.entity_loading.proofs.RightSteps.{refused_right}
 use Rattle.entity_loading.proofs.StateSteps.{state_start, state_next}
 use Rattle.entity_loading.proofs.rounds.load_rounds.Goals as goal
 
@@ -105,3 +107,14 @@ returns-in_err-note-clause-steps g c = λ n w.
 pub returns-clause-honest : goal.returns-clause-honest
 returns-clause-honest g c = λ s told q b.
     subst (λ ks. IsState (g.D.EntityLoader.state c.args.loader.now).exact c.args.nodes.now q s c.rounds.asked.keys ks (get uid_cmp c.rounds.kept)) (nil_from_length c.rounds.pending.keys (c.is_empty.ensures.0 c.rounds-test.false)) (c.rounds.invariant.honest s told q b)
+
+pub returns-in-Err-clause-right : goal.returns-in-Err-clause-right
+returns-in-Err-clause-right g c = λ s told q b.
+    let old = g.D.EntityLoader.state c.args.loader.now in
+    let mid = g.D.EntityLoader.state c.rounds.loader in
+    let new = g.D.EntityLoader.state c.one_round.new.loader in
+    let ns = c.args.nodes.now in
+    let ps = c.rounds.pending.keys in
+    let inv = c.rounds.invariant in
+    refused_right old.exact ns q s c.rounds.asked.keys ps (get uid_cmp c.rounds.kept) (inv.honest s told q b) b.order inv.deep.there old mid new inv.goes_on c.in-Err.error
+    (subst (λ e. IsRefused e s ns ps (get uid_cmp c.rounds.kept) mid new c.in-Err.error) inv.goes_on.exact (c.in-Err.ensures.right s (inv.goes_on.told s told)))
