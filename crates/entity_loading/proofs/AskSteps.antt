@@ -1,18 +1,16 @@
 -- Honest answers to the requests for places.
-use Rattle.std.proofs.Common.{◌≡◌, ℕ, Bool, true, false, cond, ◌||◌, List, [], ◌∷◌, map, Option, Some, None, is_some, refl, sym, ap, ◌∙◌, subst, ◌⊎◌, inl, inr}
+use Rattle.std.proofs.Common.{◌≡◌, Bool, true, false, cond, ◌||◌, List, [], ◌∷◌, map, Option, Some, None, is_some, refl, sym, ap, ◌∙◌, subst, ◌⊎◌, inl, inr}
 use Rattle.std.specs.BTreeMap.{BTreeMap, get, is_at}
 use Rattle.std.specs.List.{list_any, AllByRecursion}
 use Rattle.std.specs.Map.{lookup}
 use Rattle.std.proofs.lemmas.Bool.{false≢true}
 use Rattle.policy_names.specs.declared.entity_uid.EntityUID.{EntityUID}
 use Rattle.policy_names.specs.Uid.{uid_cmp, uid_eq}
-use Rattle.policy_store.specs.Store.{StoredEntity, Store}
+use Rattle.policy_store.specs.Store.{Store}
 use Rattle.policy_reads.proofs.Lists.{same_uid, uid_self}
 use Rattle.policy_reads.proofs.Order.{cases}
-use Rattle.access_tries.specs.Edges.{Address}
 use Rattle.access_tries.specs.Table.{Table}
 use Rattle.entity_asking.specs.declared.place.Place.{Place}
-use Rattle.entity_asking.specs.Wants.{sees, wants}
 use Rattle.entity_loader.specs.Answers.{IsHonest}
 use Rattle.entity_loader.specs.declared.loader.EntityRequest.{EntityRequest}
 use Rattle.entity_loading.specs.declared.lent.Lent.{Lent}

@@ -1,5 +1,5 @@
 -- Honest answers are kept.
-use Rattle.std.proofs.Common.{◌≡◌, ◌⊎◌, ℕ, zero, suc, ◌<◌, Bool, true, false, cond, ◌&&◌, ◌||◌, List, [], ◌∷◌, ◌++◌, length, map, Option, Some, None, refl, sym, ap, ◌∙◌, subst, inl, inr, is_some, arith}
+use Rattle.std.proofs.Common.{◌≡◌, ◌⊎◌, ℕ, zero, suc, ◌<◌, Bool, true, false, ◌&&◌, ◌||◌, List, [], ◌∷◌, ◌++◌, length, Option, Some, None, refl, sym, ap, ◌∙◌, subst, inl, inr, is_some, arith}
 use Rattle.std.specs.Prelude.{if◌then◌else◌, filter, slice_get}
 use Rattle.std.specs.List.{list_any}
 use Rattle.std.specs.Option.{option_map}
@@ -12,7 +12,7 @@ use Rattle.access_tries.specs.declared.edge.Edge.TheVariants.{Field, AnyTag}
 use Rattle.access_tries.specs.Edges.{Address}
 use Rattle.access_tries.specs.Table.{Table}
 use Rattle.policy_reads.specs.Merge.{merge_entities, IsEntityOrdered}
-use Rattle.policy_reads.specs.Paths.{Chain, steps_of}
+use Rattle.policy_reads.specs.Paths.{Chain}
 use Rattle.policy_reads.specs.Restrict.{Keep, cut, cut_fields, cut_entity}
 use Rattle.policy_reads.proofs.Cuts.{uid_at}
 use Rattle.policy_reads.proofs.Lists.{IsIn, or_true, or_right, any_in}
@@ -21,13 +21,12 @@ use Rattle.entity_asking.specs.Places.{node_of}
 use Rattle.entity_loading.specs.Reached.{HasOrder}
 use Rattle.entity_loading.proofs.ReachSteps.{any_more, front_leads}
 use Rattle.policy_reads.proofs.Merging.{merge_entities-cut}
-use Rattle.policy_reads.proofs.Order.{IsClosed, cases, cut-same, cut_fields-same, either_keep, IsWellFormed}
+use Rattle.policy_reads.proofs.Order.{IsClosed, cases, cut_fields-same, either_keep, IsWellFormed}
 use Rattle.entity_asking.specs.Wants.{sees, wants}
 use Rattle.entity_asking.specs.declared.place.Place.{Place}
-use Rattle.entity_loader.specs.Answers.{IsHonest, IsGiven}
+use Rattle.entity_loader.specs.Answers.{IsHonest}
 use Rattle.entity_loader.specs.Asked.{asked}
 use Rattle.entity_loader.specs.declared.loader.EntityRequest.{EntityRequest}
-use Rattle.entity_merging.specs.Kept.{kept_with}
 use Rattle.entity_loading.specs.Keeping.{Found, kept_and}
 use Rattle.entity_loading.specs.KeptPart.{left, along, IsKeptPart}
 use Rattle.entity_loading.specs.Rounds.{AsksFor, AreAnswers}

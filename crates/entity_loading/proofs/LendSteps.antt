@@ -7,7 +7,7 @@ use Rattle.std.specs.List.Sorted.{IsStrictlySortedBy}
 use Rattle.policy_names.specs.declared.entity_uid.EntityUID.{EntityUID}
 use Rattle.policy_names.specs.Uid.{uid_cmp, uid_eq}
 use Rattle.access_tries.specs.Edges.{Address}
-use Rattle.access_tries.specs.Table.{Table, at_path, has_mark}
+use Rattle.access_tries.specs.Table.{Table}
 use Rattle.access_tries.specs.Views.{ViewData, whole, IsWith}
 use Rattle.policy_reads.proofs.Lists.{same_uid, or_right}
 use Rattle.entity_asking.specs.declared.place.Place.{Place}
@@ -16,7 +16,7 @@ use Rattle.entity_asking.specs.Wants.{sees, wants}
 use Rattle.entity_loader.specs.declared.loader.EntityRequest.{EntityRequest}
 use Rattle.entity_loading.specs.declared.lent.Lent.{Lent}
 use Rattle.entity_loading.specs.declared.lent.Lent.TheVariants.{One, Many}
-use Rattle.entity_loading.specs.Lending.{view_in, lent_sees, AreLent, Lends, IsUnited, request_of}
+use Rattle.entity_loading.specs.Lending.{lent_sees, AreLent, Lends, IsUnited, request_of}
 
 pub or_false : (a : Bool) → (a || false) ≡ a
 or_false true = refl

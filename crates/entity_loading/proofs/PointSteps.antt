@@ -1,5 +1,5 @@
 -- Where values and entities lead, under tests and cuts.
-use Rattle.std.proofs.Common.{◌≡◌, ◌⊎◌, ℕ, Bool, true, false, ◌&&◌, ◌||◌, List, [], ◌∷◌, ◌++◌, map, Option, Some, None, refl, sym, ap, ◌∙◌, subst, inl, inr}
+use Rattle.std.proofs.Common.{◌≡◌, ◌⊎◌, ℕ, Bool, true, false, ◌&&◌, ◌||◌, List, [], ◌∷◌, ◌++◌, map, Some, refl, sym, ◌∙◌, inl, inr}
 use Rattle.std.specs.Prelude.{if◌then◌else◌}
 use Rattle.std.specs.List.{list_any}
 use Rattle.std.specs.Ordering.{is_eq}
@@ -13,9 +13,9 @@ use Rattle.access_tries.specs.Edges.{Address}
 use Rattle.access_tries.specs.Paths.{edge_of}
 use Rattle.policy_reads.specs.Paths.{Chain, steps_of}
 use Rattle.policy_reads.specs.Restrict.{cut, cut_fields, values_in}
-use Rattle.policy_reads.proofs.Lists.{or_true, or_right, same_text, IsIn}
+use Rattle.policy_reads.proofs.Lists.{or_true, or_right, same_text}
 use Rattle.policy_reads.proofs.Order.{cases}
-use Rattle.entity_asking.proofs.PointSteps.{points_none, fields_point_none, any_point_none}
+use Rattle.entity_asking.proofs.PointSteps.{fields_point_none, any_point_none}
 use Rattle.entity_asking.specs.Wants.{Test, points, fields_point, entity_points}
 
 and_or : (c a b : Bool) → (c && (a || b)) ≡ ((c && a) || (c && b))

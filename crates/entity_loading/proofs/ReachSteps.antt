@@ -1,7 +1,7 @@
 -- What is asked for is what is reached.
-use Rattle.std.proofs.Common.{◌≡◌, ◌⊎◌, ℕ, Bool, true, false, ◌&&◌, ◌||◌, List, [], ◌∷◌, ◌++◌, map, Option, Some, None, refl, sym, ap, ◌∙◌, subst, inl, inr, is_some, append_assoc}
+use Rattle.std.proofs.Common.{◌≡◌, ◌⊎◌, ℕ, Bool, true, false, ◌&&◌, List, [], ◌∷◌, ◌++◌, map, Option, Some, None, refl, sym, ap, ◌∙◌, subst, inl, inr, is_some, append_assoc}
 use Rattle.std.specs.Prelude.{if◌then◌else◌, slice_get}
-use Rattle.std.specs.List.{list_any, flat_map}
+use Rattle.std.specs.List.{list_any}
 use Rattle.std.specs.Option.{option_to_list}
 use Rattle.std.specs.Ordering.{is_eq}
 use Rattle.std.specs.Cmp.{nat_cmp_total}
@@ -19,21 +19,20 @@ use Rattle.access_tries.specs.declared.edge.Edge.TheVariants.{Field, AnyTag, Roo
 use Rattle.access_tries.specs.declared.edge.EntityRoot.{EntityRoot}
 use Rattle.access_tries.specs.declared.table.Link.{Link}
 use Rattle.access_tries.specs.Edges.{Address, rank, first_text, second_text, edge_cmp, edge_eq}
-use Rattle.access_tries.specs.Paths.{AccessPath, edge_of, address_of}
+use Rattle.access_tries.specs.Paths.{edge_of}
 use Rattle.access_tries.specs.Table.{Table, NodeData, at_path, has_mark, links_at}
 use Rattle.access_tries.specs.Views.{ViewData, whole}
 use Rattle.policy_names.proofs.Ties.{equal_of}
 use Rattle.policy_reads.specs.Merge.{IsBelowAll, IsOrdered, AreOrdered, IsEntityOrdered}
 use Rattle.policy_reads.specs.Paths.{Step, along, any_tag}
-use Rattle.policy_reads.specs.Restrict.{values_in, root_value, step, walk, reach}
+use Rattle.policy_reads.specs.Restrict.{values_in, root_value, step, walk}
 use Rattle.policy_reads.proofs.Cuts.{walk_on}
 use Rattle.policy_reads.proofs.Lists.{IsIn, or_true, or_right, any_in, in_flat_map, flat_map_out, same_uid, uid_self, text_self, same_text}
-use Rattle.policy_reads.proofs.Words.{any_out, id_of}
+use Rattle.policy_reads.proofs.Words.{any_out}
 use Rattle.entity_asking.specs.Begun.{root_points, roots_point}
-use Rattle.entity_asking.specs.Places.{node_of}
 use Rattle.entity_asking.specs.Wants.{Test, sees, wants, points, fields_point, entity_points}
 use Rattle.entity_asking.specs.declared.place.Place.{Place}
-use Rattle.entity_loading.specs.Reached.{IsReached, HasOrder}
+use Rattle.entity_loading.specs.Reached.{IsReached}
 use Rattle.entity_loading.proofs.PointSteps.{points_more, in_fields}
 
 -- ---- addresses

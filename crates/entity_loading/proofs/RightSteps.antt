@@ -1,7 +1,6 @@
 -- An honest loader is refused for a path that sticks, for a fault, or for want of memory.
-use Rattle.std.proofs.Common.{◌≡◌, ◌⊎◌, ℕ, ◌<◌, length, Bool, true, false, ◌&&◌, ◌||◌, List, Option, Some, None, inl, inr, sym, ap, ◌∙◌, subst}
+use Rattle.std.proofs.Common.{◌≡◌, ◌<◌, length, Bool, ◌&&◌, List, Option, Some, None, sym, ap, ◌∙◌, subst}
 use Rattle.std.specs.Prelude.{IsSomeAnd}
-use Rattle.policy_names.specs.declared.entity_uid.EntityUID.{EntityUID}
 use Rattle.policy_names.specs.Uid.{uid_eq}
 use Rattle.policy_store.specs.declared.request.Request.{Request}
 use Rattle.policy_store.specs.Store.{StoredEntity, Store, entity_at}
@@ -9,7 +8,6 @@ use Rattle.policy_values.specs.Value.{Val}
 use Rattle.access_tries.specs.Table.{Table}
 use Rattle.policy_reads.specs.Merge.{merge_entities}
 use Rattle.policy_reads.proofs.Lists.{IsIn, or_right, any_in, uid_self}
-use Rattle.std.specs.List.{list_any}
 use Rattle.std.proofs.lemmas.Bool.{and_from}
 use Rattle.entity_asking.specs.Answered.{AnswerSticks, SomeAnswerSticks}
 use Rattle.entity_asking.specs.Places.{node_of}
@@ -24,7 +22,7 @@ use Rattle.entity_loader.specs.declared.loader.EntityRequest.{EntityRequest}
 use Rattle.entity_loading.specs.Causes.{IsRight}
 use Rattle.entity_loading.specs.Keeping.{Found, AreNotTaken, refusal_of}
 use Rattle.entity_loading.specs.KeptPart.{IsState}
-use Rattle.entity_loading.specs.Reached.{IsReached, HasOrder}
+use Rattle.entity_loading.specs.Reached.{HasOrder}
 use Rattle.entity_loading.specs.Right.{IsStuck, IsRefused}
 use Rattle.entity_loading.specs.Rounds.{AsksFor, AreAnswers}
 use Rattle.entity_loading.specs.declared.error.EntitySliceError.{EntitySliceError}

@@ -1,10 +1,10 @@
 -- Steps of rounds.
-use Rattle.std.proofs.Common.{◌≡◌, ◌⊎◌, ℕ, zero, suc, ◌+◌, ◌≤◌, ◌<◌, Bool, true, is_some, List, [], ◌∷◌, length, Option, Some, None, refl, sym, ap, ◌∙◌, arith, inl, inr}
+use Rattle.std.proofs.Common.{◌≡◌, ◌⊎◌, ℕ, zero, suc, ◌+◌, ◌≤◌, ◌<◌, Bool, true, is_some, List, [], ◌∷◌, length, Option, Some, None, refl, ap, ◌∙◌, arith, inl, inr}
 use Rattle.std.specs.Prelude.{IsSomeAnd, slice_get}
 use Rattle.std.specs.List.{AllZip}
 use Rattle.outside.specs.Steps.{Rose}
 use Rattle.policy_names.specs.declared.entity_uid.EntityUID.{EntityUID}
-use Rattle.policy_store.specs.Store.{StoredEntity, Store, entity_at}
+use Rattle.policy_store.specs.Store.{StoredEntity, Store}
 use Rattle.policy_values.specs.Value.{Val}
 use Rattle.access_tries.specs.Table.{Table}
 use Rattle.policy_reads.specs.Merge.{merge_entities}

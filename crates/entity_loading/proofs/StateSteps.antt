@@ -1,28 +1,27 @@
 -- A round goes on: nothing is missed, and nothing else is asked for.
-use Rattle.std.proofs.Common.{◌≡◌, ◌⊎◌, ℕ, ◌<◌, length, Bool, true, false, ◌&&◌, ◌||◌, List, [], ◌∷◌, ◌++◌, map, Option, Some, None, refl, sym, ap, ◌∙◌, subst, inl, inr}
+use Rattle.std.proofs.Common.{◌≡◌, ◌<◌, length, Bool, true, false, ◌&&◌, ◌||◌, List, [], ◌∷◌, map, Option, Some, None, refl, sym, ap, ◌∙◌, subst, inl, inr}
 use Rattle.std.specs.List.{list_any}
 use Rattle.std.proofs.lemmas.Bool.{and_parts, and_from, or_cases, false≢true}
 use Rattle.policy_names.specs.declared.entity_uid.EntityUID.{EntityUID}
 use Rattle.policy_names.specs.Uid.{uid_eq}
 use Rattle.policy_store.specs.declared.request.Request.{Request}
 use Rattle.policy_store.specs.Store.{StoredEntity, Store, entity_at}
-use Rattle.access_tries.specs.declared.edge.Edge.TheVariants.{Field, AnyTag}
+use Rattle.access_tries.specs.declared.edge.Edge.TheVariants.{AnyTag}
 use Rattle.access_tries.specs.declared.edge.EntityRoot.{EntityRoot}
 use Rattle.access_tries.specs.Edges.{Address}
 use Rattle.access_tries.specs.Paths.{edge_of}
 use Rattle.access_tries.specs.Table.{Table}
 use Rattle.policy_reads.specs.Merge.{IsOrdered}
-use Rattle.policy_reads.specs.Paths.{Chain, steps_of}
-use Rattle.policy_reads.specs.Restrict.{Keep, cut_entity, values_in, root_value}
-use Rattle.policy_reads.proofs.Cuts.{uid_at}
+use Rattle.policy_reads.specs.Paths.{steps_of}
+use Rattle.policy_reads.specs.Restrict.{values_in, root_value}
 use Rattle.policy_reads.proofs.Lists.{IsIn, or_true, or_right, any_in, same_uid, uid_self}
 use Rattle.policy_reads.proofs.Words.{any_out}
 use Rattle.entity_asking.specs.Answered.{answer_points, answers_point}
 use Rattle.entity_asking.specs.Begun.{roots_point}
 use Rattle.entity_asking.specs.Places.{node_of}
-use Rattle.entity_asking.specs.Wants.{Test, Adds, sees, wants, points, fields_point, entity_points}
+use Rattle.entity_asking.specs.Wants.{Adds, sees, wants, points, fields_point, entity_points}
 use Rattle.entity_asking.specs.declared.place.Place.{Place}
-use Rattle.entity_loader.specs.Answers.{IsHonest, IsGiven}
+use Rattle.entity_loader.specs.Answers.{IsHonest}
 use Rattle.entity_loader.specs.declared.loader.EntityRequest.{EntityRequest}
 use Rattle.entity_loading.specs.Keeping.{Found}
 use Rattle.entity_loading.specs.Reached.{IsReached, HasOrder}

@@ -1,5 +1,5 @@
 -- What comes for requests.
-use Rattle.std.specs.Prelude.{◌≡◌, ◌≢◌, Bool, true, false, cond, List, [], ◌∷◌, Option, Some, None}
+use Rattle.std.specs.Prelude.{◌≡◌, ◌≢◌, Bool, false, cond, List, [], ◌∷◌, Option, Some, None}
 use Rattle.std.specs.BTreeMap.{BTreeMap, get}
 use Rattle.std.specs.List.{list_any, AllZip, AllByRecursion}
 use Rattle.policy_names.specs.declared.entity_uid.EntityUID.{EntityUID}

@@ -1,5 +1,5 @@
 -- What paths of a trie reach in a store.
-use Rattle.std.specs.Prelude.{◌≡◌, Bool, true, List, ◌∷◌, ◌++◌, map, Some}
+use Rattle.std.specs.Prelude.{◌≡◌, Bool, true, ◌++◌, Some}
 use Rattle.policy_names.specs.declared.entity_uid.EntityUID.{EntityUID}
 use Rattle.policy_store.specs.declared.request.Request.{Request}
 use Rattle.policy_store.specs.Store.{StoredEntity, Store, entity_at}
@@ -8,7 +8,7 @@ use Rattle.access_tries.specs.Edges.{Address}
 use Rattle.access_tries.specs.Paths.{AccessPath, address_of}
 use Rattle.access_tries.specs.Table.{Table}
 use Rattle.access_tries.specs.Views.{whole}
-use Rattle.policy_reads.specs.Merge.{AreOrdered, IsEntityOrdered}
+use Rattle.policy_reads.specs.Merge.{IsEntityOrdered}
 use Rattle.policy_reads.specs.Restrict.{reach}
 use Rattle.policy_reads.proofs.Lists.{IsIn}
 use Rattle.entity_asking.specs.Wants.{sees}

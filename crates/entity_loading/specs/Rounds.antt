@@ -1,5 +1,5 @@
 -- A round of requests.
-use Rattle.std.specs.Prelude.{◌≡◌, ◌⊎◌, ℕ, Bool, true, false, ◌||◌, List, [], Some, None}
+use Rattle.std.specs.Prelude.{◌≡◌, ℕ, Bool, true, false, ◌||◌, List, [], Some, None}
 use Rattle.std.specs.List.{list_any}
 use Rattle.policy_names.specs.declared.entity_uid.EntityUID.{EntityUID}
 use Rattle.policy_names.specs.Uid.{uid_eq}
@@ -8,7 +8,6 @@ use Rattle.policy_store.specs.Store.{StoredEntity, Store, entity_at}
 use Rattle.policy_values.specs.Value.{Val}
 use Rattle.access_tries.specs.Edges.{Address}
 use Rattle.access_tries.specs.Table.{Table}
-use Rattle.policy_reads.proofs.Lists.{IsIn}
 use Rattle.entity_asking.specs.Answered.{answers_point}
 use Rattle.entity_asking.specs.Stuck.{tests_of, EntitySticks}
 use Rattle.entity_asking.specs.Begun.{roots_point}

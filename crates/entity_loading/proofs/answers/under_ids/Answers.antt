@@ -1,7 +1,7 @@
-use Rattle.std.proofs.Common.{◌≡◌, ◌+◌, ◌∷◌, ◌++◌, [], suc, None, Some, sym, ap, ◌∙◌, drop, drop-cons, add-one}
+use Rattle.std.proofs.Common.{◌≡◌, ◌+◌, ◌∷◌, ◌++◌, suc, sym, ap, ◌∙◌, drop, drop-cons, add-one}
 use Rattle.std.specs.Option.{option_to_list}
 use Rattle.std.specs.Vec.Iter.{into_iter_items}
-use Rattle.entity_loading.proofs.AnswerSteps.{finding_next, stray_found, finding_short}
+use Rattle.entity_loading.proofs.AnswerSteps.{finding_next, stray_found}
 use Rattle.entity_loading.proofs.answers.under_ids.Goals as goal
 
 pub loop-request-preserved : goal.loop-request-preserved

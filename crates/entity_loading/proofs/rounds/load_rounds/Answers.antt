@@ -1,15 +1,14 @@
-use Rattle.std.proofs.Common.{◌≡◌, ◌+◌, ◌-◌, ◌≤◌, ◌<◌, ℕ, ◌&&◌, [], length, refl, sym, ap, ◌∙◌, subst, arith, None}
+use Rattle.std.proofs.Common.{◌≡◌, ◌+◌, ◌-◌, ◌&&◌, [], length, refl, sym, ap, ◌∙◌, subst, arith}
 use Rattle.std.proofs.lemmas.Bool.{false≢true}
 use Rattle.std.proofs.lemmas.List.{nil_from_length}
 use Rattle.std.specs.BTreeMap.{get}
 use Rattle.policy_names.specs.Uid.{uid_cmp, uid_eq}
-use Rattle.policy_names.specs.declared.entity_uid.EntityUID.{EntityUID}
 use Rattle.entity_asking.specs.Places.{node_of}
 use Rattle.entity_asking.specs.Wants.{sees}
 use Rattle.entity_loading.specs.KeptPart.{IsState}
-use Rattle.entity_loading.specs.Rounds.{IsRound, Sticks}
+use Rattle.entity_loading.specs.Rounds.{IsRound}
 use Rattle.entity_loading.proofs.KeepSteps.{none_there}
-use Rattle.entity_loading.proofs.RoundSteps.{AreDeep, deep_first, deep_more, longest, round_within, goes_on_here, goes_later, cause_later}
+use Rattle.entity_loading.proofs.RoundSteps.{AreDeep, deep_first, deep_more, longest, round_within, goes_on_here, goes_later}
 use Rattle.entity_loading.specs.Right.{IsRefused}
 use Rattle.entity_loading.proofs.RightSteps.{refused_right}
 use Rattle.entity_loading.proofs.StateSteps.{state_start, state_next}
