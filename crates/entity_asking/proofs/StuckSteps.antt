@@ -18,7 +18,7 @@ use Rattle.access_tries.specs.Edges.{Address, edge_cmp, edge_eq}
 use Rattle.access_tries.specs.Paths.{edge_of}
 use Rattle.access_tries.specs.Table.{Table, NodeData, at_path, has_mark, links_at}
 use Rattle.access_tries.specs.Views.{ViewData, whole, LeadsTo, LeadsNowhere}
-use Rattle.access_tries.proofs.Order.{exact_edge}
+use Rattle.access_tries.specs.EdgeLaws.{exact_edge}
 use Rattle.policy_reads.specs.Paths.{Step, along, any_tag}
 use Rattle.policy_reads.specs.Restrict.{values_in, root_value}
 use Rattle.entity_asking.specs.Begun.{SomeRootSticks}

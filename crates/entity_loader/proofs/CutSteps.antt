@@ -1,5 +1,5 @@
 -- Fields that are cut one after another.
-use Rattle.std.proofs.Common.{◌≡◌, ℕ, ◌≤◌, ◌<◌, Bool, true, false, ◌||◌, length, List, [], ◌∷◌, ◌++◌, map, refl, sym, ap, ◌∙◌, subst, arith, append_assoc}
+use Rattle.std.proofs.Common.{◌≡◌, ℕ, zero, suc, get_or, ◌≤◌, ◌<◌, Bool, true, false, ◌||◌, length, List, [], ◌∷◌, ◌++◌, map, refl, sym, ap, ◌∙◌, subst, arith, append_assoc}
 use Rattle.std.specs.Prelude.{if◌then◌else◌}
 use Rattle.std.specs.List.{list_any, AllByRecursion}
 use Rattle.std.proofs.lemmas.List.Folds.{list_any-append}
@@ -169,3 +169,13 @@ none_in (x ∷ xs) h = absurd (omega (arith, h))
 -- one node alone
 pub asked_alone : (t : ViewData) → asked_by t.nodes (t.number ∷ []) ≡ asked t
 asked_alone t = λ i. record { chains = λ x c. or_nothing (asks t (steps_of c)) i; ancestors = λ x y. false; tags = λ x. by_tag (λ c. or_nothing (asks t (any_tag ∷ steps_of c)) i) }
+
+-- what stands there does not depend on what would stand elsewhere
+pub got_same : {X : Type 0} (xs : List X) (i : ℕ) (d e : X) → i < length xs → get_or xs i d ≡ get_or xs i e
+got_same [] i d e h = absurd (omega (arith, h))
+got_same (x ∷ xs) zero d e h = refl
+got_same (x ∷ xs) (suc i) d e h = got_same xs i d e (omega (arith, h))
+
+-- the node with this number in the table of an equal one
+pub node_in : (v w : ViewData) → v ≡ w → v ≡ record { nodes = w.nodes; number = v.number }
+node_in v w same j = record { nodes = (same j).nodes; number = v.number }

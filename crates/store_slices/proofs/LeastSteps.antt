@@ -19,7 +19,7 @@ use Rattle.access_tries.specs.declared.edge.EntityRoot.TheVariants.{Var}
 use Rattle.access_tries.specs.Edges.{Address, rank, first_text, second_text, edge_cmp, edge_eq}
 use Rattle.access_tries.specs.Paths.{edge_of, address_of, demand_of, has_path, asks, is_front, is_same, IsLeast}
 use Rattle.access_tries.specs.Table.{Table}
-use Rattle.access_tries.proofs.Order.{exact_edge}
+use Rattle.access_tries.specs.EdgeLaws.{exact_edge}
 use Rattle.policy_reads.specs.Paths.{Step, along, any_tag, AccessPath, Demand, Shape, beyond, paths}
 use Rattle.policy_reads.specs.PathTypes.{is_declared_path}
 use Rattle.policy_reads.specs.Reads.{shape_of, wholly, binary_reads, reads, reads_all, reads_named, reads_of, pairs, binary_demands, demands, demands_all, demands_named, demands_of, declared_reads, declared_demands, are_declared}
@@ -235,11 +235,11 @@ either_part d ds es ps rs f g h = by (in_append d ds es h)
 
 of_pairs : (d : Demand) (ps rs : List AccessPath) → IsIn d (pairs ps rs) → IsIn d.0 ps
 of_pairs d [] rs h = h
-of_pairs d (p ∷ ps) rs h = by (in_append d (map (λ r. (p, r)) rs) (pairs ps rs) h)
+of_pairs d (p ∷ ps) rs h = by (of_pairs d ps rs) (in_append d (map (λ r. (p, r)) rs) (pairs ps rs) h)
   where
-    by : IsIn d (map (λ r. (p, r)) rs) ⊎ IsIn d (pairs ps rs) → IsIn d.0 (p ∷ ps)
-    by (inl i) = let m = in_map_out (λ r. demand p r) d rs i in inl (ap (λ e. e.0) m.2)
-    by (inr i) = inr (of_pairs d ps rs i)
+    by : (IsIn d (pairs ps rs) → IsIn d.0 ps) → IsIn d (map (λ r. (p, r)) rs) ⊎ IsIn d (pairs ps rs) → IsIn d.0 (p ∷ ps)
+    by later (inl i) = let m = in_map_out (λ r. demand p r) d rs i in inl (ap (λ e. e.0) m.2)
+    by later (inr i) = inr (later i)
 
 module _ (schema : SchemaData) (env : EnvData) (d : Demand) where
   of_binary : (o : BinaryOp) (a b : Shape) → IsIn d (binary_demands o a b) → IsIn d.0 (binary_reads schema env o a b)

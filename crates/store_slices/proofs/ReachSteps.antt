@@ -19,7 +19,7 @@ use Rattle.access_tries.specs.Edges.{Address, edge_cmp, edge_eq}
 use Rattle.access_tries.specs.Paths.{edge_of, address_of}
 use Rattle.access_tries.specs.Table.{Table, NodeData, at_path, has_mark, links_at}
 use Rattle.access_tries.specs.Views.{whole}
-use Rattle.access_tries.proofs.Order.{exact_edge}
+use Rattle.access_tries.specs.EdgeLaws.{exact_edge}
 use Rattle.policy_names.proofs.Ties.{equal_of}
 use Rattle.policy_reads.specs.Paths.{Step, along, any_tag, AccessPath, beyond}
 use Rattle.policy_reads.specs.Restrict.{root_value, values_in, step, step_in_entity, step_in_record, walk, reach}

@@ -10,7 +10,7 @@ use Rattle.entity_asking.proofs.demand.+marking.Given as goal
 abbrev pub decreases-marks_some : goal.decreases-marks_some
 decreases-marks_some l = length l.trie.now.nodes - l.trie.now.number
 
-abbrev pub invariant-marks_some-loop-link : goal.invariant-marks_some-loop-link
-invariant-marks_some-loop-link l =
+abbrev pub invariant-loop-link : goal.invariant-loop-link
+invariant-loop-link l =
     (n : Step) (ns : List Step) → list_any (λ (k : Link). edge_eq k.edge (edge_of n) && at_path has_mark l.trie.nodes k.number (map edge_of ns)) l.link-items ≡ true
     → list_any (λ (k : Link). edge_eq k.edge (edge_of n) && at_path has_mark l.trie.nodes k.number (map edge_of ns)) (drop l.link-index l.link-items) ≡ true
