@@ -32,7 +32,7 @@ pub(crate) fn is_demanded(trie: &TrieRef<'_>) -> bool
 {
     let nodes = trie.nodes();
     for link in links_of(nodes, trie.number()) {
-        if let Edge::Root(_) = link.edge {
+        if !is_step(&link.edge) {
             if marks_some(&TrieRef::new(nodes, link.number)) {
                 return true;
             }

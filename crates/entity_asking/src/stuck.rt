@@ -27,9 +27,12 @@ pub fn stuck_in_context(
     requires { IsWhole request.now }
     ensures { IfOk result (IsStuck (SomeRootSticks trie.now request.now)) }
 {
-    match (&request.context, trie.trie(&EntityRoot::Var(Var::Context))) {
-        (Some(context), Some(below)) => stuck_below(alloc, context, &below),
-        _ => Ok(None),
+    match trie.trie(&EntityRoot::Var(Var::Context)) {
+        Some(below) => match &request.context {
+            Some(context) => stuck_below(alloc, context, &below),
+            None => Ok(None),
+        },
+        None => Ok(None),
     }
 }
 

@@ -1,4 +1,4 @@
-use Rattle.std.proofs.Common.{◌≡◌, ◌⊎◌, ◌||◌, Bool, true, suc, inl, inr, sym, ap, ◌∙◌, subst, ◌+◌, ◌∷◌, drop, drop-cons, add-one}
+use Rattle.std.proofs.Common.{[], ◌≡◌, ◌⊎◌, ◌||◌, Bool, true, suc, inl, inr, sym, ap, ◌∙◌, subst, ◌+◌, ◌∷◌, drop, drop-cons, add-one}
 use Rattle.std.specs.List.{list_any}
 use Rattle.std.proofs.lemmas.Bool.{or_cases}
 use Rattle.policy_names.specs.declared.entity_uid.EntityUID.{EntityUID}
