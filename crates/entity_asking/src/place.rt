@@ -17,12 +17,8 @@ pub struct Place {
     pub number: usize,
 }
 
-// Adds a place.
-pub(crate) fn ask(
-    places: &mut BTreeSet<Place>,
-    uid: &EntityUID,
-    number: usize,
-) -> Result<(), AllocError>
+/// Adds a place.
+pub fn ask(places: &mut BTreeSet<Place>, uid: &EntityUID, number: usize) -> Result<(), AllocError>
     ensures { OnOk result (IsPlaced (record { uid = uid.now; number = number }) places.old.keys places.new.keys) }
 {
     let uid = uid.try_clone()?;
