@@ -11,3 +11,7 @@ mod StateSteps
 mod AddSteps
 mod StoreSteps
 mod RightSteps
+mod MoreSteps
+mod AskedSteps
+mod NamedSteps
+mod BetweenSteps

@@ -1,7 +1,8 @@
 -- Steps of making the store of what is kept.
-use Rattle.std.proofs.Common.{◌≡◌, ◌<◌, length, arith, Bool, true, false, cond, List, [], ◌∷◌, ◌++◌, Option, Some, None, refl, sym, ap, ◌∙◌, subst, append_assoc}
+use Rattle.std.proofs.Common.{◌≡◌, ◌<◌, length, map, arith, Bool, true, false, cond, List, [], ◌∷◌, ◌++◌, Option, Some, None, refl, sym, ap, ◌∙◌, subst, append_assoc}
 use Rattle.std.specs.BTreeMap.{BTreeMap, get, is_at}
 use Rattle.std.specs.List.{AllByRecursion}
+use Rattle.std.specs.List.Sorted.{IsStrictlySortedBy}
 use Rattle.std.specs.Map.{keys_of, values_of, lookup}
 use Rattle.std.specs.Ordering.{ordering_reverse}
 use Rattle.std.specs.declared.cmp.Ordering.TheVariants.{Less}
@@ -33,7 +34,7 @@ found_pushed (d ∷ store) e x = by (uid_eq x d.uid) (found_pushed store e x)
     by true ih = refl
     by false ih = ih
 
-turned : (x y : EntityUID) → uid_eq x y ≡ uid_eq y x
+pub turned : (x y : EntityUID) → uid_eq x y ≡ uid_eq y x
 turned x y = same_tests (uid_eq x y) (uid_eq y x) (λ h. subst (λ z. uid_eq z x ≡ true) (same_uid x y h) (uid_self x)) (λ h. subst (λ z. uid_eq z y ≡ true) (same_uid y x h) (uid_self y))
 
 -- the store has what is kept no more, and all its ids come before those that are kept
@@ -42,17 +43,31 @@ pub record IsFilling (all kept : BTreeMap EntityUID StoredEntity) (store : Store
   pub ids : AreUnderIds kept
   pub at_id : (x : EntityUID) → or_else (entity_at store x) (get uid_cmp kept x) ≡ get uid_cmp all x
   pub above : AllByRecursion (λ k. IsAbove k store) (keys_of kept.entries)
+  pub ascending : IsStrictlySortedBy uid_cmp (map (λ e. e.uid) store)
 
 all_above_none : (ks : List EntityUID) → AllByRecursion (λ k. IsAbove k []) ks
 all_above_none [] = tt
 all_above_none (k ∷ ks) = (tt, all_above_none ks)
 
+sorted_none : IsStrictlySortedBy uid_cmp []
+unfolding IsStrictlySortedBy
+sorted_none = tt
+
 pub filling_start : (all : BTreeMap EntityUID StoredEntity) (store : Store) → store ≡ [] → AreUnderIds all → IsFilling all all store
-filling_start all store e ids = rw e (record { so_far = refl; ids = ids; at_id = λ x. refl; above = all_above_none (keys_of all.entries) })
+filling_start all store e ids = rw e (record { so_far = refl; ids = ids; at_id = λ x. refl; above = all_above_none (keys_of all.entries); ascending = sorted_none })
 
 above_end : (u : EntityUID) (kept : Store) (x : StoredEntity) → IsAbove u kept → uid_cmp x.uid u ≡ Less → IsAbove u (kept ++ x ∷ [])
 above_end u [] x h k = (uid_cmp_total.antisymm u x.uid ∙ ap ordering_reverse k, tt)
 above_end u (e ∷ kept) x h k = (h.0, above_end u kept x h.1 k)
+
+ids_end : (u : EntityUID) (store : Store) (x : StoredEntity) → AllByRecursion (λ y. uid_cmp u y ≡ Less) (map (λ e. e.uid) store) → uid_cmp u x.uid ≡ Less → AllByRecursion (λ y. uid_cmp u y ≡ Less) (map (λ e. e.uid) (store ++ x ∷ []))
+ids_end u [] x h k = (k, tt)
+ids_end u (e ∷ store) x h k = (h.0, ids_end u store x h.1 k)
+
+ascends_more : (store : Store) (x : StoredEntity) → IsAbove x.uid store → IsStrictlySortedBy uid_cmp (map (λ e. e.uid) store) → IsStrictlySortedBy uid_cmp (map (λ e. e.uid) (store ++ x ∷ []))
+unfolding IsStrictlySortedBy
+ascends_more [] x a h = (tt, tt)
+ascends_more (e ∷ store) x a h = (ids_end e.uid store x h.0 (uid_cmp_total.antisymm e.uid x.uid ∙ ap ordering_reverse a.0), ascends_more store x a.1 h.1)
 
 above_more : (store : Store) (ks : List EntityUID) (x : StoredEntity) → AllByRecursion (λ k. IsAbove k store) ks → AllByRecursion (λ k. uid_cmp x.uid k ≡ Less) ks → AllByRecursion (λ k. IsAbove k (store ++ x ∷ [])) ks
 above_more store [] x h k = tt
@@ -74,6 +89,7 @@ module _ (all kept rest : BTreeMap EntityUID StoredEntity) (store : Store) (t : 
     ids = λ x d h. left x d (uid_eq k x) refl h;
     at_id = λ x. placed x (uid_eq k x) refl;
     above = above_more store (keys_of rest.entries) e both.1 (subst (λ z. AllByRecursion (λ u. uid_cmp z u ≡ Less) (keys_of rest.entries)) (sym is) later);
+    ascending = ascends_more store e next_above t.ascending;
   })
     where
       placed : (x : EntityUID) (b : Bool) → uid_eq k x ≡ b → or_else (entity_at (store ++ e ∷ []) x) (get uid_cmp rest x) ≡ get uid_cmp all x

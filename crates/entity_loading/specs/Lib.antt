@@ -6,3 +6,5 @@ pub mod Rounds
 pub mod KeptPart
 pub mod Causes
 pub mod Right
+pub mod Joining
+pub mod Between

@@ -1,17 +1,21 @@
 //! The ancestors that are asked for after the last round.
 
-ghost use Rattle.std.specs.Prelude.{◌≡◌, length, map, Some, IfOk, IfErr, OnOk};
+ghost use Rattle.std.specs.Prelude.{◌≡◌, ◌↔◌, ◌&&◌, ◌||◌, true, length, map, Some, IfOk, IfErr, OnOk};
 ghost use Rattle.std.specs.BTreeMap.{get};
 ghost use Rattle.std.specs.List.{AllZip};
 ghost use Rattle.std.specs.List.Sorted.{IsStrictlySortedBy};
 ghost use Rattle.access_tries.specs.Table.{IsTable};
 ghost use Rattle.entity_loader.specs.Answers.{IsHonestList};
 ghost use Rattle.entity_loader.specs.State.{Continues};
-ghost use Rattle.policy_names.specs.Uid.{uid_cmp};
+ghost use Rattle.ancestor_names.specs.Names.{IsKept};
+ghost use Rattle.policy_core.specs.Operators.{above};
+ghost use Rattle.policy_names.specs.declared.entity_uid.EntityUID.{EntityUID};
+ghost use Rattle.policy_names.specs.Uid.{uid_cmp, uid_eq};
 ghost use Rattle.policy_store.specs.Request.{IsWhole};
 ghost use Rattle.policy_store.specs.Store.{Store};
 ghost use Rattle.entity_loading.specs.Answering.{AreUnderIds};
 ghost use Rattle.entity_loading.specs.Causes.{CauseOf, IsRight};
+ghost use Rattle.entity_loading.specs.Joining.{lists, asks, brings, IsAskedFor, AreAscending, HasMore, IsJoined};
 ghost use Rattle.entity_loading.specs.KeptPart.{bare, AreAlike};
 
 use crate::error::EntitySliceError;
@@ -42,6 +46,8 @@ pub(crate) fn with_ancestors<D: EntityLoader>(
     ensures rounds { (D.state loader.new).rounds ≡ (D.state loader.old).rounds }
     ensures ids { IfOk result AreUnderIds }
     ensures alike { IfOk result (λ found. AreAlike (get uid_cmp found) (get uid_cmp loaded.kept)) }
+    ensures ascending { IfOk result (λ found. AreAscending (get uid_cmp loaded.kept) → AreAscending (get uid_cmp found)) }
+    ensures honest { (s : Store) → (D.state loader.old).store ≡ Some s → (t : Store) → IsKept loaded.kept t → IfOk result (λ found. IsJoined (D.state loader.old).exact s (IsAskedFor nodes.now request.now loaded.asked.keys t) (get uid_cmp loaded.kept) (get uid_cmp found)) }
     ensures cause { IfErr result (CauseOf (λ v. ⊥) (D.state loader.old) (D.state loader.new)) }
     ensures right { (s : Store) → (D.state loader.old).store ≡ Some s → IfErr result (IsRight (λ v. ⊥) (D.state loader.old) (D.state loader.new)) }
 {
@@ -69,6 +75,7 @@ fn ancestors_requests(
     requires table { IsTable nodes.now }
     requires whole { IsWhole request.now }
     ensures ascending { IfOk result (λ requests. IsStrictlySortedBy uid_cmp (map (λ r. r.entity_id) requests.items)) }
+    ensures asked { IfOk result (λ requests. (t : Store) → IsKept kept.now t → (x y : EntityUID) → (asks requests.items x y ≡ true) ↔ IsAskedFor nodes.now request.now asked.now.keys t x y) }
 {
     let lent = lent_tries(alloc, nodes, asked)?;
     let mut requests = Vec::new(alloc);
@@ -129,9 +136,11 @@ fn add_all(
     lists: Vec<Vec<EntityUID>>,
     kept: &mut BTreeMap<EntityUID, Entity>,
 ) -> Result<(), AllocError>
-    requires { AreUnderIds kept.old }
+    requires ids { AreUnderIds kept.old }
+    requires fit { length requests.now.items ≡ length lists.items }
     ensures ids { OnOk result (AreUnderIds kept.new) }
     ensures alike { OnOk result (AreAlike (get uid_cmp kept.new) (get uid_cmp kept.old)) }
+    ensures more { OnOk result (HasMore (brings requests.now.items lists.items) (get uid_cmp kept.old) (get uid_cmp kept.new)) }
 {
     let mut lists = lists.into_iter();
     for request in requests {
@@ -151,6 +160,7 @@ fn add_ancestors(
     requires { AreUnderIds kept.old }
     ensures ids { OnOk result (AreUnderIds kept.new) }
     ensures alike { OnOk result (AreAlike (get uid_cmp kept.new) (get uid_cmp kept.old)) }
+    ensures more { OnOk result (HasMore (λ x y. uid_eq uid.now x && lists ids.items y) (get uid_cmp kept.old) (get uid_cmp kept.new)) }
 {
     let Some(entity) = kept.get(uid) else {
         return Ok(());
@@ -161,7 +171,9 @@ fn add_ancestors(
 }
 
 fn with_more(alloc: Global, entity: &Entity, ids: Vec<EntityUID>) -> Result<Entity, AllocError>
-    ensures { IfOk result (λ e. bare e ≡ bare entity.now) }
+    ensures alike { IfOk result (λ e. bare e ≡ bare entity.now) }
+    ensures more { IfOk result (λ e. (y : EntityUID) → above (Some e) y ≡ (above (Some entity.now) y || lists ids.items y)) }
+    ensures ascending { IfOk result (λ e. IsStrictlySortedBy uid_cmp e.ancestors) }
 {
     let mut ancestors = entity.ancestors().clone()?;
     for id in ids {

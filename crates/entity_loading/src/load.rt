@@ -1,17 +1,21 @@
 //! Loading the entities that a trie reads.
 
-ghost use Rattle.std.specs.Prelude.{◌≡◌, ◌⊎◌, ◌≤◌, ◌+◌, ◌↔◌, ℕ, Some, IfOk, IfErr};
+ghost use Rattle.std.specs.Prelude.{◌≡◌, ◌⊎◌, ◌≤◌, ◌+◌, ◌↔◌, ℕ, List, Some, map, IfOk, IfErr};
 ghost use Rattle.std.specs.BTreeMap.{get, values};
+ghost use Rattle.std.specs.List.Sorted.{IsStrictlySortedBy};
 ghost use Rattle.access_tries.specs.declared.edge.EntityRoot.{EntityRoot};
 ghost use Rattle.entity_asking.specs.Begun.{PathsWithin, SomeRootSticks};
 ghost use Rattle.entity_loader.specs.State.{Continues};
 ghost use Rattle.policy_names.specs.Uid.{uid_cmp};
 ghost use Rattle.policy_names.specs.declared.entity_uid.EntityUID.{EntityUID};
 ghost use Rattle.policy_reads.specs.Merge.{IsOrdered};
+ghost use Rattle.policy_reads.specs.Paths.{AccessPath, Demand};
 ghost use Rattle.policy_reads.specs.Restrict.{root_value};
 ghost use Rattle.policy_store.specs.Request.{IsWhole};
 ghost use Rattle.policy_store.specs.Store.{Store, entity_at};
+ghost use Rattle.store_slices.specs.Tries.{IsTrieOf};
 ghost use Rattle.entity_loading.specs.Answering.{AreUnderIds};
+ghost use Rattle.entity_loading.specs.Between.{IsBetween};
 ghost use Rattle.entity_loading.specs.Causes.{CauseOf, IsPartial, IsRight};
 ghost use Rattle.entity_loading.specs.KeptPart.{IsLoaded};
 ghost use Rattle.entity_loading.specs.Reached.{HasOrder};
@@ -32,8 +36,8 @@ use std::alloc::{AllocError, Global};
 use std::collections::BTreeMap;
 use std::sync::ledger::Ledger;
 
-/// The entities that the paths of the trie reach on the request, each with what is read of it, as a loader gives them. A
-/// step is counted for each call of the loader's `load_entities`.
+/// The entities that the paths of the trie reach on the request, each with what is read of it and those of its ancestors that
+/// are asked for, as a loader gives them. A step is counted for each call of the loader's `load_entities`.
 pub fn load_trie<D: EntityLoader, L: Ledger>(
     alloc: Global,
     trie: &RootAccessTrie,
@@ -46,6 +50,7 @@ pub fn load_trie<D: EntityLoader, L: Ledger>(
     ensures steps { (n : ℕ) → PathsWithin trie.now n → steps.new ≤ steps.old + (n + 1) }
     ensures partial { IsPartial result ↔ (IsWhole request.now → ⊥) }
     ensures honest { (s : Store) → (D.state loader.old).store ≡ Some s → HasOrder s → ((r : EntityRoot) → IsOrdered (root_value request.now r)) → IfOk result (IsLoaded (D.state loader.old).exact trie.now request.now s) }
+    ensures between { (s : Store) → (D.state loader.old).store ≡ Some s → HasOrder s → IsStrictlySortedBy uid_cmp (map (λ e. e.uid) s) → ((r : EntityRoot) → IsOrdered (root_value request.now r)) → (reads : List AccessPath) (demands : List Demand) → IsTrieOf reads demands trie.now → IfOk result (IsBetween (D.state loader.old).exact reads demands request.now s) }
     ensures cause { IsWhole request.now → IfErr result (CauseOf (λ v. SomeRootSticks trie.now request.now v ⊎ Sticks trie.now v) (D.state loader.old) (D.state loader.new)) }
     ensures right { IsWhole request.now → (s : Store) → (D.state loader.old).store ≡ Some s → HasOrder s → ((r : EntityRoot) → IsOrdered (root_value request.now r)) → IfErr result (IsRight (λ v. SomeRootSticks trie.now request.now v ⊎ IsStuck trie.now request.now s v) (D.state loader.old) (D.state loader.new)) }
 {
@@ -68,6 +73,7 @@ fn load_whole<D: EntityLoader, L: Ledger>(
     ensures rounds { (n : ℕ) → PathsWithin trie.now n → (D.state loader.new).rounds ≤ (D.state loader.old).rounds + (n + 1) }
     ensures steps { (n : ℕ) → PathsWithin trie.now n → steps.new ≤ steps.old + (n + 1) }
     ensures honest { (s : Store) → (D.state loader.old).store ≡ Some s → HasOrder s → ((r : EntityRoot) → IsOrdered (root_value request.now r)) → IfOk result (IsLoaded (D.state loader.old).exact trie.now request.now s) }
+    ensures between { (s : Store) → (D.state loader.old).store ≡ Some s → HasOrder s → IsStrictlySortedBy uid_cmp (map (λ e. e.uid) s) → ((r : EntityRoot) → IsOrdered (root_value request.now r)) → (reads : List AccessPath) (demands : List Demand) → IsTrieOf reads demands trie.now → IfOk result (IsBetween (D.state loader.old).exact reads demands request.now s) }
     ensures cause { IfErr result (CauseOf (λ v. SomeRootSticks trie.now request.now v ⊎ Sticks trie.now v) (D.state loader.old) (D.state loader.new)) }
     ensures right { (s : Store) → (D.state loader.old).store ≡ Some s → HasOrder s → ((r : EntityRoot) → IsOrdered (root_value request.now r)) → IfErr result (IsRight (λ v. SomeRootSticks trie.now request.now v ⊎ IsStuck trie.now request.now s v) (D.state loader.old) (D.state loader.new)) }
 {
@@ -91,6 +97,7 @@ fn store_of(alloc: Global, mut kept: BTreeMap<EntityUID, Entity>) -> Result<Enti
     requires { AreUnderIds kept }
     ensures values { IfOk result (λ s. s ≡ values kept) }
     ensures at { IfOk result (λ s. (x : EntityUID) → entity_at s x ≡ get uid_cmp kept x) }
+    ensures ascending { IfOk result (λ s. IsStrictlySortedBy uid_cmp (map (λ e. e.uid) s)) }
 {
     let mut store = Entities::new(alloc);
     while let Some((_uid, entity)) = kept.pop_first() {

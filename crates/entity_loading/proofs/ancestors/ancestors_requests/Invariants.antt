@@ -2,8 +2,14 @@ use Rattle.std.proofs.Common.{◌++◌}
 use Rattle.std.specs.List.Sorted.{IsStrictlySortedBy}
 use Rattle.std.specs.Map.{keys_of}
 use Rattle.policy_names.specs.Uid.{uid_cmp}
+use Rattle.policy_store.specs.Store.{Store}
+use Rattle.ancestor_names.specs.Names.{IsKept}
 use Rattle.entity_loading.proofs.AddSteps.{ids_of}
+use Rattle.entity_loading.proofs.AskedSteps.{IsAsking}
 use Rattle.entity_loading.proofs.ancestors.ancestors_requests.Given as goal
 
 abbrev pub invariant-loop-uid : goal.invariant-loop-uid
-invariant-loop-uid l = IsStrictlySortedBy uid_cmp (ids_of l.requests.items ++ keys_of l.uid-iterator)
+invariant-loop-uid l = record {
+  ascending : IsStrictlySortedBy uid_cmp (ids_of l.requests.items ++ keys_of l.uid-iterator);
+  asked : (t : Store) → IsKept l.kept t → IsAsking l.nodes l.request t l.asked.keys l.requests.items l.uid-iterator;
+}

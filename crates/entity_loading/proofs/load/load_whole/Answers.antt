@@ -2,9 +2,12 @@ use Rattle.std.proofs.Common.{◌⊎◌, inr, [], sym, ap, ◌∙◌, subst, ari
 use Rattle.std.specs.BTreeMap.{get}
 use Rattle.std.specs.Option.{option_map}
 use Rattle.policy_names.specs.Uid.{uid_cmp}
+use Rattle.policy_reads.specs.Restrict.{part}
+use Rattle.entity_loading.specs.Joining.{IsAskedFor, IsJoined}
 use Rattle.entity_loading.specs.KeptPart.{IsState, IsBegun, bare}
 use Rattle.entity_loading.specs.Causes.{IsRight}
 use Rattle.entity_loading.specs.Right.{IsStuck}
+use Rattle.entity_loading.proofs.BetweenSteps.{part_at, left_ascends, loaded_between}
 use Rattle.entity_loading.proofs.RightSteps.{right_later}
 use Rattle.entity_loading.proofs.RoundSteps.{goes_on_here}
 use Rattle.entity_loading.proofs.StateSteps.{loaded}
@@ -57,6 +60,24 @@ returns-clause-honest g c = λ s told order context.
     (c.in-Ok-load_rounds.ensures.honest s told q (subst (λ t. IsBegun t q s c.in-Ok.start.keys) (sym c.nodes.ensures.nodes) begun)) in
     loaded exact ns q s c.in_ok-store_of.field-0 c.in-Ok-load_rounds.loaded.asked.keys (get uid_cmp c.in-Ok-load_rounds.loaded.kept) state
     (λ x. ap (option_map bare) (c.in_ok-store_of.ensures.at x) ∙ c.in-Ok-with_ancestors.ensures.alike x)
+
+pub returns-clause-between : goal.returns-clause-between
+returns-clause-between g c = λ s told order ids context reads demands fit.
+    let ns = c.args.trie.now in
+    let q = c.args.request.now in
+    let exact = (g.D.EntityLoader.state c.args.loader.now).exact in
+    let loaded = c.in-Ok-load_rounds.loaded in
+    let kept = get uid_cmp loaded.kept in
+    let new = get uid_cmp c.in-Ok-with_ancestors.kept in
+    let begun : IsBegun ns q s c.in-Ok.start.keys = record { asked = c.in-Ok.ensures.asked; order = order; context = context } in
+    let state = subst (λ t. IsState exact t q s loaded.asked.keys [] kept) c.nodes.ensures.nodes
+    (c.in-Ok-load_rounds.ensures.honest s told q (subst (λ t. IsBegun t q s c.in-Ok.start.keys) (sym c.nodes.ensures.nodes) begun)) in
+    let joined = subst (λ e. IsJoined e s (IsAskedFor c.nodes-2.result.now q loaded.asked.keys (part state.part.choice s)) kept new) c.load_rounds.ensures.goes_on.exact
+    (c.in-Ok-with_ancestors.ensures.honest s (c.load_rounds.ensures.goes_on.told s told) (part state.part.choice s) (λ x. part_at state.part.choice s x ∙ sym (state.part.is x))) in
+    loaded_between exact ns q s loaded.asked.keys kept new state order
+    (subst (λ t. IsJoined exact s (IsAskedFor t q loaded.asked.keys (part state.part.choice s)) kept new) c.nodes-2.ensures.nodes joined)
+    c.in-Ok-with_ancestors.ensures.alike (c.in-Ok-with_ancestors.ensures.ascending (left_ascends state.part.choice s kept order state.part.is))
+    reads demands fit ids c.in_ok-store_of.field-0 c.in_ok-store_of.ensures.at c.in_ok-store_of.ensures.ascending
 
 pub returns-in-Err-load_rounds-clause-right : goal.returns-in-Err-load_rounds-clause-right
 returns-in-Err-load_rounds-clause-right g c = λ s told order context.
