@@ -17,7 +17,7 @@ same_branches f g k n (l ∷ ls) a h =
     ap (λ b. leading l.edge b (branches_by f ls)) (h l.number a.0.0) ∙ ap (leading l.edge (g l.number)) (same_branches f g k n ls a.1 h)
 
 -- one more level shows nothing more
-deep_enough : (ns : Table) → IsClosed 0 ns → (k i : ℕ) → length ns ≤ i + k → branch_within (suc k) ns i ≡ branch_within k ns i
+pub deep_enough : (ns : Table) → IsClosed 0 ns → (k i : ℕ) → length ns ≤ i + k → branch_within (suc k) ns i ≡ branch_within k ns i
 deep_enough ns c zero i h =
     ap (λ o. branch (has_mark o) (branches_by (branch_within zero ns) (option_map_or (λ n. n.links) o []))) (slice_get_past ns i (omega (arith, h)))
 deep_enough ns c (suc k) i h =

@@ -1,11 +1,12 @@
 mod Addresses
+mod Alike
 mod Behind
 pub mod Branching
 mod Chains
 mod Listing
 pub mod Making
 pub mod Merging
-pub mod Order
+mod SameTries
 mod UnionLaws
 pub mod Unions
 mod With

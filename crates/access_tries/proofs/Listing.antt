@@ -1,5 +1,5 @@
 -- Fields and roots of a node, one by one.
-use Rattle.std.proofs.Common.{◌≡◌, ℕ, Bool, true, false, cond, List, [], ◌∷◌, map, Option, Some, refl, sym, ap, ◌∙◌, arith}
+use Rattle.std.proofs.Common.{◌≡◌, ℕ, cond, List, [], ◌∷◌, map, Some, sym, ap, ◌∙◌, arith}
 use Rattle.std.specs.Prelude.{option_map, find}
 use Rattle.std.specs.Ordering.{is_eq}
 use Rattle.std.specs.Cmp.{tied_itself}
@@ -15,7 +15,7 @@ use Rattle.access_tries.specs.Edges.{edge_cmp, edge_eq, root_cmp}
 use Rattle.access_tries.specs.Table.{Table, IsTable, IsBefore, Ascend, links_at}
 use Rattle.access_tries.specs.Views.{ViewData, LeadsTo, number_at, with_child, with_root, children_in, roots_in, children_of, roots_of, AreChildren, AreRoots}
 use Rattle.access_tries.proofs.Behind.{found}
-use Rattle.access_tries.proofs.Order.{edge_total, then_end}
+use Rattle.access_tries.specs.EdgeLaws.{edge_total, then_end}
 
 each_so : {X : Type 0} {P Q : X → Type 0} → ((x : X) → P x → Q x) → (xs : List X) → AllByRecursion P xs → AllByRecursion Q xs
 each_so f [] h = tt

@@ -3,7 +3,7 @@ use Rattle.std.proofs.Common.{◌≡◌, ℕ, zero, suc, ◌<◌, ◌+◌, ◌�
 use Rattle.std.specs.List.{AllByRecursion}
 use Rattle.std.specs.declared.cmp.Ordering.TheVariants.{Less, Equal, Greater}
 use Rattle.std.specs.Ordering.{ordering_reverse}
-use Rattle.access_tries.proofs.Order.{edge_total, exact_edge}
+use Rattle.access_tries.specs.EdgeLaws.{edge_total, exact_edge}
 use Rattle.access_tries.specs.declared.edge.Edge.{Edge}
 use Rattle.access_tries.specs.declared.table.Link.{Link}
 use Rattle.access_tries.specs.Edges.{edge_cmp}
@@ -39,11 +39,11 @@ head_next (l ∷ ls) (suc p) d h = head_next ls p d (omega (arith, h))
 head_at : (ls : List Link) (p : ℕ) (d : Link) → p < length ls → drop p ls ≡ slice_index_or ls p d ∷ drop (p + 1) ls
 head_at ls p d h = let e : suc p ≡ p + 1 = omega arith in head_next ls p d h ∙ ap (λ k. slice_index_or ls p d ∷ drop k ls) e
 
-all_behind : (e : Edge) (l : Link) (ls : List Link) → edge_cmp e l.edge ≡ Less → AllByRecursion (IsBefore l) ls → IsBeforeAll e ls
+pub all_behind : (e : Edge) (l : Link) (ls : List Link) → edge_cmp e l.edge ≡ Less → AllByRecursion (IsBefore l) ls → IsBeforeAll e ls
 all_behind e l ls h up = each_so (λ m k. edge_total.trans e l.edge m.edge h k) ls up
 
 module _ (ls : List Link) (p : ℕ) (m : Link) (h : p < length ls) (is : m ≡ slice_index_or ls p m) where
-  head_is : drop p ls ≡ m ∷ drop (p + 1) ls
+  pub head_is : drop p ls ≡ m ∷ drop (p + 1) ls
   head_is = head_at ls p m h ∙ ap (λ l. l ∷ drop (p + 1) ls) (sym is)
 
   -- the first of what is left comes before the others

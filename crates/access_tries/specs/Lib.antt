@@ -1,7 +1,10 @@
+pub mod EdgeLaws
 pub mod EdgeView
 pub mod Edges
 pub mod Laws
 pub mod Paths
+pub mod Same
+pub mod SameLaws
 pub mod Table
 pub mod Trees
 pub mod Views

@@ -5,7 +5,7 @@ use Rattle.std.specs.Coded.{Coded, coded_ℕ, coded_list, coded×, code_by}
 use Rattle.access_tries.specs.declared.edge.EntityRoot.{EntityRoot}
 use Rattle.access_tries.specs.contracts.edge.EntityRoot.{the_row as root_row}
 use Rattle.access_tries.specs.declared.edge.Edge.{Edge}
-use Rattle.access_tries.specs.declared.edge.Edge.TheVariants.{Field, AnyTag, Root}
+use Rattle.access_tries.specs.declared.edge.Edge.TheVariants.{Field, Root}
 use Rattle.access_tries.specs.declared.table.Link.{Link}
 use Rattle.access_tries.specs.Edges.{Address, edge_eq}
 use Rattle.access_tries.specs.Table.{Table, coded_table, at_path, has_mark, leads, is_marked, links_at}

@@ -157,7 +157,7 @@ impl Edge {
 }
 
 /// The order of edges.
-#[tactic(auto, using(crate::proofs::Order::then_end))]
+#[tactic(auto, using(crate::specs::EdgeLaws::then_end))]
 pub fn compare(a: &Edge, b: &Edge) -> Ordering
     ensures { result ≡ edge_cmp a.now b.now }
 {

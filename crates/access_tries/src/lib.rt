@@ -4,6 +4,7 @@
 mod edge;
 pub mod laws;
 mod least;
+mod same;
 mod table;
 mod tries;
 mod views;

@@ -36,12 +36,39 @@ impl Model for Node {
     ghost view = { λ n. record { links = n.links.items; mark = n.mark } };
 }
 
+impl Link {
+    /// An equal link.
+    pub fn try_clone(&self) -> Result<Link, AllocError>
+        ensures { IfOk result (λ l. l ≡ self.now) }
+    {
+        let edge = self.edge.try_clone()?;
+        Ok(Link {
+            edge,
+            number: self.number,
+        })
+    }
+}
+
 impl Node {
     /// The node with these links, marked or not.
     pub fn new(links: Vec<Link>, mark: bool) -> Node
         ensures { result ≡ record { links = links.items; mark = mark } }
     {
         Node { links, mark }
+    }
+
+    /// An equal node.
+    pub fn try_clone(&self, alloc: Global) -> Result<Node, AllocError>
+        ensures { IfOk result (λ n. n ≡ self.now) }
+    {
+        let mut links = Vec::new(alloc);
+        for link in &self.links {
+            links.push(link.try_clone()?)?;
+        }
+        Ok(Node {
+            links,
+            mark: self.mark,
+        })
     }
 
     /// Where it leads.
@@ -77,6 +104,17 @@ pub fn mark_of(nodes: &[Node], number: usize) -> bool
         Some(node) => node.is_marked(),
         None => false,
     }
+}
+
+// An equal table.
+pub(crate) fn copied(alloc: Global, nodes: &[Node]) -> Result<Vec<Node>, AllocError>
+    ensures { IfOk result (λ t. t.items ≡ nodes.now) }
+{
+    let mut copies = Vec::new(alloc);
+    for node in nodes {
+        copies.push(node.try_clone(alloc)?)?;
+    }
+    Ok(copies)
 }
 
 fn either(a: bool, b: bool) -> bool

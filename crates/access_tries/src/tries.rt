@@ -7,7 +7,7 @@ ghost use Rattle.access_tries.specs.Views.{IsWith, LeadsNowhere, LeadsTo, whole}
 ghost use Rattle.access_tries.specs.declared.edge.Edge.TheVariants.{Root};
 
 use crate::edge::EntityRoot;
-use crate::table::{Node, mark_of, unite};
+use crate::table::{Node, copied, mark_of, unite};
 use crate::views::{RootTrieRef, TrieRef};
 use std::alloc::{AllocError, Global};
 use std::marker::Model;
@@ -39,6 +39,14 @@ impl RootAccessTrie {
         RootAccessTrie {
             nodes: Vec::new(alloc),
         }
+    }
+
+    /// An equal trie.
+    pub fn try_clone(&self, alloc: Global) -> Result<RootAccessTrie, AllocError>
+        ensures { IfOk result (λ t. t ≡ self.now) }
+    {
+        let nodes = copied(alloc, &self.nodes)?;
+        Ok(RootAccessTrie { nodes })
     }
 
     /// What is read from a root, where something is.
@@ -117,6 +125,14 @@ impl AccessTrie {
         AccessTrie {
             nodes: Vec::new(alloc),
         }
+    }
+
+    /// An equal trie.
+    pub fn try_clone(&self, alloc: Global) -> Result<AccessTrie, AllocError>
+        ensures { IfOk result (λ t. t ≡ self.now) }
+    {
+        let nodes = copied(alloc, &self.nodes)?;
+        Ok(AccessTrie { nodes })
     }
 
     /// What either holds.

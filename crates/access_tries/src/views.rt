@@ -277,7 +277,7 @@ fn number_at(edge: &EdgeRef<'_>, links: &[Link]) -> Option<usize>
     None
 }
 
-#[tactic(auto, using(crate::proofs::Order::then_end))]
+#[tactic(auto, using(crate::specs::EdgeLaws::then_end))]
 fn is_edge(edge: &Edge, other: &EdgeRef<'_>) -> bool
     ensures { result ≡ edge_eq edge.now (edge_in other.now) }
 {

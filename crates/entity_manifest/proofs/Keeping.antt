@@ -12,7 +12,7 @@ use Rattle.schema_core.specs.Schema.{SchemaData}
 use Rattle.access_tries.specs.Table.{Table, NodeData, at_path, leads, is_marked, links_at, Ascend}
 use Rattle.entity_manifest.specs.Mismatches.{is_declared_address, IsTyped}
 use Rattle.access_tries.specs.Walks.{any_link, Keeps, IsBeforeAll}
-use Rattle.access_tries.proofs.Order.{exact_edge}
+use Rattle.access_tries.specs.EdgeLaws.{exact_edge}
 use Rattle.access_tries.proofs.Unions.{IsUniting}
 use Rattle.access_tries.proofs.Merging.{IsMerging, merging_step, before_own}
 use Rattle.access_tries.proofs.Making.{any_more, here_at_end, below_at_end}

@@ -12,7 +12,7 @@ use Rattle.access_tries.specs.Edges.{Address, edge_cmp, edge_eq}
 use Rattle.access_tries.specs.Table.{Table, IsTable, leads, is_marked}
 use Rattle.access_tries.specs.Paths.{IsSame}
 use Rattle.access_tries.specs.Trees.{Branch, branch, Branches, no_branches, leading, branches_of, passes, some_passes}
-use Rattle.access_tries.proofs.Order.{exact_edge, edge_total}
+use Rattle.access_tries.specs.EdgeLaws.{exact_edge, edge_total}
 use Rattle.access_tries.proofs.Branching.{same_below}
 use Rattle.entity_manifest.specs.declared.error.MismatchedEntityManifestError.{MismatchedEntityManifestError as Mismatch}
 use Rattle.entity_manifest.specs.Manifest.{Manifest}
