@@ -62,10 +62,7 @@ fn read_effect(value: &Value) -> Option<Effect>
 }
 
 #[tactic(auto, unfolding(crate::specs::Policy::policy_parts_of))]
-fn read_policy_parts(
-    alloc: Global,
-    value: &Value,
-) -> Result<Option<PolicyParts>, AllocError>
+fn read_policy_parts(alloc: Global, value: &Value) -> Result<Option<PolicyParts>, AllocError>
     ensures { IfOk result (λ o. o ≡ policy_parts_of (view value.now)) }
 {
     let Some(id) = value.get("id").and_then(Value::as_str) else {
@@ -176,10 +173,7 @@ fn read_policy(alloc: Global, value: &Value) -> Result<Option<PolicyRead>, Alloc
 /// What the value says where a document has a policy, if it has the form of one: a link, where it has the member `link`,
 /// else a policy or a template.
 #[tactic(auto, unfolding(crate::specs::Policy::entry_of))]
-pub fn read_entry(
-    alloc: Global,
-    value: &Value,
-) -> Result<Option<PolicyRead>, AllocError>
+pub fn read_entry(alloc: Global, value: &Value) -> Result<Option<PolicyRead>, AllocError>
     ensures { IfOk result (λ o. o ≡ entry_of (view value.now)) }
 {
     if value.get("link").is_none() {

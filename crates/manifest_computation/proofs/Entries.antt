@@ -112,6 +112,6 @@ entries_same schema ps same [] [] typed h = tt
 entries_same schema ps same [] (e ∷ m) typed h = absurd h
 entries_same schema ps same (env ∷ envs) [] typed h = absurd h
 entries_same schema ps same (env ∷ envs) (e ∷ m) typed h = (
-    subst (λ ts. IsEntryOf schema env ts e) (same env (all_more (λ p. IsTypedIn schema p.condition (env ∷ envs)) (λ p. IsTyped schema p.condition env) (λ p t. t.0) ps typed)) h.0,
-    entries_same schema ps same envs m (all_more (λ p. IsTypedIn schema p.condition (env ∷ envs)) (λ p. IsTypedIn schema p.condition envs) (λ p t. t.1) ps typed) h.1,
-  )
+  subst (λ ts. IsEntryOf schema env ts e) (same env (all_more (λ p. IsTypedIn schema p.condition (env ∷ envs)) (λ p. IsTyped schema p.condition env) (λ p t. t.0) ps typed)) h.0,
+  entries_same schema ps same envs m (all_more (λ p. IsTypedIn schema p.condition (env ∷ envs)) (λ p. IsTypedIn schema p.condition envs) (λ p t. t.1) ps typed) h.1,
+)

@@ -120,10 +120,7 @@ fn add_entry(
 }
 
 /// The policies of the items; else the place of the first fault.
-pub fn read_policies(
-    alloc: Global,
-    items: &[Value],
-) -> Result<PolicySet, DocumentFault>
+pub fn read_policies(alloc: Global, items: &[Value]) -> Result<PolicySet, DocumentFault>
     ensures { ComesTo (λ s. s) result (policies_of 0 no_policies (items_view items.now)) }
 {
     let mut policies = PolicySet::new(alloc);

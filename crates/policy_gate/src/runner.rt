@@ -56,11 +56,7 @@ fn from_document<S: Source>(
 }
 
 // Makes the reply to a command, which reads a document or has one of its own.
-fn reply_to<S: Source>(
-    alloc: Global,
-    command: Command,
-    source: &mut S,
-) -> Result<Reply, AllocError>
+fn reply_to<S: Source>(alloc: Global, command: Command, source: &mut S) -> Result<Reply, AllocError>
     ensures due { IfOk result (λ r.
         IsDueFor (own_document command) command (S.state source.old) (S.state source.new) (reply_view r)) }
     ensures taken { TakesFew (S.state source.old) (S.state source.new) }

@@ -99,10 +99,7 @@ fn read_entity(
 }
 
 /// The entities of the items; else the place of the first item that is none.
-pub fn read_entities(
-    alloc: Global,
-    items: &[Value],
-) -> Result<Vec<Entity>, DocumentFault>
+pub fn read_entities(alloc: Global, items: &[Value]) -> Result<Vec<Entity>, DocumentFault>
     ensures { ComesTo (λ v. v.items) result (entities_of [] (items_view items.now)) }
 {
     let mut entities = Vec::new(alloc);

@@ -28,10 +28,7 @@ fn read_known(alloc: Global, value: Option<&Json>) -> Result<Option<Option<Entit
     }
 }
 
-fn read_context(
-    alloc: Global,
-    value: Option<&Json>,
-) -> Result<Option<Option<Context>>, AllocError>
+fn read_context(alloc: Global, value: Option<&Json>) -> Result<Option<Option<Context>>, AllocError>
     ensures { IfOk result (λ o. o ≡ context_of (option_map (λ v. view v.now) value.entry)) }
 {
     let Some(value) = value else {
@@ -73,10 +70,7 @@ fn read_entries(alloc: Global, value: &Json) -> Result<Option<Request>, AllocErr
 }
 
 #[tactic(auto, unfolding(crate::specs::Request::given_request_of))]
-fn read_given_request(
-    alloc: Global,
-    value: &Json,
-) -> Result<Option<Request>, AllocError>
+fn read_given_request(alloc: Global, value: &Json) -> Result<Option<Request>, AllocError>
     ensures { IfOk result (λ o. o ≡ given_request_of (view value.now)) }
 {
     let Some(members) = value.as_object() else {
@@ -89,10 +83,7 @@ fn read_given_request(
 }
 
 /// The request that the value is, if it is one; an absent one has no entry.
-pub fn read_request(
-    alloc: Global,
-    value: Option<&Json>,
-) -> Result<Option<Request>, AllocError>
+pub fn read_request(alloc: Global, value: Option<&Json>) -> Result<Option<Request>, AllocError>
     ensures { IfOk result (λ o. o ≡ request_of (option_map (λ v. view v.now) value.entry)) }
 {
     match value {
