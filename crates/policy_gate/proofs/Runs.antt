@@ -48,8 +48,8 @@ module _ (command : Command) (source source' : SourceState) (sink sink' : SinkSt
 
   after_reading : (a : Answer) (status : Status) → own_document command ≡ None → IsDueAfterReading command source source' a → Gives a sink sink' status → Why status
   after_reading a status reads (inl (bytes, read, is)) g = judged a.status a.text status (status_of_document command bytes a is) (bytes, subst (λ o. IsGivenBy o source source' bytes) (sym reads) read, is) g
-  after_reading a status reads (inr (inl d)) g = other sink sink' Why a ReadFault status (ap (λ b. b.status) d.0) refl d.1 g
-  after_reading a status reads (inr (inr d)) g = other sink sink' Why a TooLong status (ap (λ b. b.status) d.0) refl d.1 g
+  after_reading a status reads (inr (inl d)) g = other sink sink' Why a ReadFault status (ap (λ b. b.status) d.0) refl (reads, d.1) g
+  after_reading a status reads (inr (inr d)) g = other sink sink' Why a TooLong status (ap (λ b. b.status) d.0) refl (reads, d.1) g
 
   for_command : (o : Option (List ℕ)) → own_document command ≡ o → (a : Answer) (status : Status) → IsDueFor o command source source' a → Gives a sink sink' status → Why status
   for_command None own a status d g = after_reading a status own d g

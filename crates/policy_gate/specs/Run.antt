@@ -78,6 +78,11 @@ abbrev pub IsDocumentDue : Option Command → SourceState → SourceState → St
 IsDocumentDue None source source' status text = ⊥
 IsDocumentDue (Some command) source source' status text = (bytes : List ℕ) × IsGiven command source source' bytes × IsAnswer command bytes (answer status text)
 
+-- the words are a command that reads a document
+abbrev pub IsReader : Option Command → Type 0
+IsReader None = ⊥
+IsReader (Some command) = Reads command
+
 -- why a run ends with a status
 abbrev pub Cause : Option Command → SourceState → SourceState → SinkState → SinkState → Status → Type 0
 Cause command source source' sink sink' Done = (text : List ℕ) × IsDocumentDue command source source' Done text × Appends sink.holds sink'.holds text
@@ -87,8 +92,8 @@ Cause command source source' sink sink' Findings = (text : List ℕ) × IsDocume
 Cause command source source' sink sink' Request = (text : List ℕ) × IsDocumentDue command source source' Request text
 Cause command source source' sink sink' Store = (text : List ℕ) × IsDocumentDue command source source' Store text
 Cause command source source' sink sink' PartialRequest = (text : List ℕ) × IsDocumentDue command source source' PartialRequest text
-Cause command source source' sink sink' ReadFault = Rose source.faults source'.faults
+Cause command source source' sink sink' ReadFault = IsReader command × Rose source.faults source'.faults
 Cause command source source' sink sink' WriteFault = Rose sink.faults sink'.faults
     × ((text : List ℕ) × IsDocumentDue command source source' Done text × ((n : ℕ) × Appends sink.holds sink'.holds (take n text)))
 Cause command source source' sink sink' OutOfMemory = Keeps sink.holds sink'.holds
-Cause command source source' sink sink' TooLong = TakesTooMany source source'
+Cause command source source' sink sink' TooLong = IsReader command × TakesTooMany source source'
