@@ -1,9 +1,9 @@
 -- A request in JSON.
 use Rattle.std.specs.Prelude.{ℕ, List, [], ◌∷◌, if◌then◌else◌, Option, Some, None, option_map, option_and_then, is_some, codes}
 use Rattle.policy_names.specs.declared.entity_uid.EntityUID.{EntityUID}
-use Rattle.policy_values.specs.Value.{Val, Fields, fields_of}
+use Rattle.policy_values.specs.Value.{Fields, fields_of}
 use Rattle.policy_store.specs.declared.request.Request.{Request}
-use Rattle.serde_json.specs.Data.{Data, Members}
+use Rattle.serde_json.specs.Data.{Data}
 use Rattle.serde_json.specs.Find.{get, as_null, as_object}
 use Rattle.json_parts.specs.Json.{◌>>=◌, has_only}
 use Rattle.json_parts.specs.Names.{uid_of}

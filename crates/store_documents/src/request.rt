@@ -1,16 +1,14 @@
 //! A request in JSON.
 
 ghost use Rattle.std.specs.Prelude.{◌≡◌, IfOk, option_map};
-ghost use Rattle.serde_json.specs.View.{view, members_view};
-ghost use Rattle.store_documents.specs.Request.{context_of, entries_of, given_request_of, known_of, request_of, values_within};
+ghost use Rattle.serde_json.specs.View.{view};
+ghost use Rattle.store_documents.specs.Request.{context_of, entries_of, given_request_of, known_of, request_of};
 
 use json_parts::{has_only, read_uid};
-use policy_names::{EntityUID, Text};
+use policy_names::EntityUID;
 use policy_store::{Context, Request};
-use policy_values::Value;
-use serde_json::{Map, Value as Json};
+use serde_json::Value as Json;
 use std::alloc::{AllocError, Global};
-use std::collections::BTreeMap;
 use value_documents::read_fields;
 
 fn read_known(alloc: Global, value: Option<&Json>) -> Result<Option<Option<EntityUID>>, AllocError>
