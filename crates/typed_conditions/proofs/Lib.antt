@@ -1,2 +1,2 @@
-mod Conditions
+mod Checks
 mod Shallow

@@ -14,7 +14,7 @@ use Rattle.policy_links.specs.Laws.{LinksAreWrittenOut}
 use Rattle.policy_validate.specs.Accepted.{IsAccepted}
 use Rattle.policy_validate.proofs.AllWritten.{all_found, all_written}
 use Rattle.policy_validate.proofs.Empty.{all_both}
-use Rattle.typed_conditions.proofs.Conditions.{IsReady}
+use Rattle.typed_conditions.proofs.Checks.{IsReady}
 
 abbrev IsShallow : PolicyData → Type 0
 IsShallow p = depth_of p.condition ≤ 200

@@ -1,7 +1,7 @@
 use Rattle.schema_core.specs.RequestEnvs.{env_data_of}
 use Rattle.typing_findings.specs.Check.{checked}
 use Rattle.typed_conditions.specs.Found.{condition_told}
-use Rattle.typed_conditions.proofs.Conditions.{told_condition, condition_next}
+use Rattle.typed_conditions.proofs.Checks.{told_condition, condition_next}
 use Rattle.typed_conditions.proofs.conditions.conditions_in.Goals as goal
 
 pub loop-policy-preserved : goal.loop-policy-preserved

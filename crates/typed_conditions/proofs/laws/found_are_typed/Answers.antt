@@ -1,4 +1,4 @@
-use Rattle.typed_conditions.proofs.Conditions.{conditions_same}
+use Rattle.typed_conditions.proofs.Checks.{conditions_same}
 use Rattle.typed_conditions.proofs.Shallow.{accepted_ready}
 use Rattle.typed_conditions.proofs.laws.found_are_typed.Goals as goal
 
