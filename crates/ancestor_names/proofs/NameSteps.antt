@@ -20,7 +20,7 @@ use Rattle.access_tries.specs.Edges.{Address, edge_cmp, edge_eq}
 use Rattle.access_tries.specs.Paths.{edge_of}
 use Rattle.access_tries.specs.Table.{Table, at_path, has_mark, links_at}
 use Rattle.access_tries.specs.Views.{ViewData, view_marks, view_leads, LeadsTo, LeadsNowhere, with_child, with_root, children_in, roots_in, children_of, roots_of, AreChildren, AreRoots}
-use Rattle.access_tries.proofs.Order.{exact_edge}
+use Rattle.access_tries.specs.EdgeLaws.{exact_edge}
 use Rattle.policy_reads.specs.Paths.{Step, along, any_tag}
 use Rattle.policy_reads.specs.Restrict.{names_id, lists_id, is_id, values_in, root_value, step, walk, reach}
 use Rattle.policy_reads.proofs.Lists.{IsIn, in_flat_map, flat_map_out, any_in, same_uid, uid_self, or_true, or_right}
