@@ -24,7 +24,6 @@ use policy_typecheck::Typechecker;
 use policy_validate::laws::accepted_are_typed;
 use schema_core::{RequestEnv, ValidationMode, ValidatorSchema};
 use std::alloc::{AllocError, Global};
-use store_slices::laws::conditions_have_tries;
 use store_slices::restricted_store;
 use typed_conditions::conditions_in;
 use typed_conditions::laws::found_are_typed;
@@ -78,7 +77,6 @@ fn restricted_in<'a>(
     requires environment { env_of schema.now request.now ≡ Some (env_data_of env.now) }
     ensures { IfOk result (λ s. s ≡ restricted schema.now (env_data_of env.now) (typed_conditions schema.now (env_data_of env.now) policies.now.policies) request.now entities.now) }
 {
-    conditions_have_tries();
     found_in_environment(schema, policies, request, env);
     let trie = trie_of(alloc, schema, policies, env)?;
     restricted_store(alloc, &trie, request, entities)
