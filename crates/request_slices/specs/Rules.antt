@@ -8,11 +8,11 @@ use Rattle.policy_typing.specs.Conforms.{RequestConforms, StoreConforms}
 use Rattle.policy_validate.specs.Accepted.{IsAccepted}
 
 -- every rule holds
-pub record KeepRules (schema : SchemaData) (policies : PolicySetData) (q : Request) (s : Store) : Type 0 where
+pub record KeepRules (schema : SchemaData) (set : PolicySetData) (q : Request) (s : Store) : Type 0 where
   -- the request is whole, and conforms to the schema
   pub whole : IsWhole q
   pub request : RequestConforms schema q
   -- the store conforms to the schema
   pub store : StoreConforms schema s
   -- the policies are accepted
-  pub policies : IsAccepted schema policies
+  pub policies : IsAccepted schema set

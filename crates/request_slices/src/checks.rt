@@ -1,8 +1,9 @@
 //! Every rule, one after another.
 
-ghost use Rattle.std.specs.Prelude.{IfErr, IfOk};
-ghost use Rattle.policy_store.specs.Request.{IsWhole};
-ghost use Rattle.policy_typing.specs.Conforms.{RequestConforms, StoreConforms};
+ghost use Rattle.std.specs.Prelude.{◌≡◌, true, IfErr, IfOk, MatchResult, None};
+ghost use Rattle.conformance.specs.Misfits.{knows};
+ghost use Rattle.conformance.specs.RequestRules.{first_request_fault};
+ghost use Rattle.conformance.specs.StoreRules.{first_store_fault};
 ghost use Rattle.policy_validate.specs.Accepted.{IsAccepted};
 ghost use Rattle.request_slices.specs.CheckSteps.{IsRequestRefusal, IsStoreRefusal, IsPoliciesRefusal};
 ghost use Rattle.request_slices.specs.Refused.{WhyNoSlice};
@@ -29,6 +30,9 @@ pub(crate) fn check_rules(
     ensures ok { IfOk result (λ _. KeepRules schema.now policies.now request.now entities.now) }
     ensures err { IfErr result (WhyNoSlice schema.now policies.now request.now entities.now) }
 {
+    request_rules_are_exact();
+    store_rules_are_exact();
+    let _actions = schema.action_ids();
     if !request.is_whole() {
         return Err(SliceForRequestError::PartialRequest);
     }
@@ -41,33 +45,43 @@ pub(crate) fn check_rules(
     check_policies(alloc, schema, policies)
 }
 
+// The first rule that the request breaks, where all extensions are there.
 fn check_request(
     alloc: Global,
     schema: &ValidatorSchema,
     request: &Request,
 ) -> Result<(), SliceForRequestError>
-    requires { IsWhole request.now }
-    ensures ok { IfOk result (λ _. RequestConforms schema.now request.now) }
-    ensures err { IfErr result (IsRequestRefusal schema.now request.now) }
+    ensures { MatchResult result (λ _. first_request_fault schema.now (λ _. true) request.now ≡ None)
+        (IsRequestRefusal (first_request_fault schema.now (λ _. true) request.now)) }
 {
-    request_rules_are_exact();
-    all_functions_are_known();
-    let _actions = schema.action_ids();
     let objects = all_objects(alloc)?;
     let extensions = ExtensionSchemas::all_available(alloc, &objects)?;
-    match validate_request(alloc, schema, request, &extensions) {
+    all_functions_are_known();
+    check_with(alloc, schema, request, &extensions)
+}
+
+// The same, where these extensions are there.
+fn check_with(
+    alloc: Global,
+    schema: &ValidatorSchema,
+    request: &Request,
+    extensions: &ExtensionSchemas<'_>,
+) -> Result<(), SliceForRequestError>
+    ensures { MatchResult result (λ _. first_request_fault schema.now (knows extensions.now) request.now ≡ None)
+        (IsRequestRefusal (first_request_fault schema.now (knows extensions.now) request.now)) }
+{
+    match validate_request(alloc, schema, request, extensions) {
         Ok(()) => Ok(()),
         Err(RequestValidationError::OutOfMemory) => Err(SliceForRequestError::OutOfMemory),
         Err(error) => Err(SliceForRequestError::Request(error)),
     }
 }
 
+// The first entity that breaks a rule.
 fn check_store(schema: &ValidatorSchema, entities: &Entities) -> Result<(), SliceForRequestError>
-    ensures ok { IfOk result (λ _. StoreConforms schema.now entities.now) }
-    ensures err { IfErr result (IsStoreRefusal schema.now entities.now) }
+    ensures { MatchResult result (λ _. first_store_fault schema.now entities.now ≡ None)
+        (IsStoreRefusal (first_store_fault schema.now entities.now)) }
 {
-    store_rules_are_exact();
-    let _actions = schema.action_ids();
     match conforms(schema, entities) {
         Ok(()) => Ok(()),
         Err(ConformanceError::OutOfMemory) => Err(SliceForRequestError::OutOfMemory),

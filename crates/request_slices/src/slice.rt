@@ -16,6 +16,7 @@ ghost use Rattle.request_slices.specs.Slice.{env_of, slice};
 use access_tries::RootAccessTrie;
 use extension_types::{ExtensionSchemas, all_objects};
 use path_analysis::conditions_trie;
+use policy_expressions::Expr;
 use policy_links::laws::typed_everywhere;
 use policy_set::PolicySet;
 use policy_set::laws::is_policy_set;
@@ -23,6 +24,7 @@ use policy_store::{Entities, Request};
 use policy_typecheck::Typechecker;
 use policy_validate::laws::accepted_are_typed;
 use schema_core::{RequestEnv, ValidationMode, ValidatorSchema};
+use schema_types::Type;
 use std::alloc::{AllocError, Global};
 use store_slices::restricted_store;
 use typed_conditions::conditions_in;
@@ -93,11 +95,23 @@ fn trie_of<'a>(
         (declared_reads schema.now (env_data_of env.now) (found_conditions schema.now (env_data_of env.now) policies.now.policies))
         (declared_demands schema.now (env_data_of env.now) (found_conditions schema.now (env_data_of env.now) policies.now.policies))) }
 {
+    let conditions = found_in(alloc, schema, policies, env)?;
+    conditions_trie(alloc, schema, env, &conditions)
+}
+
+// The conditions that checks leave in the environment.
+fn found_in<'a>(
+    alloc: Global,
+    schema: &ValidatorSchema,
+    policies: &'a PolicySet,
+    env: &'a RequestEnv<'a>,
+) -> Result<Vec<Expr<Option<Type>>>, AllocError>
+    ensures { IfOk result (λ r. r.items ≡ found_conditions schema.now (env_data_of env.now) policies.now.policies) }
+{
     let objects = all_objects(alloc)?;
     let extensions = ExtensionSchemas::all_available(alloc, &objects)?;
     let typechecker = Typechecker::new(schema, &extensions, ValidationMode::Strict);
-    let conditions = conditions_in(alloc, &typechecker, env, policies)?;
-    conditions_trie(alloc, schema, env, &conditions)
+    conditions_in(alloc, &typechecker, env, policies)
 }
 
 // Of accepted policies the conditions that checks leave are those that typing gives.
