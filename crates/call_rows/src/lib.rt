@@ -1,6 +1,8 @@
 //! Rows for calls that no command makes, each worked out by hand.
 #![tactic(auto)]
 
+mod tries;
+
 use entity_merging::merge_values;
 use level_slices::slice_at_level;
 use policy_documents::{Document, parse_json, read_document, read_value};

@@ -46,7 +46,7 @@ pub(crate) fn push_trie(
 }
 
 /// The trie with exactly the paths of this one that the schema declares, with their marks.
-pub fn declared_trie(
+pub(crate) fn declared_trie(
     alloc: Global,
     schema: &ValidatorSchema,
     request_type: &RequestType,

@@ -5,11 +5,13 @@ mod declared;
 mod error;
 mod faults;
 pub mod laws;
+mod listing;
 mod manifest;
+mod placed;
+mod read;
 mod types;
 mod write;
 
-pub use declared::declared_trie;
 pub use error::{
     EntityManifestFromJsonError, MismatchedEntityManifestError, MismatchedMissingEntityError,
     MismatchedNotStrictSchemaError,

@@ -2,13 +2,16 @@
 
 use policy_scope::ValidationResult;
 use std::alloc::AllocError;
+use thiserror::Error;
 
 /// Why there is no manifest of policies.
-#[derive(Debug, Drop)]
+#[derive(Debug, Drop, Error)]
 pub enum EntityManifestError {
     /// The policies are not accepted: what was found.
+    #[error("a validation error occurred")]
     Validation(ValidationResult),
     /// There was no memory for it.
+    #[error("out of memory")]
     OutOfMemory,
 }
 

@@ -1,4 +1,0 @@
-mod Filling
-mod Items
-mod Saying
-mod TagSteps

@@ -1,3 +1,0 @@
-pub mod Placed
-pub mod Reading
-pub mod Said
