@@ -25,7 +25,7 @@ all_at P [] i d h a = absurd (omega (arith, h))
 all_at P (x ∷ xs) zero d h a = a.0
 all_at P (x ∷ xs) (suc i) d h a = all_at P xs i d (omega (arith, h)) a.1
 
-inside : {X : Type 0} (xs : List X) (i : ℕ) → i < length xs → is_some (slice_get xs i) ≡ true
+pub inside : {X : Type 0} (xs : List X) (i : ℕ) → i < length xs → is_some (slice_get xs i) ≡ true
 inside [] i h = absurd (omega (arith, h))
 inside (x ∷ xs) zero h = refl
 inside (x ∷ xs) (suc i) h = inside xs i (omega (arith, h))

@@ -1,5 +1,7 @@
-mod PlaceSteps
+pub mod PlaceSteps
 pub mod PointSteps
 mod FollowSteps
 mod DemandSteps
 mod BeginSteps
+mod LedSteps
+mod StuckSteps

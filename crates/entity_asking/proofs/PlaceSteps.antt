@@ -12,7 +12,7 @@ use Rattle.policy_reads.proofs.Lists.{IsIn}
 use Rattle.entity_asking.specs.declared.place.Place.{Place}
 use Rattle.entity_asking.specs.Places.{place_cmp, IsPlaced}
 
-exact_place : (p q : Place) → place_cmp p q ≡ Equal → p ≡ q
+pub exact_place : (p q : Place) → place_cmp p q ≡ Equal → p ≡ q
 exact_place p q h =
     let e = then_equal (uid_cmp p.uid q.uid) (nat_cmp p.number q.number) h in
     λ i. record { uid = exact_uid p.uid q.uid e.0 i; number = exact_unsigned p.number q.number e.1 i }

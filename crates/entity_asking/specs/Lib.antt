@@ -1,5 +1,6 @@
 pub mod Places
 pub mod Wants
+pub mod Leads
 pub mod Stuck
 pub mod Begun
 pub mod Answered

@@ -1,5 +1,5 @@
 -- Values that a path of a trie cannot go on from.
-use Rattle.std.specs.Prelude.{◌≡◌, ◌⊎◌, Bool, true, false, List, [], ◌∷◌, map}
+use Rattle.std.specs.Prelude.{◌≡◌, ◌⊎◌, Bool, true, false, List, [], ◌∷◌, Option, Some, None, map}
 use Rattle.policy_values.specs.Value.{Val, entity, rec, Fields, no_fields, field}
 use Rattle.policy_store.specs.Store.{StoredEntity}
 use Rattle.access_tries.specs.declared.edge.Edge.{Edge}
@@ -66,3 +66,8 @@ EntitySticks e t u = FieldsStick e.attrs t u ⊎ SomeSticks (values_in e.tags) (
 abbrev pub RefusedBy : (Val → Type 0) → FollowError → Type 0
 RefusedBy P (error.Incompatible u) = P u
 RefusedBy P error.OutOfMemory = Unit {0}
+
+-- a value that sticks, or none where nothing does
+abbrev pub IsStuck : (Val → Type 0) → Option Val → Type 0
+IsStuck P None = (u : Val) → ¬ P u
+IsStuck P (Some u) = P u

@@ -14,6 +14,7 @@ ghost use Rattle.entity_asking.specs.Wants.{Adds};
 
 use crate::follow::{FollowError, follow_entity};
 use crate::place::Place;
+use crate::stuck::stuck_in_entity;
 use access_tries::{Node, TrieRef};
 use policy_names::EntityUID;
 use policy_store::Entity;
@@ -53,7 +54,12 @@ fn follow_answer(
     ensures why { IfErr result (RefusedBy (AnswerSticks (option_copied answer.entry) (tests_of trie.now))) }
 {
     match answer {
-        Some(entity) => follow_entity(alloc, entity, trie, next),
+        Some(entity) => {
+            if let Some(value) = stuck_in_entity(entity, trie) {
+                return Err(FollowError::Incompatible(value.try_clone(alloc)?));
+            }
+            Ok(follow_entity(entity, trie, next)?)
+        }
         None => Ok(()),
     }
 }

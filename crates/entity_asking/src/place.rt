@@ -17,8 +17,8 @@ pub struct Place {
     pub number: usize,
 }
 
-// Adds a place.
-pub(crate) fn ask(
+/// Adds a place.
+pub fn ask(
     places: &mut BTreeSet<Place>,
     uid: &EntityUID,
     number: usize,

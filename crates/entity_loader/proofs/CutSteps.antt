@@ -1,7 +1,8 @@
 -- Fields that are cut one after another.
-use Rattle.std.proofs.Common.{◌≡◌, ℕ, ◌≤◌, Bool, true, false, List, [], ◌∷◌, ◌++◌, map, refl, sym, ap, ◌∙◌, subst, arith, append_assoc}
+use Rattle.std.proofs.Common.{◌≡◌, ℕ, zero, suc, get_or, ◌≤◌, ◌<◌, Bool, true, false, ◌||◌, length, List, [], ◌∷◌, ◌++◌, map, refl, sym, ap, ◌∙◌, subst, arith, append_assoc}
 use Rattle.std.specs.Prelude.{if◌then◌else◌}
-use Rattle.std.specs.List.{AllByRecursion}
+use Rattle.std.specs.List.{list_any, AllByRecursion}
+use Rattle.std.proofs.lemmas.List.Folds.{list_any-append}
 use Rattle.std.specs.List.Sorted.{IsStrictlySortedBy}
 use Rattle.std.specs.Map.{keys_of}
 use Rattle.std.specs.Ordering.{ordering_reverse}
@@ -13,10 +14,16 @@ use Rattle.policy_values.specs.Value.{Val, Fields, field, fields_of, size_of, si
 use Rattle.policy_values.proofs.MapSteps.{keys_of-append}
 use Rattle.access_tries.specs.declared.edge.Edge.{Edge}
 use Rattle.access_tries.specs.Paths.{edge_of}
-use Rattle.access_tries.specs.Views.{ViewData, view_leads, LeadsTo}
-use Rattle.entity_loader.specs.Asked.{along, by_tag, each}
-use Rattle.policy_reads.specs.Paths.{Chain, steps_of}
+use Rattle.access_tries.specs.Views.{ViewData, view_leads, LeadsTo, LeadsNowhere}
+use Rattle.access_tries.specs.Edges.{Address}
+use Rattle.access_tries.specs.Table.{Table}
+use Rattle.entity_loader.specs.Asked.{asked, asked_by, asks, by_tag, some_leads, some_along, AreBelow}
+use Rattle.policy_reads.specs.Paths.{any_tag, Chain, steps_of}
 use Rattle.policy_reads.specs.Restrict.{cut, cut_fields}
+
+or_nothing : (a : Bool) → (a || false) ≡ a
+or_nothing true = refl
+or_nothing false = refl
 
 abbrev Entries : Type 0
 Entries = List (List ℕ × Val)
@@ -106,13 +113,69 @@ pub cut_no_field : (es : List (List ℕ × Val)) (k : Chain → Bool) → ((n : 
 cut_no_field [] k none = refl
 cut_no_field (e ∷ es) k none = rw (none e.0) (cut_no_field es k none)
 
--- what an edge leads to
-module _ (e : Edge) (t below : ViewData) (l : LeadsTo e t below) where
-  pub chosen_there : view_leads t (e ∷ []) ≡ true
-  chosen_there = l.paths [] ∙ l.there
+-- ---- the nodes behind an edge
 
-  pub cut_below : (v : Val) → cut v (along below) ≡ cut v (λ c. view_leads t (e ∷ map edge_of (steps_of c)))
-  cut_below v = ap (cut v) (λ i c. sym (l.paths (map edge_of (steps_of c))) i)
+or_with : (a b c d : Bool) → a ≡ c → b ≡ d → (a || (b || false)) ≡ (c || (d || false))
+or_with a b c d f g = rw (f, g) refl
 
-  pub fields_below : (fs : Fields) → cut_fields fs (each below) ≡ cut_fields fs (by_tag (λ c. view_leads t (e ∷ map edge_of (steps_of c))))
-  fields_below fs = ap (λ k. cut_fields fs (by_tag k)) (λ i c. sym (l.paths (map edge_of (steps_of c))) i)
+all_push : {X : Type 0} (P : X → Type 0) (xs : List X) (x : X) → AllByRecursion P xs → P x → AllByRecursion P (xs ++ x ∷ [])
+all_push P [] x h p = (p, tt)
+all_push P (y ∷ xs) x h p = (h.0, all_push P xs x h.1 p)
+
+pub below_none : (e : Edge) (ns : Table) → AreBelow e ns [] []
+below_none e ns = record { leads = λ es. refl; there = tt }
+
+module _ (e : Edge) (ns : Table) (is js : List ℕ) (i : ℕ) (b : AreBelow e ns is js) where
+  pub below_more : (w : ViewData) → LeadsTo e (record { nodes = ns; number = i }) w → AreBelow e ns (is ++ i ∷ []) (js ++ w.number ∷ [])
+  below_more w l = record {
+    leads = λ es.
+        list_any-append (λ j. view_leads (record { nodes = ns; number = j }) es) js (w.number ∷ [])
+        ∙ or_with (some_leads ns js es) (view_leads (record { nodes = ns; number = w.number }) es) (some_leads ns is (e ∷ es)) (view_leads (record { nodes = ns; number = i }) (e ∷ es)) (b.leads es)
+        ((λ k. view_leads (record { nodes = sym l.table k; number = w.number }) es) ∙ sym (l.paths es))
+        ∙ sym (list_any-append (λ j. view_leads (record { nodes = ns; number = j }) (e ∷ es)) is (i ∷ []));
+    there = all_push (λ j. view_leads (record { nodes = ns; number = j }) [] ≡ true) js w.number b.there ((λ k. view_leads (record { nodes = sym l.table k; number = w.number }) []) ∙ l.there);
+  }
+
+  pub below_skip : LeadsNowhere e (record { nodes = ns; number = i }) → AreBelow e ns (is ++ i ∷ []) js
+  below_skip n = record {
+    leads = λ es. b.leads es ∙ sym (list_any-append (λ j. view_leads (record { nodes = ns; number = j }) (e ∷ es)) is (i ∷ []) ∙ ap (λ c. some_leads ns is (e ∷ es) || (c || false)) (n es) ∙ or_nothing (some_leads ns is (e ∷ es)));
+    there = b.there;
+  }
+
+some_there : {X : Type 0} (f : X → Bool) (xs : List X) → 0 < length xs → AllByRecursion (λ x. f x ≡ true) xs → list_any f xs ≡ true
+some_there f [] some h = absurd (omega (arith, some))
+some_there f (x ∷ xs) some h = rw h.0 refl
+
+module _ (e : Edge) (ns : Table) (is js : List ℕ) (b : AreBelow e ns is js) where
+  pub there_behind : 0 < length js → some_leads ns js [] ≡ true
+  there_behind some = some_there (λ j. view_leads (record { nodes = ns; number = j }) []) js some b.there
+
+  pub chosen_there : 0 < length js → some_leads ns is (e ∷ []) ≡ true
+  chosen_there some = sym (b.leads []) ∙ there_behind some
+
+  pub not_chosen : js ≡ [] → (es : Address) → some_leads ns is (e ∷ es) ≡ false
+  not_chosen none es = sym (b.leads es) ∙ ap (λ ks. some_leads ns ks es) none
+
+  pub cut_below : (v : Val) → cut v (some_along ns js) ≡ cut v (λ c. some_leads ns is (e ∷ map edge_of (steps_of c)))
+  cut_below v = ap (cut v) (λ i c. b.leads (map edge_of (steps_of c)) i)
+
+  pub fields_below : (fs : Fields) → cut_fields fs (by_tag (some_along ns js)) ≡ cut_fields fs (by_tag (λ c. some_leads ns is (e ∷ map edge_of (steps_of c))))
+  fields_below fs = ap (λ k. cut_fields fs (by_tag k)) (λ i c. b.leads (map edge_of (steps_of c)) i)
+
+pub none_in : {X : Type 0} (xs : List X) → length xs ≡ 0 → xs ≡ []
+none_in [] h = refl
+none_in (x ∷ xs) h = absurd (omega (arith, h))
+
+-- one node alone
+pub asked_alone : (t : ViewData) → asked_by t.nodes (t.number ∷ []) ≡ asked t
+asked_alone t = λ i. record { chains = λ x c. or_nothing (asks t (steps_of c)) i; ancestors = λ x y. false; tags = λ x. by_tag (λ c. or_nothing (asks t (any_tag ∷ steps_of c)) i) }
+
+-- what stands there does not depend on what would stand elsewhere
+pub got_same : {X : Type 0} (xs : List X) (i : ℕ) (d e : X) → i < length xs → get_or xs i d ≡ get_or xs i e
+got_same [] i d e h = absurd (omega (arith, h))
+got_same (x ∷ xs) zero d e h = refl
+got_same (x ∷ xs) (suc i) d e h = got_same xs i d e (omega (arith, h))
+
+-- the node with this number in the table of an equal one
+pub node_in : (v w : ViewData) → v ≡ w → v ≡ record { nodes = w.nodes; number = v.number }
+node_in v w same j = record { nodes = (same j).nodes; number = v.number }

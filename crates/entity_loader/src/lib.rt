@@ -5,5 +5,6 @@ mod cut;
 mod loader;
 mod slicer;
 
+pub use cut::cut_entity;
 pub use loader::{AncestorsRequest, EntityAnswer, EntityLoader, EntityRequest, LoadError};
 pub use slicer::EntitySlicer;

@@ -5,7 +5,7 @@ ghost use Rattle.std.specs.List.{AllZip};
 ghost use Rattle.policy_names.specs.declared.entity_uid.EntityUID.{EntityUID};
 ghost use Rattle.entity_loader.specs.Answers.{IsHonest, IsHonestList, IsListed};
 
-use crate::cut::cut_entity;
+use crate::cut::cut_along;
 use crate::loader::{AncestorsRequest, EntityAnswer, EntityLoader, EntityRequest, LoadError};
 use policy_names::EntityUID;
 use policy_store::{Entities, Entity};
@@ -84,7 +84,7 @@ fn answer(
     ensures { IfOk result (IsHonest true entities.now request.now) }
 {
     match entities.entity(&request.entity_id) {
-        Some(entity) => Ok(Some(cut_entity(alloc, entity, &request.access_trie)?)),
+        Some(entity) => Ok(Some(cut_along(alloc, entity, &request.access_trie)?)),
         None => Ok(None),
     }
 }

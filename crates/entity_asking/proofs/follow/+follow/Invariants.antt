@@ -1,9 +1,9 @@
 use Rattle.std.proofs.Common.{◌+◌, ◌*◌, ◌≤◌}
-use Rattle.policy_values.specs.Value.{Val, size_of, size_of_fields, fields_of}
+use Rattle.policy_values.specs.Value.{size_of, size_of_fields, fields_of}
 use Rattle.entity_asking.specs.Places.{IsBelow}
 use Rattle.entity_asking.specs.Wants.{sees, fields_point}
-use Rattle.entity_asking.specs.Stuck.{tests_of, FieldsStick}
 use Rattle.entity_asking.proofs.FollowSteps.{IsFollowing}
+use Rattle.entity_asking.proofs.LedSteps.{IsLeading}
 use Rattle.entity_asking.proofs.follow.+follow.Given as goal
 
 abbrev pub decreases-follow : goal.decreases-follow
@@ -15,6 +15,6 @@ decreases-follow_fields l = 2 * size_of_fields (fields_of l.fields.now.entries) 
 abbrev pub invariant-follow_fields-loop-key : goal.invariant-follow_fields-loop-key
 invariant-follow_fields-loop-key l = record {
   following : IsFollowing l.trie.nodes (λ b. fields_point (fields_of l.fields.entries) (sees b l.trie)) (λ b. fields_point (fields_of l.key-iterator) (sees b l.trie)) (IsBelow l.trie) l.fn.next.keys l.next.keys;
-  stuck : (u : Val) → FieldsStick (fields_of l.key-iterator) (tests_of l.trie) u → FieldsStick (fields_of l.fields.entries) (tests_of l.trie) u;
+  leading : IsLeading l.trie l.fields.entries l.key-iterator;
   within : size_of_fields (fields_of l.key-iterator) ≤ size_of_fields (fields_of l.fields.entries);
 }

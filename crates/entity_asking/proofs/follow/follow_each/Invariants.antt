@@ -1,14 +1,14 @@
 use Rattle.std.specs.List.{list_any}
-use Rattle.policy_values.specs.Value.{Val, fields_of}
+use Rattle.policy_values.specs.Value.{fields_of}
 use Rattle.policy_reads.specs.Restrict.{values_in}
 use Rattle.entity_asking.specs.Places.{IsAtOrBelow}
 use Rattle.entity_asking.specs.Wants.{sees, points}
-use Rattle.entity_asking.specs.Stuck.{tests_of, SomeSticks}
 use Rattle.entity_asking.proofs.FollowSteps.{IsFollowing}
+use Rattle.entity_asking.proofs.LedSteps.{IsLeadingSome}
 use Rattle.entity_asking.proofs.follow.follow_each.Given as goal
 
 abbrev pub invariant-loop-value : goal.invariant-loop-value
 invariant-loop-value l = record {
   following : IsFollowing l.trie.nodes (λ b x a. list_any (λ v. points v (sees b l.trie) x a) (values_in (fields_of l.values.entries))) (λ b x a. list_any (λ v. points v (sees b l.trie) x a) l.value-iterator) (IsAtOrBelow l.trie) l.fn.next.keys l.next.keys;
-  stuck : (u : Val) → SomeSticks l.value-iterator (tests_of l.trie) u → SomeSticks (values_in (fields_of l.values.entries)) (tests_of l.trie) u;
+  leading : IsLeadingSome l.trie (values_in (fields_of l.values.entries)) l.value-iterator;
 }

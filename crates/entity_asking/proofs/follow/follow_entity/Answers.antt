@@ -1,13 +1,14 @@
-use Rattle.std.proofs.Common.{inr, sym, ap, ◌∙◌, subst, ◌||◌}
+use Rattle.std.proofs.Common.{sym, ap, ◌∙◌, subst, ◌||◌}
 use Rattle.std.specs.List.{list_any}
-use Rattle.std.proofs.lemmas.Result.{on_ok_weaker, IfErr-weaker}
+use Rattle.std.proofs.lemmas.Result.{on_ok_weaker}
 use Rattle.access_tries.specs.declared.edge.Edge.TheVariants.{AnyTag}
 use Rattle.policy_reads.specs.Paths.{any_tag}
 use Rattle.policy_reads.specs.Restrict.{values_in}
 use Rattle.policy_values.specs.Value.{fields_of}
+use Rattle.entity_asking.specs.Leads.{FieldsLead, SomeLeads, IsLed}
 use Rattle.entity_asking.specs.Wants.{sees, points, fields_point, entity_points, Adds}
-use Rattle.entity_asking.specs.Stuck.{tests_of, behind, SomeSticks, EntitySticks}
-use Rattle.entity_asking.proofs.FollowSteps.{adds_also, adds_same, any_behind, any_nothing, tests_behind, below_step, or_then, refused_weaker, or_false}
+use Rattle.entity_asking.proofs.FollowSteps.{adds_also, adds_same, any_behind, any_nothing, below_step, or_then, or_false}
+use Rattle.entity_asking.proofs.LedSteps.{some_point, led_with_tags, led_without_tags}
 use Rattle.entity_asking.proofs.follow.follow_entity.Goals as goal
 
 pub returns-in-Some-clause-asked : goal.returns-in-Some-clause-asked
@@ -18,7 +19,7 @@ returns-in-Some-clause-asked c =
     let leads = c.in-Some.ensures in
     let mid = c.follow_fields.new.next.keys in
     let new = c.follow_each.new.next.keys in
-    let first : Adds v.nodes (λ b. fields_point e.attrs (sees b v)) c.args.next.now.keys mid = subst (λ fs. Adds v.nodes (λ b. fields_point fs (sees b v)) c.args.next.now.keys mid) c.attrs.ensures c.in_default.ensures.asked in
+    let first : Adds v.nodes (λ b. fields_point e.attrs (sees b v)) c.args.next.now.keys mid = subst (λ fs. Adds v.nodes (λ b. fields_point fs (sees b v)) c.args.next.now.keys mid) c.attrs.ensures c.in_ok-follow_fields.ensures.asked in
     on_ok_weaker c.follow_each.result
     (λ t. adds_same v.nodes _ (λ b. entity_points e (sees b v)) c.args.next.now.keys new
     (λ b x a. ap (λ p. fields_point e.attrs (sees b v) x a || p) (ap (λ fs. list_any (λ u. points u (sees b below) x a) (values_in fs)) c.tags-in-Some.ensures ∙ any_behind AnyTag v below leads (values_in e.tags) b x a))
@@ -27,14 +28,17 @@ returns-in-Some-clause-asked c =
     c.follow_each.ensures.asked
 
 pub returns-in-Some-clause-below : goal.returns-in-Some-clause-below
-returns-in-Some-clause-below c = on_ok_weaker c.follow_each.result (λ f q h. or_then (c.in_default.ensures.below q) (below_step any_tag c.args.trie.now c.in-Some.below q c.in-Some.ensures) (f q h)) c.follow_each.ensures.below
+returns-in-Some-clause-below c = on_ok_weaker c.follow_each.result (λ f q h. or_then (c.in_ok-follow_fields.ensures.below q) (below_step any_tag c.args.trie.now c.in-Some.below q c.in-Some.ensures) (f q h)) c.follow_each.ensures.below
 
-pub returns-in-Some-clause-why : goal.returns-in-Some-clause-why
-returns-in-Some-clause-why c =
-    IfErr-weaker c.follow_each.result _ _
-    (λ e h. refused_weaker (SomeSticks (values_in (fields_of c.tags-in-Some.result.now.entries)) (tests_of c.in-Some.below)) (EntitySticks c.args.entity.now (tests_of c.args.trie.now))
-    (λ u s. inr (subst (λ fs. SomeSticks (values_in fs) (behind AnyTag (tests_of c.args.trie.now)) u) c.tags-in-Some.ensures (subst (λ w. SomeSticks (values_in (fields_of c.tags-in-Some.result.now.entries)) w u) (tests_behind AnyTag c.args.trie.now c.in-Some.below c.in-Some.ensures) s))) e h)
-    c.follow_each.ensures.why
+pub returns-in-Some-clause-leads : goal.returns-in-Some-clause-leads
+returns-in-Some-clause-leads c =
+    let v = c.args.trie.now in
+    let e = c.args.entity.now in
+    on_ok_weaker c.follow_each.result
+    (λ t. led_with_tags e v c.in-Some.below c.in-Some.ensures
+    (subst (λ fs. IsLed v (fields_point fs) (FieldsLead fs)) c.attrs.ensures c.in_ok-follow_fields.ensures.leads)
+    (subst (λ fs. IsLed c.in-Some.below (some_point (values_in fs)) (SomeLeads (values_in fs))) c.tags-in-Some.ensures t))
+    c.follow_each.ensures.leads
 
 pub returns-in-None-clause-asked : goal.returns-in-None-clause-asked
 returns-in-None-clause-asked c =
@@ -42,4 +46,9 @@ returns-in-None-clause-asked c =
     let e = c.args.entity.now in
     adds_same v.nodes (λ b. fields_point e.attrs (sees b v)) (λ b. entity_points e (sees b v)) c.args.next.now.keys c.follow_fields.new.next.keys
     (λ b x a. sym (or_false (fields_point e.attrs (sees b v) x a)) ∙ ap (λ p. fields_point e.attrs (sees b v) x a || p) (sym (any_nothing AnyTag v c.in-None.ensures (values_in e.tags) b x a)))
-    (subst (λ fs. Adds v.nodes (λ b. fields_point fs (sees b v)) c.args.next.now.keys c.follow_fields.new.next.keys) c.attrs.ensures c.in_default.ensures.asked)
+    (subst (λ fs. Adds v.nodes (λ b. fields_point fs (sees b v)) c.args.next.now.keys c.follow_fields.new.next.keys) c.attrs.ensures c.in_ok-follow_fields.ensures.asked)
+
+pub returns-in-None-clause-leads : goal.returns-in-None-clause-leads
+returns-in-None-clause-leads c =
+    led_without_tags c.args.entity.now c.args.trie.now c.in-None.ensures
+    (subst (λ fs. IsLed c.args.trie.now (fields_point fs) (FieldsLead fs)) c.attrs.ensures c.in_ok-follow_fields.ensures.leads)

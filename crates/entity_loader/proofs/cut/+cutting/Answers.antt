@@ -1,23 +1,32 @@
-use Rattle.std.proofs.Common.{◌∙◌, subst, []}
+use Rattle.std.proofs.Common.{rules, ◌≡◌, ◌<◌, ◌∙◌, ap, subst, [], length}
 use Rattle.access_tries.specs.declared.edge.Edge.TheVariants.{Field}
-use Rattle.access_tries.specs.Views.{LeadsNowhere}
-use Rattle.entity_loader.specs.Asked.{along}
-use Rattle.entity_loader.proofs.CutSteps.{IsCutting, cut_skip, cut_more, cut_done, chosen_there, cut_below}
+use Rattle.policy_reads.specs.Restrict.{cut}
+use Rattle.entity_loader.specs.Asked.{some_along}
+use Rattle.entity_loader.proofs.CutSteps.{IsCutting, cut_skip, cut_more, cut_done, chosen_there, not_chosen, cut_below, none_in}
 use Rattle.entity_loader.proofs.cut.+cutting.Goals as goal
-
-pub cut_fields-loop-key-preserved-in_ok-push_entry : goal.cut_fields-loop-key-preserved-in_ok-push_entry
-cut_fields-loop-key-preserved-in_ok-push_entry t c =
-    let key = c.in-Some.key.now in
-    let value = c.in-Some.value.now in
-    let leads = c.in-Some-field.ensures in
-    rw (c.in_ok-push_entry.ensures.added, c.in_ok-try_clone.ensures)
-    (cut_more (along c.args.trie.now) c.args.fields.now.entries c.loop-key.key-iterator c.loop-key.kept.entries key value c.next.new.self c.in-Some.ensures.steps c.loop-key.invariant
-    (chosen_there (Field key) c.args.trie.now c.in-Some-field.below leads) c.in_ok-value.value (c.in_ok-value.ensures ∙ cut_below (Field key) c.args.trie.now c.in-Some-field.below leads value))
+use Rattle.entity_loader.proofs.cut.+cutting.Goals.{cut_fields-then-not-is_empty+in_ok-value+in_ok-try_clone+in_ok-push_entry, cut_fields-else-not-is_empty}
 
 pub cut_fields-loop-key-preserved : goal.cut_fields-loop-key-preserved
 cut_fields-loop-key-preserved t c =
-    let nowhere : LeadsNowhere (Field c.in-Some.key.now) c.args.trie.now = c.in_default.ensures in
-    cut_skip (along c.args.trie.now) c.args.fields.now.entries c.loop-key.key-iterator c.loop-key.kept.entries c.in-Some.key.now c.in-Some.value.now c.next.new.self c.in-Some.ensures.steps c.loop-key.invariant (nowhere [])
+    let ns = c.args.nodes.now in
+    let is = c.args.numbers.now in
+    let key = c.in-Some.key.now in
+    let value = c.in-Some.value.now in
+    let js = c.in_ok-below.below.items in
+    let b = c.in_ok-below.ensures in
+    elim c.if-not-is_empty.branch [
+      | cut_fields-then-not-is_empty+in_ok-value+in_ok-try_clone+in_ok-push_entry w ↦
+          let some : 0 < length js = search rules in
+          rw (ap (λ m. m.entries) w.kept-is ∙ w.in_ok-push_entry.ensures.added, w.in_ok-try_clone.ensures)
+          (cut_more (some_along ns is) c.args.fields.now.entries c.loop-key.key-iterator c.loop-key.kept.entries key value c.next.new.self c.in-Some.ensures.steps c.loop-key.invariant
+          (chosen_there (Field key) ns is js b some) w.in_ok-value.value (w.in_ok-value.ensures ∙ ap (λ ks. cut value (some_along ns ks)) w.deref.ensures.value ∙ cut_below (Field key) ns is js b value))
+      | cut_fields-else-not-is_empty w ↦
+          let none : length js ≡ 0 = search rules in
+          rw (ap (λ m. m.entries) w.kept-is)
+          (cut_skip (some_along ns is) c.args.fields.now.entries c.loop-key.key-iterator c.loop-key.kept.entries key value c.next.new.self c.in-Some.ensures.steps c.loop-key.invariant (not_chosen (Field key) ns is js b (none_in js none) []))
+    ]
 
 pub cut_fields-returns : goal.cut_fields-returns
-cut_fields-returns t c = cut_done (along c.args.trie.now) c.args.fields.now.entries c.loop-key.kept.entries (subst (λ l. IsCutting (along c.args.trie.now) c.args.fields.now.entries l c.loop-key.kept.entries) c.in-None.ensures.steps.0 c.loop-key.invariant)
+cut_fields-returns t c =
+    let k = some_along c.args.nodes.now c.args.numbers.now in
+    cut_done k c.args.fields.now.entries c.loop-key.kept.entries (subst (λ l. IsCutting k c.args.fields.now.entries l c.loop-key.kept.entries) c.in-None.ensures.steps.0 c.loop-key.invariant)

@@ -1,0 +1,5 @@
+mod PointSteps
+mod ReachSteps
+pub mod LeastSteps
+mod KeptSteps
+mod PartSteps

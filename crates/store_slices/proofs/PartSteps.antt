@@ -1,0 +1,160 @@
+-- How the parts are made, one after another.
+use Rattle.std.proofs.Common.{◌≡◌, ◌<◌, ◌+◌, ℕ, zero, suc, Bool, true, false, List, [], ◌∷◌, ◌++◌, map, Option, Some, None, ◌≤◌, ◌⊎◌, inl, inr, is_some, length, refl, sym, ap, ◌∙◌, subst, append_assoc, arith}
+use Rattle.std.specs.Prelude.{◌↔◌, filter, slice_get, if◌then◌else◌}
+use Rattle.std.specs.List.{AllByRecursion}
+use Rattle.std.specs.List.Sorted.{IsStrictlySortedBy}
+use Rattle.std.specs.Option.{option_map_or}
+use Rattle.std.proofs.lemmas.Bool.{cases_lt}
+use Rattle.std.specs.Ordering.{ordering_reverse}
+use Rattle.std.specs.declared.cmp.Ordering.TheVariants.{Less}
+use Rattle.std.specs.Map.{values_of}
+use Rattle.std.specs.BTreeMap.{BTreeMap, IsOrdered, get, values, insert_entry}
+use Rattle.std.specs.BTreeSet.{BTreeSet, contains}
+use Rattle.std.specs.declared.vec.Vec.{Vec}
+use Rattle.std.specs.declared.alloc.Global.{Global}
+use Rattle.hierarchy.specs.Keyed.{AreAtTheirKeys, value_at, with_value}
+use Rattle.hierarchy.proofs.Keyed.{value_found, value_put, own_put}
+use Rattle.policy_names.specs.declared.entity_uid.EntityUID.{EntityUID}
+use Rattle.policy_names.specs.Uid.{uid_cmp, uid_cmp_total, exact_uid}
+use Rattle.policy_store.specs.declared.request.Request.{Request}
+use Rattle.policy_store.specs.Store.{StoredEntity, Store, entity_at}
+use Rattle.policy_store.specs.Ascending.{IsAbove}
+use Rattle.access_tries.specs.Table.{Table}
+use Rattle.policy_reads.specs.Restrict.{Keep, cut_entity, part}
+use Rattle.policy_reads.proofs.Lists.{nil_right}
+use Rattle.ancestor_names.specs.Names.{IsKept, IsNamed}
+use Rattle.entity_loader.specs.Asked.{some_leads, asked_by}
+use Rattle.store_slices.specs.Kept.{Numbers, numbers_at, along_nodes, names, some_names, with_names, AreNodes, AreNamed}
+
+-- the entities `made` were made of those before `left`, of all
+pub record IsParting (k : Keep) (made left all : Store) : Type 0 where
+  pub so_far : made ++ part k left ≡ part k all
+  pub ascending : IsStrictlySortedBy uid_cmp (map (λ e. e.uid) left)
+  pub above : AllByRecursion (λ e. IsAbove e.uid made) left
+
+above_end : (u : EntityUID) (made : Store) (x : StoredEntity) → IsAbove u made → uid_cmp x.uid u ≡ Less → IsAbove u (made ++ x ∷ [])
+above_end u [] x h k = (uid_cmp_total.antisymm u x.uid ∙ ap ordering_reverse k, tt)
+above_end u (e ∷ made) x h k = (h.0, above_end u made x h.1 k)
+
+above_more : (made left : Store) (x : StoredEntity) → AllByRecursion (λ e. IsAbove e.uid made) left → AllByRecursion (λ u. uid_cmp x.uid u ≡ Less) (map (λ e. e.uid) left) → AllByRecursion (λ e. IsAbove e.uid (made ++ x ∷ [])) left
+above_more made [] x h k = tt
+above_more made (e ∷ left) x h k = (above_end e.uid made x h.0 k.0, above_more made left x h.1 k.1)
+
+above_none : (s : Store) → AllByRecursion (λ e. IsAbove e.uid []) s
+above_none [] = tt
+above_none (e ∷ es) = (tt, above_none es)
+
+pub parting_start : (k : Keep) (s : Store) → IsStrictlySortedBy uid_cmp (map (λ e. e.uid) s) → IsParting k [] s s
+parting_start k s up = record { so_far = refl; ascending = up; above = above_none s }
+
+module _ (k : Keep) (made : Store) (e : StoredEntity) (it left all : Store) (is : it ≡ e ∷ left) (t : IsParting k made it all) where
+  pub next_above : IsAbove e.uid made
+  next_above = (subst (λ l. AllByRecursion (λ d. IsAbove d.uid made) l) is t.above).0
+
+  pub parting_more : (now : Store) (x : StoredEntity) → k.chains e.uid [] ≡ true → x ≡ cut_entity k e → now ≡ made ++ x ∷ [] → IsParting k now left all
+  unfolding IsStrictlySortedBy
+  parting_more now x chosen cut pushed = rw (pushed, cut) (record {
+    so_far = append_assoc made (cut_entity k e ∷ []) (part k left) ∙ (rw (is, chosen) at t.so_far);
+    ascending = (rw is at t.ascending).1;
+    above = above_more made left (cut_entity k e) (rw is at t.above).1 (rw is at t.ascending).0;
+  })
+
+  pub parting_skip : k.chains e.uid [] ≡ false → IsParting k made left all
+  unfolding IsStrictlySortedBy
+  parting_skip none = record { so_far = rw (is, none) at t.so_far; ascending = (rw is at t.ascending).1; above = (rw is at t.above).1 }
+
+pub parting_done : (k : Keep) (made left all : Store) → left ≡ [] → IsParting k made left all → made ≡ part k all
+parting_done k made left all none t = sym (nil_right made) ∙ ap (λ l. made ++ part k l) (sym none) ∙ t.so_far
+
+-- ---- in a map
+
+pub record IsKeeping (k : Keep) (kept : BTreeMap EntityUID StoredEntity) (left all : Store) : Type 0 where
+  pub keyed : AreAtTheirKeys uid_cmp (λ e. e.uid) kept
+  pub parting : IsParting k (values kept) left all
+
+at_end : (x : StoredEntity) (vs : Store) → IsAbove x.uid vs → with_value uid_cmp (λ e. e.uid) x vs ≡ vs ++ x ∷ []
+at_end x [] above = refl
+at_end x (v ∷ vs) above = rw above.0 (ap (λ r. v ∷ r) (at_end x vs above.1))
+
+pub keeping_start : (k : Keep) (kept : BTreeMap EntityUID StoredEntity) (s : Store) → kept.entries ≡ [] → IsOrdered uid_cmp kept → IsStrictlySortedBy uid_cmp (map (λ e. e.uid) s) → IsKeeping k kept s s
+keeping_start k kept s none ordered up = record {
+  keyed = record { ordered = ordered; own = subst (λ es. AllByRecursion (λ p. p.1.uid ≡ p.0) es) (sym none) tt };
+  parting = subst (λ es. IsParting k (values_of es) s s) (sym none) (parting_start k s up);
+}
+
+module _ (k : Keep) (kept : BTreeMap EntityUID StoredEntity) (e : StoredEntity) (it left all : Store) (is : it ≡ e ∷ left) (t : IsKeeping k kept it all) where
+  pub keeping_more : (now : BTreeMap EntityUID StoredEntity) (x : StoredEntity) → k.chains e.uid [] ≡ true → x ≡ cut_entity k e → now.entries ≡ insert_entry uid_cmp kept.entries x.uid x → IsOrdered uid_cmp now → IsKeeping k now left all
+  keeping_more now x chosen cut put ordered =
+      let above : IsAbove x.uid (values kept) = subst (λ y. IsAbove y.uid (values kept)) (sym cut) (next_above k (values kept) e it left all is t.parting) in
+      let pushed : values now ≡ values kept ++ x ∷ [] = ap values_of put ∙ value_put uid_cmp (λ d. d.uid) kept t.keyed x ∙ at_end x (values kept) above in
+      record {
+        keyed = record { ordered = ordered; own = rw put (own_put uid_cmp (λ d. d.uid) exact_uid x kept.entries t.keyed.own) };
+        parting = parting_more k (values kept) e it left all is t.parting (values now) x chosen cut pushed;
+      }
+
+  pub keeping_skip : k.chains e.uid [] ≡ false → IsKeeping k kept left all
+  keeping_skip none = record { keyed = t.keyed; parting = parting_skip k (values kept) e it left all is t.parting none }
+
+pub keeping_done : (k : Keep) (kept : BTreeMap EntityUID StoredEntity) (left all : Store) → left ≡ [] → IsKeeping k kept left all → IsKept kept (part k all)
+keeping_done k kept left all none t x = sym (value_found uid_cmp (λ e. e.uid) kept t.keyed x ∙ ap (λ s. entity_at s x) (parting_done k (values kept) left all none t.parting))
+
+-- ---- one entity
+
+module _ (ns : Table) (m : Numbers) (e : StoredEntity) where
+  pub chosen : AreNodes ns m → (v : Vec ℕ Global) → get uid_cmp m e.uid ≡ Some v → (along_nodes ns m).chains e.uid [] ≡ true
+  chosen there v at = sym (there e.uid) ∙ ap (λ (o : Option (Vec ℕ Global)). is_some o) at
+
+  pub not_chosen : AreNodes ns m → get uid_cmp m e.uid ≡ None → (along_nodes ns m).chains e.uid [] ≡ false
+  not_chosen there at = sym (there e.uid) ∙ ap (λ (o : Option (Vec ℕ Global)). is_some o) at
+
+  none_passes : (ys : List EntityUID) → filter (λ y. false) ys ≡ []
+  none_passes [] = refl
+  none_passes (y ∷ ys) = none_passes ys
+
+  numbers_are : (v : Vec ℕ Global) → get uid_cmp m e.uid ≡ Some v → v.items ≡ numbers_at m e.uid
+  numbers_are v at = sym (ap (λ (o : Option (Vec ℕ Global)). option_map_or (λ w. w.items) o []) at)
+
+  pub bare_cut : (v : Vec ℕ Global) → get uid_cmp m e.uid ≡ Some v → (ids : List EntityUID) → ids ≡ [] → record (cut_entity (asked_by ns v.items) e) { ancestors = ids } ≡ cut_entity (along_nodes ns m) e
+  bare_cut v at ids none =
+      (λ i. record (cut_entity (asked_by ns (numbers_are v at i)) e) { ancestors = none i })
+      ∙ (λ i. record (cut_entity (along_nodes ns m) e) { ancestors = sym (none_passes e.ancestors) i })
+
+  pub named_cut : (sets : List (BTreeSet EntityUID)) (v : Vec ℕ Global) → get uid_cmp m e.uid ≡ Some v → (ids : List EntityUID) → ids ≡ filter (some_names sets v.items) e.ancestors → record (cut_entity (asked_by ns v.items) e) { ancestors = ids } ≡ cut_entity (with_names ns m sets) e
+  named_cut sets v at ids are =
+      (λ i. record (cut_entity (asked_by ns v.items) e) { ancestors = are i })
+      ∙ (λ i. record (cut_entity (asked_by ns (numbers_are v at i)) e) { ancestors = filter (some_names sets (numbers_are v at i)) e.ancestors })
+
+-- ---- names of nodes
+
+-- the ids of the nodes before the next
+pub record IsNaming (ns : Table) (q : Request) (kept : BTreeMap EntityUID StoredEntity) (n : ℕ) (sets : List (BTreeSet EntityUID)) : Type 0 where
+  pub many : length sets ≡ n
+  pub named : (s : Store) → IsKept kept s → (i : ℕ) → i < n → (y : EntityUID) → (names sets i y ≡ true) ↔ IsNamed (record { nodes = ns; number = i }) q s y
+
+got_before : {X : Type 0} (xs : List X) (x : X) (i : ℕ) → i < length xs → slice_get (xs ++ x ∷ []) i ≡ slice_get xs i
+got_before [] x i h = absurd (omega (arith, h))
+got_before (y ∷ xs) x zero h = refl
+got_before (y ∷ xs) x (suc i) h = got_before xs x i (omega (arith, h))
+
+got_last : {X : Type 0} (xs : List X) (x : X) → slice_get (xs ++ x ∷ []) (length xs) ≡ Some x
+got_last [] x = refl
+got_last (y ∷ xs) x = got_last xs x
+
+pub naming_more : (ns : Table) (q : Request) (kept : BTreeMap EntityUID StoredEntity) (n : ℕ) (sets : List (BTreeSet EntityUID)) (ids : BTreeSet EntityUID) → IsNaming ns q kept n sets
+    → ((s : Store) → IsKept kept s → (y : EntityUID) → (contains uid_cmp ids y ≡ true) ↔ IsNamed (record { nodes = ns; number = n }) q s y) → IsNaming ns q kept (n + 1) (sets ++ ids ∷ [])
+naming_more ns q kept n sets ids t here = record { many = omega (arith, longer sets ids, t.many); named = λ s k i h y. by s k i y (cases_lt i n) h }
+  where
+    longer : {X : Type 0} (xs : List X) (x : X) → length (xs ++ x ∷ []) ≡ suc (length xs)
+    longer [] x = refl
+    longer (z ∷ xs) x = ap suc (longer xs x)
+
+    by : (s : Store) → IsKept kept s → (i : ℕ) (y : EntityUID) → (i < n) ⊎ (n ≤ i) → i < n + 1 → (names (sets ++ ids ∷ []) i y ≡ true) ↔ IsNamed (record { nodes = ns; number = i }) q s y
+    by s k i y (inl before) h =
+        let same : names (sets ++ ids ∷ []) i y ≡ names sets i y = ap (λ o. option_map_or (λ (b : BTreeSet EntityUID). contains uid_cmp b y) o false) (got_before sets ids i (rw t.many before)) in
+        (λ e. (t.named s k i before y).0 (sym same ∙ e), λ e. same ∙ (t.named s k i before y).1 e)
+    by s k i y (inr after) h =
+        let last : i ≡ length sets = omega (arith, after, h, t.many) in
+        let is_n : i ≡ n = omega (arith, after, h) in
+        let same : names (sets ++ ids ∷ []) i y ≡ contains uid_cmp ids y = ap (λ o. option_map_or (λ (b : BTreeSet EntityUID). contains uid_cmp b y) o false) (ap (slice_get (sets ++ ids ∷ [])) last ∙ got_last sets ids) in
+        let there : (contains uid_cmp ids y ≡ true) ↔ IsNamed (record { nodes = ns; number = i }) q s y = subst (λ j. (contains uid_cmp ids y ≡ true) ↔ IsNamed (record { nodes = ns; number = j }) q s y) (sym is_n) (here s k y) in
+        (λ e. there.0 (sym same ∙ e), λ e. same ∙ there.1 e)

@@ -1,0 +1,14 @@
+use Rattle.std.proofs.Common.{length}
+use Rattle.store_slices.specs.Reached.{IsExplored, AreThere}
+use Rattle.store_slices.proofs.ReachSteps.{height}
+use Rattle.store_slices.proofs.reach.reached_places.Given as goal
+
+abbrev pub invariant-loop-pending : goal.invariant-loop-pending
+invariant-loop-pending l = record {
+  explored : IsExplored l.trie l.request l.entities l.reached.keys l.pending.keys;
+  reached_there : AreThere l.trie l.reached.keys;
+  pending_there : AreThere l.trie l.pending.keys;
+}
+
+abbrev pub decreases-loop-pending : goal.decreases-loop-pending
+decreases-loop-pending l = height (length l.trie) l.pending.keys
