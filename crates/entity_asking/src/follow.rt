@@ -94,11 +94,7 @@ pub(crate) fn follow_fields(
 
 // From a value: an id is asked for, and the fields of a record are followed; any other value leads nowhere.
 #[cycle(follow)]
-fn follow(
-    value: &Value,
-    trie: &TrieRef<'_>,
-    next: &mut BTreeSet<Place>,
-) -> Result<(), AllocError>
+fn follow(value: &Value, trie: &TrieRef<'_>, next: &mut BTreeSet<Place>) -> Result<(), AllocError>
     requires { view_leads trie.now [] ≡ true }
     ensures asked { OnOk result (Adds trie.now.nodes (λ b. points value.now (sees b trie.now)) next.old.keys next.new.keys) }
     ensures below { OnOk result ((q : Place) → IsIn q next.new.keys → IsIn q next.old.keys ⊎ IsAtOrBelow trie.now q) }

@@ -143,11 +143,7 @@ fn behind_field(
 }
 
 // The nodes to which any tag leads from some of the nodes.
-fn behind_tags(
-    alloc: Global,
-    nodes: &[Node],
-    numbers: &[usize],
-) -> Result<Vec<usize>, AllocError>
+fn behind_tags(alloc: Global, nodes: &[Node], numbers: &[usize]) -> Result<Vec<usize>, AllocError>
     requires { IsTable nodes.now }
     ensures { IfOk result (λ below. AreBelow AnyTag nodes.now numbers.now below.items) }
 {

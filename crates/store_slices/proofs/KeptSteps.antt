@@ -82,6 +82,11 @@ numbered x i old new list is put = record {
     kept y true = sym (or_so (is_some (get uid_cmp old y)))
     kept y false = sym (or_nothing (is_some (get uid_cmp old y)))
 
+-- what is put where something was taken away
+pub put_over : {X : Type 0} (b : Bool) (o m n : Option X) → m ≡ cond b None n → cond b o m ≡ cond b o n
+put_over true o m n h = refl
+put_over false o m n h = h
+
 -- ---- nodes that are there
 
 within_some : {X : Type 0} (xs : List X) (i : ℕ) → i < length xs → is_some (slice_get xs i) ≡ true

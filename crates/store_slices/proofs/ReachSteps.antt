@@ -30,7 +30,10 @@ use Rattle.entity_asking.specs.declared.place.Place.{Place}
 use Rattle.entity_asking.specs.Answered.{answer_points}
 use Rattle.entity_asking.specs.Begun.{root_points, roots_point}
 use Rattle.entity_asking.specs.Leads.{Leads, EntityLeads, RootLeads}
-use Rattle.entity_asking.specs.Places.{IsPlaced, IsBelow, IsBelowSome, node_of}
+use Rattle.std.specs.Ordering.{is_eq}
+use Rattle.std.specs.BTreeSet.{BTreeSet, contains}
+use Rattle.entity_asking.proofs.PlaceSteps.{exact_place}
+use Rattle.entity_asking.specs.Places.{place_cmp, IsPlaced, IsBelow, IsBelowSome, node_of}
 use Rattle.entity_asking.specs.Wants.{Test, sees, wants, points, fields_point, entity_points, Adds}
 use Rattle.store_slices.specs.Reached.{IsReached, either_wants, IsExplored, IsAnswerLed, AreReached, AreThere}
 use Rattle.store_slices.proofs.PointSteps.{or_both, points_more, points_any, field_points, entity_points_or, entity_points_none, entity_points_when}
@@ -39,9 +42,17 @@ or_nothing : (a : Bool) → (a || false) ≡ true → a ≡ true
 or_nothing true h = refl
 or_nothing false h = h
 
+or_false : (a : Bool) → (a || false) ≡ a
+or_false true = refl
+or_false false = refl
+
 -- the edges behind a path
 pub behind_path : (p : AccessPath) (ns : List Step) (a : Address) → address_of (beyond p ns) ++ a ≡ address_of p ++ (map edge_of ns ++ a)
 behind_path p ns a = ap (λ es. Root p.root ∷ (es ++ a)) (map-append edge_of p.steps ns) ∙ append_assoc (address_of p) (map edge_of ns) a
+
+-- nothing is added where the store has no such entity
+pub adds_none : (ns : Table) (p : Place) (o : Option StoredEntity) → None ≡ o → (ps : List Place) → Adds ns (answer_points o (node_of ns p)) ps ps
+adds_none ns p o none ps = subst (λ z. Adds ns (answer_points z (node_of ns p)) ps ps) none (record { each = λ b x a. sym (or_false (wants b ns ps x a)) })
 
 -- ---- one place
 
@@ -256,3 +267,9 @@ lower ns (z ∷ pending) next some there below =
   where
     further : (p : Place) → IsBelowSome ns (z ∷ pending) p → length ns - p.number ≤ height (length ns) (z ∷ pending) - 1
     further p b = let later = b.below.later in let in_table = b.below.there in let most = height_of (length ns) b.from (z ∷ pending) b.among in omega (arith, later, in_table, most)
+
+-- a place that a set has is among its places
+pub among_places : (p : Place) (s : BTreeSet Place) → contains place_cmp s p ≡ true → IsIn p s.keys
+among_places p s h =
+    let a = any_out (λ q. is_eq (place_cmp p q)) s.keys h in
+    subst (λ q. IsIn q s.keys) (sym (exact_place p a.0 (equal_of (place_cmp p a.0) a.2))) a.1

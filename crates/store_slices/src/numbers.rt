@@ -12,10 +12,7 @@ use std::collections::{BTreeMap, BTreeSet};
 pub(crate) type Numbers = BTreeMap<EntityUID, Vec<usize>>;
 
 /// The numbers of the places.
-pub(crate) fn numbers_of(
-    alloc: Global,
-    places: &BTreeSet<Place>,
-) -> Result<Numbers, AllocError>
+pub(crate) fn numbers_of(alloc: Global, places: &BTreeSet<Place>) -> Result<Numbers, AllocError>
     ensures { IfOk result (IsGrouped places.now.keys) }
 {
     let mut numbers = BTreeMap::new(alloc);

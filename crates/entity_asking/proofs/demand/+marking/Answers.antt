@@ -43,10 +43,9 @@ loop-link-preserved t c = λ n ns h.
 pub returns : goal.returns
 returns t c =
     let v = c.args.trie.now in
-    let all : c.links_of-link-items.result.now ≡ links_at v.nodes v.number = c.links_of-link-items.ensures ∙ (λ j. links_at (c.nodes-nodes.ensures.nodes j) (c.number.ensures j)) in
-    (
+    let all : c.links_of-link-items.result.now ≡ links_at v.nodes v.number = c.links_of-link-items.ensures ∙ (λ j. links_at (c.nodes-nodes.ensures.nodes j) (c.number.ensures j)) in (
       λ h. absurd (cc h),
       λ g. absurd (no_marks v g (sym c.is_ancestor.ensures ∙ c.if-is_ancestor.false)
-      (λ n ns p. none_later (λ (k : Link). edge_eq k.edge (edge_of n) && at_path has_mark v.nodes k.number (map edge_of ns)) c.links_of-link-items.result.now c.loop-link.link-index c.loop-link-test.false
-      (c.loop-link.invariant n ns (ap (list_any (λ (k : Link). edge_eq k.edge (edge_of n) && at_path has_mark v.nodes k.number (map edge_of ns))) all ∙ p)))),
+          (λ n ns p. none_later (λ (k : Link). edge_eq k.edge (edge_of n) && at_path has_mark v.nodes k.number (map edge_of ns)) c.links_of-link-items.result.now c.loop-link.link-index c.loop-link-test.false
+          (c.loop-link.invariant n ns (ap (list_any (λ (k : Link). edge_eq k.edge (edge_of n) && at_path has_mark v.nodes k.number (map edge_of ns))) all ∙ p)))),
     )

@@ -46,9 +46,8 @@ loop-link-preserved c = λ r ns h.
 pub returns : goal.returns
 returns c =
     let v = c.args.trie.now in
-    let all : c.links_of-link-items.result.now ≡ links_at v.nodes v.number = c.links_of-link-items.ensures ∙ (λ j. links_at (c.nodes-nodes.ensures.nodes j) (c.number.ensures j)) in
-    (
+    let all : c.links_of-link-items.result.now ≡ links_at v.nodes v.number = c.links_of-link-items.ensures ∙ (λ j. links_at (c.nodes-nodes.ensures.nodes j) (c.number.ensures j)) in (
       λ h. absurd (cc h),
       λ g. absurd (none_later (λ (k : Link). edge_eq k.edge (Root g.0) && at_path has_mark v.nodes k.number (map edge_of g.1)) c.links_of-link-items.result.now c.loop-link.link-index c.loop-link-test.false
-      (c.loop-link.invariant g.0 g.1 (ap (list_any (λ (k : Link). edge_eq k.edge (Root g.0) && at_path has_mark v.nodes k.number (map edge_of g.1))) all ∙ g.2))),
+          (c.loop-link.invariant g.0 g.1 (ap (list_any (λ (k : Link). edge_eq k.edge (Root g.0) && at_path has_mark v.nodes k.number (map edge_of g.1))) all ∙ g.2))),
     )

@@ -3,12 +3,12 @@ use Rattle.store_slices.specs.Reached.{IsExplored, AreThere}
 use Rattle.store_slices.proofs.ReachSteps.{height}
 use Rattle.store_slices.proofs.reach.reached_places.Given as goal
 
-abbrev pub invariant-loop-pending : goal.invariant-loop-pending
-invariant-loop-pending l = record {
+abbrev pub invariant-loop-nodes : goal.invariant-loop-nodes
+invariant-loop-nodes l = record {
   explored : IsExplored l.trie l.request l.entities l.reached.keys l.pending.keys;
   reached_there : AreThere l.trie l.reached.keys;
   pending_there : AreThere l.trie l.pending.keys;
 }
 
-abbrev pub decreases-loop-pending : goal.decreases-loop-pending
-decreases-loop-pending l = height (length l.trie) l.pending.keys
+abbrev pub decreases-loop-nodes : goal.decreases-loop-nodes
+decreases-loop-nodes l = height (length l.trie) l.pending.keys
