@@ -4,18 +4,18 @@ ghost use Rattle.std.specs.Prelude.{◌≡◌, IfErr, IfOk};
 ghost use Rattle.std.specs.List.{AllByRecursion};
 ghost use Rattle.policy_expressions.specs.Keys.{HasKeysOnce};
 ghost use Rattle.request_slices.specs.Enough.{IsEnough};
-ghost use Rattle.request_slices.specs.Refused.{WhyNoSlice};
+ghost use Rattle.request_slicing.specs.Refused.{WhyNoSlice};
 ghost use Rattle.request_slices.specs.Rules.{KeepRules};
 ghost use Rattle.request_slices.specs.Slice.{slice};
 
 use crate::checks::check_rules;
 use crate::error::SliceForRequestError;
-use crate::laws::slices_are_enough;
-use crate::slice::restricted_to_reads;
 use policy_expressions::laws::keys_are_once;
 use policy_set::PolicySet;
 use policy_set::laws::is_policy_set;
 use policy_store::{Entities, Request};
+use request_slices::laws::slices_are_enough;
+use request_slices::restricted_to_reads;
 use schema_core::ValidatorSchema;
 use std::alloc::Global;
 

@@ -5,8 +5,8 @@ ghost use Rattle.conformance.specs.Misfits.{knows};
 ghost use Rattle.conformance.specs.RequestRules.{first_request_fault};
 ghost use Rattle.conformance.specs.StoreRules.{first_store_fault};
 ghost use Rattle.policy_validate.specs.Accepted.{IsAccepted};
-ghost use Rattle.request_slices.specs.CheckSteps.{IsRequestRefusal, IsStoreRefusal, IsPoliciesRefusal};
-ghost use Rattle.request_slices.specs.Refused.{WhyNoSlice};
+ghost use Rattle.request_slicing.specs.CheckSteps.{IsRequestRefusal, IsStoreRefusal, IsPoliciesRefusal};
+ghost use Rattle.request_slicing.specs.Refused.{WhyNoSlice};
 ghost use Rattle.request_slices.specs.Rules.{KeepRules};
 
 use crate::error::SliceForRequestError;

@@ -1,7 +1,7 @@
 use Rattle.std.proofs.Common.{◌≡◌, subst}
 use Rattle.std.specs.Prelude.{MatchResult, None}
-use Rattle.request_slices.specs.CheckSteps.{IsRequestRefusal}
-use Rattle.request_slices.proofs.checks.check_request.Goals as goal
+use Rattle.request_slicing.specs.CheckSteps.{IsRequestRefusal}
+use Rattle.request_slicing.proofs.checks.check_request.Goals as goal
 
 pub returns : goal.returns
 returns c =

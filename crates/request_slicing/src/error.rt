@@ -27,7 +27,7 @@ pub enum SliceForRequestError {
 
 impl From<AllocError> for SliceForRequestError {
     ghost use Rattle.std.specs.Prelude.{◌≡◌};
-    ghost use Rattle.request_slices.specs.declared.error.SliceForRequestError.TheVariants.{OutOfMemory};
+    ghost use Rattle.request_slicing.specs.declared.error.SliceForRequestError.TheVariants.{OutOfMemory};
 
     ghost from_gives = { λ _ e. e ≡ OutOfMemory };
 

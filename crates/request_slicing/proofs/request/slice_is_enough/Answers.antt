@@ -1,4 +1,4 @@
-use Rattle.request_slices.proofs.request.slice_is_enough.Goals as goal
+use Rattle.request_slicing.proofs.request.slice_is_enough.Goals as goal
 
 pub returns : goal.returns
 returns c =

@@ -6,8 +6,8 @@ use Rattle.schema_core.specs.Schema.{SchemaData}
 use Rattle.conformance_errors.specs.declared.request_error.RequestValidationError.{RequestValidationError}
 use Rattle.conformance_errors.specs.declared.store_rule.StoreRule.{StoreRule}
 use Rattle.policy_validate.specs.Accepted.{findings_of, IsAccepted}
-use Rattle.request_slices.specs.declared.error.SliceForRequestError.{SliceForRequestError}
-use Rattle.request_slices.specs.declared.error.SliceForRequestError.TheVariants as no_slice
+use Rattle.request_slicing.specs.declared.error.SliceForRequestError.{SliceForRequestError}
+use Rattle.request_slicing.specs.declared.error.SliceForRequestError.TheVariants as no_slice
 
 -- of the request, of which this is the first rule that it breaks
 abbrev pub IsRequestRefusal : Option RequestValidationError → SliceForRequestError → Type 0

@@ -9,8 +9,8 @@ use Rattle.conformance.specs.RequestRules.{first_request_fault}
 use Rattle.conformance.specs.StoreRules.{first_store_fault}
 use Rattle.policy_typing.specs.Conforms.{RequestConforms, StoreConforms}
 use Rattle.policy_validate.specs.Accepted.{findings_of, IsAccepted}
-use Rattle.request_slices.specs.declared.error.SliceForRequestError.{SliceForRequestError}
-use Rattle.request_slices.specs.declared.error.SliceForRequestError.TheVariants as no_slice
+use Rattle.request_slicing.specs.declared.error.SliceForRequestError.{SliceForRequestError}
+use Rattle.request_slicing.specs.declared.error.SliceForRequestError.TheVariants as no_slice
 
 -- the first rule that does not hold, in this order: the request is whole, it conforms, the store conforms, the policies are accepted; or there was no memory
 abbrev pub WhyNoSlice : SchemaData → PolicySetData → Request → Store → SliceForRequestError → Type 0
