@@ -13,4 +13,4 @@ returns c =
     let env = env_data_of c.args.env.now in
     let found = found_conditions schema env c.args.policies.now.policies in
     subst (λ ts. IfOk c.restricted_store.result (λ s. s ≡ restricted schema env ts c.args.request.now c.args.entities.now)) c.found_in_environment.ensures
-    (c.restricted_store.ensures (declared_reads schema env found) (declared_demands schema env found) (declared_trie schema env found c.in_ok-trie.trie c.in_ok-trie.ensures))
+    (c.restricted_store.ensures.restricted (declared_reads schema env found) (declared_demands schema env found) (declared_trie schema env found c.in_ok-trie.trie c.in_ok-trie.ensures))
