@@ -226,7 +226,7 @@ fn counted(alloc: Global, document: &Document, size: u64) -> Result<Reply, Alloc
     keeps_rules(document);
     let slice = slice_of(alloc, document)?;
     let response = decide(alloc, &document.policies, &document.request, &slice)?;
-    let decision = decision_word(response.decision);
+    let decision = decision_word(response.decision());
     let kept = slice.len();
     Ok(Reply {
         status: Status::Done,
