@@ -1,0 +1,13 @@
+mod LendSteps
+mod AskSteps
+mod AnswerSteps
+mod KeepSteps
+mod RoundSteps
+mod NoteSteps
+mod PointSteps
+mod ReachSteps
+mod KeptSteps
+mod StateSteps
+mod AddSteps
+mod StoreSteps
+mod RightSteps

@@ -1,0 +1,100 @@
+//! Loading the entities that a trie reads.
+
+ghost use Rattle.std.specs.Prelude.{◌≡◌, ◌⊎◌, ◌≤◌, ◌+◌, ◌↔◌, ℕ, Some, IfOk, IfErr};
+ghost use Rattle.std.specs.BTreeMap.{get, values};
+ghost use Rattle.access_tries.specs.declared.edge.EntityRoot.{EntityRoot};
+ghost use Rattle.entity_asking.specs.Begun.{PathsWithin, SomeRootSticks};
+ghost use Rattle.entity_loader.specs.State.{Continues};
+ghost use Rattle.policy_names.specs.Uid.{uid_cmp};
+ghost use Rattle.policy_names.specs.declared.entity_uid.EntityUID.{EntityUID};
+ghost use Rattle.policy_reads.specs.Merge.{IsOrdered};
+ghost use Rattle.policy_reads.specs.Restrict.{root_value};
+ghost use Rattle.policy_store.specs.Request.{IsWhole};
+ghost use Rattle.policy_store.specs.Store.{Store, entity_at};
+ghost use Rattle.entity_loading.specs.Answering.{AreUnderIds};
+ghost use Rattle.entity_loading.specs.Causes.{CauseOf, IsPartial, IsRight};
+ghost use Rattle.entity_loading.specs.KeptPart.{IsLoaded};
+ghost use Rattle.entity_loading.specs.Reached.{HasOrder};
+ghost use Rattle.entity_loading.specs.Right.{IsStuck};
+ghost use Rattle.entity_loading.specs.Rounds.{Sticks};
+
+use crate::ancestors::with_ancestors;
+use crate::error::{EntitySliceError, PartialRequestError};
+use crate::keeping::refusal;
+use crate::rounds::load_rounds;
+use crate::steps::Steps;
+use access_tries::RootAccessTrie;
+use entity_asking::first_places;
+use entity_loader::EntityLoader;
+use policy_names::EntityUID;
+use policy_store::{Entities, Entity, Request};
+use std::alloc::{AllocError, Global};
+use std::collections::BTreeMap;
+use std::sync::ledger::Ledger;
+
+/// The entities that the paths of the trie reach on the request, each with what is read of it, as a loader gives them. A
+/// step is counted for each call of the loader's `load_entities`.
+pub fn load_trie<D: EntityLoader, L: Ledger>(
+    alloc: Global,
+    trie: &RootAccessTrie,
+    request: &Request,
+    loader: &mut D,
+    steps: &mut Steps<L>,
+) -> Result<Entities, EntitySliceError>
+    ensures goes_on { Continues (D.state loader.old) (D.state loader.new) }
+    ensures rounds { (n : ℕ) → PathsWithin trie.now n → (D.state loader.new).rounds ≤ (D.state loader.old).rounds + (n + 1) }
+    ensures steps { (n : ℕ) → PathsWithin trie.now n → steps.new ≤ steps.old + (n + 1) }
+    ensures partial { IsPartial result ↔ (IsWhole request.now → ⊥) }
+    ensures honest { (s : Store) → (D.state loader.old).store ≡ Some s → HasOrder s → ((r : EntityRoot) → IsOrdered (root_value request.now r)) → IfOk result (IsLoaded (D.state loader.old).exact trie.now request.now s) }
+    ensures cause { IsWhole request.now → IfErr result (CauseOf (λ v. SomeRootSticks trie.now request.now v ⊎ Sticks trie.now v) (D.state loader.old) (D.state loader.new)) }
+    ensures right { IsWhole request.now → (s : Store) → (D.state loader.old).store ≡ Some s → HasOrder s → ((r : EntityRoot) → IsOrdered (root_value request.now r)) → IfErr result (IsRight (λ v. SomeRootSticks trie.now request.now v ⊎ IsStuck trie.now request.now s v) (D.state loader.old) (D.state loader.new)) }
+{
+    if !request.is_whole() {
+        return Err(EntitySliceError::PartialRequest(PartialRequestError {}));
+    }
+    load_whole(alloc, trie, request, loader, steps)
+}
+
+fn load_whole<D: EntityLoader, L: Ledger>(
+    alloc: Global,
+    trie: &RootAccessTrie,
+    request: &Request,
+    loader: &mut D,
+    steps: &mut Steps<L>,
+) -> Result<Entities, EntitySliceError>
+    requires { IsWhole request.now }
+    ensures partial { IsPartial result → ⊥ }
+    ensures goes_on { Continues (D.state loader.old) (D.state loader.new) }
+    ensures rounds { (n : ℕ) → PathsWithin trie.now n → (D.state loader.new).rounds ≤ (D.state loader.old).rounds + (n + 1) }
+    ensures steps { (n : ℕ) → PathsWithin trie.now n → steps.new ≤ steps.old + (n + 1) }
+    ensures honest { (s : Store) → (D.state loader.old).store ≡ Some s → HasOrder s → ((r : EntityRoot) → IsOrdered (root_value request.now r)) → IfOk result (IsLoaded (D.state loader.old).exact trie.now request.now s) }
+    ensures cause { IfErr result (CauseOf (λ v. SomeRootSticks trie.now request.now v ⊎ Sticks trie.now v) (D.state loader.old) (D.state loader.new)) }
+    ensures right { (s : Store) → (D.state loader.old).store ≡ Some s → HasOrder s → ((r : EntityRoot) → IsOrdered (root_value request.now r)) → IfErr result (IsRight (λ v. SomeRootSticks trie.now request.now v ⊎ IsStuck trie.now request.now s v) (D.state loader.old) (D.state loader.new)) }
+{
+    let start = match first_places(alloc, request, trie) {
+        Ok(start) => start,
+        Err(error) => return Err(refusal(error)),
+    };
+    let loaded = match load_rounds(alloc, trie.nodes(), start, loader, steps) {
+        Ok(loaded) => loaded,
+        Err(error) => return Err(error),
+    };
+    let kept = match with_ancestors(alloc, trie.nodes(), request, loaded, loader) {
+        Ok(kept) => kept,
+        Err(error) => return Err(error),
+    };
+    Ok(store_of(alloc, kept)?)
+}
+
+// The store of what is kept.
+fn store_of(alloc: Global, mut kept: BTreeMap<EntityUID, Entity>) -> Result<Entities, AllocError>
+    requires { AreUnderIds kept }
+    ensures values { IfOk result (λ s. s ≡ values kept) }
+    ensures at { IfOk result (λ s. (x : EntityUID) → entity_at s x ≡ get uid_cmp kept x) }
+{
+    let mut store = Entities::new(alloc);
+    while let Some((_uid, entity)) = kept.pop_first() {
+        store.push(entity)?;
+    }
+    Ok(store)
+}
