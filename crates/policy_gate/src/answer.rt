@@ -1,12 +1,13 @@
 //! From a document's bytes to the reply.
-ghost use Rattle.std.specs.Prelude.{◌≡◌, ℕ, None, IfOk, option_map, string_bytes};
+ghost use Rattle.std.specs.Prelude.{◌≡◌, None, IfOk, length, option_map, string_bytes};
+ghost use Rattle.authorizer.specs.Response.{response};
 ghost use Rattle.serde_json.specs.View.{view};
 ghost use Rattle.policy_store.specs.Request.{IsWhole};
 ghost use Rattle.conformance.specs.Misfits.{knows};
 ghost use Rattle.conformance.specs.RequestRules.{first_request_fault};
 ghost use Rattle.conformance_errors.specs.Written.{request_text};
 ghost use Rattle.finding_texts.specs.Written.{findings_text};
-ghost use Rattle.policy_gate.specs.Answer.{AreKeysOnce, IsAnswer, IsAnswerFor, IsAnswerTo, IsRefusedOr, IsWellMade, IsWork, found_at, found_in, decision_word, manifest_text, refused_data, refused_decision, refused_policies, refused_request, refused_store, refused_with, request_fault, slice_of, status_of, store_fault};
+ghost use Rattle.policy_gate.specs.Answer.{AreKeysOnce, IsAnswer, IsAnswerFor, IsAnswerTo, IsRefusedOr, IsWellMade, IsWork, found_at, found_in, decision_word, manifest_text, refused_data, refused_decision, refused_policies, refused_request, refused_store, refused_with, request_fault, sample_text, slice_of, status_of, store_fault};
 ghost use Rattle.policy_gate.specs.Headline.{KeepsRules};
 ghost use Rattle.policy_gate.specs.Reply.{reply_view};
 
@@ -102,7 +103,7 @@ fn reply_to(alloc: Global, command: Command, document: &Document) -> Result<Repl
         Command::Manifest => with_manifest(alloc, document),
         Command::Slice => cut(alloc, document),
         Command::Decide => decided(alloc, document),
-        Command::Sample { seed: _, size } => sampled(alloc, document, size),
+        Command::Sample { seed, size } => sampled(alloc, document, seed, size),
     }
 }
 
@@ -209,9 +210,10 @@ fn sliced(alloc: Global, document: &Document) -> Result<Reply, AllocError>
 }
 
 // The line on the cut store of a document with so many users, where the document keeps every rule.
-fn sampled(alloc: Global, document: &Document, size: u64) -> Result<Reply, AllocError>
-    ensures { IfOk result (λ r. (seed : ℕ) → IsAnswerTo (Command.Sample seed size) document.now (reply_view r)) }
+fn sampled(alloc: Global, document: &Document, seed: u64, size: u64) -> Result<Reply, AllocError>
+    ensures { IfOk result (λ r. IsAnswerTo (Command.Sample seed size) document.now (reply_view r)) }
 {
+    let _seed = seed;
     match refused_decision(alloc, document)? {
         Some(reply) => Ok(reply),
         None => counted(alloc, document, size),
@@ -221,7 +223,8 @@ fn sampled(alloc: Global, document: &Document, size: u64) -> Result<Reply, Alloc
 fn counted(alloc: Global, document: &Document, size: u64) -> Result<Reply, AllocError>
     requires { refused_decision document.now ≡ None }
     ensures done { IfOk result (λ r. r.status ≡ Status.Done) }
-    ensures work { IfOk result (λ r. (seed : ℕ) → IsWork (Command.Sample seed size) document.now (string_bytes r.text)) }
+    ensures work { IfOk result (λ r. string_bytes r.text ≡ sample_text size (length (slice_of document.now))
+        (response document.now.policies.policies document.now.request (slice_of document.now)).decision) }
 {
     keeps_rules(document);
     let slice = slice_of(alloc, document)?;
