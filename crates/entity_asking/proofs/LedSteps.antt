@@ -1,5 +1,5 @@
 -- Steps that lead where values point.
-use Rattle.std.proofs.Common.{◌≡◌, ◌⊎◌, ℕ, Bool, true, false, ◌&&◌, ◌||◌, List, [], ◌∷◌, ◌++◌, Some, is_some, map, refl, sym, ap, ◌∙◌, subst, inl, inr}
+use Rattle.std.proofs.Common.{◌≡◌, ◌⊎◌, ℕ, Bool, true, false, List, [], ◌∷◌, ◌++◌, Some, is_some, map, refl, sym, ap, ◌∙◌, subst, inl, inr}
 use Rattle.std.specs.List.{list_any, AllByRecursion}
 use Rattle.std.specs.List.Sorted.{IsStrictlySortedBy}
 use Rattle.std.specs.Map.{keys_of}
@@ -20,10 +20,10 @@ use Rattle.access_tries.specs.Paths.{edge_of}
 use Rattle.access_tries.specs.Table.{Table, NodeData, at_path, has_mark}
 use Rattle.access_tries.specs.Views.{ViewData, LeadsTo, LeadsNowhere}
 use Rattle.policy_reads.specs.Paths.{Step, along, any_tag}
-use Rattle.policy_reads.specs.Restrict.{values_in, step, step_in_entity, step_in_record, walk, root_value}
+use Rattle.policy_reads.specs.Restrict.{values_in, step, step_in_entity, step_in_record, walk}
 use Rattle.policy_reads.proofs.Lists.{IsIn, text_self, same_uid, in_flat_map}
 use Rattle.entity_asking.specs.Begun.{root_points}
-use Rattle.entity_asking.specs.Leads.{Leads, StepLeads, FieldsLead, EntityLeads, SomeLeads, RootLeads, IsLed, IsEdgeLed}
+use Rattle.entity_asking.specs.Leads.{Leads, FieldsLead, EntityLeads, SomeLeads, RootLeads, IsLed, IsEdgeLed}
 use Rattle.entity_asking.specs.Wants.{Test, sees, points, fields_point, entity_points}
 use Rattle.entity_asking.proofs.FollowSteps.{sees_behind, points_behind, points_nothing, any_behind, any_nothing}
 

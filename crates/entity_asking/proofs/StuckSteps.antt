@@ -1,8 +1,8 @@
 -- What does not stick.
-use Rattle.std.proofs.Common.{◌≡◌, ◌⊎◌, ◌<◌, ◌≤◌, ◌+◌, arith, Option, Some, None, ℕ, zero, suc, Bool, true, false, ◌&&◌, ◌||◌, List, [], ◌∷◌, length, map, drop, get_or, refl, sym, ap, ◌∙◌, subst, inl, inr, is_some, drop-cons, add-one}
+use Rattle.std.proofs.Common.{◌≡◌, ◌⊎◌, ◌<◌, ◌≤◌, ◌+◌, arith, Option, Some, None, ℕ, zero, suc, Bool, true, false, List, [], ◌∷◌, length, map, drop, get_or, refl, sym, ap, ◌∙◌, subst, inl, inr, drop-cons, add-one}
 use Rattle.std.specs.Prelude.{slice_get}
 use Rattle.std.specs.List.{list_any}
-use Rattle.std.proofs.lemmas.Bool.{and_parts, or_cases}
+use Rattle.std.proofs.lemmas.Bool.{or_cases}
 use Rattle.policy_names.proofs.Ties.{equal_of}
 use Rattle.policy_expressions.specs.declared.kinds.Var.TheVariants.{Principal, Action, Resource, Context}
 use Rattle.policy_store.specs.declared.request.Request.{Request}
@@ -15,7 +15,7 @@ use Rattle.access_tries.specs.declared.edge.EntityRoot.TheVariants.{Literal, Var
 use Rattle.access_tries.specs.declared.table.Link.{Link}
 use Rattle.access_tries.specs.Edges.{Address, edge_cmp, edge_eq}
 use Rattle.access_tries.specs.Paths.{edge_of}
-use Rattle.access_tries.specs.Table.{Table, NodeData, at_path, has_mark, links_at}
+use Rattle.access_tries.specs.Table.{Table, at_path, has_mark}
 use Rattle.access_tries.specs.Views.{ViewData, whole, LeadsTo, LeadsNowhere}
 use Rattle.access_tries.specs.EdgeLaws.{exact_edge}
 use Rattle.policy_reads.specs.Paths.{Step, along, any_tag}

@@ -1,3 +1,3 @@
 mod Actions
 mod Bounds
-pub mod Limited
+mod Depths

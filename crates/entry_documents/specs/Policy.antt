@@ -13,11 +13,7 @@ use Rattle.policy_expressions.specs.Slots.{has_slot}
 use Rattle.policy_set.specs.Data.{TemplateData}
 use Rattle.policy_expressions.specs.Plain.{Plain}
 use Rattle.policy_set.specs.Condition.{condition_of}
-use Rattle.document_places.specs.Width.{within}
-use Rattle.document_places.specs.declared.width.Width.{Width}
-use Rattle.document_places.specs.declared.width.Width.TheVariants.{Whole, OverIds}
 use Rattle.entry_documents.specs.Body.{body_of}
-use Rattle.entry_documents.specs.Limits.{is_over_ids, has_no_places}
 use Rattle.entry_documents.specs.Link.{link_of}
 use Rattle.entry_documents.specs.Scope.{action_constraint_of, constraint_of}
 use Rattle.entry_documents.specs.declared.policy.PolicyParts.{PolicyParts}
@@ -34,13 +30,13 @@ abbrev pub policy_names : List (List ℕ)
 policy_names = codes "id" ∷ codes "effect" ∷ codes "principal" ∷ codes "action" ∷ codes "resource" ∷ codes "body" ∷ []
 
 -- the parts that the members of the policy give, but for its body
-unfoldable pub policy_parts_of : Width → Data → Option PolicyParts
-policy_parts_of w d = do
+unfoldable pub policy_parts_of : Data → Option PolicyParts
+policy_parts_of d = do
   id ← option_and_then as_str (get (codes "id") d)
   effect ← option_and_then effect_of (get (codes "effect") d)
-  principal ← constraint_of w (get (codes "principal") d)
-  action ← action_constraint_of w (get (codes "action") d)
-  resource ← constraint_of w (get (codes "resource") d)
+  principal ← constraint_of (get (codes "principal") d)
+  action ← action_constraint_of (get (codes "action") d)
+  resource ← constraint_of (get (codes "resource") d)
   Some (record { id = id; effect = effect; principal = principal; action = action; resource = resource })
 
 -- the policy of the parts, with this body
@@ -54,30 +50,24 @@ policy_with_body parts body = do
   Some (policy_of_parts parts body)
 
 -- the policy or the template that the value is, of any depth and with any expressions: an object with no other members
-unfoldable pub policy_of : Width → Data → Option TemplateData
-policy_of w d = do
+unfoldable pub policy_of : Data → Option TemplateData
+policy_of d = do
   members ← as_object d
-  if has_only policy_names members then policy_with_body (policy_parts_of w d) (body_of (get (codes "body") d)) else None
+  if has_only policy_names members then policy_with_body (policy_parts_of d) (body_of (get (codes "body") d)) else None
 
 -- the condition is nested deeper than 400
 abbrev pub is_too_deep : TemplateData → Bool
 is_too_deep t = nat_lt 400 (depth_of (condition_of t))
 
--- no slot stands in the body; in documents over ids, the condition is over ids, so that no slot stands in it, and no place does
-abbrev pub policy_keeps_limits : Width → TemplateData → Bool
-policy_keeps_limits Whole t = not (has_slot t.body)
-policy_keeps_limits OverIds t = is_over_ids (condition_of t) && has_no_places (condition_of t)
-
--- the policy, unless its condition is nested deeper than 400; none, where it goes past the limits
-abbrev pub read_of : Width → TemplateData → Option PolicyRead
-read_of w t = if is_too_deep t then Some Nested else (if policy_keeps_limits w t then Some (Policy t) else None)
+-- the policy, unless its condition is nested deeper than 400; none, where a slot stands in its body
+abbrev pub read_of : TemplateData → Option PolicyRead
+read_of t = if is_too_deep t then Some Nested else (if has_slot t.body then None else Some (Policy t))
 
 -- what is read of the parts and the body
-abbrev pub read_with : Width → PolicyParts → Bounded Plain → Option PolicyRead
-read_with w p (read.Within x) = read_of w (policy_of_parts p x)
-read_with w p read.Nested = Some Nested
+abbrev pub read_with : PolicyParts → Bounded Plain → Option PolicyRead
+read_with p (read.Within x) = read_of (policy_of_parts p x)
+read_with p read.Nested = Some Nested
 
--- what the value says where a document has a policy: a link, where it has the member `link`, else a policy or a template.
--- Documents over ids have no links.
-unfoldable pub entry_of : Width → Data → Option PolicyRead
-entry_of w d = if is_some (get (codes "link") d) then within w false (option_map Link (link_of d)) else option_and_then (read_of w) (policy_of w d)
+-- what the value says where a document has a policy: a link, where it has the member `link`, else a policy or a template
+unfoldable pub entry_of : Data → Option PolicyRead
+entry_of d = if is_some (get (codes "link") d) then option_map Link (link_of d) else option_and_then read_of (policy_of d)

@@ -12,9 +12,6 @@ use Rattle.policy_set.specs.declared.constraint.PrincipalOrResourceConstraint.{P
 use Rattle.policy_set.specs.declared.constraint.PrincipalOrResourceConstraint.TheVariants.{Any, Eq, In, Is, IsIn}
 use Rattle.policy_set.specs.declared.constraint.ActionConstraint.{ActionConstraint}
 use Rattle.policy_set.specs.declared.constraint.ActionConstraint.TheVariants as action
-use Rattle.document_places.specs.Width.{within}
-use Rattle.document_places.specs.declared.width.Width.{Width}
-use Rattle.entry_documents.specs.Limits.{asks_action, asks_id}
 
 -- a text that stands for the part's own slot
 abbrev pub slot_of : List ℕ → Option EntityReference
@@ -51,14 +48,10 @@ given_constraint_of d = do
   members ← as_object d
   if has_only scope_names members then asked (get (codes "==") d) (get (codes "in") d) (get (codes "is") d) else None
 
--- the constraint, unless the limits hold and it goes past them
-abbrev pub kept : Width → PrincipalOrResourceConstraint → Option PrincipalOrResourceConstraint
-kept w c = within w (asks_id c) (Some c)
-
 -- an absent part asks nothing
-abbrev pub constraint_of : Width → Option Data → Option PrincipalOrResourceConstraint
-constraint_of w None = Some Any
-constraint_of w (Some d) = option_and_then (kept w) (given_constraint_of d)
+abbrev pub constraint_of : Option Data → Option PrincipalOrResourceConstraint
+constraint_of None = Some Any
+constraint_of (Some d) = given_constraint_of d
 
 -- the action by `==`, or actions by `in`
 abbrev pub action_form : List ℕ → Option EntityUID → Option (List EntityUID) → Option ActionConstraint
@@ -67,9 +60,6 @@ action_form key uid uids = if bytes_eq key (codes "==") then option_map action.E
 abbrev pub action_form_of : Members → Option ActionConstraint
 action_form_of ms = option_and_then (λ m. action_form m.0 (uid_of m.1) (uids_of (Some m.1))) (only_member ms)
 
-abbrev pub kept_action : Width → ActionConstraint → Option ActionConstraint
-kept_action w a = within w (asks_action a) (Some a)
-
-abbrev pub action_constraint_of : Width → Option Data → Option ActionConstraint
-action_constraint_of w None = Some action.Any
-action_constraint_of w (Some d) = option_and_then (kept_action w) (option_and_then action_form_of (as_object d))
+abbrev pub action_constraint_of : Option Data → Option ActionConstraint
+action_constraint_of None = Some action.Any
+action_constraint_of (Some d) = option_and_then action_form_of (as_object d)

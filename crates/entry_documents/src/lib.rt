@@ -2,7 +2,6 @@
 #![tactic(auto)]
 
 mod body;
-mod limits;
 mod link;
 mod policy;
 mod scope;

@@ -1,16 +1,14 @@
 //! A policy or a template in JSON.
 
-ghost use Rattle.std.specs.Prelude.{◌≡◌, IfOk, codes, option_and_then, option_map, if◌then◌else◌};
+ghost use Rattle.std.specs.Prelude.{◌≡◌, IfOk, codes, option_and_then, option_map};
 ghost use Rattle.serde_json.specs.View.{view};
 ghost use Rattle.entry_documents.specs.Body.{body_of};
-ghost use Rattle.entry_documents.specs.Policy.{effect_of, effect_of_text, entry_of, policy_of, policy_of_parts, policy_keeps_limits, policy_parts_of, policy_with_body, read_of, read_with};
+ghost use Rattle.entry_documents.specs.Policy.{effect_of, effect_of_text, entry_of, policy_of, policy_of_parts, policy_parts_of, policy_with_body, read_of, read_with};
 ghost use Rattle.serde_json.specs.Find.{get};
 
 use crate::body::read_body;
-use crate::limits::{has_no_places, is_over_ids};
 use crate::link::{TemplateLink, read_link};
 use crate::scope::{read_action_constraint, read_constraint};
-use document_places::Width;
 use expr_documents::Bounded;
 use json_parts::has_only;
 use policy_expressions::Expr;
@@ -64,12 +62,8 @@ fn read_effect(value: &Value) -> Option<Effect>
 }
 
 #[tactic(auto, unfolding(crate::specs::Policy::policy_parts_of))]
-fn read_policy_parts(
-    alloc: Global,
-    width: Width,
-    value: &Value,
-) -> Result<Option<PolicyParts>, AllocError>
-    ensures { IfOk result (λ o. o ≡ policy_parts_of width (view value.now)) }
+fn read_policy_parts(alloc: Global, value: &Value) -> Result<Option<PolicyParts>, AllocError>
+    ensures { IfOk result (λ o. o ≡ policy_parts_of (view value.now)) }
 {
     let Some(id) = value.get("id").and_then(Value::as_str) else {
         return Ok(None);
@@ -77,13 +71,13 @@ fn read_policy_parts(
     let Some(effect) = value.get("effect").and_then(read_effect) else {
         return Ok(None);
     };
-    let Some(principal) = read_constraint(alloc, width, value.get("principal"))? else {
+    let Some(principal) = read_constraint(alloc, value.get("principal"))? else {
         return Ok(None);
     };
-    let Some(action) = read_action_constraint(alloc, width, value.get("action"))? else {
+    let Some(action) = read_action_constraint(alloc, value.get("action"))? else {
         return Ok(None);
     };
-    let Some(resource) = read_constraint(alloc, width, value.get("resource"))? else {
+    let Some(resource) = read_constraint(alloc, value.get("resource"))? else {
         drop(action);
         drop(principal);
         return Ok(None);
@@ -99,14 +93,13 @@ fn read_policy_parts(
 }
 
 // The policy of these parts and this body.
-#[tactic(auto, using(crate::proofs::Limited::kept_read, crate::proofs::Limited::nested_read, crate::proofs::Limited::deep_read, crate::proofs::Limited::slot_read))]
+#[tactic(auto, using(crate::proofs::Depths::built_read, crate::proofs::Depths::nested_read, crate::proofs::Depths::deep_read, crate::proofs::Depths::slot_read))]
 fn with_expression(
     alloc: Global,
-    width: Width,
     parts: PolicyParts,
     body: Expr<()>,
 ) -> Result<Option<PolicyRead>, AllocError>
-    ensures { IfOk result (λ o. o ≡ read_of width (policy_of_parts parts body)) }
+    ensures { IfOk result (λ o. o ≡ read_of (policy_of_parts parts body)) }
 {
     let PolicyParts {
         id,
@@ -117,7 +110,7 @@ fn with_expression(
     } = parts;
     let depth = body.depth();
     match Template::new(alloc, id, effect, principal, action, resource, body) {
-        Ok(template) => Ok(within_limits(width, template)),
+        Ok(template) => Ok(Some(PolicyRead::Policy(template))),
         Err(TemplateError::Nested) => Ok(Some(PolicyRead::Nested)),
         Err(TemplateError::SlotInCondition) => {
             if depth >= MOST_BODY_DEPTH {
@@ -133,60 +126,37 @@ fn with_expression(
 // A condition is one deeper than its body, and may be 400 deep.
 const MOST_BODY_DEPTH: u32 = 400;
 
-fn keeps_limits(width: Width, template: &Template) -> bool
-    ensures { result ≡ policy_keeps_limits width template.now }
-{
-    let condition = template.condition();
-    match width {
-        Width::Whole => true,
-        Width::OverIds => is_over_ids(condition) && has_no_places(condition),
-    }
-}
-
-// The policy, where it keeps the limits.
-fn within_limits(width: Width, template: Template) -> Option<PolicyRead>
-    ensures { result ≡ (if policy_keeps_limits width template then Some (PolicyRead.Policy template) else None) }
-{
-    if keeps_limits(width, &template) {
-        Some(PolicyRead::Policy(template))
-    } else {
-        drop(template);
-        None
-    }
-}
-
 fn with_body(
     alloc: Global,
-    width: Width,
     parts: PolicyParts,
     body: Bounded<Expr<()>>,
 ) -> Result<Option<PolicyRead>, AllocError>
-    ensures { IfOk result (λ o. o ≡ read_with width parts body) }
+    ensures { IfOk result (λ o. o ≡ read_with parts body) }
 {
     match body {
-        Bounded::Within(body) => with_expression(alloc, width, parts, body),
+        Bounded::Within(body) => with_expression(alloc, parts, body),
         Bounded::Nested => Ok(Some(PolicyRead::Nested)),
     }
 }
 
 // The body is read last, so that nothing of it has to be let go at a fault in another part.
-#[tactic(auto, using(crate::proofs::Limited::whole_read))]
-fn read_whole(alloc: Global, width: Width, value: &Value) -> Result<Option<PolicyRead>, AllocError>
-    ensures { IfOk result (λ o. o ≡ option_and_then (read_of width) (policy_with_body (policy_parts_of width (view value.now)) (body_of (get (codes "body") (view value.now))))) }
+#[tactic(auto, using(crate::proofs::Depths::whole_read))]
+fn read_whole(alloc: Global, value: &Value) -> Result<Option<PolicyRead>, AllocError>
+    ensures { IfOk result (λ o. o ≡ option_and_then read_of (policy_with_body (policy_parts_of (view value.now)) (body_of (get (codes "body") (view value.now))))) }
 {
-    let Some(parts) = read_policy_parts(alloc, width, value)? else {
+    let Some(parts) = read_policy_parts(alloc, value)? else {
         return Ok(None);
     };
     let Some(body) = read_body(alloc, value.get("body"))? else {
         return Ok(None);
     };
-    with_body(alloc, width, parts, body)
+    with_body(alloc, parts, body)
 }
 
 // The policy or the template that the value is, if it is one.
 #[tactic(auto, unfolding(crate::specs::Policy::policy_of))]
-fn read_policy(alloc: Global, width: Width, value: &Value) -> Result<Option<PolicyRead>, AllocError>
-    ensures { IfOk result (λ o. o ≡ option_and_then (read_of width) (policy_of width (view value.now))) }
+fn read_policy(alloc: Global, value: &Value) -> Result<Option<PolicyRead>, AllocError>
+    ensures { IfOk result (λ o. o ≡ option_and_then read_of (policy_of (view value.now))) }
 {
     let Some(members) = value.as_object() else {
         return Ok(None);
@@ -197,24 +167,17 @@ fn read_policy(alloc: Global, width: Width, value: &Value) -> Result<Option<Poli
     ) {
         return Ok(None);
     }
-    read_whole(alloc, width, value)
+    read_whole(alloc, value)
 }
 
 /// What the value says where a document has a policy, if it has the form of one: a link, where it has the member `link`,
 /// else a policy or a template.
 #[tactic(auto, unfolding(crate::specs::Policy::entry_of))]
-pub fn read_entry(
-    alloc: Global,
-    width: Width,
-    value: &Value,
-) -> Result<Option<PolicyRead>, AllocError>
-    ensures { IfOk result (λ o. o ≡ entry_of width (view value.now)) }
+pub fn read_entry(alloc: Global, value: &Value) -> Result<Option<PolicyRead>, AllocError>
+    ensures { IfOk result (λ o. o ≡ entry_of (view value.now)) }
 {
     if value.get("link").is_none() {
-        return read_policy(alloc, width, value);
-    }
-    if width.asks_limits() {
-        return Ok(None);
+        return read_policy(alloc, value);
     }
     match read_link(alloc, value)? {
         Some(link) => Ok(Some(PolicyRead::Link(link))),

@@ -3,10 +3,8 @@
 ghost use Rattle.std.specs.Prelude.{◌≡◌, IfOk, Some, option_map};
 ghost use Rattle.serde_json.specs.View.{view, members_view};
 ghost use Rattle.json_parts.specs.Names.{name_of, uid_of, uids_of};
-ghost use Rattle.entry_documents.specs.Scope.{action_constraint_of, action_form, action_form_of, asked, constraint_of, given_constraint_of, is_in, kept, kept_action, reference_of, slot_of};
+ghost use Rattle.entry_documents.specs.Scope.{action_constraint_of, action_form, action_form_of, asked, constraint_of, given_constraint_of, is_in, reference_of, slot_of};
 
-use crate::limits::{asks_action, asks_id};
-use document_places::Width;
 use json_parts::{has_only, only_member, read_name, read_uid, read_uids};
 use policy_set::{ActionConstraint, ActionList, EntityReference, PrincipalOrResourceConstraint};
 use serde_json::{Map, Value};
@@ -120,34 +118,17 @@ fn read_given_constraint(
     read_asked(alloc, value.get("=="), value.get("in"), value.get("is"))
 }
 
-fn kept(
-    width: Width,
-    constraint: PrincipalOrResourceConstraint,
-) -> Option<PrincipalOrResourceConstraint>
-    ensures { result ≡ kept width constraint }
-{
-    if width.asks_limits() && !asks_id(&constraint) {
-        drop(constraint);
-        return None;
-    }
-    Some(constraint)
-}
-
 /// What a scope asks of the principal or of the resource; an absent part asks nothing.
 pub(crate) fn read_constraint(
     alloc: Global,
-    width: Width,
     value: Option<&Value>,
 ) -> Result<Option<PrincipalOrResourceConstraint>, AllocError>
-    ensures { IfOk result (λ o. o ≡ constraint_of width (option_map (λ v. view v.now) value.entry)) }
+    ensures { IfOk result (λ o. o ≡ constraint_of (option_map (λ v. view v.now) value.entry)) }
 {
     let Some(value) = value else {
         return Ok(Some(PrincipalOrResourceConstraint::Any));
     };
-    match read_given_constraint(alloc, value)? {
-        Some(constraint) => Ok(kept(width, constraint)),
-        None => Ok(None),
-    }
+    read_given_constraint(alloc, value)
 }
 
 fn read_one_action(alloc: Global, value: &Value) -> Result<Option<ActionConstraint>, AllocError>
@@ -194,23 +175,12 @@ fn read_action_members(
     }
 }
 
-fn kept_action(width: Width, constraint: ActionConstraint) -> Option<ActionConstraint>
-    ensures { result ≡ kept_action width constraint }
-{
-    if width.asks_limits() && !asks_action(&constraint) {
-        drop(constraint);
-        return None;
-    }
-    Some(constraint)
-}
-
 /// What a scope asks of the action; an absent part asks nothing.
 pub(crate) fn read_action_constraint(
     alloc: Global,
-    width: Width,
     value: Option<&Value>,
 ) -> Result<Option<ActionConstraint>, AllocError>
-    ensures { IfOk result (λ o. o ≡ action_constraint_of width (option_map (λ v. view v.now) value.entry)) }
+    ensures { IfOk result (λ o. o ≡ action_constraint_of (option_map (λ v. view v.now) value.entry)) }
 {
     let Some(value) = value else {
         return Ok(Some(ActionConstraint::Any));
@@ -218,8 +188,5 @@ pub(crate) fn read_action_constraint(
     let Some(members) = value.as_object() else {
         return Ok(None);
     };
-    match read_action_members(alloc, members)? {
-        Some(constraint) => Ok(kept_action(width, constraint)),
-        None => Ok(None),
-    }
+    read_action_members(alloc, members)
 }

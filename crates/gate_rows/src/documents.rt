@@ -86,14 +86,14 @@ const ANSWERS: &str = r#"# one group of two is kept
 {"schema":{},"more":1} => Document document: form|
 # schema form
 {"schema":[]} => Document document: schema|
-# what commands do not read of a schema
-{"schema":{"entityTypes":{"A":{"attributes":{}}}}} => Document document: schema|
+# attributes, tags, listed ids and contexts, beside a request of which nothing is known
+{"schema":{"entityTypes":{"A":{"attributes":{}}}}} => PartialRequest request: entity slicing requires a fully concrete request. Got a partial request|
 # 
-{"schema":{"entityTypes":{"A":{"memberOf":[],"tags":"Long"}}}} => Document document: schema|
+{"schema":{"entityTypes":{"A":{"memberOf":[],"tags":"Long"}}}} => PartialRequest request: entity slicing requires a fully concrete request. Got a partial request|
 # 
-{"schema":{"entityTypes":{"A":{"enum":["a"]}}}} => Document document: schema|
+{"schema":{"entityTypes":{"A":{"enum":["a"]}}}} => PartialRequest request: entity slicing requires a fully concrete request. Got a partial request|
 # 
-{"schema":{"actions":[{"id":["Action","a"],"context":{}}]}} => Document document: schema|
+{"schema":{"actions":[{"id":["Action","a"],"context":{}}]}} => PartialRequest request: entity slicing requires a fully concrete request. Got a partial request|
 # undeclared type
 {"schema":{"entityTypes":{"A":{"memberOf":["B"]}}}} => Document document: schema: type is not declared|
 # two schema faults
@@ -220,8 +220,10 @@ const FIRST_CAUSES: &str =
 {"schema":$many,"policies":[],"entities":[{"id":["Group","z"],"parents":[["Group","z"]]},{"id":["Group","a"],"parents":[["Group","a"]]}],"request":$ask} => Document document: entities[1]: cycle|
 # a cycle before the request
 {"schema":$many,"policies":[],"entities":[{"id":["Group","z"],"parents":[["Group","z"]]}],"request":[]} => Document document: entities[0]: cycle|
-# a context that is no empty object
-{"schema":$many,"policies":[],"entities":[],"request":{"context":{"a":1}}} => Document document: request|"#;
+# a context alone, and one that is no object
+{"schema":$many,"policies":[],"entities":[],"request":{"context":{"a":1}}} => PartialRequest request: entity slicing requires a fully concrete request. Got a partial request|
+#
+{"schema":$many,"policies":[],"entities":[],"request":{"context":[]}} => Document document: request|"#;
 
 // What documents say.
 const READINGS: &str = r#"# a type of actions before an action of another type

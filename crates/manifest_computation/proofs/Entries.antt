@@ -20,9 +20,12 @@ use Rattle.schema_core.specs.declared.request_env.RequestEnv.{RequestEnv}
 use Rattle.schema_core.specs.Schema.{SchemaData}
 use Rattle.policy_set.specs.Data.{PolicyData}
 use Rattle.entity_manifest.specs.Manifest.{Manifest}
-use Rattle.manifest_computation.specs.Computed.{typed_conditions, IsEntryOf, IsManifestOf}
-use Rattle.manifest_computation.specs.Found.{found_conditions, AreEntries, IsBehind}
-use Rattle.manifest_computation.proofs.Ascending.{Pairwise, IsBefore, envs_ascend, envs_declared}
+use Rattle.policy_links.specs.Accepted.{IsTyped, IsTypedIn}
+use Rattle.typed_conditions.specs.Found.{found_conditions}
+use Rattle.typed_conditions.specs.Typed.{typed_conditions}
+use Rattle.manifest_computation.specs.Computed.{IsEntryOf, IsManifestOf}
+use Rattle.manifest_computation.specs.Found.{AreEntries, IsBehind}
+use Rattle.manifest_computation.proofs.Ascending.{Pairwise, IsBefore, all_more, envs_ascend, envs_declared}
 
 request_types_total : IsTotalOrder request_type_cmp
 request_types_total = then_total (on_total (λ t. t.action) uid_cmp_total) (then_total (on_total (λ t. t.principal) nat_list_cmp_total) (on_total (λ t. t.resource) nat_list_cmp_total))
@@ -101,3 +104,14 @@ module _ (schema : SchemaData) (ok : IsSchema schema) (ps : List PolicyData) (it
 pub whole_manifest : (schema : SchemaData) (ps : List PolicyData) (m : Manifest) → (ps ≡ [] → ⊥) → AllZip (λ env e. IsEntryOf schema env (typed_conditions schema env ps) e) (unlinked_envs schema) m → IsManifestOf schema ps m
 whole_manifest schema [] m some h = absurd (some refl)
 whole_manifest schema (p ∷ ps) m some h = h
+
+-- the entries of what checks leave are those of what typing gives, where each condition has a type in each environment
+pub entries_same : (schema : SchemaData) (ps : List PolicyData) → ((env : EnvData) → AllByRecursion (λ p. IsTyped schema p.condition env) ps → found_conditions schema env ps ≡ typed_conditions schema env ps) →
+    (envs : List EnvData) (m : Manifest) → AllByRecursion (λ p. IsTypedIn schema p.condition envs) ps → AreEntries schema ps envs m → AllZip (λ env e. IsEntryOf schema env (typed_conditions schema env ps) e) envs m
+entries_same schema ps same [] [] typed h = tt
+entries_same schema ps same [] (e ∷ m) typed h = absurd h
+entries_same schema ps same (env ∷ envs) [] typed h = absurd h
+entries_same schema ps same (env ∷ envs) (e ∷ m) typed h = (
+  subst (λ ts. IsEntryOf schema env ts e) (same env (all_more (λ p. IsTypedIn schema p.condition (env ∷ envs)) (λ p. IsTyped schema p.condition env) (λ p t. t.0) ps typed)) h.0,
+  entries_same schema ps same envs m (all_more (λ p. IsTypedIn schema p.condition (env ∷ envs)) (λ p. IsTypedIn schema p.condition envs) (λ p t. t.1) ps typed) h.1,
+)

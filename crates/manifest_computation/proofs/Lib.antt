@@ -1,4 +1,2 @@
 mod Ascending
-mod Conditions
 mod Entries
-mod Shallow

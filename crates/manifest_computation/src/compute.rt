@@ -5,15 +5,15 @@ ghost use Rattle.std.specs.List.{AllZip};
 ghost use Rattle.schema_core.specs.EnvData.{unlinked_envs};
 ghost use Rattle.policy_validate.specs.Accepted.{IsAccepted};
 ghost use Rattle.entity_manifest.specs.Manifest.{Manifest};
-ghost use Rattle.manifest_computation.specs.Computed.{typed_conditions, IsEntryOf, IsManifestOf, WhyNone};
+ghost use Rattle.manifest_computation.specs.Computed.{IsEntryOf, IsManifestOf, WhyNone};
 ghost use Rattle.manifest_computation.specs.Found.{AreEntries};
+ghost use Rattle.typed_conditions.specs.Typed.{typed_conditions};
 
 use crate::EntityManifestError;
 use crate::tries::tries_of;
 use access_tries::RootAccessTrie;
 use entity_manifest::EntityManifest;
 use extension_types::{ExtensionSchemas, all_objects};
-use policy_links::laws::links_are_written_out;
 use policy_set::PolicySet;
 use policy_set::laws::is_policy_set;
 use policy_store::RequestType;
@@ -23,7 +23,7 @@ use policy_validate::laws::accepted_are_typed;
 use schema_core::{ValidationMode, ValidatorSchema};
 use std::alloc::{AllocError, Global};
 use std::collections::BTreeMap;
-use typing_findings::laws::check_is_exact;
+use typed_conditions::laws::found_are_typed;
 
 /// The manifest of policies: for each environment of the schema the trie of what the static policies and links read and ask
 /// for there, each by its own condition, with its types; no trie where there is no policy. Errs with `Validation` exactly
@@ -70,8 +70,7 @@ fn entries_where_accepted(schema: &ValidatorSchema, policies: &PolicySet)
     requires { IsAccepted schema.now policies.now }
     ensures { (m : Manifest) → AreEntries schema.now policies.now.policies (unlinked_envs schema.now) m → AllZip (λ env e. IsEntryOf schema.now env (typed_conditions schema.now env policies.now.policies) e) (unlinked_envs schema.now) m }
 {
-    check_is_exact();
-    links_are_written_out();
+    found_are_typed();
     accepted_are_typed();
     let _actions = schema.action_ids();
     is_policy_set(policies);

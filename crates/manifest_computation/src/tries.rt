@@ -1,25 +1,24 @@
 //! The tries of the environments of a schema.
 
 ghost use Rattle.std.specs.Prelude.{◌≡◌, ◌++◌, ◌∷◌, [], IfOk, OnOk, IfSome, IsSome};
-ghost use Rattle.std.specs.Option.{option_to_list};
 ghost use Rattle.std.specs.BTreeMap.{keys};
 ghost use Rattle.policy_store.specs.declared.request.RequestType.{RequestType};
 ghost use Rattle.access_tries.specs.Table.{Table};
 ghost use Rattle.schema_core.specs.EnvData.{request_type_in, unlinked_envs};
 ghost use Rattle.schema_core.specs.RequestEnvs.{env_data_of};
 ghost use Rattle.manifest_computation.specs.Computed.{IsEntryOf};
-ghost use Rattle.manifest_computation.specs.Found.{condition_told, found_conditions, AreEntries, IsBehind};
+ghost use Rattle.manifest_computation.specs.Found.{AreEntries, IsBehind};
+ghost use Rattle.typed_conditions.specs.Found.{found_conditions};
 
 use access_tries::RootAccessTrie;
 use path_analysis::conditions_trie;
-use policy_expressions::Expr;
 use policy_set::PolicySet;
 use policy_store::RequestType;
-use policy_typecheck::{PolicyCheck, Typechecker};
+use policy_typecheck::Typechecker;
 use schema_core::{RequestEnv, ValidatorSchema};
-use schema_types::Type;
 use std::alloc::{AllocError, Global};
 use std::collections::BTreeMap;
+use typed_conditions::conditions_in;
 
 /// A trie for each environment of the schema, under its request type.
 pub(crate) fn tries_of(
@@ -74,39 +73,4 @@ fn push_trie(
 {
     tries.insert(request_type, trie)?;
     Ok(())
-}
-
-// The conditions of the policies with their types in the environment, also where they are false there.
-fn conditions_in<'a>(
-    alloc: Global,
-    typechecker: &Typechecker<'_, '_>,
-    env: &'a RequestEnv<'a>,
-    policies: &'a PolicySet,
-) -> Result<Vec<Expr<Option<Type>>>, AllocError>
-    ensures { IfOk result (λ r. r.items ≡ found_conditions typechecker.now (env_data_of env.now) policies.now.policies) }
-{
-    let mut conditions = Vec::new(alloc);
-    for policy in policies.policies() {
-        let check = typechecker.typecheck_linked_in(alloc, policy, env)?;
-        add_condition(check, &mut conditions)?;
-    }
-    Ok(conditions)
-}
-
-fn add_condition(
-    check: PolicyCheck,
-    conditions: &mut Vec<Expr<Option<Type>>>,
-) -> Result<(), AllocError>
-    ensures { OnOk result (conditions.new.items ≡ conditions.old.items ++ option_to_list (condition_told check)) }
-{
-    match check {
-        PolicyCheck::Success(condition) | PolicyCheck::Irrelevant(condition) => {
-            conditions.push(condition)?;
-            Ok(())
-        }
-        PolicyCheck::Fail(found) => {
-            drop(found);
-            Ok(())
-        }
-    }
 }

@@ -12,6 +12,7 @@ use Rattle.policy_store.proofs.OneStore.{one_store}
 use Rattle.policy_set.specs.PolicySet.{PolicySetData}
 use Rattle.policy_store.specs.declared.request.Request.{Request}
 use Rattle.schema_core.specs.Schema.{SchemaData}
+use Rattle.schema_documents.specs.Schema.{schema_of}
 use Rattle.schema_core.specs.Entries.{Declarations}
 use Rattle.schema_core.specs.Declarations.{IsSchemaOf, IsRefused, declared_outline}
 use Rattle.schema_core.proofs.OneSchema.{one_schema}
@@ -21,12 +22,10 @@ use Rattle.document_places.specs.Faults.{Then}
 use Rattle.policy_documents.specs.Parts.{DocumentParts, parts_of}
 use Rattle.policy_documents.specs.Policies.{no_policies, policies_of}
 use Rattle.store_documents.specs.Request.{request_of}
-use Rattle.policy_documents.specs.Limits.{declarations_of}
 use Rattle.store_documents.specs.Entities.{entities_of}
 use Rattle.store_documents.specs.Store.{IsStoreOf, IsStoreFrom, IsStoreFault}
 use Rattle.policy_documents.specs.Reading.{IsRead, IsReadFrom, IsReadBehindSchema, IsReadBehindPolicies, IsReadBehindStore, IsSchemaFrom, IsSchemaFault, document, or_place}
 use Rattle.policy_documents.specs.declared.document.Document.{Document}
-use Rattle.document_places.specs.declared.width.Width.{Width}
 use Rattle.document_places.specs.declared.place.Place.{Place}
 use Rattle.document_places.specs.declared.place.Place.TheVariants as place
 
@@ -109,18 +108,18 @@ store_from (Err p) x r f g = absurd (cc (f))
 store_from (Ok es) x (Ok s) f g = ap Ok (one_store es s x g f)
 store_from (Ok es) x (Err p) f g = absurd (no_store_place es x p f g)
 
-behind_store : (w : Width) (parts : DocumentParts) (schema : SchemaData) (policies : PolicySetData) (entities : Store) → IsOne (IsReadBehindStore w parts schema policies entities)
-behind_store w parts schema policies entities = one_then _ _ (one_value (or_place place.Request (request_of w parts.request))) (λ request. one_value (Ok (document schema policies entities request)))
+behind_store : (parts : DocumentParts) (schema : SchemaData) (policies : PolicySetData) (entities : Store) → IsOne (IsReadBehindStore parts schema policies entities)
+behind_store parts schema policies entities = one_then _ _ (one_value (or_place place.Request (request_of parts.request))) (λ request. one_value (Ok (document schema policies entities request)))
 
-behind_policies : (w : Width) (parts : DocumentParts) (schema : SchemaData) (policies : PolicySetData) → IsOne (IsReadBehindPolicies w parts schema policies)
-behind_policies w parts schema policies = one_then _ _ (store_from (entities_of w [] parts.entities)) (behind_store w parts schema policies)
+behind_policies : (parts : DocumentParts) (schema : SchemaData) (policies : PolicySetData) → IsOne (IsReadBehindPolicies parts schema policies)
+behind_policies parts schema policies = one_then _ _ (store_from (entities_of [] parts.entities)) (behind_store parts schema policies)
 
-behind_schema : (w : Width) (parts : DocumentParts) (schema : SchemaData) → IsOne (IsReadBehindSchema w parts schema)
-behind_schema w parts schema = one_then _ _ (one_value (policies_of w 0 no_policies parts.policies)) (behind_policies w parts schema)
+behind_schema : (parts : DocumentParts) (schema : SchemaData) → IsOne (IsReadBehindSchema parts schema)
+behind_schema parts schema = one_then _ _ (one_value (policies_of 0 no_policies parts.policies)) (behind_policies parts schema)
 
-read_from : (w : Width) (parts : DocumentParts) → IsOne (IsReadFrom w parts)
-read_from w parts = one_then _ _ (schema_once (declarations_of w parts.schema)) (behind_schema w parts)
+read_from : (parts : DocumentParts) → IsOne (IsReadFrom parts)
+read_from parts = one_then _ _ (schema_once (schema_of parts.schema)) (behind_schema parts)
 
-pub one_reading : (w : Width) (v : Data) (d : Document) (r : Result Document Place) → IsRead w v (Ok d) → IsRead w v r → r ≡ Ok d
+pub one_reading : (v : Data) (d : Document) (r : Result Document Place) → IsRead v (Ok d) → IsRead v r → r ≡ Ok d
 unfolding IsRead
-one_reading w v d r f g = one_then _ _ (one_value (or_place place.Form (parts_of v))) (read_from w) d r f g
+one_reading v d r f g = one_then _ _ (one_value (or_place place.Form (parts_of v))) read_from d r f g

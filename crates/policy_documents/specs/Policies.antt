@@ -11,7 +11,6 @@ use Rattle.policy_set.specs.PolicySet.{PolicySetData, id_fault, link_fault, temp
 use Rattle.policy_set.specs.declared.policy_set.PolicySetError.{PolicySetError}
 use Rattle.policy_set.specs.declared.policy_set.PolicySetError.TheVariants as refused
 use Rattle.serde_json.specs.Data.{Data, Items, no_items, item}
-use Rattle.document_places.specs.declared.width.Width.{Width}
 use Rattle.document_places.specs.declared.place.Place.{Place}
 use Rattle.document_places.specs.declared.place.Place.TheVariants as place
 use Rattle.entry_documents.specs.Policy.{entry_of}
@@ -75,10 +74,10 @@ and_then (Ok x) f = f x
 and_then (Err p) f = Err p
 
 -- the set with the policy that the value is, at the index
-abbrev pub added : Width → ℕ → PolicySetData → Data → Result PolicySetData Place
-added w i set d = added_read i set (entry_of w d)
+abbrev pub added : ℕ → PolicySetData → Data → Result PolicySetData Place
+added i set d = added_read i set (entry_of d)
 
 -- the set with the policies of the items too, the first of which is at the index, or the place of the first fault
-abbrev pub policies_of : Width → ℕ → PolicySetData → Items → Result PolicySetData Place
-policies_of w i set no_items = Ok set
-policies_of w i set (item d ds) = and_then (added w i set d) (λ next. policies_of w (i + 1) next ds)
+abbrev pub policies_of : ℕ → PolicySetData → Items → Result PolicySetData Place
+policies_of i set no_items = Ok set
+policies_of i set (item d ds) = and_then (added i set d) (λ next. policies_of (i + 1) next ds)

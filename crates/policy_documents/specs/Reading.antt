@@ -6,16 +6,15 @@ use Rattle.policy_store.specs.declared.request.Request.{Request}
 use Rattle.schema_core.specs.Declarations.{IsSchemaOf, IsRefused}
 use Rattle.schema_core.specs.Entries.{Declarations}
 use Rattle.schema_core.specs.Schema.{SchemaData}
+use Rattle.schema_documents.specs.Schema.{schema_of}
 use Rattle.schema_declarations.specs.declared.fault.SchemaFault.TheVariants as refused
 use Rattle.serde_json.specs.Data.{Data}
 use Rattle.document_places.specs.Faults.{Then}
 use Rattle.policy_documents.specs.Parts.{DocumentParts, parts_of}
 use Rattle.policy_documents.specs.Policies.{no_policies, policies_of}
 use Rattle.store_documents.specs.Request.{request_of}
-use Rattle.policy_documents.specs.Limits.{declarations_of}
 use Rattle.store_documents.specs.Store.{IsStoreOf}
 use Rattle.policy_documents.specs.declared.document.Document.{Document}
-use Rattle.document_places.specs.declared.width.Width.{Width}
 use Rattle.document_places.specs.declared.place.Place.{Place}
 use Rattle.document_places.specs.declared.place.Place.TheVariants as place
 
@@ -39,20 +38,20 @@ abbrev pub document : SchemaData → PolicySetData → Store → Request → Doc
 document schema policies entities request = record { schema = schema; policies = policies; entities = entities; request = request }
 
 -- Reading goes on behind the schema, the policies and the entities: each part in turn, up to the first fault.
-abbrev pub IsReadBehindStore : Width → DocumentParts → SchemaData → PolicySetData → Store → Result Document Place → Type 0
-IsReadBehindStore w parts schema policies entities =
-    Then (λ r. r ≡ or_place place.Request (request_of w parts.request)) (λ request r. r ≡ Ok (document schema policies entities request))
+abbrev pub IsReadBehindStore : DocumentParts → SchemaData → PolicySetData → Store → Result Document Place → Type 0
+IsReadBehindStore parts schema policies entities =
+    Then (λ r. r ≡ or_place place.Request (request_of parts.request)) (λ request r. r ≡ Ok (document schema policies entities request))
 
-abbrev pub IsReadBehindPolicies : Width → DocumentParts → SchemaData → PolicySetData → Result Document Place → Type 0
-IsReadBehindPolicies w parts schema policies = Then (IsStoreOf w parts.entities) (IsReadBehindStore w parts schema policies)
+abbrev pub IsReadBehindPolicies : DocumentParts → SchemaData → PolicySetData → Result Document Place → Type 0
+IsReadBehindPolicies parts schema policies = Then (IsStoreOf parts.entities) (IsReadBehindStore parts schema policies)
 
-abbrev pub IsReadBehindSchema : Width → DocumentParts → SchemaData → Result Document Place → Type 0
-IsReadBehindSchema w parts schema = Then (λ r. r ≡ policies_of w 0 no_policies parts.policies) (IsReadBehindPolicies w parts schema)
+abbrev pub IsReadBehindSchema : DocumentParts → SchemaData → Result Document Place → Type 0
+IsReadBehindSchema parts schema = Then (λ r. r ≡ policies_of 0 no_policies parts.policies) (IsReadBehindPolicies parts schema)
 
 -- the document that the parts make, or the place of the first fault
-abbrev pub IsReadFrom : Width → DocumentParts → Result Document Place → Type 0
-IsReadFrom w parts = Then (IsSchemaFrom (declarations_of w parts.schema)) (IsReadBehindSchema w parts)
+abbrev pub IsReadFrom : DocumentParts → Result Document Place → Type 0
+IsReadFrom parts = Then (IsSchemaFrom (schema_of parts.schema)) (IsReadBehindSchema parts)
 
--- document reading: the document that the value is, as far as the width goes, or the place of the first fault
-unfoldable pub IsRead : Width → Data → Result Document Place → Type 0
-IsRead w d = Then (λ r. r ≡ or_place place.Form (parts_of d)) (IsReadFrom w)
+-- document reading: the document that the value is, or the place of the first fault
+unfoldable pub IsRead : Data → Result Document Place → Type 0
+IsRead d = Then (λ r. r ≡ or_place place.Form (parts_of d)) IsReadFrom

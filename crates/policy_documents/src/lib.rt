@@ -7,8 +7,8 @@ mod parts;
 mod policies;
 mod schema;
 
-pub use document::{Document, read_document, read_document_within};
-pub use document_places::{DocumentFault, Place, Width};
+pub use document::{Document, read_document};
+pub use document_places::{DocumentFault, Place};
 pub use entry_documents::{PolicyParts, PolicyRead, TemplateLink, read_entry};
 pub use json_parts::{parse_json, read_uid};
 pub use policies::read_policies;

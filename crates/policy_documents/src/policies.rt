@@ -7,7 +7,7 @@ ghost use Rattle.policy_set.specs.PolicySet.{PolicySetData, id_fault, IsNotAdded
 ghost use Rattle.document_places.specs.Faults.{ComesTo, Fails};
 ghost use Rattle.policy_documents.specs.Policies.{added, added_link, added_read, added_template, no_policies, policies_of, slot_pairs, unless_fault, with_written};
 
-use document_places::{DocumentFault, Place, Width};
+use document_places::{DocumentFault, Place};
 use entry_documents::{PolicyRead, TemplateLink, read_entry};
 use policy_expressions::{SlotId, SlotValues};
 use policy_names::EntityUID;
@@ -109,28 +109,23 @@ fn add_read(
 // Adds what the value is: a policy, a template or a link.
 fn add_entry(
     alloc: Global,
-    width: Width,
     policies: &mut PolicySet,
     index: usize,
     value: &Value,
 ) -> Result<(), DocumentFault>
-    ensures { ComesTo (λ _. policies.new) result (added width index policies.old (view value.now)) }
+    ensures { ComesTo (λ _. policies.new) result (added index policies.old (view value.now)) }
 {
-    let read = read_entry(alloc, width, value)?;
+    let read = read_entry(alloc, value)?;
     add_read(alloc, policies, index, read)
 }
 
 /// The policies of the items; else the place of the first fault.
-pub fn read_policies(
-    alloc: Global,
-    width: Width,
-    items: &[Value],
-) -> Result<PolicySet, DocumentFault>
-    ensures { ComesTo (λ s. s) result (policies_of width 0 no_policies (items_view items.now)) }
+pub fn read_policies(alloc: Global, items: &[Value]) -> Result<PolicySet, DocumentFault>
+    ensures { ComesTo (λ s. s) result (policies_of 0 no_policies (items_view items.now)) }
 {
     let mut policies = PolicySet::new(alloc);
     for (index, item) in items.iter().enumerate() {
-        add_entry(alloc, width, &mut policies, index, item)?;
+        add_entry(alloc, &mut policies, index, item)?;
     }
     Ok(policies)
 }

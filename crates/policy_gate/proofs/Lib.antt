@@ -1,5 +1,5 @@
 mod Answers
-mod Identities
 mod Runs
 mod Manifests
 mod Says
+mod Results

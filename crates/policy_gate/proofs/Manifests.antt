@@ -1,6 +1,5 @@
 -- Which answer the manifest of a document's policies is.
 use Rattle.std.proofs.Common.{◌≡◌, List, [], ◌∷◌, refl, sym, subst}
-use Rattle.std.specs.Prelude.{IfOk, Result, Ok, Err}
 use Rattle.entity_manifest.specs.Manifest.{Manifest}
 use Rattle.findings.specs.declared.error.ValidationError.{ValidationError}
 use Rattle.finding_texts.specs.Findings.{Findings}
@@ -16,10 +15,6 @@ use Rattle.policy_gate.specs.Headline.{HasAcceptedPolicies}
 use Rattle.policy_gate.specs.Reply.{Answer}
 use Rattle.policy_gate.specs.declared.command.Command.TheVariants.{Manifest as Reads}
 use Rattle.policy_gate.specs.declared.status.Status.TheVariants as status
-
-pub more : {A E : Type 0} (P Q : A → Type 0) → ((x : A) → P x → Q x) → (r : Result A E) → IfOk r P → IfOk r Q
-more P Q f (Ok x) h = f x h
-more P Q f (Err e) h = tt
 
 module _ (errors : NoErrorsWhereAccepted) (d : Document) (a : Answer) where
   -- of policies that are accepted their manifest

@@ -7,7 +7,9 @@ use Rattle.outside.specs.Steps.{IsQuiet, Rose}
 use Rattle.outside.specs.declared.reading.TheConstants.{DOCUMENT_LIMIT}
 use Rattle.policy_gate.specs.Answer.{IsAnswer}
 use Rattle.policy_gate.specs.Reply.{Answer, answer}
-use Rattle.policy_gate.specs.Run.{Cause, Gives, IsDocumentDue, IsDue, IsDueAfterReading, Runs}
+use Rattle.policy_gate.specs.Command.{own_document}
+use Rattle.policy_gate.specs.Laws.{Laws}
+use Rattle.policy_gate.specs.Run.{Cause, Gives, IsDocumentDue, IsDue, IsDueAfterReading, IsDueFor, IsGiven, IsGivenBy, IsToReadBy, IsToWorkOn, Reads, Runs}
 use Rattle.policy_gate.specs.Status.{IsAfterEnd, IsOfDocument, after_fault}
 use Rattle.policy_gate.specs.declared.command.Command.{Command}
 use Rattle.policy_gate.specs.declared.status.Status.{Status}
@@ -15,7 +17,7 @@ use Rattle.policy_gate.specs.declared.status.Status.TheVariants.{Done, Findings,
 use Rattle.policy_documents.specs.declared.document.Document.{Document as ADocument}
 use Rattle.policy_gate.specs.Headline.{HasPoliciesFor, IsDocumentOf, KeepsRules, KeepsRulesOf, Says}
 use Rattle.policy_gate.proofs.Answers.{status_of_document}
-use Rattle.policy_gate.proofs.Says.{Laws, says_done, says_refused, kept_is_done}
+use Rattle.policy_gate.proofs.Says.{says_done, says_refused, kept_is_done}
 
 -- ---- each status has its cause
 
@@ -44,15 +46,19 @@ module _ (command : Command) (source source' : SourceState) (sink sink' : SinkSt
   judged OutOfMemory text status ok due g = absurd ok
   judged TooLong text status ok due g = absurd ok
 
-  after_reading : (a : Answer) (status : Status) → IsDueAfterReading command source source' a → Gives a sink sink' status → Why status
-  after_reading a status (inl (bytes, read, is)) g = judged a.status a.text status (status_of_document command bytes a is) (bytes, read, is) g
-  after_reading a status (inr (inl d)) g = other sink sink' Why a ReadFault status (ap (λ b. b.status) d.0) refl d.1 g
-  after_reading a status (inr (inr d)) g = other sink sink' Why a TooLong status (ap (λ b. b.status) d.0) refl d.1 g
+  after_reading : (a : Answer) (status : Status) → own_document command ≡ None → IsDueAfterReading command source source' a → Gives a sink sink' status → Why status
+  after_reading a status reads (inl (bytes, read, is)) g = judged a.status a.text status (status_of_document command bytes a is) (bytes, subst (λ o. IsGivenBy o source source' bytes) (sym reads) read, is) g
+  after_reading a status reads (inr (inl d)) g = other sink sink' Why a ReadFault status (ap (λ b. b.status) d.0) refl (reads, d.1) g
+  after_reading a status reads (inr (inr d)) g = other sink sink' Why a TooLong status (ap (λ b. b.status) d.0) refl (reads, d.1) g
+
+  for_command : (o : Option (List ℕ)) → own_document command ≡ o → (a : Answer) (status : Status) → IsDueFor o command source source' a → Gives a sink sink' status → Why status
+  for_command None own a status d g = after_reading a status own d g
+  for_command (Some bytes) own a status d g = judged a.status a.text status (status_of_document command bytes a d.1) (bytes, subst (λ o. IsGivenBy o source source' bytes) (sym own) (refl, d.0), d.1) g
 
 module _ (source source' : SourceState) (sink sink' : SinkState) where
   for_words : (command : Option Command) (a : Answer) (status : Status) → IsDue command source source' a → Gives a sink sink' status → Cause command source source' sink sink' status
   for_words None a status d g = other sink sink' (Cause None source source' sink sink') a Usage status (ap (λ b. b.status) d.0) refl (refl, d.1) g
-  for_words (Some command) a status d g = after_reading command source source' sink sink' a status d g
+  for_words (Some command) a status d g = for_command command source source' sink sink' (own_document command) refl a status d g
 
 pub causes : (command : Option Command) (source source' : SourceState) (sink sink' : SinkState) (status : Status)
     → Runs command source source' sink sink' status → Cause command source source' sink sink' status
@@ -61,29 +67,31 @@ causes command source source' sink sink' status (inr (a, d, g)) = for_words sour
 
 -- ---- which statuses mean that the source was read to its end
 
--- what is due for a document is due after its bytes were read
-was_read : (command : Option Command) (source source' : SourceState) (status : Status) (text : List ℕ)
-    → IsDocumentDue command source source' status text → (bytes : List ℕ) × WasRead source source' bytes
-was_read None source source' status text due = absurd due
-was_read (Some command) source source' status text (bytes, read, is) = (bytes, read)
+-- the words are a command, and these are the bytes that it works on
+abbrev IsAtWork : Option Command → SourceState → SourceState → Type 0
+IsAtWork command source source' = (c : Command) × (command ≡ Some c) × ((bytes : List ℕ) × IsGiven c source source' bytes)
 
-read_at : (command : Option Command) (source source' : SourceState) (sink sink' : SinkState) (status : Status)
-    → Cause command source source' sink sink' status → IsAfterEnd status → (bytes : List ℕ) × WasRead source source' bytes
-read_at command source source' sink sink' Done (text, due, w) ok = was_read command source source' Done text due
-read_at command source source' sink sink' Usage why ok = absurd ok
-read_at command source source' sink sink' Document (text, due) ok = was_read command source source' Document text due
-read_at command source source' sink sink' Findings (text, due) ok = was_read command source source' Findings text due
-read_at command source source' sink sink' Request (text, due) ok = was_read command source source' Request text due
-read_at command source source' sink sink' Store (text, due) ok = was_read command source source' Store text due
-read_at command source source' sink sink' PartialRequest (text, due) ok = was_read command source source' PartialRequest text due
-read_at command source source' sink sink' ReadFault why ok = absurd ok
-read_at command source source' sink sink' WriteFault (rose, (text, due, w)) ok = was_read command source source' Done text due
-read_at command source source' sink sink' OutOfMemory why ok = absurd ok
-read_at command source source' sink sink' TooLong why ok = absurd ok
+-- what is due for a document is due after its bytes were given
+was_given : (command : Option Command) (source source' : SourceState) (status : Status) (text : List ℕ) → IsDocumentDue command source source' status text → IsAtWork command source source'
+was_given None source source' status text due = absurd due
+was_given (Some command) source source' status text (bytes, given, is) = (command, refl, (bytes, given))
+
+given_at : (command : Option Command) (source source' : SourceState) (sink sink' : SinkState) (status : Status) → Cause command source source' sink sink' status → IsAfterEnd status → IsAtWork command source source'
+given_at command source source' sink sink' Done (text, due, w) ok = was_given command source source' Done text due
+given_at command source source' sink sink' Usage why ok = absurd ok
+given_at command source source' sink sink' Document (text, due) ok = was_given command source source' Document text due
+given_at command source source' sink sink' Findings (text, due) ok = was_given command source source' Findings text due
+given_at command source source' sink sink' Request (text, due) ok = was_given command source source' Request text due
+given_at command source source' sink sink' Store (text, due) ok = was_given command source source' Store text due
+given_at command source source' sink sink' PartialRequest (text, due) ok = was_given command source source' PartialRequest text due
+given_at command source source' sink sink' ReadFault why ok = absurd ok
+given_at command source source' sink sink' WriteFault (rose, (text, due, w)) ok = was_given command source source' Done text due
+given_at command source source' sink sink' OutOfMemory why ok = absurd ok
+given_at command source source' sink sink' TooLong why ok = absurd ok
 
 pub read_for : (command : Option Command) (source source' : SourceState) (sink sink' : SinkState) (status : Status)
-    → Runs command source source' sink sink' status → IsAfterEnd status → (bytes : List ℕ) × WasRead source source' bytes
-read_for command source source' sink sink' status runs = read_at command source source' sink sink' status (causes command source source' sink sink' status runs)
+    → Runs command source source' sink sink' status → IsAfterEnd status → (c : Command) × (command ≡ Some c) × ((bytes : List ℕ) × IsGiven c source source' bytes)
+read_for command source source' sink sink' status runs = given_at command source source' sink sink' status (causes command source source' sink sink' status runs)
 
 -- ---- each status comes where its rule says so
 
@@ -116,9 +124,13 @@ module _ (command : Option Command) (source source' : SourceState) (sink sink' :
   -- more was taken than a document may have
   past : (o : Option Command) (a : Answer) → source.taken + DOCUMENT_LIMIT < source'.taken → IsDue o source source' a → Gives a sink sink' status → status ≡ TooLong
   past None a more (is, same) g = let still = ap (λ s. s.taken) same in absurd (omega (arith, still))
-  past (Some c) a more (inl (bytes, (short, t, end), is)) g = absurd (omega (arith, t.0))
-  past (Some c) a more (inr (inl d)) g = absurd (omega (arith, d.2))
-  past (Some c) a more (inr (inr d)) g = stays a TooLong sink sink' status (ap (λ b. b.status) d.0) refl g
+  past (Some c) a more d g = past_for (own_document c) d
+    where
+      past_for : (o : Option (List ℕ)) → IsDueFor o c source source' a → status ≡ TooLong
+      past_for None (inl (bytes, (short, t, end), is)) = absurd (omega (arith, t.0))
+      past_for None (inr (inl d)) = absurd (omega (arith, d.2))
+      past_for None (inr (inr d)) = stays a TooLong sink sink' status (ap (λ b. b.status) d.0) refl g
+      past_for (Some own) (same, is) = let still = ap (λ s. s.taken) same in absurd (omega (arith, still))
 
   pub too_long_for : Runs command source source' sink sink' status → source.taken + DOCUMENT_LIMIT < source'.taken → (status ≡ TooLong) ⊎ (status ≡ OutOfMemory)
   too_long_for (inl d) more = inr d.1
@@ -133,10 +145,11 @@ module _ (bytes : List ℕ) (source source' : SourceState) (sink sink' : SinkSta
   past_told c a long (inr (inl d)) g = absurd (quiet source.faults source'.faults q d.1)
   past_told c a long (inr (inr d)) g = stays a TooLong sink sink' status (ap (λ b. b.status) d.0) refl g
 
-  pub too_long_told : (command : Option Command) (c : Command) → Runs command source source' sink sink' status → command ≡ Some c → DOCUMENT_LIMIT < length bytes → (status ≡ TooLong) ⊎ (status ≡ OutOfMemory)
-  too_long_told command c (inl d) is long = inr d.1
-  too_long_told command c (inr (a, d, g)) is long = inl (past_told c a long (subst (λ o. IsDue o source source' a) is d) g)
+  pub too_long_told : (command : Option Command) (c : Command) → Runs command source source' sink sink' status → command ≡ Some c → Reads c → DOCUMENT_LIMIT < length bytes → (status ≡ TooLong) ⊎ (status ≡ OutOfMemory)
+  too_long_told command c (inl d) is reads long = inr d.1
+  too_long_told command c (inr (a, d, g)) is reads long = inl (past_told c a long (subst (λ o. IsDueFor o c source source' a) reads (subst (λ o. IsDue o source source' a) is d)) g)
 
+module _ (bytes : List ℕ) (source source' : SourceState) (sink sink' : SinkState) (status : Status) where
   -- which answer to the bytes is written
   abbrev Answered : Command → Type 0
   Answered c = (text : List ℕ) × IsAnswer c bytes (answer status text) × Appends sink.holds sink'.holds text
@@ -145,14 +158,18 @@ module _ (bytes : List ℕ) (source source' : SourceState) (sink sink' : SinkSta
   given c a is q' (inl g) = (a.text, subst (λ t. IsAnswer c bytes (answer t a.text)) (sym g.0) is, g.1)
   given c a is q' (inr g) = absurd (quiet sink.faults sink'.faults q' g.0)
 
-  within : (c : Command) (a : Answer) → length bytes ≤ DOCUMENT_LIMIT → IsQuiet sink.faults sink'.faults → IsDueAfterReading c source source' a → Gives a sink sink' status → Answered c
-  within c a short q' (inl (taken, (few, t, end), is)) g = given c a (subst (λ b. IsAnswer c b a) (sym (all_taken bytes taken source'.left (told_at taken t.1) end)) is) q' g
-  within c a short q' (inr (inl d)) g = absurd (quiet source.faults source'.faults q d.1)
-  within c a short q' (inr (inr (is, (taken, many, t)))) g = let most = longer bytes taken source'.left (told_at taken t.1) in absurd (omega (arith, most))
+  within : (c : Command) (a : Answer) → source.left ≡ Some bytes → length bytes ≤ DOCUMENT_LIMIT → IsQuiet source.faults source'.faults → IsQuiet sink.faults sink'.faults → IsDueAfterReading c source source' a → Gives a sink sink' status → Answered c
+  within c a told short q q' (inl (taken, (few, t, end), is)) g = given c a (subst (λ b. IsAnswer c b a) (sym (all_taken bytes taken source'.left (subst (λ l. Consumes l source'.left taken) told t.1) end)) is) q' g
+  within c a told short q q' (inr (inl d)) g = absurd (quiet source.faults source'.faults q d.1)
+  within c a told short q q' (inr (inr (is, (taken, many, t)))) g = let most = longer bytes taken source'.left (subst (λ l. Consumes l source'.left taken) told t.1) in absurd (omega (arith, most))
 
-  pub exact_for : (command : Option Command) (c : Command) → Runs command source source' sink sink' status → command ≡ Some c → length bytes ≤ DOCUMENT_LIMIT → IsQuiet sink.faults sink'.faults → Answered c ⊎ (status ≡ OutOfMemory)
-  exact_for command c (inl d) is short q' = inr d.1
-  exact_for command c (inr (a, d, g)) is short q' = inl (within c a short q' (subst (λ o. IsDue o source source' a) is d) g)
+  exact_by : (o : Option (List ℕ)) (c : Command) (a : Answer) → IsToReadBy o source source' bytes → IsQuiet sink.faults sink'.faults → IsDueFor o c source source' a → Gives a sink sink' status → Answered c
+  exact_by None c a (told, short, q) q' d g = within c a told short q q' d g
+  exact_by (Some own) c a is q' d g = given c a (subst (λ b. IsAnswer c b a) (sym is) d.1) q' g
+
+  pub exact_for : (command : Option Command) (c : Command) → Runs command source source' sink sink' status → command ≡ Some c → IsToWorkOn c source source' bytes → IsQuiet sink.faults sink'.faults → Answered c ⊎ (status ≡ OutOfMemory)
+  exact_for command c (inl d) is work q' = inr d.1
+  exact_for command c (inr (a, d, g)) is work q' = inl (exact_by (own_document c) c a work q' (subst (λ o. IsDue o source source' a) is d) g)
 
 -- ---- what 0 and 1 say, and that 0 comes where every rule holds
 
@@ -164,36 +181,42 @@ module _ (laws : Laws) (command : Option Command) (source source' : SourceState)
       (subst (Cause command source source' sink sink') ends (causes command source source' sink sink' status runs))
 
   pub done_for : (c : Command) → command ≡ Some c → status ≡ Done
-      → (bytes : List ℕ) × (text : List ℕ) × WasRead source source' bytes
-      × ((d : ADocument) × IsDocumentOf c bytes d × Says c d text)
+      → (bytes : List ℕ) × (text : List ℕ) × IsGiven c source source' bytes
+      × ((d : ADocument) × IsDocumentOf bytes d × Says c d text)
       × Appends sink.holds sink'.holds text
   done_for c is ends = at (cause_at c Done is ends)
     where
-      at : Cause (Some c) source source' sink sink' Done → (bytes : List ℕ) × (text : List ℕ) × WasRead source source' bytes × ((d : ADocument) × IsDocumentOf c bytes d × Says c d text) × Appends sink.holds sink'.holds text
+      at : Cause (Some c) source source' sink sink' Done → (bytes : List ℕ) × (text : List ℕ) × IsGiven c source source' bytes × ((d : ADocument) × IsDocumentOf bytes d × Says c d text) × Appends sink.holds sink'.holds text
       at (text, (bytes, read, answer), written) = (bytes, text, read, says_done laws c bytes text answer, written)
 
   -- where 0 says two things of a document, each
-  pub both_for : (c : Command) (P : ADocument → List ℕ → Type 0)
-      → ((bytes : List ℕ) × (text : List ℕ) × WasRead source source' bytes × ((d : ADocument) × IsDocumentOf c bytes d × (KeepsRules d × P d text)) × Appends sink.holds sink'.holds text)
+  pub both_for : (P : ADocument → List ℕ → Type 0)
+      → ((bytes : List ℕ) × (text : List ℕ) × WasRead source source' bytes × ((d : ADocument) × IsDocumentOf bytes d × (KeepsRules d × P d text)) × Appends sink.holds sink'.holds text)
       → (bytes : List ℕ) × (text : List ℕ) × WasRead source source' bytes
-      × ((d : ADocument) × IsDocumentOf c bytes d × KeepsRules d × P d text)
+      × ((d : ADocument) × IsDocumentOf bytes d × KeepsRules d × P d text)
       × Appends sink.holds sink'.holds text
-  both_for c P (bytes, text, read, (d, of, said), written) = (bytes, text, read, (d, of, said.0, said.1), written)
+  both_for P (bytes, text, read, (d, of, said), written) = (bytes, text, read, (d, of, said.0, said.1), written)
+
+  -- the same of a document that is the command's own
+  pub own_for : (own : List ℕ) (P : ADocument → List ℕ → Type 0)
+      → ((bytes : List ℕ) × (text : List ℕ) × ((bytes ≡ own) × (source' ≡ source)) × ((d : ADocument) × IsDocumentOf bytes d × (KeepsRules d × P d text)) × Appends sink.holds sink'.holds text)
+      → (text : List ℕ) × (source' ≡ source) × ((d : ADocument) × IsDocumentOf own d × KeepsRules d × P d text) × Appends sink.holds sink'.holds text
+  own_for own P (bytes, text, (is, alone), (d, of, said), written) = (text, alone, (d, subst (λ b. IsDocumentOf b d) is of, said.0, said.1), written)
 
   pub refused_for : status ≡ Findings
       → (c : Command) × (command ≡ Some c)
-      × ((bytes : List ℕ) × WasRead source source' bytes × ((d : ADocument) × IsDocumentOf c bytes d × (¬ HasPoliciesFor c d)))
+      × ((bytes : List ℕ) × IsGiven c source source' bytes × ((d : ADocument) × IsDocumentOf bytes d × (¬ HasPoliciesFor c d)))
   refused_for ends = at command refl (subst (Cause command source source' sink sink') ends (causes command source source' sink sink' status runs))
     where
-      at : (o : Option Command) → command ≡ o → Cause o source source' sink sink' Findings → (c : Command) × (command ≡ Some c) × ((bytes : List ℕ) × WasRead source source' bytes × ((d : ADocument) × IsDocumentOf c bytes d × (¬ HasPoliciesFor c d)))
+      at : (o : Option Command) → command ≡ o → Cause o source source' sink sink' Findings → (c : Command) × (command ≡ Some c) × ((bytes : List ℕ) × IsGiven c source source' bytes × ((d : ADocument) × IsDocumentOf bytes d × (¬ HasPoliciesFor c d)))
       at None is (text, due) = absurd due
       at (Some c) is (text, (bytes, read, answer)) = (c, is, (bytes, read, says_refused laws c bytes text answer))
 
-pub complete_for : (laws : Laws) (bytes : List ℕ) (d : ADocument) (source source' : SourceState) (sink sink' : SinkState) (status : Status) (told : source.left ≡ Some bytes) (q : IsQuiet source.faults source'.faults) (command : Option Command) (c : Command)
-    → Runs command source source' sink sink' status → command ≡ Some c → length bytes ≤ DOCUMENT_LIMIT → IsQuiet sink.faults sink'.faults
-    → IsDocumentOf c bytes d → KeepsRulesOf c d → (status ≡ Done) ⊎ (status ≡ OutOfMemory)
-complete_for laws bytes d source source' sink sink' status told q command c runs is short q' of keeps =
-    elim (exact_for bytes source source' sink sink' status told q command c runs is short q') [
+pub complete_for : (laws : Laws) (bytes : List ℕ) (d : ADocument) (source source' : SourceState) (sink sink' : SinkState) (status : Status) (command : Option Command) (c : Command)
+    → Runs command source source' sink sink' status → command ≡ Some c → IsToWorkOn c source source' bytes → IsQuiet sink.faults sink'.faults
+    → IsDocumentOf bytes d → KeepsRulesOf c d → (status ≡ Done) ⊎ (status ≡ OutOfMemory)
+complete_for laws bytes d source source' sink sink' status command c runs is work q' of keeps =
+    elim (exact_for bytes source source' sink sink' status command c runs is work q') [
       | inl (text, answer, written) ↦ inl (kept_is_done laws c bytes d _ of keeps answer)
       | inr none ↦ inr none
     ]

@@ -1,76 +1,31 @@
 -- What an answer with status 0 or 1 says, and when 0 is due.
 use Rattle.std.proofs.Common.{◌≡◌, ◌⊎◌, ◌&&◌, ℕ, Bool, true, false, List, [], ◌∷◌, inl, inr, Option, Some, None, is_some, IsSome, IfSome, IsSomeAnd, IsTrue, Ok, Err, sym, ◌∙◌, ap, refl, subst, if◌then◌else◌}
-use Rattle.std.specs.List.{AllByRecursion}
 use Rattle.std.specs.Option.{option_or, option_map}
 use Rattle.serde_json.specs.Data.{Data}
 use Rattle.policy_names.specs.declared.entity_uid.EntityUID.{EntityUID}
-use Rattle.policy_values.specs.Value.{Val, Fields, truth}
+use Rattle.policy_values.specs.Value.{Fields}
 use Rattle.policy_store.specs.declared.request.Request.{Request}
-use Rattle.policy_store.specs.Request.{IsWhole, principal_of, action_of, resource_of}
-use Rattle.policy_store.specs.Store.{Store}
-use Rattle.schema_core.specs.Schema.{SchemaData, ActionData, action_at}
-use Rattle.schema_core.specs.Environments.{environment}
-use Rattle.schema_core.specs.EnvData.{unlinked}
-use Rattle.policy_expressions.specs.Plain.{Plain}
-use Rattle.policy_typing.specs.Typing.{Typing, types}
-use Rattle.policy_typing.specs.Conditions.{IsCondition}
-use Rattle.policy_core.specs.Eval.{eval}
-use Rattle.policy_core.specs.Allowed.{IsAllowedOutcome}
-use Rattle.policy_core.specs.declared.outcome.Outcome.{Outcome}
-use Rattle.policy_core.specs.declared.outcome.Outcome.TheVariants.{Value, Error}
-use Rattle.policy_set.specs.Data.{PolicyData}
-use Rattle.policy_typing.specs.Signatures.{bool_type}
-use Rattle.policy_typing.specs.Sound.{IsOfType}
-use Rattle.policy_links.specs.Laws.{IsConditionFor}
-use Rattle.authorizer.specs.Allowed.{AreAllowed}
+use Rattle.policy_store.specs.Request.{IsWhole}
 use Rattle.policy_documents.specs.Reading.{IsRead}
 use Rattle.policy_documents.specs.declared.document.Document.{Document}
 use Rattle.finding_texts.specs.Findings.{Findings}
 use Rattle.findings.specs.declared.error.ValidationError.{ValidationError}
 use Rattle.conformance_errors.specs.Written.{request_text, entity_text}
-use Rattle.conformance.specs.Laws.{RequestRulesAreExact, StoreRulesAreExact}
 use Rattle.policy_typing.specs.Conforms.{RequestConforms, StoreConforms}
-use Rattle.policy_validate.specs.Laws.{NoErrorsWhereAccepted, AcceptedAreSound}
-use Rattle.policy_validate.specs.Levels.{NoErrorsWhereAcceptedAt, AcceptedLevelsAreSound}
-use Rattle.id_slices.proofs.Covering.{covers, allows, decision_same}
-use Rattle.policy_gate.specs.Answer.{IsAnswer, IsAnswerIf, IsAnswerFor, IsWellMade, IsAnswerTo, IsRefusedOr, IsWork, found_in, found_at, refused_levels, is_whole, partial_request, refusal, refused_data, refused_decision, refused_partial, refused_policies, refused_request, refused_store, refused_with, request_fault, store_fault}
+use Rattle.policy_gate.specs.Answer.{IsAnswer, IsAnswerIf, IsAnswerFor, IsWellMade, IsAnswerTo, IsRefusedOr, IsWork, found_in, found_at, refused_levels, is_whole, partial_request, refusal, refused_data, refused_decision, refused_partial, refused_policies, refused_request, refused_store, refused_with, request_fault, slice_of, store_fault}
 use Rattle.policy_gate.specs.Headline.{Conforms, HasAcceptedPolicies, HasPoliciesAt, HasPoliciesFor, IsDocumentOf, KeepsRules, KeepsRulesOf, IsChecked, IsSliced, IsDecided, Says}
 use Rattle.json_parts.specs.Json.{json_of}
+use Rattle.policy_gate.specs.Laws.{Laws}
 use Rattle.policy_gate.specs.Reply.{Answer, answer}
 use Rattle.policy_gate.specs.declared.status.Status.{Status}
 use Rattle.policy_gate.specs.declared.status.Status.TheVariants as status
 use Rattle.policy_gate.specs.declared.command.Command.{Command}
-use Rattle.policy_gate.specs.declared.command.Command.TheVariants.{Check, Level, Request as Conformance, Manifest, Slice, Decide}
-use Rattle.policy_gate.specs.Command.{width_of}
+use Rattle.policy_gate.specs.declared.command.Command.TheVariants.{Check, Level, Request as Conformance, Manifest, Slice, Decide, Sample}
 use Rattle.policy_documents.proofs.OneReading.{one_reading}
-use Rattle.policy_documents.proofs.KeptLimits.{kept}
-use Rattle.policy_gate.proofs.Identities.{over_ids}
-
--- what the proofs stand on
-pub record Laws : Type 0 where
-  pub errors : NoErrorsWhereAccepted
-  pub requests : RequestRulesAreExact
-  pub stores : StoreRulesAreExact
-  pub sound : AcceptedAreSound
-  pub errors_at : NoErrorsWhereAcceptedAt
-  pub levels : AcceptedLevelsAreSound
+use Rattle.conformance.proofs.Options.{none_first, none_rest, neither, none_inside}
+use Rattle.request_slices.specs.Enough.{IsEnough}
 
 -- ---- refusals
-
-none_first : {X : Type 0} (a b : Option X) → option_or a b ≡ None → a ≡ None
-none_first None b h = refl
-none_first (Some x) b h = absurd (cc h)
-
-none_rest : {X : Type 0} (a b : Option X) → option_or a b ≡ None → b ≡ None
-none_rest None b h = h
-none_rest (Some x) b h = absurd (cc h)
-
-neither : {X : Type 0} (a b : Option X) → a ≡ None → b ≡ None → option_or a b ≡ None
-neither a b h k = ap (λ o. option_or o b) h ∙ k
-
-none_inside : {X Y : Type 0} (f : X → Y) (o : Option X) → option_map f o ≡ None → o ≡ None
-none_inside f None h = refl
-none_inside f (Some x) h = absurd (cc h)
 
 -- a refusal has a status of its own
 abbrev pub IsRefusal : Status → Type 0
@@ -116,6 +71,7 @@ refuses Conformance d = refuses_data d
 refuses Manifest d = refuses_with (found_in d).errors (found_in d)
 refuses Slice d = refuses_decision d
 refuses Decide d = refuses_decision d
+refuses (Sample seed size) d = refuses_decision d
 
 no_refusal : (s : Status) → IsRefusal s → s ≡ status.Done → ⊥
 no_refusal s h is = subst IsRefusal is h
@@ -197,7 +153,7 @@ module _ (laws : Laws) (d : Document) where
     conforms : request_fault d ≡ None → StoreConforms d.schema d.entities → refused_data d ≡ None
     conforms request store = neither (refused_request d) (refused_store d) (ap (option_map (λ e. answer status.Request (request_text e))) request) (ap (option_map (λ f. answer status.Store (entity_text (record { uid = f.0; rule = f.1 })))) (kept_store store))
 
-    keeping : refused_decision d ≡ None → KeepsRules d
+    pub keeping : refused_decision d ≡ None → KeepsRules d
     keeping h =
         let later = none_rest (refused_partial d) (option_or (refused_data d) (refused_policies d)) h in
         let whole = partial_whole d (none_first (refused_partial d) (option_or (refused_data d) (refused_policies d)) h) in
@@ -215,58 +171,31 @@ module _ (laws : Laws) (d : Document) where
     kept_all Manifest h = not_refused h
     kept_all Slice h = keeps h
     kept_all Decide h = keeps h
+    kept_all (Sample seed size) h = keeps h
 
     -- ---- what 0 says
 
-    allowed_value : (o : Outcome) → IsOfType bool_type o → IsAllowedOutcome o
-    allowed_value (Value (truth b)) h = tt
-    allowed_value (Value v) h = absurd h
-    allowed_value (Error e) h = h
-
-    allowed_typed : (e : Plain) (o : Option Typing) → IsSomeAnd o (IsCondition d.request d.entities (eval e d.request d.entities)) → IsAllowedOutcome (eval e d.request d.entities)
-    allowed_typed e None k = absurd k
-    allowed_typed e (Some x) k = allowed_value (eval e d.request d.entities) k.value
-
-    abbrev TypingIn : Plain → ActionData → Option Typing
-    TypingIn e a = types d.schema (unlinked a (environment (principal_of d.request).entity_type a.name (resource_of d.request).entity_type)) [] e
-
-    allowed_in : (e : Plain) (o : Option ActionData) → IsSomeAnd o (λ a. IsSomeAnd (TypingIn e a) (IsCondition d.request d.entities (eval e d.request d.entities))) → IsAllowedOutcome (eval e d.request d.entities)
-    allowed_in e None k = absurd k
-    allowed_in e (Some a) k = allowed_typed e (TypingIn e a) k
-
-    allowed_here : (p : PolicyData) → IsConditionFor d.schema p.condition d.request d.entities → IsAllowedOutcome (eval p.condition d.request d.entities)
-    allowed_here p h = allowed_in p.condition (action_at d.schema (action_of d.request)) h
-
-    all_allowed : (ps : List PolicyData) → AllByRecursion (λ p. IsConditionFor d.schema p.condition d.request d.entities) ps → AreAllowed ps d.request d.entities
-    all_allowed [] h = tt
-    all_allowed (p ∷ ps) h = (allowed_here p h.0, all_allowed ps h.1)
+    enough : KeepsRules d → IsEnough d.policies.policies d.request (slice_of d) d.entities
+    enough rules = laws.slices d.schema made.schema d.policies made.policies made.keys d.request d.entities rules
 
     decided : (text : List ℕ) → KeepsRules d → IsWork Decide d text → IsDecided d text
-    decided text rules is = record {
-      written = is;
-      allowed = all_allowed d.policies.policies (laws.sound d.schema made.schema d.policies made.policies made.keys rules.policies d.request rules.request d.entities rules.store);
-    }
+    decided text rules is = record { written = is; allowed = laws.outcomes d.schema made.schema d.policies made.policies made.keys d.request d.entities rules }
 
-    sliced : (v : Data) (text : List ℕ) → IsRead (width_of Slice) v (Ok d) → KeepsRules d → IsWork Slice d text → IsSliced d text
-    sliced v text reads rules is =
-        let over = over_ids d.policies.policies (kept v d reads).1 in
-        record {
-          written = is;
-          covers = covers d.schema d.request d.entities made.schema rules.whole rules.request rules.store d.policies.policies over;
-          allowed = allows d.schema d.request d.entities made.schema rules.whole rules.request rules.store d.policies.policies over;
-          decision = decision_same d.schema d.request d.entities made.schema rules.whole rules.request rules.store d.policies.policies over;
-        }
+    sliced : (text : List ℕ) → KeepsRules d → IsWork Slice d text → IsSliced d text
+    sliced text rules is = let e = enough rules in record { written = is; covers = e.covers; allowed = e.allowed; decision = e.decision }
 
-    says : (c : Command) (v : Data) (text : List ℕ) → IsRead (width_of c) v (Ok d) → refusal c d ≡ None → IsWork c d text → Says c d text
-    says Check v text reads none is = record { written = is; accepted = accepted none }
-    says (Level n) v text reads none is =
+    says : (c : Command) (text : List ℕ) → refusal c d ≡ None → IsWork c d text → Says c d text
+    says Check text none is = record { written = is; accepted = accepted none }
+    says (Level n) text none is =
         let at = accepted_at n none in
         record { written = is; accepted = at; enough = laws.levels d.schema made.schema n d.policies made.policies made.keys at }
-    says Conformance v text reads none is = conforming none
-    says Manifest v text reads none is = record { manifest = is.0; computed = is.1; written = is.2; accepted = accepted none }
-    says Slice v text reads none is = let rules = keeping none in (rules, sliced v text reads rules is)
-    says Decide v text reads none is = let rules = keeping none in (rules, decided text rules is)
-    -- ---- what 1 says
+    says Conformance text none is = record { written = is; conforms = conforming none }
+    says Manifest text none is = record { manifest = is.0; computed = is.1; written = is.2; accepted = accepted none }
+    says Slice text none is = let rules = keeping none in (rules, sliced text rules is)
+    says Decide text none is = let rules = keeping none in (rules, decided text rules is)
+    says (Sample seed size) text none is = let rules = keeping none in (rules, record { written = is; enough = enough rules })
+
+-- ---- what 1 says
 
 abbrev IsFound : Option Answer → Type 0
 IsFound o = IsSomeAnd o (λ a. a.status ≡ status.Findings)
@@ -314,6 +243,7 @@ found_policies laws Conformance d h = absurd (found_data d None (by (refused_dat
     by (Some a) h = h
 found_policies laws Manifest d h = not_accepted laws d h
 found_policies laws Slice d h = not_accepted laws d (found_data d (refused_policies d) (found_behind (refused_partial d) (option_or (refused_data d) (refused_policies d)) (no_partial d) h))
+found_policies laws (Sample seed size) d h = not_accepted laws d (found_data d (refused_policies d) (found_behind (refused_partial d) (option_or (refused_data d) (refused_policies d)) (no_partial d) h))
 found_policies laws Decide d h = not_accepted laws d (found_data d (refused_policies d) (found_behind (refused_partial d) (option_or (refused_data d) (refused_policies d)) (no_partial d) h))
 
 found_answer : (r : Option Answer) (W : List ℕ → Type 0) (text : List ℕ) → IsRefusedOr r W (answer status.Findings text) → IsFound r
@@ -324,22 +254,22 @@ found_answer (Some a) W text is = sym (ap (λ b. b.status) is)
 
 module _ (laws : Laws) (c : Command) (bytes text : List ℕ) where
   abbrev SaysDone : Type 0
-  SaysDone = (d : Document) × IsDocumentOf c bytes d × Says c d text
+  SaysDone = (d : Document) × IsDocumentOf bytes d × Says c d text
 
   done_value : (o : Option Data) → json_of bytes ≡ o → IsAnswerIf c o (answer status.Done text) → SaysDone
   done_value None json is = absurd (cc (ap (λ b. b.status) is))
   done_value (Some v) json (inl (place, reads, is)) = absurd (cc (ap (λ b. b.status) is))
   done_value (Some v) json (inr (d, reads, made, is)) =
       let past = done (refusal c d) (IsWork c d) text (refuses c d) is in
-      (d, (v, json, reads), says laws d made c v text reads past.0 past.1)
+      (d, (v, json, reads), says laws d made c text past.0 past.1)
 
   -- where 0 is due, it says this
-  pub says_done : IsAnswer c bytes (answer status.Done text) → (d : Document) × IsDocumentOf c bytes d × Says c d text
+  pub says_done : IsAnswer c bytes (answer status.Done text) → (d : Document) × IsDocumentOf bytes d × Says c d text
   unfolding IsAnswer
   says_done is = done_value (json_of bytes) refl is
 
   abbrev SaysRefused : Type 0
-  SaysRefused = (d : Document) × IsDocumentOf c bytes d × (¬ HasPoliciesFor c d)
+  SaysRefused = (d : Document) × IsDocumentOf bytes d × (¬ HasPoliciesFor c d)
 
   refused_value : (o : Option Data) → json_of bytes ≡ o → IsAnswerIf c o (answer status.Findings text) → SaysRefused
   refused_value None json is = absurd (cc (ap (λ b. b.status) is))
@@ -348,19 +278,19 @@ module _ (laws : Laws) (c : Command) (bytes text : List ℕ) where
       (d, (v, json, reads), found_policies laws c d (found_answer (refusal c d) (IsWork c d) text is))
 
   -- where 1 is due, the policies are not accepted
-  pub says_refused : IsAnswer c bytes (answer status.Findings text) → (d : Document) × IsDocumentOf c bytes d × (¬ HasPoliciesFor c d)
+  pub says_refused : IsAnswer c bytes (answer status.Findings text) → (d : Document) × IsDocumentOf bytes d × (¬ HasPoliciesFor c d)
   unfolding IsAnswer
   says_refused is = refused_value (json_of bytes) refl is
 
 module _ (laws : Laws) (c : Command) where
-  for_value : (v : Data) (d : Document) (a : Answer) → IsRead (width_of c) v (Ok d) → KeepsRulesOf c d → IsAnswerFor c v a → a.status ≡ status.Done
-  for_value v d a reads rules (inl (place, faulty, is)) = absurd (cc (one_reading (width_of c) v d (Err place) reads faulty))
+  for_value : (v : Data) (d : Document) (a : Answer) → IsRead v (Ok d) → KeepsRulesOf c d → IsAnswerFor c v a → a.status ≡ status.Done
+  for_value v d a reads rules (inl (place, faulty, is)) = absurd (cc (one_reading v d (Err place) reads faulty))
   for_value v d a reads rules (inr (e, again, made, is)) =
-      let same : e ≡ d = cc (one_reading (width_of c) v d (Ok e) reads again) in
+      let same : e ≡ d = cc (one_reading v d (Ok e) reads again) in
       let none = kept_all laws e made c (subst (KeepsRulesOf c) (sym same) rules) in
       (subst (λ r. IsRefusedOr r (IsWork c e) a) none is).0
 
   -- where every rule of the command holds, 0 is due
-  pub kept_is_done : (bytes : List ℕ) (d : Document) (a : Answer) → IsDocumentOf c bytes d → KeepsRulesOf c d → IsAnswer c bytes a → a.status ≡ status.Done
+  pub kept_is_done : (bytes : List ℕ) (d : Document) (a : Answer) → IsDocumentOf bytes d → KeepsRulesOf c d → IsAnswer c bytes a → a.status ≡ status.Done
   unfolding IsAnswer
   kept_is_done bytes d a (v, json, reads) rules is = for_value v d a reads rules (subst (λ o. IsAnswerIf c o a) json is)

@@ -1,5 +1,5 @@
 -- Which status and text are due for a command and the bytes of a document.
-use Rattle.std.specs.Prelude.{◌≡◌, ◌⊎◌, ◌&&◌, ℕ, Bool, true, List, [], ◌∷◌, ◌++◌, Option, Some, None, is_some, Ok, Err, codes, option_map, if◌then◌else◌}
+use Rattle.std.specs.Prelude.{◌≡◌, ◌⊎◌, ◌&&◌, ℕ, Bool, true, List, [], ◌∷◌, ◌++◌, length, Option, Some, None, is_some, Ok, Err, codes, option_map, if◌then◌else◌}
 use Rattle.std.specs.List.{AllByRecursion}
 use Rattle.std.specs.Option.{option_or}
 use Rattle.serde_json.specs.Data.{Data}
@@ -12,6 +12,9 @@ use Rattle.policy_set.specs.Data.{PolicyData}
 use Rattle.policy_set.specs.PolicySet.{IsPolicySet}
 use Rattle.schema_core.specs.Faults.{IsSchema}
 use Rattle.authorizer.specs.Response.{response}
+use Rattle.authorizer.specs.declared.response.Decision.{Decision}
+use Rattle.authorizer.specs.declared.response.Decision.TheVariants.{Allow, Deny}
+use Rattle.std.specs.Fmt.{decimal}
 use Rattle.document_places.specs.PlaceText.{place_text}
 use Rattle.policy_documents.specs.Reading.{IsRead}
 use Rattle.policy_documents.specs.declared.document.Document.{Document}
@@ -26,16 +29,15 @@ use Rattle.conformance.specs.StoreRules.{first_store_fault}
 use Rattle.conformance_errors.specs.Written.{request_text, entity_text}
 use Rattle.conformance_errors.specs.declared.request_error.RequestValidationError.{RequestValidationError}
 use Rattle.conformance_errors.specs.declared.store_rule.StoreRule.{StoreRule}
-use Rattle.id_slices.specs.Cover.{restricted}
+use Rattle.request_slices.specs.Slice.{slice}
 use Rattle.serde_json.specs.Written.{compact_text}
 use Rattle.entity_manifest.specs.Manifest.{Manifest}
 use Rattle.entity_manifest.specs.ManifestJson.{manifest_data}
 use Rattle.manifest_computation.specs.Computed.{IsManifestOf}
 use Rattle.policy_writing.specs.SliceJson.{slice_text, response_text}
-use Rattle.policy_gate.specs.Command.{width_of}
 use Rattle.policy_gate.specs.Reply.{Answer, answer}
 use Rattle.policy_gate.specs.declared.command.Command.{Command}
-use Rattle.policy_gate.specs.declared.command.Command.TheVariants.{Check, Level, Request as Conformance, Manifest as Reads, Slice, Decide}
+use Rattle.policy_gate.specs.declared.command.Command.TheVariants.{Check, Level, Request as Conformance, Manifest as Reads, Slice, Decide, Sample}
 use Rattle.policy_gate.specs.declared.status.Status.{Status}
 use Rattle.policy_gate.specs.declared.status.Status.TheVariants as status
 
@@ -104,17 +106,27 @@ refusal Conformance d = refused_data d
 refusal Reads d = refused_policies d
 refusal Slice d = refused_decision d
 refusal Decide d = refused_decision d
+refusal (Sample seed size) d = refused_decision d
 
 -- the document's store restricted to what its policies read on its request
 abbrev pub slice_of : Document → Store
-slice_of d = restricted d.schema d.policies.policies d.request d.entities
+slice_of d = slice d.schema d.policies.policies d.request d.entities
 
 -- a manifest's JSON without spaces, and a newline
 unfoldable pub manifest_text : Manifest → List ℕ
 manifest_text m = compact_text (manifest_data m) ++ codes "\n"
 
+-- the line on a slice: of how many entities the store is made, how many are kept, and the decision
+abbrev pub decision_word : Decision → List ℕ
+decision_word Allow = codes "Allow"
+decision_word Deny = codes "Deny"
+
+abbrev pub sample_text : ℕ → ℕ → Decision → List ℕ
+sample_text size kept decision =
+    codes "entities " ++ (decimal size ++ (codes " kept " ++ (decimal kept ++ (codes " decision " ++ (decision_word decision ++ codes "\n")))))
+
 -- the text is that of the command's work: the findings; that all conforms; the manifest of the policies; the restricted store, with the response on it; the response on
--- the whole store
+-- the whole store; the line on the restricted store
 abbrev pub IsWork : Command → Document → List ℕ → Type 0
 IsWork Check d text = text ≡ findings_text (found_in d)
 IsWork (Level n) d text = text ≡ findings_text (found_at n d)
@@ -122,6 +134,7 @@ IsWork Conformance d text = text ≡ codes "conforms\n"
 IsWork Reads d text = (m : Manifest) × IsManifestOf d.schema d.policies.policies m × (text ≡ manifest_text m)
 IsWork Slice d text = text ≡ slice_text (response d.policies.policies d.request (slice_of d)) (slice_of d)
 IsWork Decide d text = text ≡ response_text (response d.policies.policies d.request d.entities)
+IsWork (Sample seed size) d text = text ≡ sample_text size (length (slice_of d)) (response d.policies.policies d.request (slice_of d)).decision
 
 -- the refusal, where there is one, or else the work
 abbrev pub IsRefusedOr : Option Answer → (List ℕ → Type 0) → Answer → Type 0
@@ -143,8 +156,8 @@ pub record IsWellMade (d : Document) : Type 0 where
 
 -- what is due for a JSON value: the place of the first fault, where it is no document
 abbrev pub IsAnswerFor : Command → Data → Answer → Type 0
-IsAnswerFor c v a = ((place : Place) × IsRead (width_of c) v (Err place) × (a ≡ answer status.Document (place_text place ++ codes "\n")))
-    ⊎ ((d : Document) × IsRead (width_of c) v (Ok d) × IsWellMade d × IsAnswerTo c d a)
+IsAnswerFor c v a = ((place : Place) × IsRead v (Err place) × (a ≡ answer status.Document (place_text place ++ codes "\n")))
+    ⊎ ((d : Document) × IsRead v (Ok d) × IsWellMade d × IsAnswerTo c d a)
 
 -- what is due where the bytes may be JSON
 abbrev pub IsAnswerIf : Command → Option Data → Answer → Type 0

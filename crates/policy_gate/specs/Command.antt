@@ -1,11 +1,10 @@
 -- What the words of a call ask for.
-use Rattle.std.specs.Prelude.{ℕ, List, [], ◌∷◌, if◌then◌else◌, Option, Some, None, option_map, codes}
+use Rattle.std.specs.Prelude.{ℕ, List, [], ◌∷◌, if◌then◌else◌, Option, Some, None, nat_lt, option_map, option_and_then, codes}
 use Rattle.std.specs.Str.{bytes_eq}
 use Rattle.policy_ext.specs.NumberReading.{plain_of}
+use Rattle.sample_documents.specs.Sample.{sample_document}
 use Rattle.policy_gate.specs.declared.command.Command.{Command}
-use Rattle.policy_gate.specs.declared.command.Command.TheVariants.{Check, Level, Request, Manifest, Slice, Decide}
-use Rattle.document_places.specs.declared.width.Width.{Width}
-use Rattle.document_places.specs.declared.width.Width.TheVariants.{Whole, OverIds}
+use Rattle.policy_gate.specs.declared.command.Command.TheVariants.{Check, Level, Request, Manifest, Slice, Decide, Sample}
 
 -- a command of one word
 abbrev pub one_word : List ℕ → Option Command
@@ -20,18 +19,29 @@ one_word word =
 abbrev pub two_words : List ℕ → List ℕ → Option Command
 two_words word other = if bytes_eq word (codes "level") then option_map Level (plain_of 200 other) else None
 
+-- a size of documents that are made: at least one
+abbrev pub size_of : List ℕ → Option ℕ
+size_of digits = option_and_then (λ n. if nat_lt 0 n then Some n else None) (plain_of 10000 digits)
+
+-- a command of three words: a sample is of a seed of 64 bits and a size of 1 to 10000, written in the same way
+abbrev pub three_words : List ℕ → List ℕ → List ℕ → Option Command
+three_words word seed size =
+    if bytes_eq word (codes "sample") then option_and_then (λ n. option_map (Sample n) (size_of size)) (plain_of 18446744073709551615 seed) else None
+
 -- the command that the words are, if they are one
 abbrev pub command_of : List (List ℕ) → Option Command
 command_of [] = None
 command_of (word ∷ []) = one_word word
 command_of (word ∷ other ∷ []) = two_words word other
-command_of (word ∷ other ∷ more ∷ words) = None
+command_of (word ∷ seed ∷ size ∷ []) = three_words word seed size
+command_of (word ∷ seed ∷ size ∷ more ∷ words) = None
 
--- which documents the command takes
-abbrev pub width_of : Command → Width
-width_of Check = Whole
-width_of (Level n) = Whole
-width_of Request = Whole
-width_of Manifest = Whole
-width_of Slice = OverIds
-width_of Decide = Whole
+-- the document that a command has of its own: that of a seed and a size; the others read one
+abbrev pub own_document : Command → Option (List ℕ)
+own_document (Sample seed size) = Some (sample_document seed size)
+own_document Check = None
+own_document (Level n) = None
+own_document Request = None
+own_document Manifest = None
+own_document Slice = None
+own_document Decide = None

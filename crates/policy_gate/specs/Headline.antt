@@ -1,28 +1,27 @@
 -- What status 0 says of each command.
-use Rattle.std.specs.Prelude.{◌≡◌, ℕ, List, [], Some, None, Ok}
-use Rattle.policy_store.specs.Request.{IsWhole}
+use Rattle.std.specs.Prelude.{◌≡◌, ℕ, List, [], length, Some, None, Ok, codes}
 use Rattle.authorizer.specs.Allowed.{AreAllowed}
 use Rattle.authorizer.specs.Response.{response}
 use Rattle.policy_documents.specs.Reading.{IsRead}
 use Rattle.policy_documents.specs.declared.document.Document.{Document}
 use Rattle.serde_json.specs.Data.{Data}
 use Rattle.finding_texts.specs.Written.{findings_text}
-use Rattle.policy_typing.specs.Conforms.{RequestConforms, StoreConforms}
+use Rattle.policy_typing.specs.Conforms.{StoreConforms}
 use Rattle.policy_validate.specs.Accepted.{IsAccepted}
 use Rattle.policy_validate.specs.Levels.{IsAcceptedAt, CutIsEnough}
-use Rattle.id_slices.specs.Cover.{Covers, AreAllowedBetween}
+use Rattle.request_slices.specs.Enough.{Covers, AreAllowedBetween, IsEnough}
+use Rattle.request_slices.specs.Rules.{KeepRules}
 use Rattle.policy_writing.specs.SliceJson.{slice_text, response_text}
 use Rattle.json_parts.specs.Json.{json_of}
 use Rattle.entity_manifest.specs.Manifest.{Manifest as Tries}
 use Rattle.manifest_computation.specs.Computed.{IsManifestOf}
-use Rattle.policy_gate.specs.Answer.{found_in, found_at, manifest_text, request_fault, slice_of}
-use Rattle.policy_gate.specs.Command.{width_of}
+use Rattle.policy_gate.specs.Answer.{found_in, found_at, manifest_text, request_fault, sample_text, slice_of}
 use Rattle.policy_gate.specs.declared.command.Command.{Command}
-use Rattle.policy_gate.specs.declared.command.Command.TheVariants.{Check, Level, Request, Manifest, Slice, Decide}
+use Rattle.policy_gate.specs.declared.command.Command.TheVariants.{Check, Level, Request, Manifest, Slice, Decide, Sample}
 
--- the document that the bytes are, among those that the command takes
-abbrev pub IsDocumentOf : Command → List ℕ → Document → Type 0
-IsDocumentOf command bytes d = (v : Data) × (json_of bytes ≡ Some v) × IsRead (width_of command) v (Ok d)
+-- the document that the bytes are
+abbrev pub IsDocumentOf : List ℕ → Document → Type 0
+IsDocumentOf bytes d = (v : Data) × (json_of bytes ≡ Some v) × IsRead v (Ok d)
 
 -- the policies of the document are accepted
 abbrev pub HasAcceptedPolicies : Document → Type 0
@@ -38,14 +37,13 @@ pub record Conforms (d : Document) : Type 0 where
   pub store : StoreConforms d.schema d.entities
 
 -- the document keeps every rule
-pub record KeepsRules (d : Document) : Type 0 where
-  -- the request is whole, and conforms to the schema
-  pub whole : IsWhole d.request
-  pub request : RequestConforms d.schema d.request
-  -- the store conforms to the schema
-  pub store : StoreConforms d.schema d.entities
-  -- the policies are accepted
-  pub policies : HasAcceptedPolicies d
+abbrev pub KeepsRules : Document → Type 0
+KeepsRules d = KeepRules d.schema d.policies d.request d.entities
+
+-- the text says that the request and the store conform, and they do
+pub record IsConforming (d : Document) (text : List ℕ) : Type 0 where
+  pub written : text ≡ codes "conforms\n"
+  pub conforms : Conforms d
 
 -- it keeps every rule of the command
 abbrev pub KeepsRulesOf : Command → Document → Type 0
@@ -55,6 +53,7 @@ KeepsRulesOf Request d = Conforms d
 KeepsRulesOf Manifest d = HasAcceptedPolicies d
 KeepsRulesOf Slice d = KeepsRules d
 KeepsRulesOf Decide d = KeepsRules d
+KeepsRulesOf (Sample seed size) d = KeepsRules d
 
 -- the policies keep what the command asks of policies
 abbrev pub HasPoliciesFor : Command → Document → Type 0
@@ -94,11 +93,17 @@ pub record IsDecided (d : Document) (text : List ℕ) : Type 0 where
   pub written : text ≡ response_text (response d.policies.policies d.request d.entities)
   pub allowed : AreAllowed d.policies.policies d.request d.entities
 
+-- the text is the line on the slice, which is enough as that of `slice` is
+pub record IsSampled (size : ℕ) (d : Document) (text : List ℕ) : Type 0 where
+  pub written : text ≡ sample_text size (length (slice_of d)) (response d.policies.policies d.request (slice_of d)).decision
+  pub enough : IsEnough d.policies.policies d.request (slice_of d) d.entities
+
 -- what 0 says
 abbrev pub Says : Command → Document → List ℕ → Type 0
 Says Check d text = IsChecked d text
 Says (Level n) d text = IsCheckedAt n d text
-Says Request d text = Conforms d
+Says Request d text = IsConforming d text
 Says Manifest d text = IsManifested d text
 Says Slice d text = KeepsRules d × IsSliced d text
 Says Decide d text = KeepsRules d × IsDecided d text
+Says (Sample seed size) d text = KeepsRules d × IsSampled size d text

@@ -1,6 +1,7 @@
 pub mod Answer
 pub mod Command
 pub mod Headline
+pub mod Laws
 pub mod Reply
 pub mod Run
 pub mod Status

@@ -1,11 +1,12 @@
 -- What a whole run does.
-use Rattle.std.specs.Prelude.{◌≡◌, ℕ, ◌+◌, ◌≤◌, ◌⊎◌, List, take, Option, Some, None, IsSome, codes}
+use Rattle.std.specs.Prelude.{◌≡◌, ℕ, ◌+◌, ◌≤◌, ◌⊎◌, List, length, take, Option, Some, None, IsSome, codes}
 use Rattle.std.specs.Io.KnownBytes.{Keeps, Appends}
 use Rattle.outside.specs.Document.{TakesTooMany, WasRead}
 use Rattle.outside.specs.State.{SinkState, SourceState}
-use Rattle.outside.specs.Steps.{Rose}
+use Rattle.outside.specs.Steps.{IsQuiet, Rose}
 use Rattle.outside.specs.declared.reading.TheConstants.{DOCUMENT_LIMIT}
 use Rattle.policy_gate.specs.Answer.{IsAnswer}
+use Rattle.policy_gate.specs.Command.{own_document}
 use Rattle.policy_gate.specs.Reply.{Answer, answer}
 use Rattle.policy_gate.specs.Status.{after_fault}
 use Rattle.policy_gate.specs.declared.command.Command.{Command}
@@ -30,10 +31,36 @@ IsDueAfterReading command source source' a = ((bytes : List ℕ) × WasRead sour
     ⊎ (((a ≡ read_fault) × Rose source.faults source'.faults × (source'.taken ≤ source.taken + DOCUMENT_LIMIT))
     ⊎ ((a ≡ too_long) × TakesTooMany source source'))
 
+-- what is due for a command that has a document of its own: the source is left alone; the others read one
+abbrev pub IsDueFor : Option (List ℕ) → Command → SourceState → SourceState → Answer → Type 0
+IsDueFor None command source source' a = IsDueAfterReading command source source' a
+IsDueFor (Some bytes) command source source' a = (source' ≡ source) × IsAnswer command bytes a
+
 -- what is due for the words; where they are no command the source is left alone
 abbrev pub IsDue : Option Command → SourceState → SourceState → Answer → Type 0
 IsDue None source source' a = (a ≡ usage) × (source' ≡ source)
-IsDue (Some command) source source' a = IsDueAfterReading command source source' a
+IsDue (Some command) source source' a = IsDueFor (own_document command) command source source' a
+
+-- the bytes of the document that a command works on: all that the source gave, or those of its own document
+abbrev pub IsGivenBy : Option (List ℕ) → SourceState → SourceState → List ℕ → Type 0
+IsGivenBy None source source' bytes = WasRead source source' bytes
+IsGivenBy (Some own) source source' bytes = (bytes ≡ own) × (source' ≡ source)
+
+abbrev pub IsGiven : Command → SourceState → SourceState → List ℕ → Type 0
+IsGiven command source source' bytes = IsGivenBy (own_document command) source source' bytes
+
+-- the command reads a document from the source
+abbrev pub Reads : Command → Type 0
+Reads command = own_document command ≡ None
+
+-- these bytes are what the command is to work on: what the source has left, where that is no more than a document may have and the source does not fail; or
+-- those of its own document
+abbrev pub IsToReadBy : Option (List ℕ) → SourceState → SourceState → List ℕ → Type 0
+IsToReadBy None source source' bytes = (source.left ≡ Some bytes) × (length bytes ≤ DOCUMENT_LIMIT) × IsQuiet source.faults source'.faults
+IsToReadBy (Some own) source source' bytes = bytes ≡ own
+
+abbrev pub IsToWorkOn : Command → SourceState → SourceState → List ℕ → Type 0
+IsToWorkOn command source source' bytes = IsToReadBy (own_document command) source source' bytes
 
 -- all of the answer's text is written, and its status stands; or the sink's count rose, and a front of the text is written
 abbrev pub Gives : Answer → SinkState → SinkState → Status → Type 0
@@ -46,10 +73,15 @@ Runs command source source' sink sink' status =
     (IsSome command × (status ≡ OutOfMemory) × Keeps sink.holds sink'.holds)
     ⊎ ((a : Answer) × IsDue command source source' a × Gives a sink sink' status)
 
--- the words are a command, the document was read, and this status is due for its bytes, with this text
+-- the words are a command, the document was read or is its own, and this status is due for its bytes, with this text
 abbrev pub IsDocumentDue : Option Command → SourceState → SourceState → Status → List ℕ → Type 0
 IsDocumentDue None source source' status text = ⊥
-IsDocumentDue (Some command) source source' status text = (bytes : List ℕ) × WasRead source source' bytes × IsAnswer command bytes (answer status text)
+IsDocumentDue (Some command) source source' status text = (bytes : List ℕ) × IsGiven command source source' bytes × IsAnswer command bytes (answer status text)
+
+-- the words are a command that reads a document
+abbrev pub IsReader : Option Command → Type 0
+IsReader None = ⊥
+IsReader (Some command) = Reads command
 
 -- why a run ends with a status
 abbrev pub Cause : Option Command → SourceState → SourceState → SinkState → SinkState → Status → Type 0
@@ -60,8 +92,8 @@ Cause command source source' sink sink' Findings = (text : List ℕ) × IsDocume
 Cause command source source' sink sink' Request = (text : List ℕ) × IsDocumentDue command source source' Request text
 Cause command source source' sink sink' Store = (text : List ℕ) × IsDocumentDue command source source' Store text
 Cause command source source' sink sink' PartialRequest = (text : List ℕ) × IsDocumentDue command source source' PartialRequest text
-Cause command source source' sink sink' ReadFault = Rose source.faults source'.faults
+Cause command source source' sink sink' ReadFault = IsReader command × Rose source.faults source'.faults
 Cause command source source' sink sink' WriteFault = Rose sink.faults sink'.faults
     × ((text : List ℕ) × IsDocumentDue command source source' Done text × ((n : ℕ) × Appends sink.holds sink'.holds (take n text)))
 Cause command source source' sink sink' OutOfMemory = Keeps sink.holds sink'.holds
-Cause command source source' sink sink' TooLong = TakesTooMany source source'
+Cause command source source' sink sink' TooLong = IsReader command × TakesTooMany source source'

@@ -1,18 +1,21 @@
 //! From a document's bytes to the reply.
-ghost use Rattle.std.specs.Prelude.{◌≡◌, None, IfOk, option_map, string_bytes};
+ghost use Rattle.std.specs.Prelude.{◌≡◌, None, IfOk, length, option_map, string_bytes};
+ghost use Rattle.authorizer.specs.Response.{response};
 ghost use Rattle.serde_json.specs.View.{view};
 ghost use Rattle.policy_store.specs.Request.{IsWhole};
 ghost use Rattle.conformance.specs.Misfits.{knows};
 ghost use Rattle.conformance.specs.RequestRules.{first_request_fault};
 ghost use Rattle.conformance_errors.specs.Written.{request_text};
 ghost use Rattle.finding_texts.specs.Written.{findings_text};
-ghost use Rattle.policy_gate.specs.Answer.{AreKeysOnce, IsAnswer, IsAnswerFor, IsAnswerTo, IsRefusedOr, IsWellMade, IsWork, found_at, found_in, manifest_text, refused_data, refused_decision, refused_policies, refused_request, refused_store, refused_with, request_fault, status_of, store_fault};
+ghost use Rattle.policy_gate.specs.Answer.{AreKeysOnce, IsAnswer, IsAnswerFor, IsAnswerTo, IsRefusedOr, IsWellMade, IsWork, found_at, found_in, decision_word, manifest_text, refused_data, refused_decision, refused_policies, refused_request, refused_store, refused_with, request_fault, sample_text, slice_of, status_of, store_fault};
+ghost use Rattle.policy_gate.specs.Headline.{KeepsRules};
 ghost use Rattle.policy_gate.specs.Reply.{reply_view};
 
-use crate::command::{Command, width_of};
+use crate::command::Command;
+use crate::laws::laws;
 use crate::reply::{Reply, reply_with};
 use crate::status::Status;
-use authorizer::decide;
+use authorizer::{Decision, decide};
 use conformance::laws::all_functions_are_known;
 use conformance::{
     ConformanceError, EntityDoesNotConform, RequestValidationError, conforms, entity_text,
@@ -20,17 +23,18 @@ use conformance::{
 };
 use entity_manifest::EntityManifest;
 use extension_types::{ExtensionSchemas, all_objects};
-use id_slices::restricted_store;
 use manifest_computation::{EntityManifestError, compute_entity_manifest};
-use policy_documents::{Document, DocumentFault, parse_json, read_document_within};
+use policy_documents::{Document, DocumentFault, parse_json, read_document};
 use policy_expressions::laws::keys_are_once;
 use policy_names::Text;
 use policy_scope::{ValidationResult, findings_text};
 use policy_set::PolicySet;
 use policy_set::laws::is_policy_set;
+use policy_store::Entities;
 use policy_validate::laws::no_errors_where_accepted;
 use policy_validate::{ValidationMode, Validator};
 use policy_writing::{response_text, slice_text};
+use request_slices::restricted_to_reads;
 use serde_json::Value;
 use std::alloc::{AllocError, Global};
 
@@ -56,7 +60,7 @@ pub(crate) fn reply(alloc: Global, command: Command, bytes: &[u8]) -> Result<Rep
 fn reply_to_value(alloc: Global, command: Command, value: &Value) -> Result<Reply, AllocError>
     ensures { IfOk result (λ r. IsAnswerFor command (view value.now) (reply_view r)) }
 {
-    match read_document_within(alloc, value, width_of(command)) {
+    match read_document(alloc, value) {
         Ok(document) => {
             is_well_made(&document);
             let reply = reply_to(alloc, command, &document);
@@ -99,6 +103,7 @@ fn reply_to(alloc: Global, command: Command, document: &Document) -> Result<Repl
         Command::Manifest => with_manifest(alloc, document),
         Command::Slice => cut(alloc, document),
         Command::Decide => decided(alloc, document),
+        Command::Sample { seed, size } => sampled(alloc, document, seed, size),
     }
 }
 
@@ -191,22 +196,77 @@ fn cut(alloc: Global, document: &Document) -> Result<Reply, AllocError>
 }
 
 fn sliced(alloc: Global, document: &Document) -> Result<Reply, AllocError>
-    requires { IsWhole document.now.request }
+    requires { refused_decision document.now ≡ None }
     ensures done { IfOk result (λ r. r.status ≡ Status.Done) }
     ensures work { IfOk result (λ r. IsWork Command.Slice document.now (string_bytes r.text)) }
 {
-    let slice = restricted_store(
-        alloc,
-        &document.schema,
-        &document.policies,
-        &document.request,
-        &document.entities,
-    )?;
+    keeps_rules(document);
+    let slice = slice_of(alloc, document)?;
     let response = decide(alloc, &document.policies, &document.request, &slice)?;
     Ok(Reply {
         status: Status::Done,
         text: slice_text(alloc, &response, &slice)?,
     })
+}
+
+// The line on the cut store of a document with so many users, where the document keeps every rule.
+fn sampled(alloc: Global, document: &Document, seed: u64, size: u64) -> Result<Reply, AllocError>
+    ensures { IfOk result (λ r. IsAnswerTo (Command.Sample seed size) document.now (reply_view r)) }
+{
+    let _seed = seed;
+    match refused_decision(alloc, document)? {
+        Some(reply) => Ok(reply),
+        None => counted(alloc, document, size),
+    }
+}
+
+fn counted(alloc: Global, document: &Document, size: u64) -> Result<Reply, AllocError>
+    requires { refused_decision document.now ≡ None }
+    ensures done { IfOk result (λ r. r.status ≡ Status.Done) }
+    ensures work { IfOk result (λ r. string_bytes r.text ≡ sample_text size (length (slice_of document.now))
+        (response document.now.policies.policies document.now.request (slice_of document.now)).decision) }
+{
+    keeps_rules(document);
+    let slice = slice_of(alloc, document)?;
+    let response = decide(alloc, &document.policies, &document.request, &slice)?;
+    let decision = decision_word(response.decision());
+    let kept = slice.len();
+    Ok(Reply {
+        status: Status::Done,
+        text: format!(in alloc; "entities {size} kept {kept} decision {decision}\n")?,
+    })
+}
+
+fn decision_word(decision: Decision) -> &'static str
+    ensures { result.now ≡ decision_word decision }
+{
+    match decision {
+        Decision::Allow => "Allow",
+        Decision::Deny => "Deny",
+    }
+}
+
+// The document's store restricted to what its policies read on its request.
+fn slice_of(alloc: Global, document: &Document) -> Result<Entities, AllocError>
+    requires { KeepsRules document.now }
+    ensures { IfOk result (λ s. s ≡ slice_of document.now) }
+{
+    restricted_to_reads(
+        alloc,
+        &document.schema,
+        &document.policies,
+        &document.request,
+        &document.entities,
+    )
+}
+
+// A document of which nothing is refused keeps every rule.
+fn keeps_rules(document: &Document)
+    requires { refused_decision document.now ≡ None }
+    ensures { KeepsRules document.now }
+{
+    laws();
+    is_well_made(document);
 }
 
 // The decision on the whole store, where the document keeps every rule.

@@ -1,12 +1,16 @@
 //! The words of a call.
-ghost use Rattle.std.specs.Prelude.{◌≡◌, map, string_bytes};
+ghost use Rattle.std.specs.Prelude.{◌≡◌, IfOk, map, option_map, string_bytes};
 ghost use Rattle.policy_ext.specs.NumberReading.{number_of, plain_of};
-ghost use Rattle.policy_gate.specs.Command.{command_of, one_word, two_words, width_of};
+ghost use Rattle.policy_gate.specs.Command.{command_of, one_word, own_document, size_of, three_words, two_words};
 
-use policy_documents::Width;
+use sample_documents::sample_document;
+use std::alloc::{AllocError, Global};
 
 // The greatest level that policies are checked for.
 const MAX_LEVEL: u64 = 200;
+
+// The most users that a document is made with.
+const MAX_SIZE: u64 = 10_000;
 
 /// What a run is asked to do.
 #[derive(Clone, Copy, Debug, PartialEq, Eq)]
@@ -23,6 +27,13 @@ pub enum Command {
     Slice,
     /// Decide on the whole store.
     Decide,
+    /// Cut the store of a document that a number makes, and say how much is kept and what is decided.
+    Sample {
+        /// The number.
+        seed: u64,
+        /// How many users the document has.
+        size: u64,
+    },
 }
 
 fn one_word(word: &str) -> Option<Command>
@@ -50,15 +61,22 @@ fn two_words(word: &str, other: &str) -> Option<Command>
     }
 }
 
-// The number, up to the greatest level, of digits with no zero in front of others.
 fn level_of(digits: &[u8]) -> Option<u32>
     ensures { result ≡ plain_of 200 digits.now }
 {
-    let level = number(digits)?;
-    if level > MAX_LEVEL || (digits[0] == b'0' && digits.len() > 1) {
+    let level = plain(digits, MAX_LEVEL)?;
+    Some(level as u32)
+}
+
+// The number, up to the most, of digits with no zero in front of others.
+fn plain(digits: &[u8], most: u64) -> Option<u64>
+    ensures { result ≡ plain_of most digits.now }
+{
+    let value = number(digits)?;
+    if value > most || (digits[0] == b'0' && digits.len() > 1) {
         None
     } else {
-        Some(level as u32)
+        Some(value)
     }
 }
 
@@ -77,17 +95,41 @@ fn number(digits: &[u8]) -> Option<u64>
     Some(n)
 }
 
-/// Which documents the command takes.
-pub(crate) fn width_of(command: Command) -> Width
-    ensures { result ≡ width_of command }
+fn three_words(word: &str, seed: &str, size: &str) -> Option<Command>
+    ensures { result ≡ three_words word.now seed.now size.now }
+{
+    match word {
+        "sample" => {
+            let seed = plain(seed.as_bytes(), u64::MAX)?;
+            let size = size_of(size.as_bytes())?;
+            Some(Command::Sample { seed, size })
+        }
+        _ => None,
+    }
+}
+
+// A size of documents that are made.
+fn size_of(digits: &[u8]) -> Option<u64>
+    ensures { result ≡ size_of digits.now }
+{
+    match plain(digits, MAX_SIZE) {
+        Some(size) if size > 0 => Some(size),
+        _ => None,
+    }
+}
+
+/// The document that the command has of its own, if it has one.
+pub(crate) fn own_document(alloc: Global, command: Command) -> Result<Option<String>, AllocError>
+    ensures { IfOk result (λ o. option_map string_bytes o ≡ own_document command) }
 {
     match command {
+        Command::Sample { seed, size } => Ok(Some(sample_document(alloc, seed, size)?)),
         Command::Check
         | Command::Level(_)
         | Command::Request
         | Command::Manifest
-        | Command::Decide => Width::Whole,
-        Command::Slice => Width::OverIds,
+        | Command::Slice
+        | Command::Decide => Ok(None),
     }
 }
 
@@ -98,6 +140,7 @@ pub fn command_of(words: &Vec<String>) -> Option<Command>
     match words.as_slice() {
         [word] => one_word(word.as_str()),
         [word, other] => two_words(word.as_str(), other.as_str()),
+        [word, seed, size] => three_words(word.as_str(), seed.as_str(), size.as_str()),
         _ => None,
     }
 }

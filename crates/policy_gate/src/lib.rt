@@ -3,6 +3,7 @@
 
 mod answer;
 mod command;
+mod laws;
 mod reply;
 mod runner;
 mod status;

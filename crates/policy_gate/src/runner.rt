@@ -4,23 +4,20 @@ ghost use Rattle.std.specs.Io.KnownBytes.{Appends};
 ghost use Rattle.outside.specs.Document.{TakesFew, WasRead};
 ghost use Rattle.outside.specs.Steps.{IsQuiet};
 ghost use Rattle.policy_gate.specs.Answer.{IsAnswer};
-ghost use Rattle.policy_gate.specs.Command.{command_of};
+ghost use Rattle.policy_gate.specs.Command.{command_of, own_document};
 ghost use Rattle.policy_documents.specs.declared.document.Document.{Document};
-ghost use Rattle.policy_gate.specs.Headline.{Conforms, HasPoliciesFor, IsChecked, IsCheckedAt, IsDecided, IsDocumentOf, IsManifested, IsSliced, KeepsRules, KeepsRulesOf};
+ghost use Rattle.policy_gate.specs.Headline.{HasPoliciesFor, IsChecked, IsCheckedAt, IsConforming, IsDecided, IsDocumentOf, IsManifested, IsSampled, IsSliced, KeepsRules, KeepsRulesOf};
 ghost use Rattle.policy_gate.specs.Reply.{answer, reply_view};
-ghost use Rattle.policy_gate.specs.Run.{Cause, Gives, IsDue, IsDueAfterReading, Runs};
+ghost use Rattle.policy_gate.specs.Run.{Cause, Gives, IsDue, IsDueAfterReading, IsDueFor, IsGiven, IsToWorkOn, Reads, Runs};
+ghost use Rattle.sample_documents.specs.Sample.{sample_document};
 ghost use Rattle.policy_gate.specs.Status.{IsAfterEnd};
 
 use crate::answer::reply;
-use crate::command::{Command, command_of};
+use crate::command::{Command, command_of, own_document};
+use crate::laws::laws;
 use crate::reply::{Reply, reply_with};
 use crate::status::Status;
-use conformance::laws::{request_rules_are_exact, store_rules_are_exact};
 use outside::{DOCUMENT_LIMIT, ReadError, Sink, Source, read_document_bytes, write_text};
-use policy_validate::laws::{
-    accepted_are_sound, accepted_levels_are_sound, no_errors_where_accepted,
-    no_errors_where_accepted_at,
-};
 use std::alloc::{AllocError, Global};
 
 const USAGE: &str =
@@ -58,6 +55,18 @@ fn from_document<S: Source>(
     }
 }
 
+// Makes the reply to a command, which reads a document or has one of its own.
+fn reply_to<S: Source>(alloc: Global, command: Command, source: &mut S) -> Result<Reply, AllocError>
+    ensures due { IfOk result (λ r.
+        IsDueFor (own_document command) command (S.state source.old) (S.state source.new) (reply_view r)) }
+    ensures taken { TakesFew (S.state source.old) (S.state source.new) }
+{
+    match own_document(alloc, command)? {
+        Some(document) => reply(alloc, command, document.as_bytes()),
+        None => from_document(alloc, command, source),
+    }
+}
+
 // All that a run does.
 fn outcome<S: Source, K: Sink>(
     alloc: Global,
@@ -72,7 +81,7 @@ fn outcome<S: Source, K: Sink>(
     let Some(command) = command_of(words) else {
         return finish(sink, Status::Usage, USAGE);
     };
-    match from_document(alloc, command, source) {
+    match reply_to(alloc, command, source) {
         Ok(reply) => finish(sink, reply.status, reply.text.as_str()),
         Err(_) => Status::OutOfMemory,
     }
@@ -93,10 +102,12 @@ pub fn run<S: Source, K: Sink>(
         (S.state source.old) (S.state source.new) (K.state sink.old) (K.state sink.new) result }
 
     // At most one byte more is taken than a document may have; all but usage, a failing source,
-    // want of memory and a document that is too long means that the source was read to its end.
+    // want of memory and a document that is too long means that the source was read to its end, or that the command has a
+    // document of its own.
     ensures taken { TakesFew (S.state source.old) (S.state source.new) }
     ensures read { IsAfterEnd result
-        → (bytes : List ℕ) × WasRead (S.state source.old) (S.state source.new) bytes }
+        → (command : Command) × (command_of (map string_bytes words.now.items) ≡ Some command)
+        × ((bytes : List ℕ) × IsGiven command (S.state source.old) (S.state source.new) bytes) }
 
     // All of the text that was due is written; a front of it where the sink's count rose; and
     // nothing where memory ran out.
@@ -108,14 +119,13 @@ pub fn run<S: Source, K: Sink>(
     ensures too_long { (S.state source.old).taken + DOCUMENT_LIMIT < (S.state source.new).taken
         → (result ≡ Status.TooLong) ⊎ (result ≡ Status.OutOfMemory) }
     ensures too_long_told { (command : Command) (bytes : List ℕ)
-        → command_of (map string_bytes words.now.items) ≡ Some command
+        → command_of (map string_bytes words.now.items) ≡ Some command → Reads command
         → (S.state source.old).left ≡ Some bytes → DOCUMENT_LIMIT < length bytes
         → IsQuiet (S.state source.old).faults (S.state source.new).faults
         → (result ≡ Status.TooLong) ⊎ (result ≡ Status.OutOfMemory) }
     ensures exact { (command : Command) (bytes : List ℕ)
         → command_of (map string_bytes words.now.items) ≡ Some command
-        → (S.state source.old).left ≡ Some bytes → length bytes ≤ DOCUMENT_LIMIT
-        → IsQuiet (S.state source.old).faults (S.state source.new).faults
+        → IsToWorkOn command (S.state source.old) (S.state source.new) bytes
         → IsQuiet (K.state sink.old).faults (K.state sink.new).faults
         → ((text : List ℕ) × IsAnswer command bytes (answer result text)
         × Appends (K.state sink.old).holds (K.state sink.new).holds text)
@@ -128,14 +138,14 @@ pub fn run<S: Source, K: Sink>(
     ensures headline { command_of (map string_bytes words.now.items) ≡ Some Command.Slice
         → result ≡ Status.Done
         → (bytes : List ℕ) × (text : List ℕ) × WasRead (S.state source.old) (S.state source.new) bytes
-        × ((document : Document) × IsDocumentOf Command.Slice bytes document × KeepsRules document × IsSliced document text)
+        × ((document : Document) × IsDocumentOf bytes document × KeepsRules document × IsSliced document text)
         × Appends (K.state sink.old).holds (K.state sink.new).holds text }
 
     // Where `check` ends with 0 the document's policies are accepted, and the text is what is found of them: warnings alone.
     ensures checked { command_of (map string_bytes words.now.items) ≡ Some Command.Check
         → result ≡ Status.Done
         → (bytes : List ℕ) × (text : List ℕ) × WasRead (S.state source.old) (S.state source.new) bytes
-        × ((document : Document) × IsDocumentOf Command.Check bytes document × IsChecked document text)
+        × ((document : Document) × IsDocumentOf bytes document × IsChecked document text)
         × Appends (K.state sink.old).holds (K.state sink.new).holds text }
 
     // Where `level` ends with 0 the policies are accepted at the level, and the text is what is found of them: warnings alone. Then on a store cut
@@ -143,14 +153,14 @@ pub fn run<S: Source, K: Sink>(
     ensures levelled { (level : ℕ) → command_of (map string_bytes words.now.items) ≡ Some (Command.Level level)
         → result ≡ Status.Done
         → (bytes : List ℕ) × (text : List ℕ) × WasRead (S.state source.old) (S.state source.new) bytes
-        × ((document : Document) × IsDocumentOf (Command.Level level) bytes document × IsCheckedAt level document text)
+        × ((document : Document) × IsDocumentOf bytes document × IsCheckedAt level document text)
         × Appends (K.state sink.old).holds (K.state sink.new).holds text }
 
-    // Where `request` ends with 0 the document's request breaks no rule, and its store conforms.
+    // Where `request` ends with 0 the document's request breaks no rule, and its store conforms; the text says so.
     ensures conforming { command_of (map string_bytes words.now.items) ≡ Some Command.Request
         → result ≡ Status.Done
         → (bytes : List ℕ) × (text : List ℕ) × WasRead (S.state source.old) (S.state source.new) bytes
-        × ((document : Document) × IsDocumentOf Command.Request bytes document × Conforms document)
+        × ((document : Document) × IsDocumentOf bytes document × IsConforming document text)
         × Appends (K.state sink.old).holds (K.state sink.new).holds text }
 
     // Where `manifest` ends with 0 the document's policies are accepted, and the text is their manifest: for each environment of the schema
@@ -158,7 +168,7 @@ pub fn run<S: Source, K: Sink>(
     ensures manifested { command_of (map string_bytes words.now.items) ≡ Some Command.Manifest
         → result ≡ Status.Done
         → (bytes : List ℕ) × (text : List ℕ) × WasRead (S.state source.old) (S.state source.new) bytes
-        × ((document : Document) × IsDocumentOf Command.Manifest bytes document × IsManifested document text)
+        × ((document : Document) × IsDocumentOf bytes document × IsManifested document text)
         × Appends (K.state sink.old).holds (K.state sink.new).holds text }
 
     // Where `decide` ends with 0 the document keeps every rule, and the text is the response on its whole store, on which each policy's
@@ -166,29 +176,31 @@ pub fn run<S: Source, K: Sink>(
     ensures decided { command_of (map string_bytes words.now.items) ≡ Some Command.Decide
         → result ≡ Status.Done
         → (bytes : List ℕ) × (text : List ℕ) × WasRead (S.state source.old) (S.state source.new) bytes
-        × ((document : Document) × IsDocumentOf Command.Decide bytes document × KeepsRules document × IsDecided document text)
+        × ((document : Document) × IsDocumentOf bytes document × KeepsRules document × IsDecided document text)
+        × Appends (K.state sink.old).holds (K.state sink.new).holds text }
+
+    // Where `sample` ends with 0 the source is left alone, and the document that the seed and the size make keeps every rule; the text is the line
+    // on its slice, which is enough as that of `slice` is.
+    ensures sampled { (seed size : ℕ) → command_of (map string_bytes words.now.items) ≡ Some (Command.Sample seed size)
+        → result ≡ Status.Done
+        → (text : List ℕ) × (S.state source.new ≡ S.state source.old)
+        × ((document : Document) × IsDocumentOf (sample_document seed size) document × KeepsRules document × IsSampled size document text)
         × Appends (K.state sink.old).holds (K.state sink.new).holds text }
 
     // A command finds errors in the policies of no other documents than those whose policies are not accepted, for `level` at the level.
     ensures refused { result ≡ Status.Findings
         → (command : Command) × (command_of (map string_bytes words.now.items) ≡ Some command)
-        × ((bytes : List ℕ) × WasRead (S.state source.old) (S.state source.new) bytes
-        × ((document : Document) × IsDocumentOf command bytes document × (¬ HasPoliciesFor command document))) }
+        × ((bytes : List ℕ) × IsGiven command (S.state source.old) (S.state source.new) bytes
+        × ((document : Document) × IsDocumentOf bytes document × (¬ HasPoliciesFor command document))) }
 
     // And 0 comes wherever every rule of the command holds, unless memory runs out.
     ensures complete { (command : Command) (bytes : List ℕ) (document : Document)
         → command_of (map string_bytes words.now.items) ≡ Some command
-        → (S.state source.old).left ≡ Some bytes → length bytes ≤ DOCUMENT_LIMIT
-        → IsQuiet (S.state source.old).faults (S.state source.new).faults
+        → IsToWorkOn command (S.state source.old) (S.state source.new) bytes
         → IsQuiet (K.state sink.old).faults (K.state sink.new).faults
-        → IsDocumentOf command bytes document → KeepsRulesOf command document
+        → IsDocumentOf bytes document → KeepsRulesOf command document
         → (result ≡ Status.Done) ⊎ (result ≡ Status.OutOfMemory) }
 {
-    no_errors_where_accepted();
-    request_rules_are_exact();
-    store_rules_are_exact();
-    accepted_are_sound();
-    no_errors_where_accepted_at();
-    accepted_levels_are_sound();
+    laws();
     outcome(alloc, words, source, sink)
 }

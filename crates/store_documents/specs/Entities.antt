@@ -12,8 +12,6 @@ use Rattle.serde_json.specs.Find.{get, as_object}
 use Rattle.json_parts.specs.Json.{◌>>=◌, has_only, list_of}
 use Rattle.json_parts.specs.Names.{uid_of}
 use Rattle.store_documents.specs.Fields.{both_of, fields_in}
-use Rattle.document_places.specs.declared.width.Width.{Width}
-use Rattle.document_places.specs.declared.width.Width.TheVariants.{Whole, OverIds}
 use Rattle.document_places.specs.declared.place.Place.{Place}
 use Rattle.document_places.specs.declared.place.Place.TheVariants as place
 
@@ -23,9 +21,8 @@ with_uids set no_items = Some set
 with_uids set (item d ds) = option_and_then (λ u. with_uids (insert_key uid_cmp set u) ds) (uid_of d)
 
 -- the members that an entity may have
-abbrev pub entity_names : Width → List (List ℕ)
-entity_names Whole = codes "id" ∷ codes "attrs" ∷ codes "tags" ∷ codes "parents" ∷ []
-entity_names OverIds = codes "id" ∷ codes "parents" ∷ []
+abbrev pub entity_names : List (List ℕ)
+entity_names = codes "id" ∷ codes "attrs" ∷ codes "tags" ∷ codes "parents" ∷ []
 
 -- an entity as it is given: its parents stand for its ancestors
 unfoldable pub given_entity_of : Data → Option StoredEntity
@@ -37,15 +34,15 @@ given_entity_of d = do
   Some (record { uid = uid; attrs = fields_of both.0; ancestors = parents; tags = fields_of both.1 })
 
 -- the entity of an object without other members
-abbrev pub entity_of : Width → Data → Option StoredEntity
-entity_of w d = do
+abbrev pub entity_of : Data → Option StoredEntity
+entity_of d = do
   members ← as_object d
-  if has_only (entity_names w) members then given_entity_of d else None
+  if has_only entity_names members then given_entity_of d else None
 
 -- those before, and the entities of the items; else the place of the first item that is none
-abbrev pub entities_of : Width → List StoredEntity → Items → Result (List StoredEntity) Place
-entities_of w before no_items = Ok before
-entities_of w before (item d ds) = option_map_or (λ e. entities_of w (before ++ e ∷ []) ds) (entity_of w d) (Err (place.Entity (length before)))
+abbrev pub entities_of : List StoredEntity → Items → Result (List StoredEntity) Place
+entities_of before no_items = Ok before
+entities_of before (item d ds) = option_map_or (λ e. entities_of (before ++ e ∷ []) ds) (entity_of d) (Err (place.Entity (length before)))
 
 -- the index of the first id that is u, counted from n; the length where none is
 abbrev pub index_from : ℕ → EntityUID → List EntityUID → ℕ

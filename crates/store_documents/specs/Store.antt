@@ -10,7 +10,6 @@ use Rattle.policy_store.specs.declared.entities.EntitiesError.{EntitiesError}
 use Rattle.policy_store.specs.declared.entities.EntitiesError.TheVariants as refused
 use Rattle.serde_json.specs.Data.{Items}
 use Rattle.store_documents.specs.Entities.{entities_of, index_from}
-use Rattle.document_places.specs.declared.width.Width.{Width}
 use Rattle.document_places.specs.declared.place.Place.{Place}
 use Rattle.document_places.specs.declared.place.Place.TheVariants.{EntityDuplicate, EntityCycle}
 use Rattle.document_places.specs.declared.place.DocumentFault.{DocumentFault}
@@ -30,8 +29,8 @@ IsStoreFrom (Ok es) (Ok store) = IsFromParents es store
 IsStoreFrom (Ok es) (Err p) = IsStoreFault es p
 
 -- the store that the entities of the items make with their parents, or the place of the first fault
-abbrev pub IsStoreOf : Width → Items → Result Store Place → Type 0
-IsStoreOf w ds r = IsStoreFrom (entities_of w [] ds) r
+abbrev pub IsStoreOf : Items → Result Store Place → Type 0
+IsStoreOf ds r = IsStoreFrom (entities_of [] ds) r
 
 -- a refusal for a repeated id has one among the ids
 abbrev pub IsRepeatedIfDuplicate : List EntityUID → EntitiesError → Type 0

@@ -9,7 +9,7 @@ ghost use Rattle.policy_store.specs.FromParents.{ids_of};
 ghost use Rattle.document_places.specs.Faults.{ComesTo};
 
 use crate::fields::read_attrs_and_tags;
-use document_places::{DocumentFault, Place, Width};
+use document_places::{DocumentFault, Place};
 use json_parts::{has_only, list_items, read_uid_like};
 use policy_names::EntityUID;
 use policy_store::Entity;
@@ -79,40 +79,32 @@ fn read_given_entity(
     }
 }
 
-fn has_names(width: Width, members: &Map<String, Value>) -> bool
-    ensures { result ≡ has_only (entity_names width) (members_view members.now.entries) }
+fn has_names(members: &Map<String, Value>) -> bool
+    ensures { result ≡ has_only entity_names (members_view members.now.entries) }
 {
-    match width {
-        Width::Whole => has_only(&["id", "attrs", "tags", "parents"], members),
-        Width::OverIds => has_only(&["id", "parents"], members),
-    }
+    has_only(&["id", "attrs", "tags", "parents"], members)
 }
 
 fn read_entity(
     alloc: Global,
-    width: Width,
     value: &Value,
     before: Option<&Entity>,
 ) -> Result<Option<Entity>, AllocError>
-    ensures { IfOk result (λ o. o ≡ entity_of width (view value.now)) }
+    ensures { IfOk result (λ o. o ≡ entity_of (view value.now)) }
 {
     match value.as_object() {
-        Some(members) if has_names(width, members) => read_given_entity(alloc, value, before),
+        Some(members) if has_names(members) => read_given_entity(alloc, value, before),
         _ => Ok(None),
     }
 }
 
 /// The entities of the items; else the place of the first item that is none.
-pub fn read_entities(
-    alloc: Global,
-    width: Width,
-    items: &[Value],
-) -> Result<Vec<Entity>, DocumentFault>
-    ensures { ComesTo (λ v. v.items) result (entities_of width [] (items_view items.now)) }
+pub fn read_entities(alloc: Global, items: &[Value]) -> Result<Vec<Entity>, DocumentFault>
+    ensures { ComesTo (λ v. v.items) result (entities_of [] (items_view items.now)) }
 {
     let mut entities = Vec::new(alloc);
     for item in items {
-        let Some(entity) = read_entity(alloc, width, item, entities.last())? else {
+        let Some(entity) = read_entity(alloc, item, entities.last())? else {
             return Err(DocumentFault::Place(Place::Entity(entities.len())));
         };
         entities.push(entity)?;

@@ -1,17 +1,14 @@
 //! A request in JSON.
 
 ghost use Rattle.std.specs.Prelude.{◌≡◌, IfOk, option_map};
-ghost use Rattle.serde_json.specs.View.{view, members_view};
-ghost use Rattle.store_documents.specs.Request.{context_of, entries_of, given_request_of, known_of, request_of, values_within};
+ghost use Rattle.serde_json.specs.View.{view};
+ghost use Rattle.store_documents.specs.Request.{context_of, entries_of, given_request_of, known_of, request_of};
 
-use document_places::Width;
 use json_parts::{has_only, read_uid};
-use policy_names::{EntityUID, Text};
+use policy_names::EntityUID;
 use policy_store::{Context, Request};
-use policy_values::Value;
-use serde_json::{Map, Value as Json};
+use serde_json::Value as Json;
 use std::alloc::{AllocError, Global};
-use std::collections::BTreeMap;
 use value_documents::read_fields;
 
 fn read_known(alloc: Global, value: Option<&Json>) -> Result<Option<Option<EntityUID>>, AllocError>
@@ -29,25 +26,8 @@ fn read_known(alloc: Global, value: Option<&Json>) -> Result<Option<Option<Entit
     }
 }
 
-fn read_values(
-    alloc: Global,
-    width: Width,
-    members: &Map<String, Json>,
-) -> Result<Option<BTreeMap<Text, Value>>, AllocError>
-    ensures { IfOk result (λ o. option_map (λ fs. fs.entries) o ≡ values_within width (members_view members.now.entries)) }
-{
-    if width.asks_limits() && !has_only(&[], members) {
-        return Ok(None);
-    }
-    read_fields(alloc, members)
-}
-
-fn read_context(
-    alloc: Global,
-    width: Width,
-    value: Option<&Json>,
-) -> Result<Option<Option<Context>>, AllocError>
-    ensures { IfOk result (λ o. o ≡ context_of width (option_map (λ v. view v.now) value.entry)) }
+fn read_context(alloc: Global, value: Option<&Json>) -> Result<Option<Option<Context>>, AllocError>
+    ensures { IfOk result (λ o. o ≡ context_of (option_map (λ v. view v.now) value.entry)) }
 {
     let Some(value) = value else {
         return Ok(Some(None));
@@ -58,14 +38,14 @@ fn read_context(
     let Some(members) = value.as_object() else {
         return Ok(None);
     };
-    match read_values(alloc, width, members)? {
+    match read_fields(alloc, members)? {
         Some(fields) => Ok(Some(Some(Context::new(fields)))),
         None => Ok(None),
     }
 }
 
-fn read_entries(alloc: Global, width: Width, value: &Json) -> Result<Option<Request>, AllocError>
-    ensures { IfOk result (λ o. o ≡ entries_of width (view value.now)) }
+fn read_entries(alloc: Global, value: &Json) -> Result<Option<Request>, AllocError>
+    ensures { IfOk result (λ o. o ≡ entries_of (view value.now)) }
 {
     let Some(principal) = read_known(alloc, value.get("principal"))? else {
         return Ok(None);
@@ -76,7 +56,7 @@ fn read_entries(alloc: Global, width: Width, value: &Json) -> Result<Option<Requ
     let Some(resource) = read_known(alloc, value.get("resource"))? else {
         return Ok(None);
     };
-    let Some(context) = read_context(alloc, width, value.get("context"))? else {
+    let Some(context) = read_context(alloc, value.get("context"))? else {
         return Ok(None);
     };
     Ok(Some(Request {
@@ -88,12 +68,8 @@ fn read_entries(alloc: Global, width: Width, value: &Json) -> Result<Option<Requ
 }
 
 #[tactic(auto, unfolding(crate::specs::Request::given_request_of))]
-fn read_given_request(
-    alloc: Global,
-    width: Width,
-    value: &Json,
-) -> Result<Option<Request>, AllocError>
-    ensures { IfOk result (λ o. o ≡ given_request_of width (view value.now)) }
+fn read_given_request(alloc: Global, value: &Json) -> Result<Option<Request>, AllocError>
+    ensures { IfOk result (λ o. o ≡ given_request_of (view value.now)) }
 {
     let Some(members) = value.as_object() else {
         return Ok(None);
@@ -101,19 +77,15 @@ fn read_given_request(
     if !has_only(&["principal", "action", "resource", "context"], members) {
         return Ok(None);
     }
-    read_entries(alloc, width, value)
+    read_entries(alloc, value)
 }
 
 /// The request that the value is, if it is one; an absent one has no entry.
-pub fn read_request(
-    alloc: Global,
-    width: Width,
-    value: Option<&Json>,
-) -> Result<Option<Request>, AllocError>
-    ensures { IfOk result (λ o. o ≡ request_of width (option_map (λ v. view v.now) value.entry)) }
+pub fn read_request(alloc: Global, value: Option<&Json>) -> Result<Option<Request>, AllocError>
+    ensures { IfOk result (λ o. o ≡ request_of (option_map (λ v. view v.now) value.entry)) }
 {
     match value {
-        Some(value) => read_given_request(alloc, width, value),
+        Some(value) => read_given_request(alloc, value),
         None => Ok(Some(Request {
             principal: None,
             action: None,

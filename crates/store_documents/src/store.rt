@@ -11,7 +11,7 @@ ghost use Rattle.document_places.specs.Faults.{MayComeTo};
 ghost use Rattle.store_documents.specs.Store.{IsStoreOf, IsRepeatedIfDuplicate, IsPlaceOf};
 
 use crate::entities::{ids_of, index_of, read_entities};
-use document_places::{DocumentFault, Place, Width};
+use document_places::{DocumentFault, Place};
 use hierarchy::first_repeated;
 use policy_names::EntityUID;
 use policy_store::{Entities, EntitiesError};
@@ -46,10 +46,10 @@ fn refusal(alloc: Global, ids: &Vec<EntityUID>, error: EntitiesError) -> Documen
 
 /// The store that the entities of the items make with their parents; else the place of the first fault: the first item
 /// that is no entity, the first id that stands earlier, or the least id that is its own ancestor.
-pub fn read_store(alloc: Global, width: Width, items: &[Value]) -> Result<Entities, DocumentFault>
-    ensures { MayComeTo result (IsStoreOf width (items_view items.now)) }
+pub fn read_store(alloc: Global, items: &[Value]) -> Result<Entities, DocumentFault>
+    ensures { MayComeTo result (IsStoreOf (items_view items.now)) }
 {
-    let entities = read_entities(alloc, width, items)?;
+    let entities = read_entities(alloc, items)?;
     let ids = ids_of(alloc, &entities)?;
     match Entities::from_parents(alloc, entities) {
         Ok(store) => Ok(store),

@@ -1,6 +1,6 @@
 -- What the nodes of reached entities lead along and name is what is read.
-use Rattle.std.proofs.Common.{◌≡◌, ◌⊎◌, ◌<◌, ℕ, zero, suc, Bool, true, false, ◌&&◌, ◌||◌, cond, List, [], ◌∷◌, ◌++◌, Option, Some, None, is_some, length, map, refl, sym, ap, ◌∙◌, subst, append_assoc, inl, inr, arith}
-use Rattle.std.specs.Prelude.{◌↔◌, slice_get}
+use Rattle.std.proofs.Common.{◌≡◌, ◌<◌, ℕ, zero, suc, Bool, true, false, ◌&&◌, ◌||◌, cond, List, [], ◌∷◌, ◌++◌, Option, Some, None, is_some, length, map, refl, sym, ap, ◌∙◌, subst, inl, inr, arith}
+use Rattle.std.specs.Prelude.{slice_get}
 use Rattle.std.specs.List.{list_any}
 use Rattle.std.specs.Option.{option_map_or}
 use Rattle.std.specs.BTreeMap.{BTreeMap, get}
@@ -9,28 +9,27 @@ use Rattle.std.specs.declared.vec.Vec.{Vec}
 use Rattle.std.specs.declared.alloc.Global.{Global}
 use Rattle.std.proofs.lemmas.List.{map-append}
 use Rattle.std.proofs.lemmas.List.Folds.{list_any-append}
-use Rattle.std.proofs.lemmas.Bool.{and_parts, and_from, or_cases}
+use Rattle.std.proofs.lemmas.Bool.{and_parts, and_from}
 use Rattle.policy_names.specs.declared.entity_uid.EntityUID.{EntityUID}
 use Rattle.policy_names.specs.Uid.{uid_cmp, uid_eq}
 use Rattle.policy_values.specs.Value.{entity}
 use Rattle.policy_store.specs.declared.request.Request.{Request}
 use Rattle.policy_store.specs.Store.{StoredEntity, Store}
 use Rattle.access_tries.specs.declared.edge.Edge.TheVariants.{Root}
-use Rattle.access_tries.specs.Edges.{Address}
-use Rattle.access_tries.specs.Paths.{edge_of, address_of, has_path, asks}
+use Rattle.access_tries.specs.Paths.{edge_of, address_of}
 use Rattle.access_tries.specs.Table.{Table}
 use Rattle.access_tries.specs.Views.{view_leads, view_marks, whole}
 use Rattle.policy_reads.specs.Paths.{Step, any_tag, Chain, steps_of, AccessPath, Demand, beyond}
-use Rattle.policy_reads.specs.Restrict.{Keep, part, is_id, names_id, reach, kept_steps, kept_chain, kept_tag, by_paths, kept_ancestor, needed, restrict}
-use Rattle.policy_reads.proofs.Lists.{IsIn, or_true, any_in, same_uid, uid_self}
-use Rattle.policy_reads.proofs.Words.{IsReadAt, kept_means, any_out, id_of, same_tests}
-use Rattle.ancestor_names.specs.Names.{IsKept, IsNamed}
+use Rattle.policy_reads.specs.Restrict.{part, is_id, names_id, reach, kept_steps, kept_chain, kept_tag, by_paths, kept_ancestor, needed, restrict}
+use Rattle.policy_reads.proofs.Lists.{IsIn, any_in, same_uid, uid_self}
+use Rattle.policy_reads.proofs.Words.{kept_means, any_out, id_of, same_tests}
+use Rattle.ancestor_names.specs.Names.{IsKept}
 use Rattle.entity_asking.specs.declared.place.Place.{Place}
 use Rattle.entity_asking.specs.Places.{node_of}
-use Rattle.entity_asking.specs.Wants.{sees, wants}
-use Rattle.entity_loader.specs.Asked.{some_asks, some_leads}
+use Rattle.entity_asking.specs.Wants.{wants}
+use Rattle.entity_loader.specs.Asked.{some_asks}
 use Rattle.store_slices.specs.Tries.{IsTrieOf}
-use Rattle.store_slices.specs.Reached.{IsReached, AreReached, AreThere}
+use Rattle.store_slices.specs.Reached.{AreReached, AreThere}
 use Rattle.store_slices.specs.Kept.{Numbers, numbers_at, some_place, IsGrouped, IsNumbered, along_nodes, names, some_names, with_names, AreNodes, AreNamed}
 
 -- ---- places by their entities

@@ -1,6 +1,6 @@
 -- Least tries, and what conditions read.
-use Rattle.std.proofs.Common.{◌≡◌, ◌⊎◌, ℕ, Bool, true, false, ◌&&◌, ◌||◌, List, [], ◌∷◌, ◌++◌, map, refl, sym, ap, ◌∙◌, subst, append_assoc, inl, inr}
-use Rattle.std.specs.Prelude.{◌↔◌, filter, if◌then◌else◌}
+use Rattle.std.proofs.Common.{◌≡◌, ◌⊎◌, Bool, true, false, List, [], ◌∷◌, ◌++◌, map, refl, sym, ap, ◌∙◌, subst, append_assoc, inl, inr}
+use Rattle.std.specs.Prelude.{filter, if◌then◌else◌}
 use Rattle.std.specs.List.{list_any}
 use Rattle.std.specs.Cmp.{nat_cmp_total}
 use Rattle.std.proofs.lemmas.Bool.{and_parts, and_from, or_cases}
@@ -23,7 +23,7 @@ use Rattle.access_tries.specs.EdgeLaws.{exact_edge}
 use Rattle.policy_reads.specs.Paths.{Step, along, any_tag, AccessPath, Demand, Shape, beyond, paths}
 use Rattle.policy_reads.specs.PathTypes.{is_declared_path}
 use Rattle.policy_reads.specs.Reads.{shape_of, wholly, binary_reads, reads, reads_all, reads_named, reads_of, pairs, binary_demands, demands, demands_all, demands_named, demands_of, declared_reads, declared_demands, are_declared}
-use Rattle.policy_reads.proofs.Lists.{IsIn, in_left, in_right, in_map, any_in, or_true, or_right, nil_right}
+use Rattle.policy_reads.proofs.Lists.{IsIn, in_left, in_right, in_map, any_in, or_true, nil_right}
 use Rattle.policy_reads.proofs.Words.{IsRead, any_out}
 use Rattle.policy_reads.proofs.DeclaredPaths.{declared_read}
 use Rattle.store_slices.specs.Tries.{IsTrieOf, LeastTriesFit}

@@ -3,3 +3,4 @@ mod ReachSteps
 pub mod LeastSteps
 mod KeptSteps
 mod PartSteps
+mod BlockedSteps

@@ -1,6 +1,6 @@
 -- How the parts are made, one after another.
-use Rattle.std.proofs.Common.{◌≡◌, ◌<◌, ◌+◌, ℕ, zero, suc, Bool, true, false, List, [], ◌∷◌, ◌++◌, map, Option, Some, None, ◌≤◌, ◌⊎◌, inl, inr, is_some, length, refl, sym, ap, ◌∙◌, subst, append_assoc, arith}
-use Rattle.std.specs.Prelude.{◌↔◌, filter, slice_get, if◌then◌else◌}
+use Rattle.std.proofs.Common.{◌≡◌, ◌<◌, ◌+◌, ℕ, zero, suc, true, false, List, [], ◌∷◌, ◌++◌, map, Option, Some, None, ◌≤◌, ◌⊎◌, inl, inr, is_some, length, refl, sym, ap, ◌∙◌, subst, append_assoc, arith}
+use Rattle.std.specs.Prelude.{◌↔◌, filter, slice_get}
 use Rattle.std.specs.List.{AllByRecursion}
 use Rattle.std.specs.List.Sorted.{IsStrictlySortedBy}
 use Rattle.std.specs.Option.{option_map_or}
@@ -12,7 +12,7 @@ use Rattle.std.specs.BTreeMap.{BTreeMap, IsOrdered, get, values, insert_entry}
 use Rattle.std.specs.BTreeSet.{BTreeSet, contains}
 use Rattle.std.specs.declared.vec.Vec.{Vec}
 use Rattle.std.specs.declared.alloc.Global.{Global}
-use Rattle.hierarchy.specs.Keyed.{AreAtTheirKeys, value_at, with_value}
+use Rattle.hierarchy.specs.Keyed.{AreAtTheirKeys, with_value}
 use Rattle.hierarchy.proofs.Keyed.{value_found, value_put, own_put}
 use Rattle.policy_names.specs.declared.entity_uid.EntityUID.{EntityUID}
 use Rattle.policy_names.specs.Uid.{uid_cmp, uid_cmp_total, exact_uid}
@@ -23,8 +23,8 @@ use Rattle.access_tries.specs.Table.{Table}
 use Rattle.policy_reads.specs.Restrict.{Keep, cut_entity, part}
 use Rattle.policy_reads.proofs.Lists.{nil_right}
 use Rattle.ancestor_names.specs.Names.{IsKept, IsNamed}
-use Rattle.entity_loader.specs.Asked.{some_leads, asked_by}
-use Rattle.store_slices.specs.Kept.{Numbers, numbers_at, along_nodes, names, some_names, with_names, AreNodes, AreNamed}
+use Rattle.entity_loader.specs.Asked.{asked_by}
+use Rattle.store_slices.specs.Kept.{Numbers, numbers_at, along_nodes, names, some_names, with_names, AreNodes}
 
 -- the entities `made` were made of those before `left`, of all
 pub record IsParting (k : Keep) (made left all : Store) : Type 0 where

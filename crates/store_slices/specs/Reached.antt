@@ -1,5 +1,5 @@
 -- What paths of a trie reach.
-use Rattle.std.specs.Prelude.{◌≡◌, ◌↔◌, ℕ, ◌<◌, Bool, true, ◌||◌, List, ◌∷◌, ◌++◌, length, Option, Some, None}
+use Rattle.std.specs.Prelude.{◌≡◌, ◌↔◌, ◌<◌, Bool, true, ◌||◌, List, ◌∷◌, ◌++◌, length, Option, Some, None}
 use Rattle.policy_names.specs.declared.entity_uid.EntityUID.{EntityUID}
 use Rattle.policy_values.specs.Value.{entity}
 use Rattle.policy_store.specs.declared.request.Request.{Request}

@@ -1,7 +1,6 @@
-use Rattle.std.proofs.Common.{◌≡◌, true, ◌&&◌, refl, sym, ap, ◌∙◌, subst, map, [], is_some}
+use Rattle.std.proofs.Common.{◌≡◌, true, ◌&&◌, refl, sym, ap, ◌∙◌, subst, map}
 use Rattle.std.proofs.lemmas.Bool.{and_parts}
 use Rattle.access_tries.specs.declared.table.Link.{Link}
-use Rattle.access_tries.specs.declared.edge.Edge.TheVariants.{Root}
 use Rattle.access_tries.specs.Edges.{edge_eq}
 use Rattle.access_tries.specs.Paths.{edge_of}
 use Rattle.access_tries.specs.Table.{links_at, at_path, has_mark}

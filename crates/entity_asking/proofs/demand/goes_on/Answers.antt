@@ -1,12 +1,11 @@
-use Rattle.std.proofs.Common.{◌≡◌, true, ◌&&◌, refl, sym, ap, ◌∙◌, subst, map, [], is_some}
+use Rattle.std.proofs.Common.{◌≡◌, true, ◌&&◌, refl, sym, ap, ◌∙◌, [], is_some}
 use Rattle.std.proofs.lemmas.Bool.{and_parts}
 use Rattle.access_tries.specs.declared.table.Link.{Link}
-use Rattle.access_tries.specs.declared.edge.Edge.TheVariants.{Root}
 use Rattle.access_tries.specs.Edges.{edge_eq}
 use Rattle.access_tries.specs.Paths.{edge_of}
-use Rattle.access_tries.specs.Table.{links_at, at_path, has_mark}
+use Rattle.access_tries.specs.Table.{links_at, at_path}
 use Rattle.std.specs.List.{list_any}
-use Rattle.entity_asking.specs.Stuck.{tests_of, is_step, MarksSome}
+use Rattle.entity_asking.specs.Stuck.{is_step}
 use Rattle.entity_asking.proofs.DemandSteps.{link_goes_on}
 use Rattle.entity_asking.proofs.StuckSteps.{later_link, none_later, same_edge, step_edge}
 use Rattle.entity_asking.proofs.demand.goes_on.Goals as goal

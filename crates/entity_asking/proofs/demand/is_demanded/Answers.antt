@@ -1,4 +1,4 @@
-use Rattle.std.proofs.Common.{rules, ◌≡◌, true, false, ◌&&◌, refl, sym, ap, ◌∙◌, subst, map, [], is_some}
+use Rattle.std.proofs.Common.{rules, ◌≡◌, true, false, ◌&&◌, refl, sym, ap, ◌∙◌, subst, map}
 use Rattle.std.proofs.lemmas.Bool.{and_parts}
 use Rattle.access_tries.specs.declared.table.Link.{Link}
 use Rattle.access_tries.specs.declared.edge.Edge.TheVariants.{Root}

@@ -1,4 +1,4 @@
-use Rattle.std.proofs.Common.{◌≡◌, inl, inr, sym, ap, ◌∙◌, subst, arith, ◌||◌}
+use Rattle.std.proofs.Common.{◌≡◌, sym, ap, ◌∙◌, subst, arith, ◌||◌}
 use Rattle.std.proofs.lemmas.Result.{on_ok_weaker}
 use Rattle.access_tries.specs.declared.edge.Edge.TheVariants.{Field}
 use Rattle.access_tries.specs.Views.{LeadsNowhere}

@@ -1,8 +1,7 @@
-use Rattle.std.proofs.Common.{inl, inr, subst, sym, ◌∙◌}
+use Rattle.std.proofs.Common.{inl, inr, subst, sym}
 use Rattle.std.specs.Option.{option_copied}
 use Rattle.access_tries.specs.declared.edge.Edge.TheVariants.{AnyTag}
 use Rattle.policy_reads.specs.Restrict.{values_in}
-use Rattle.policy_values.specs.Value.{fields_of}
 use Rattle.entity_asking.specs.Stuck.{tests_of, behind, FieldsStick, SomeSticks, IsStuck}
 use Rattle.entity_asking.proofs.FollowSteps.{tests_behind}
 use Rattle.entity_asking.proofs.StuckSteps.{stuck_entity, none_of_them, nowhere_behind}

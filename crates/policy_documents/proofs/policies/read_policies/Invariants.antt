@@ -5,4 +5,4 @@ use Rattle.policy_documents.proofs.policies.read_policies.Given as goal
 
 -- with the policies so far, what is left gives all
 abbrev pub invariant-loop-index : goal.invariant-loop-index
-invariant-loop-index l = policies_of l.width l.index l.policies (items_view (drop l.index l.items)) ≡ policies_of l.width 0 no_policies (items_view l.items)
+invariant-loop-index l = policies_of l.index l.policies (items_view (drop l.index l.items)) ≡ policies_of 0 no_policies (items_view l.items)

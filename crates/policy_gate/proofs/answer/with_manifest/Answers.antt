@@ -1,5 +1,6 @@
 use Rattle.policy_gate.specs.Reply.{reply_view}
-use Rattle.policy_gate.proofs.Manifests.{more, accepted, refused}
+use Rattle.policy_gate.proofs.Manifests.{accepted, refused}
+use Rattle.policy_gate.proofs.Results.{more}
 use Rattle.policy_gate.proofs.answer.with_manifest.Goals as goal
 
 pub returns-in-Ok : goal.returns-in-Ok

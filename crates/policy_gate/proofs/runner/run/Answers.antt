@@ -1,7 +1,7 @@
-use Rattle.policy_gate.proofs.Runs.{both_for, causes, complete_for, done_for, exact_for, read_for, refused_for, too_long_for, too_long_told, usage_for}
-use Rattle.policy_gate.specs.declared.command.Command.TheVariants.{Check, Level, Request, Manifest, Slice, Decide}
-use Rattle.policy_gate.specs.Headline.{IsSliced, IsDecided}
-use Rattle.policy_gate.proofs.Says.{Laws}
+use Rattle.policy_gate.proofs.Runs.{both_for, causes, complete_for, done_for, exact_for, own_for, read_for, refused_for, too_long_for, too_long_told, usage_for}
+use Rattle.policy_gate.specs.declared.command.Command.TheVariants.{Check, Level, Request, Manifest, Slice, Decide, Sample}
+use Rattle.policy_gate.specs.Headline.{IsSliced, IsDecided, IsSampled}
+use Rattle.sample_documents.specs.Sample.{sample_document}
 use Rattle.policy_gate.proofs.runner.run.Goals as goal
 
 pub returns-clause-cause : goal.returns-clause-cause
@@ -17,36 +17,40 @@ pub returns-clause-too_long : goal.returns-clause-too_long
 returns-clause-too_long g c = too_long_for _ _ _ _ _ _ c.outcome.ensures.runs
 
 pub returns-clause-too_long_told : goal.returns-clause-too_long_told
-returns-clause-too_long_told g c command bytes is told long q =
-    too_long_told bytes _ _ _ _ _ told q _ command c.outcome.ensures.runs is long
+returns-clause-too_long_told g c command bytes is reads told long q =
+    too_long_told bytes _ _ _ _ _ told q _ command c.outcome.ensures.runs is reads long
 
 pub returns-clause-exact : goal.returns-clause-exact
-returns-clause-exact g c command bytes is told short q q' =
-    exact_for bytes _ _ _ _ _ told q _ command c.outcome.ensures.runs is short q'
+returns-clause-exact g c command bytes is work q =
+    exact_for bytes _ _ _ _ _ _ command c.outcome.ensures.runs is work q
 
 pub returns-clause-headline : goal.returns-clause-headline
 returns-clause-headline g c is ends =
-    both_for (record { errors = c.no_errors_where_accepted.ensures; requests = c.request_rules_are_exact.ensures; stores = c.store_rules_are_exact.ensures; sound = c.accepted_are_sound.ensures; errors_at = c.no_errors_where_accepted_at.ensures; levels = c.accepted_levels_are_sound.ensures }) _ _ _ _ _ _ c.outcome.ensures.runs Slice IsSliced (done_for (record { errors = c.no_errors_where_accepted.ensures; requests = c.request_rules_are_exact.ensures; stores = c.store_rules_are_exact.ensures; sound = c.accepted_are_sound.ensures; errors_at = c.no_errors_where_accepted_at.ensures; levels = c.accepted_levels_are_sound.ensures }) _ _ _ _ _ _ c.outcome.ensures.runs Slice is ends)
+    both_for c.laws.ensures _ _ _ _ _ _ c.outcome.ensures.runs IsSliced (done_for c.laws.ensures _ _ _ _ _ _ c.outcome.ensures.runs Slice is ends)
 
 pub returns-clause-checked : goal.returns-clause-checked
-returns-clause-checked g c is ends = done_for (record { errors = c.no_errors_where_accepted.ensures; requests = c.request_rules_are_exact.ensures; stores = c.store_rules_are_exact.ensures; sound = c.accepted_are_sound.ensures; errors_at = c.no_errors_where_accepted_at.ensures; levels = c.accepted_levels_are_sound.ensures }) _ _ _ _ _ _ c.outcome.ensures.runs Check is ends
+returns-clause-checked g c is ends = done_for c.laws.ensures _ _ _ _ _ _ c.outcome.ensures.runs Check is ends
 
 pub returns-clause-levelled : goal.returns-clause-levelled
-returns-clause-levelled g c level is ends = done_for (record { errors = c.no_errors_where_accepted.ensures; requests = c.request_rules_are_exact.ensures; stores = c.store_rules_are_exact.ensures; sound = c.accepted_are_sound.ensures; errors_at = c.no_errors_where_accepted_at.ensures; levels = c.accepted_levels_are_sound.ensures }) _ _ _ _ _ _ c.outcome.ensures.runs (Level level) is ends
+returns-clause-levelled g c level is ends = done_for c.laws.ensures _ _ _ _ _ _ c.outcome.ensures.runs (Level level) is ends
 
 pub returns-clause-conforming : goal.returns-clause-conforming
-returns-clause-conforming g c is ends = done_for (record { errors = c.no_errors_where_accepted.ensures; requests = c.request_rules_are_exact.ensures; stores = c.store_rules_are_exact.ensures; sound = c.accepted_are_sound.ensures; errors_at = c.no_errors_where_accepted_at.ensures; levels = c.accepted_levels_are_sound.ensures }) _ _ _ _ _ _ c.outcome.ensures.runs Request is ends
+returns-clause-conforming g c is ends = done_for c.laws.ensures _ _ _ _ _ _ c.outcome.ensures.runs Request is ends
 
 pub returns-clause-manifested : goal.returns-clause-manifested
-returns-clause-manifested g c is ends = done_for (record { errors = c.no_errors_where_accepted.ensures; requests = c.request_rules_are_exact.ensures; stores = c.store_rules_are_exact.ensures; sound = c.accepted_are_sound.ensures; errors_at = c.no_errors_where_accepted_at.ensures; levels = c.accepted_levels_are_sound.ensures }) _ _ _ _ _ _ c.outcome.ensures.runs Manifest is ends
+returns-clause-manifested g c is ends = done_for c.laws.ensures _ _ _ _ _ _ c.outcome.ensures.runs Manifest is ends
 
 pub returns-clause-decided : goal.returns-clause-decided
 returns-clause-decided g c is ends =
-    both_for (record { errors = c.no_errors_where_accepted.ensures; requests = c.request_rules_are_exact.ensures; stores = c.store_rules_are_exact.ensures; sound = c.accepted_are_sound.ensures; errors_at = c.no_errors_where_accepted_at.ensures; levels = c.accepted_levels_are_sound.ensures }) _ _ _ _ _ _ c.outcome.ensures.runs Decide IsDecided (done_for (record { errors = c.no_errors_where_accepted.ensures; requests = c.request_rules_are_exact.ensures; stores = c.store_rules_are_exact.ensures; sound = c.accepted_are_sound.ensures; errors_at = c.no_errors_where_accepted_at.ensures; levels = c.accepted_levels_are_sound.ensures }) _ _ _ _ _ _ c.outcome.ensures.runs Decide is ends)
+    both_for c.laws.ensures _ _ _ _ _ _ c.outcome.ensures.runs IsDecided (done_for c.laws.ensures _ _ _ _ _ _ c.outcome.ensures.runs Decide is ends)
+
+pub returns-clause-sampled : goal.returns-clause-sampled
+returns-clause-sampled g c seed size is ends =
+    own_for c.laws.ensures _ _ _ _ _ _ c.outcome.ensures.runs (sample_document seed size) (IsSampled size) (done_for c.laws.ensures _ _ _ _ _ _ c.outcome.ensures.runs (Sample seed size) is ends)
 
 pub returns-clause-refused : goal.returns-clause-refused
-returns-clause-refused g c ends = refused_for (record { errors = c.no_errors_where_accepted.ensures; requests = c.request_rules_are_exact.ensures; stores = c.store_rules_are_exact.ensures; sound = c.accepted_are_sound.ensures; errors_at = c.no_errors_where_accepted_at.ensures; levels = c.accepted_levels_are_sound.ensures }) _ _ _ _ _ _ c.outcome.ensures.runs ends
+returns-clause-refused g c ends = refused_for c.laws.ensures _ _ _ _ _ _ c.outcome.ensures.runs ends
 
 pub returns-clause-complete : goal.returns-clause-complete
-returns-clause-complete g c command bytes document is told short q q' of keeps =
-    complete_for (record { errors = c.no_errors_where_accepted.ensures; requests = c.request_rules_are_exact.ensures; stores = c.store_rules_are_exact.ensures; sound = c.accepted_are_sound.ensures; errors_at = c.no_errors_where_accepted_at.ensures; levels = c.accepted_levels_are_sound.ensures }) bytes document _ _ _ _ _ told q _ command c.outcome.ensures.runs is short q' of keeps
+returns-clause-complete g c command bytes document is work q of keeps =
+    complete_for c.laws.ensures bytes document _ _ _ _ _ _ command c.outcome.ensures.runs is work q of keeps

@@ -1,4 +1,4 @@
-use Rattle.std.proofs.Common.{rules, ◌≡◌, ◌∷◌, ◌++◌, true, inl, inr, refl, sym, ap, ◌∙◌, subst}
+use Rattle.std.proofs.Common.{rules, ◌≡◌, ◌++◌, true, inl, inr, refl, sym, subst}
 use Rattle.policy_reads.proofs.Lists.{IsIn}
 use Rattle.std.specs.BTreeSet.{contains}
 use Rattle.entity_asking.specs.Places.{place_cmp}

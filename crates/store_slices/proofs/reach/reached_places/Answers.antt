@@ -1,4 +1,4 @@
-use Rattle.std.proofs.Common.{rules, ◌≡◌, ◌<◌, [], length, inl, inr, sym, subst}
+use Rattle.std.proofs.Common.{rules, ◌≡◌, ◌<◌, length, inl, inr, sym, subst}
 use Rattle.std.proofs.lemmas.List.{nil_from_length}
 use Rattle.policy_reads.proofs.Lists.{IsIn}
 use Rattle.entity_asking.specs.declared.place.Place.{Place}

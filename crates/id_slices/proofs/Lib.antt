@@ -1,4 +1,0 @@
-pub mod Covering
-pub mod Asking
-pub mod Keeping
-pub mod Conforming

@@ -1,4 +1,0 @@
-pub mod Asked
-pub mod Reads
-pub mod Restrict
-pub mod Cover

@@ -1,0 +1,37 @@
+-- Slices by manifests.
+use Rattle.std.specs.Prelude.{◌≡◌, List, []}
+use Rattle.std.specs.Map.{lookup}
+use Rattle.std.specs.BTreeMap.{is_at}
+use Rattle.std.specs.Option.{option_map_or}
+use Rattle.policy_store.specs.declared.request.Request.{Request}
+use Rattle.policy_store.specs.declared.request.RequestType.{RequestType}
+use Rattle.policy_store.specs.Request.{IsWhole, request_type_of, request_type_cmp}
+use Rattle.policy_store.specs.Store.{Store}
+use Rattle.policy_values.specs.Value.{Val}
+use Rattle.access_tries.specs.Table.{Table}
+use Rattle.policy_reads.specs.Paths.{AccessPath, Demand}
+use Rattle.policy_reads.specs.Restrict.{restrict}
+use Rattle.entity_manifest.specs.Manifest.{Manifest}
+use Rattle.entity_loading.specs.declared.error.EntitySliceError.{EntitySliceError}
+use Rattle.entity_loading.specs.declared.error.EntitySliceError.TheVariants.{PartialRequest, IncompatibleEntityManifest, OutOfMemory}
+use Rattle.store_slices.specs.Blocked.{IsBlocked}
+use Rattle.store_slices.specs.Tries.{IsTrieOf}
+
+-- the trie that the manifest has for a type of requests; where it has none, that of nothing
+abbrev pub trie_at : Manifest → RequestType → Table
+trie_at m t = option_map_or (λ z. z) (lookup (is_at (request_type_cmp t)) m) []
+
+abbrev pub trie_for : Manifest → Request → Table
+trie_for m q = option_map_or (trie_at m) (request_type_of q) []
+
+-- no path of the trie is blocked, and the store is the one restricted to what the trie is of
+pub record IsSlice (t : Table) (q : Request) (s sliced : Store) : Type 0 where
+  pub free : (u : Val) → ¬ IsBlocked t q s u
+  pub restricted : (reads : List AccessPath) (demands : List Demand) → IsTrieOf reads demands t → sliced ≡ restrict reads demands q s
+
+-- an entry of the request is not known, or a path of the trie is blocked at the value; or memory ran out
+abbrev pub IsRefused : Table → Request → Store → EntitySliceError → Type 0
+IsRefused t q s (PartialRequest e) = ¬ IsWhole q
+IsRefused t q s (IncompatibleEntityManifest e) = IsWhole q × IsBlocked t q s e.value
+IsRefused t q s OutOfMemory = Unit {0}
+IsRefused t q s e = ⊥

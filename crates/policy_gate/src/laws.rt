@@ -1,0 +1,22 @@
+//! What the answers of commands stand on.
+
+ghost use Rattle.policy_gate.specs.Laws.{Laws};
+
+use conformance::laws::{request_rules_are_exact, store_rules_are_exact};
+use policy_validate::laws::{
+    accepted_levels_are_sound, no_errors_where_accepted, no_errors_where_accepted_at,
+};
+use request_slices::laws::{outcomes_are_allowed, slices_are_enough};
+
+/// The laws on policies, requests, stores and slices.
+pub(crate) fn laws()
+    ensures { Laws }
+{
+    no_errors_where_accepted();
+    no_errors_where_accepted_at();
+    request_rules_are_exact();
+    store_rules_are_exact();
+    accepted_levels_are_sound();
+    slices_are_enough();
+    outcomes_are_allowed();
+}
