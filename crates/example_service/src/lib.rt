@@ -3,7 +3,6 @@
 
 ghost use Rattle.std.specs.Prelude.{IfOk};
 ghost use Rattle.policy_documents.specs.declared.document.Document.{Document};
-ghost use Rattle.policy_gate.specs.declared.command.Command.TheVariants.{Slice};
 ghost use Rattle.policy_gate.specs.Headline.{IsDocumentOf, KeepsRules, IsSliced};
 
 use outside::{MemorySink, SliceSource};
@@ -22,7 +21,7 @@ pub struct Refusal {
 /// The decision on the document's request, with a slice of its store on which every policy does what it does on the whole.
 pub fn slice(alloc: Global, document: &[u8]) -> Result<Result<Vec<u8>, Refusal>, AllocError>
     ensures sliced { IfOk result (λ answer. IfOk answer (λ text.
-        (d : Document) × IsDocumentOf Slice document.now d × KeepsRules d × IsSliced d text.items)) }
+        (d : Document) × IsDocumentOf document.now d × KeepsRules d × IsSliced d text.items)) }
 {
     let mut words = Vec::new(alloc);
     words.push(String::from_str(alloc, "slice")?)?;
