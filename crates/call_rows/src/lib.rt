@@ -1,6 +1,7 @@
 //! Rows for calls that no command makes, each worked out by hand.
 #![tactic(auto)]
 
+mod manifests;
 mod tries;
 
 use entity_merging::merge_values;
