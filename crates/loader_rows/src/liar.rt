@@ -7,7 +7,7 @@ use policy_values::try_clone_fields;
 use std::alloc::{AllocError, Global};
 
 /// How a loader answers.
-#[derive(Clone, Copy, Debug, PartialEq, Eq)]
+#[derive(Clone, Copy, PartialEq)]
 pub(crate) enum Way {
     /// With whole entities, and no ancestors.
     Whole,
@@ -26,7 +26,7 @@ pub(crate) enum Way {
 }
 
 /// A loader that tells no store. It counts each list of answers as one that may stray.
-#[derive(Debug, Drop)]
+#[derive(Drop)]
 pub(crate) struct Liar<'a> {
     /// From where the answers are.
     pub(crate) entities: &'a Entities,

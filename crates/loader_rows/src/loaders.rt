@@ -80,7 +80,7 @@ fn told_error(alloc: Global, error: &EntitySliceError) -> Result<String, Fail> {
 }
 
 // What is read: what a manifest has for the type of a request, or one trie.
-#[derive(Clone, Copy, Debug)]
+#[derive(Clone, Copy)]
 enum Read<'a> {
     Manifest(&'a EntityManifest),
     Trie(&'a RootAccessTrie),
@@ -117,7 +117,7 @@ fn load_on<D: EntityLoader, L: Ledger>(
 }
 
 // Who gives the entities.
-#[derive(Clone, Copy, Debug)]
+#[derive(Clone, Copy)]
 enum Giver {
     // The store, cut to what the policies read, where the document keeps every rule.
     Checked,
@@ -168,7 +168,12 @@ fn along(alloc: Global, manifest: &EntityManifest, document: &Document) -> Resul
 
 fn loaded(alloc: Global, manifest: &EntityManifest, document: &Document) -> Result<String, Fail> {
     let mut slicer = EntitySlicer::new(&document.entities);
-    load(alloc, Read::Manifest(manifest), &document.request, &mut slicer)
+    load(
+        alloc,
+        Read::Manifest(manifest),
+        &document.request,
+        &mut slicer,
+    )
 }
 
 // What the loader that answers in this way gives, and how often it failed, if it did.
@@ -179,7 +184,12 @@ fn lied(
     way: Way,
 ) -> Result<String, Fail> {
     let mut liar = Liar::new(&document.entities, way);
-    let text = load(alloc, Read::Manifest(manifest), &document.request, &mut liar)?;
+    let text = load(
+        alloc,
+        Read::Manifest(manifest),
+        &document.request,
+        &mut liar,
+    )?;
     if liar.faults == 0 {
         return Ok(text);
     }
@@ -254,16 +264,8 @@ fn entities_are_given(rt: HostRuntime) -> Result<(), Fail> {
             Giver::Liar(Way::LastAttrs(3)),
             r#"InconsistentLoader User::"alice" true User::"alice""#,
         ),
-        (
-            MANAGERS,
-            Giver::Liar(Way::FailsAt(1)),
-            "LoaderFault 1",
-        ),
-        (
-            MANAGERS,
-            Giver::Liar(Way::FailsAt(2)),
-            "LoaderFault 1",
-        ),
+        (MANAGERS, Giver::Liar(Way::FailsAt(1)), "LoaderFault 1"),
+        (MANAGERS, Giver::Liar(Way::FailsAt(2)), "LoaderFault 1"),
         (GROUPS, Giver::Honest, IN_GROUP),
         (
             GROUPS,
@@ -276,7 +278,7 @@ fn entities_are_given(rt: HostRuntime) -> Result<(), Fail> {
     ];
     for (document, giver, wanted) in rows {
         let text = given_of(rt.alloc(), document, giver)?;
-        assert_eq!(rt; text.as_str(), wanted, "{giver:?}");
+        assert_eq!(rt; text.as_str(), wanted);
     }
     Ok(())
 }
