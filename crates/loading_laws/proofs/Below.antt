@@ -1,5 +1,5 @@
 -- Types below others: along what is declared of the one, values are of types below those that are declared of the other.
-use Rattle.std.proofs.Common.{◌≡◌, ℕ, Bool, true, false, ◌&&◌, List, Option, Some, None, IsTrue, Result, Ok, Err, cond, refl, sym, ap, ◌∙◌, subst, IfOk, IfSome}
+use Rattle.std.proofs.Common.{◌≡◌, ℕ, Bool, true, false, ◌&&◌, List, Some, IsTrue, Result, Ok, Err, cond, refl, sym, ◌∙◌, subst, IfOk, IfSome}
 use Rattle.policy_names.proofs.Ties.{equal_of}
 use Rattle.policy_names.specs.Uid.{text_cmp}
 use Rattle.std.specs.Ordering.{is_eq}
@@ -9,13 +9,12 @@ use Rattle.schema_types.specs.NameLaws.{exact_texts}
 use Rattle.schema_types.specs.Names.{texts_cmp}
 use Rattle.schema_types.specs.declared.kinds.LubHelp.{LubHelp}
 use Rattle.schema_types.specs.declared.kinds.LubHelp.TheVariants.{AttributeQualifier, RecordWidth, EntityType, None as Other}
-use Rattle.schema_types.specs.declared.kinds.OpenTag.{OpenTag}
 use Rattle.schema_types.specs.declared.kinds.Primitive.{Primitive}
 use Rattle.schema_types.specs.declared.kinds.Primitive.TheVariants.{Bool as BoolType, Long, String}
 use Rattle.schema_types.specs.declared.ty.AttributeType.{AttributeType}
 use Rattle.schema_types.specs.Ty.{Ty, never, true_type, false_type, primitive, any_set, set_of, record_of, any_entity, entity, action, extension, Attrs, no_attrs, attr}
 use Rattle.policy_types.specs.declared.mode.SubtypeMode.TheVariants.{Strict}
-use Rattle.policy_types.specs.Join.{result_map, text_eq, texts_eq, bool_eq, either_open, same_keys, join_bool, join_primitive, join_first, join, join_attrs}
+use Rattle.policy_types.specs.Join.{result_map, text_eq, texts_eq, bool_eq, either_open, same_keys, join_primitive, join_first, join, join_attrs}
 
 -- neither of ids nor of records
 abbrev pub is_plain : Ty → Bool

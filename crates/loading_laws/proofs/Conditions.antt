@@ -1,5 +1,5 @@
 -- Typed conditions ask for ancestors of ids alone.
-use Rattle.std.proofs.Common.{◌≡◌, ◌⊎◌, ℕ, Bool, true, false, ◌&&◌, ◌||◌, List, [], ◌∷◌, ◌++◌, map, Option, Some, None, is_some, IsTrue, refl, sym, ap, ◌∙◌, subst, IfSome, inl, inr}
+use Rattle.std.proofs.Common.{◌≡◌, ◌⊎◌, ℕ, Bool, true, false, ◌&&◌, ◌||◌, List, [], ◌∷◌, ◌++◌, map, Option, Some, None, is_some, IsTrue, refl, sym, ap, subst, IfSome, inl, inr}
 use Rattle.std.specs.Prelude.{if◌then◌else◌, option_map}
 use Rattle.std.specs.Option.{option_and_then, option_map_or}
 use Rattle.std.specs.Result.{result_ok}
@@ -9,28 +9,27 @@ use Rattle.schema_types.specs.declared.kinds.LubHelp.{LubHelp}
 use Rattle.schema_types.specs.declared.kinds.Primitive.TheVariants.{Bool as BoolType, Long, String}
 use Rattle.schema_types.specs.declared.ty.AttributeType.{AttributeType}
 use Rattle.schema_types.specs.Required.{required_attrs}
-use Rattle.schema_types.specs.Ty.{Ty, true_type, false_type, primitive, set_of, record_of}
+use Rattle.schema_types.specs.Ty.{Ty, true_type, false_type, primitive, set_of}
 use Rattle.schema_core.specs.EnvData.{EnvData}
 use Rattle.schema_core.specs.Schema.{SchemaData}
 use Rattle.policy_types.specs.declared.mode.SubtypeMode.TheVariants.{Strict}
 use Rattle.policy_types.specs.Join.{is_entity, join, join_all}
 use Rattle.policy_expressions.specs.declared.kinds.Literal.{Literal}
 use Rattle.policy_expressions.specs.declared.kinds.Literal.TheVariants as literal
-use Rattle.policy_expressions.specs.declared.kinds.UnaryOp.{UnaryOp}
 use Rattle.policy_expressions.specs.declared.kinds.BinaryOp.{BinaryOp}
-use Rattle.policy_expressions.specs.declared.kinds.BinaryOp.TheVariants.{Eq, Less, LessEq, Add, Sub, Mul, In, Contains, ContainsAll, ContainsAny, GetTag, HasTag}
+use Rattle.policy_expressions.specs.declared.kinds.BinaryOp.TheVariants.{In, GetTag}
 use Rattle.policy_expressions.specs.declared.kinds.Var.{Var}
 use Rattle.policy_expressions.specs.Functions.{function_of}
 use Rattle.policy_expressions.specs.Tree.{lit, var, slot, ite, conj, disj, unary, binary, attr, has, like, is_type, call, set, rec, Trees, no_trees, tree, Named, no_named, named, Mark}
 use Rattle.policy_expressions.specs.Plain.{Plain}
 use Rattle.capabilities.specs.Capability.{Capability, has_cap, common}
-use Rattle.policy_typing.specs.Environment.{type_of_literal, type_of_variable, type_of_slot, listed_ids}
+use Rattle.policy_typing.specs.Environment.{type_of_literal, type_of_variable, listed_ids}
 use Rattle.policy_typing.specs.Rules as rule
 use Rattle.policy_typing.specs.Signatures.{bool_type, call_type}
 use Rattle.policy_typing.specs.Typing.{Typed, Typing, typing, at, unreached, attribute_known, tag_known, if_typing, and_caps, and_typing, or_caps, or_typing, binary_caps, has_caps, types_in, trees_in, record_type, named_in, types, types_all, types_named}
-use Rattle.policy_reads.specs.Paths.{AccessPath, Demand, Shape, no_shape, set_shape, record_shape, one_of, FieldShapes, paths, extended, along}
+use Rattle.policy_reads.specs.Paths.{AccessPath, Demand, Shape, paths, extended, along}
 use Rattle.policy_reads.specs.PathTypes.{path_type}
-use Rattle.policy_reads.specs.Reads.{literal_shape, binary_shape, shape_of, shape_of_all, shapes_of_named, pairs, binary_demands, demands, demands_all, demands_named}
+use Rattle.policy_reads.specs.Reads.{binary_shape, shape_of, shapes_of_named, pairs, binary_demands, demands, demands_all, demands_named}
 use Rattle.policy_reads.proofs.Lists.{IsIn}
 use Rattle.loading_laws.specs.Declared.{is_of_ids}
 use Rattle.loading_laws.proofs.Below.{is_plain, Below, below_self, join_above}

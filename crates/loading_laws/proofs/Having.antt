@@ -1,5 +1,5 @@
 -- Values that have the types that a schema has for what paths lead to, where what is required plays no part.
-use Rattle.std.proofs.Common.{◌≡◌, ◌⊎◌, ℕ, Bool, true, false, List, [], ◌∷◌, Option, Some, None, refl, sym, ap, ◌∙◌, subst, inl, inr}
+use Rattle.std.proofs.Common.{◌≡◌, ◌⊎◌, ℕ, Bool, true, false, List, [], ◌∷◌, Option, Some, None, refl, sym, ap, subst, inl, inr}
 use Rattle.std.specs.Prelude.{cond, if◌then◌else◌}
 use Rattle.std.specs.List.{AllByRecursion}
 use Rattle.std.specs.Option.{option_map, option_to_list}
@@ -16,6 +16,7 @@ use Rattle.schema_types.specs.declared.kinds.OpenTag.TheVariants.{ClosedAttribut
 use Rattle.schema_types.specs.declared.ty.AttributeType.{AttributeType}
 use Rattle.schema_types.specs.Ty.{Ty, record_of, entity, Attrs}
 use Rattle.schema_core.specs.EnvData.{EnvData}
+use Rattle.schema_core.specs.Faults.{IsSchema}
 use Rattle.schema_core.specs.Schema.{SchemaData}
 use Rattle.policy_typing.specs.Environment.{declared_attributes, declared_tags}
 use Rattle.policy_reads.specs.Paths.{Root, variable, an_id, Step, along, any_tag, Chain}
@@ -147,7 +148,7 @@ module _ (d : SchemaData) where
         walk_has ns (step_on d o n) t.from w (step_has o v t.from n h t.among) t.gives
 
 -- the store, and the values of roots
-pub store_has : (d : SchemaData) (valid : Rattle.schema_core.specs.Faults.IsSchema d) (s : Store) → AllByRecursion (HasTypes d) s → AllByRecursion (EntityHas d) s
+pub store_has : (d : SchemaData) → IsSchema d → (s : Store) → AllByRecursion (HasTypes d) s → AllByRecursion (EntityHas d) s
 store_has d valid [] h = tt
 store_has d valid (e ∷ es) h = (entity_has d e (entity_fits d valid e h.0) h.0, store_has d valid es h.1)
 

@@ -1,13 +1,16 @@
 -- Loading by computed manifests is refused for want of memory, and for faults alone.
-use Rattle.std.proofs.Common.{◌≡◌, Some, refl}
+use Rattle.std.proofs.Common.{◌≡◌, Option, Some, None, refl}
 use Rattle.outside.specs.Steps.{Rose}
 use Rattle.policy_values.specs.Value.{Val}
+use Rattle.access_tries.specs.Table.{Table}
 use Rattle.entity_loader.specs.State.{LoaderState}
 use Rattle.entity_loading.specs.Causes.{IsRight}
 use Rattle.entity_loading.specs.declared.error.EntitySliceError.{EntitySliceError}
 use Rattle.entity_loading.specs.declared.error.EntitySliceError.TheVariants as error
-use Rattle.loading_laws.specs.Computed.{ComputedManifestsFit, HonestLoadingSucceeds}
-use Rattle.loading_laws.proofs.Conforming.{nothing_sticks}
+use Rattle.loading_laws.specs.Computed.{ComputedManifestsFit, ComputedSlicesFit, HonestLoadingSucceeds}
+use Rattle.loading_laws.specs.Sticking.{SticksAt}
+use Rattle.manifest_loading.specs.Chosen.{trie_in}
+use Rattle.loading_laws.proofs.Conforming.{nothing_sticks, nothing_is_blocked}
 use Rattle.loading_laws.proofs.Manifests.{trie_chosen}
 
 pub manifests_fit : ComputedManifestsFit
@@ -25,5 +28,13 @@ memory_alone P none old new quiet error.LoaderFault h = absurd (quiet h)
 memory_alone P none old new quiet error.OutOfMemory h = refl
 
 pub honest_succeeds : HonestLoadingSucceeds
-honest_succeeds schema valid ps m is q request s store t at old new quiet e h =
-    memory_alone (λ v. Rattle.loading_laws.specs.Sticking.SticksAt t q s v) (manifests_fit schema valid ps m is q request s store t at) old new quiet e h
+honest_succeeds schema valid ps m is q request s store old new quiet e h = by (trie_in m q) refl
+  where
+    by : (o : Option Table) → trie_in m q ≡ o → e ≡ error.OutOfMemory
+    by None i = h.without i
+    by (Some t) i = memory_alone (SticksAt t q s) (manifests_fit schema valid ps m is q request s store t i) old new quiet e (h.right t i)
+
+pub slices_fit : ComputedSlicesFit
+slices_fit schema valid ps m is q request s store t at v =
+    let c = trie_chosen schema valid ps m is q t at in
+    nothing_is_blocked schema valid c.linked q request c.of s store t c.declared v

@@ -1,15 +1,13 @@
 -- The tries of a computed manifest, and the environments that they are of.
-use Rattle.std.proofs.Common.{◌≡◌, ◌⊎◌, ℕ, Bool, true, false, ◌&&◌, List, [], ◌∷◌, ◌++◌, map, cond, Option, Some, None, IfSome, IsSomeAnd, IsTrue, refl, sym, ap, ◌∙◌, subst, inl, inr}
+use Rattle.std.proofs.Common.{◌≡◌, ◌⊎◌, Bool, true, false, List, [], ◌∷◌, map, cond, Option, Some, None, IfSome, IsSomeAnd, refl, sym, ap, ◌∙◌, subst, inl, inr}
 use Rattle.std.specs.Prelude.{filter, if◌then◌else◌, option_map}
 use Rattle.std.specs.BTreeMap.{is_at}
-use Rattle.std.specs.List.{AllByRecursion, AllZip, filter_map, cons_option, find, flat_map}
+use Rattle.std.specs.List.{AllByRecursion, AllZip, cons_option, find}
 use Rattle.std.specs.List.Sorted.{IsStrictlySortedBy}
 use Rattle.std.specs.Map.{lookup}
 use Rattle.std.specs.Option.{option_and_then}
 use Rattle.std.specs.Cmp.{tied_itself}
-use Rattle.std.specs.Ordering.{is_eq}
 use Rattle.std.specs.declared.cmp.Ordering.TheVariants.{Less}
-use Rattle.std.proofs.lemmas.Bool.{and_parts}
 use Rattle.std.proofs.lemmas.Cmp.{eq_by_cmp_equiv}
 use Rattle.std.proofs.lemmas.Map.Keys.{sorted_head, sorted_tail}
 use Rattle.policy_names.proofs.Ties.{equal_of}
@@ -17,19 +15,16 @@ use Rattle.policy_names.specs.declared.entity_uid.EntityUID.{EntityUID}
 use Rattle.policy_names.specs.Uid.{uid_cmp, uid_cmp_total}
 use Rattle.policy_store.specs.declared.request.Request.{Request}
 use Rattle.policy_store.specs.declared.request.RequestType.{RequestType}
-use Rattle.policy_store.specs.Request.{known, principal_of, action_of, resource_of, type_of_ids, request_type_of, request_type_cmp, exact_request_type}
-use Rattle.policy_store.specs.Store.{Store}
-use Rattle.access_tries.specs.Paths.{AccessPath, asks, IsLeast}
+use Rattle.policy_store.specs.Request.{known, type_of_ids, request_type_of, request_type_cmp, exact_request_type}
+use Rattle.access_tries.specs.Paths.{IsLeast}
 use Rattle.access_tries.specs.Table.{Table}
-use Rattle.schema_core.specs.EnvData.{EnvData, LinkedEnvironment, declared_action, undeclared_action, request_type_in, unlinked, unlinked_of, unlinked_envs}
+use Rattle.schema_core.specs.EnvData.{EnvData, LinkedEnvironment, declared_action, request_type_in, unlinked, unlinked_of, unlinked_envs}
 use Rattle.schema_core.specs.Environments.{Environment, environment, environments_at, environments_of}
 use Rattle.schema_core.specs.Faults.{IsSchema}
 use Rattle.schema_core.specs.Schema.{ActionData, SchemaData, is_action_named, action_at}
 use Rattle.policy_set.specs.Data.{PolicyData}
 use Rattle.policy_typing.specs.Conforms.{IsOf}
-use Rattle.policy_typing.specs.Typing.{Typing, Typed, types}
-use Rattle.policy_reads.specs.Paths.{Demand}
-use Rattle.policy_reads.specs.PathTypes.{path_type, is_declared_path}
+use Rattle.policy_typing.specs.Typing.{Typing, types}
 use Rattle.policy_reads.specs.Reads.{demands, demands_of, reads_of, are_declared, declared_reads, declared_demands}
 use Rattle.policy_reads.proofs.DeclaredPaths.{declared_read}
 use Rattle.policy_reads.proofs.Lists.{IsIn, flat_map_out}
@@ -38,7 +33,7 @@ use Rattle.store_slices.proofs.LeastSteps.{declared_trie}
 use Rattle.entity_manifest.specs.Manifest.{Manifest}
 use Rattle.manifest_computation.specs.Computed.{IsEntryOf, IsManifestOf}
 use Rattle.manifest_loading.specs.Chosen.{trie_in}
-use Rattle.loading_laws.specs.Declared.{is_of_ids, IsDeclaredTrie}
+use Rattle.loading_laws.specs.Declared.{IsDeclaredTrie}
 use Rattle.loading_laws.specs.Computed.{ComputedTriesAreDeclared}
 use Rattle.loading_laws.proofs.Conditions.{Asks, AsksIds, asks_both, none_asked, types_fine}
 

@@ -1,19 +1,19 @@
 -- What paths in the shape of an expression lead to is of types below that of the expression.
-use Rattle.std.proofs.Common.{◌≡◌, ◌⊎◌, ℕ, Bool, true, false, ◌&&◌, List, [], ◌∷◌, ◌++◌, Option, Some, None, IsTrue, cond, refl, sym, ap, ◌∙◌, subst, IfSome, inl, inr}
+use Rattle.std.proofs.Common.{◌≡◌, ◌⊎◌, ℕ, Bool, true, false, List, [], ◌∷◌, ◌++◌, Option, Some, None, IsTrue, cond, refl, sym, ◌∙◌, subst, IfSome, inl, inr}
 use Rattle.std.specs.Option.{option_map}
 use Rattle.std.specs.Ordering.{is_eq}
 use Rattle.policy_names.specs.Uid.{text_cmp}
 use Rattle.schema_types.specs.Attrs.{attr_at}
 use Rattle.schema_types.specs.declared.ty.AttributeType.{AttributeType}
-use Rattle.schema_types.specs.Ty.{Ty, never, true_type, false_type, primitive, any_set, set_of, record_of, any_entity, entity, action, extension, Attrs, no_attrs, attr}
+use Rattle.schema_types.specs.Ty.{Ty, never, record_of, any_entity, entity, action, Attrs, no_attrs, attr}
 use Rattle.schema_core.specs.EnvData.{EnvData}
 use Rattle.schema_core.specs.Schema.{SchemaData}
 use Rattle.policy_types.specs.Join.{is_entity}
 use Rattle.policy_typing.specs.Rules.{tag_type, attribute_of}
 use Rattle.policy_reads.specs.Paths.{Step, along, any_tag, AccessPath, beyond, Shape, no_shape, at_path, set_shape, record_shape, one_of, FieldShapes, no_field_shapes, field_shape, shape_at, paths, extended}
-use Rattle.policy_reads.specs.PathTypes.{step_on, types_along, root_type, path_type}
+use Rattle.policy_reads.specs.PathTypes.{step_on, root_type, path_type}
 use Rattle.policy_reads.proofs.Fitting.{types_along-append}
-use Rattle.policy_reads.proofs.Lists.{IsIn, same_text}
+use Rattle.policy_reads.proofs.Lists.{IsIn}
 use Rattle.loading_laws.specs.Declared.{is_of_ids}
 use Rattle.loading_laws.proofs.Below.{is_plain, Below, AttrsBelow, below_self, below_trans, below_plain, attr_below}
 

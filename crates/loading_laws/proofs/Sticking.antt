@@ -10,20 +10,19 @@ use Rattle.policy_store.specs.Store.{StoredEntity, Store, entity_at}
 use Rattle.policy_types.specs.Attributes.{or_none}
 use Rattle.policy_types.specs.Member.{Member}
 use Rattle.schema_types.specs.Attrs.{attr_at}
-use Rattle.schema_types.specs.declared.kinds.Primitive.TheVariants.{Bool as BoolType, Long, String}
-use Rattle.schema_types.specs.declared.ty.AttributeType.{AttributeType}
-use Rattle.schema_types.specs.Ty.{Ty, never, true_type, false_type, primitive, any_set, set_of, record_of, any_entity, entity, action, extension, Attrs}
+use Rattle.schema_types.specs.declared.kinds.OpenTag.{OpenTag}
+use Rattle.schema_types.specs.Ty.{Ty, true_type, false_type, primitive, any_set, set_of, record_of, entity, extension, Attrs}
 use Rattle.schema_core.specs.EnvData.{EnvData}
 use Rattle.schema_core.specs.Schema.{SchemaData}
 use Rattle.access_tries.specs.declared.edge.Edge.TheVariants.{Field, AnyTag, Root}
 use Rattle.access_tries.specs.declared.edge.EntityRoot.{EntityRoot}
 use Rattle.access_tries.specs.Edges.{Address}
-use Rattle.access_tries.specs.Paths.{AccessPath, edge_of, address_of, demand_of, has_path, asks}
+use Rattle.access_tries.specs.Paths.{AccessPath, edge_of, address_of}
 use Rattle.access_tries.specs.Table.{Table, leads, is_marked}
 use Rattle.access_tries.specs.Views.{whole}
 use Rattle.policy_typing.specs.Environment.{declared_attributes, declared_tags}
 use Rattle.policy_reads.specs.Paths.{Step, along, any_tag, beyond}
-use Rattle.policy_reads.specs.PathTypes.{type_along, step_on, types_along, is_declared, root_type, path_type, is_declared_path}
+use Rattle.policy_reads.specs.PathTypes.{type_along, step_on, types_along, is_declared, root_type}
 use Rattle.policy_reads.specs.Restrict.{Keep, cut_entity, root_value, values_in, reach}
 use Rattle.policy_reads.specs.Cover.{IsOf}
 use Rattle.policy_reads.proofs.Cuts.{uid_at, all_at}
@@ -34,7 +33,9 @@ use Rattle.entity_asking.specs.Stuck.{Tests, tests_of, behind, GoesOn, Demands, 
 use Rattle.entity_asking.specs.Wants.{Test}
 use Rattle.entity_loading.specs.Reached.{IsReached}
 use Rattle.entity_loading.specs.Right.{IsStuck}
+use Rattle.store_slices.specs.Blocked.{IsBlockedInStore}
 use Rattle.loading_laws.specs.Declared.{is_of_ids, IsDeclaredTrie}
+use Rattle.loading_laws.proofs.Below.{is_plain}
 use Rattle.loading_laws.proofs.Having.{Has, HaveAll, HaveOne, EntityHas, have_cut, one_cut, walk_has}
 
 -- ---- a value that is neither an id nor a record
@@ -44,16 +45,8 @@ IsPlainValue (id u) = ⊥
 IsPlainValue (rec fs) = ⊥
 IsPlainValue v = Unit {0}
 
--- such types have such values alone
-abbrev is_plain_type : Ty → Bool
-is_plain_type (record_of xs o) = false
-is_plain_type any_entity = false
-is_plain_type (entity ns) = false
-is_plain_type (action n xs) = false
-is_plain_type never = false
-is_plain_type t = true
-
-plain_type : (t : Ty) (v : Val) → IsPlainValue v → Member t v → is_plain_type t ≡ true
+-- its type has such values alone
+plain_type : (t : Ty) (v : Val) → IsPlainValue v → Member t v → is_plain t ≡ true
 plain_type t (id u) p m = absurd p
 plain_type t (rec fs) p m = absurd p
 plain_type true_type v p m = refl
@@ -64,7 +57,7 @@ plain_type (set_of t) v p m = refl
 plain_type (extension n) v p m = refl
 plain_type t v p m = absurd m
 
-plain_ends : (d : SchemaData) (t : Ty) (n : Step) → is_plain_type t ≡ true → is_some (type_along d t n) ≡ true → ⊥
+plain_ends : (d : SchemaData) (t : Ty) (n : Step) → is_plain t ≡ true → is_some (type_along d t n) ≡ true → ⊥
 plain_ends d true_type (along n) e h = cc
 plain_ends d true_type any_tag e h = cc
 plain_ends d false_type (along n) e h = cc
@@ -79,7 +72,7 @@ plain_ends d (extension m) (along n) e h = cc
 plain_ends d (extension m) any_tag e h = cc
 plain_ends d t n e h = cc
 
-plain_no_ids : (t : Ty) → is_plain_type t ≡ true → is_of_ids t ≡ true → ⊥
+plain_no_ids : (t : Ty) → is_plain t ≡ true → is_of_ids t ≡ true → ⊥
 plain_no_ids true_type e h = cc
 plain_no_ids false_type e h = cc
 plain_no_ids (primitive q) e h = cc
@@ -105,7 +98,7 @@ module _ (d : SchemaData) where
   plain_sticks (Some w) v t p m f (inl (n, h)) = plain_ends d w n (plain_type w v p m) (and_parts (is_some (type_along d w n)) true (f.leads (n ∷ []) h)).0
   plain_sticks (Some w) v t p m f (inr (r, ns, h)) = plain_no_ids w (plain_type w v p m) (f.marks [] r ns h)
 
-  record_demands : (xs : Attrs) (p : _) (t : Tests) → TestsFit (Some (record_of xs p)) t → Demands t → ⊥
+  record_demands : (xs : Attrs) (p : OpenTag) (t : Tests) → TestsFit (Some (record_of xs p)) t → Demands t → ⊥
   record_demands xs p t f (r, ns, h) = let no : false ≡ true = f.marks [] r ns h in cc
 
   mutual
@@ -143,6 +136,13 @@ module _ (d : SchemaData) where
   entity_never e k t u h f (inr s) =
       never_tags (declared_tags d e.uid.entity_type) (cut_entity k e).tags (behind AnyTag t) u
       (one_cut d (declared_tags d e.uid.entity_type) e.tags (k.tags e.uid) h.1) (behind_fits (Some (entity (e.uid.entity_type ∷ []))) any_tag t f) s
+
+  -- in a whole entity
+  pub whole_never : (e : StoredEntity) (t : Tests) (u : Val) → EntityHas d e → TestsFit (Some (entity (e.uid.entity_type ∷ []))) t → EntitySticks e t u → ⊥
+  whole_never e t u h f (inl s) =
+      never_fields (Some (entity (e.uid.entity_type ∷ []))) (or_none (declared_attributes d e.uid.entity_type)) (λ n. refl) e.attrs t u h.0 f s
+  whole_never e t u h f (inr s) =
+      never_tags (declared_tags d e.uid.entity_type) e.tags (behind AnyTag t) u h.1 (behind_fits (Some (entity (e.uid.entity_type ∷ []))) any_tag t f) s
 
 -- ---- tests below paths
 
@@ -197,7 +197,16 @@ module _ (d : SchemaData) (g : EnvData) (ns : Table) (trie : IsDeclaredTrie d g 
           id_marked r.path x r.reaches ms (path_to_ids r.path ms k ls r.has);
     }
 
+    stored_tests : (x : EntityUID) (e : StoredEntity) → entity_at s x ≡ Some e → (below : Bool → Test) → ((b : Bool) (a : Address) → below b a ≡ true → IsReached b ns q s x a) →
+        TestsFit d (Some (entity (e.uid.entity_type ∷ []))) (record { leads = below false; marks = below true })
+    stored_tests x e i below reached = subst (λ y. TestsFit d (Some (entity (y.entity_type ∷ []))) (record { leads = below false; marks = below true })) (sym (uid_at s x e i)) (reached_tests x below reached)
+
     pub none_stuck : (u : Val) → IsStuck ns q s u → ⊥
     none_stuck u k =
         entity_never d k.stored k.keep (record { leads = k.below false; marks = k.below true }) u (all_at (EntityHas d) s k.id k.stored all k.at)
-        (subst (λ y. TestsFit d (Some (entity (y.entity_type ∷ []))) (record { leads = k.below false; marks = k.below true })) (sym (uid_at s k.id k.stored k.at)) (reached_tests k.id k.below k.reached)) k.sticks
+        (stored_tests k.id k.stored k.at k.below k.reached) k.sticks
+
+    pub none_blocked : (u : Val) → IsBlockedInStore ns q s u → ⊥
+    none_blocked u k =
+        whole_never d k.stored (record { leads = k.below false; marks = k.below true }) u (all_at (EntityHas d) s k.id k.stored all k.at)
+        (stored_tests k.id k.stored k.at k.below (λ b a h. let r = k.reached b a h in record { path = r.path; reaches = r.reached; has = r.passes })) k.sticks

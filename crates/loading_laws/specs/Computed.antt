@@ -1,5 +1,5 @@
 -- Loading by computed manifests.
-use Rattle.std.specs.Prelude.{◌≡◌, List, Some}
+use Rattle.std.specs.Prelude.{◌≡◌, List, Some, None}
 use Rattle.outside.specs.Steps.{Rose}
 use Rattle.policy_store.specs.declared.request.Request.{Request}
 use Rattle.policy_store.specs.Store.{Store}
@@ -17,6 +17,7 @@ use Rattle.entity_loader.specs.State.{LoaderState}
 use Rattle.entity_loading.specs.Causes.{IsRight}
 use Rattle.entity_loading.specs.declared.error.EntitySliceError.{EntitySliceError}
 use Rattle.entity_loading.specs.declared.error.EntitySliceError.TheVariants.{OutOfMemory}
+use Rattle.store_slices.specs.Blocked.{IsBlocked}
 use Rattle.entity_manifest.specs.Manifest.{Manifest}
 use Rattle.manifest_computation.specs.Computed.{IsManifestOf}
 use Rattle.manifest_loading.specs.Chosen.{trie_in}
@@ -35,9 +36,20 @@ ComputedManifestsFit =
     (schema : SchemaData) → IsSchema schema → (ps : List PolicyData) (m : Manifest) → IsManifestOf schema ps m →
     (q : Request) → RequestConforms schema q → (s : Store) → StoreConforms schema s → (t : Table) → trie_in m q ≡ Some t → (v : Val) → ¬ SticksAt t q s v
 
+-- a refusal as loading by the manifest promises it of an honest loader of the store
+pub record IsRightRefusal (m : Manifest) (q : Request) (s : Store) (old new : LoaderState) (e : EntitySliceError) : Type 0 where
+  pub without : trie_in m q ≡ None → e ≡ OutOfMemory
+  pub right : (t : Table) → trie_in m q ≡ Some t → IsRight (SticksAt t q s) old new e
+
 -- there an honest loader whose count of faults did not rise is refused for want of memory alone
 abbrev pub HonestLoadingSucceeds : Type 0
 HonestLoadingSucceeds =
     (schema : SchemaData) → IsSchema schema → (ps : List PolicyData) (m : Manifest) → IsManifestOf schema ps m →
-    (q : Request) → RequestConforms schema q → (s : Store) → StoreConforms schema s → (t : Table) → trie_in m q ≡ Some t →
-    (old new : LoaderState) → ¬ Rose old.faults new.faults → (e : EntitySliceError) → IsRight (SticksAt t q s) old new e → e ≡ OutOfMemory
+    (q : Request) → RequestConforms schema q → (s : Store) → StoreConforms schema s →
+    (old new : LoaderState) → ¬ Rose old.faults new.faults → (e : EntitySliceError) → IsRightRefusal m q s old new e → e ≡ OutOfMemory
+
+-- there no path of the trie is blocked in the store, so slicing along it does not refuse the trie
+abbrev pub ComputedSlicesFit : Type 0
+ComputedSlicesFit =
+    (schema : SchemaData) → IsSchema schema → (ps : List PolicyData) (m : Manifest) → IsManifestOf schema ps m →
+    (q : Request) → RequestConforms schema q → (s : Store) → StoreConforms schema s → (t : Table) → trie_in m q ≡ Some t → (v : Val) → ¬ IsBlocked t q s v

@@ -10,6 +10,7 @@ use Rattle.schema_core.specs.Schema.{SchemaData}
 use Rattle.policy_typing.specs.Conforms.{RequestConforms, StoreConforms, IsOf}
 use Rattle.entity_asking.specs.Begun.{SomeRootSticks}
 use Rattle.entity_loading.specs.Right.{IsStuck}
+use Rattle.store_slices.specs.Blocked.{IsBlocked}
 use Rattle.loading_laws.specs.Declared.{IsDeclaredTrie}
 
 -- a path of the trie cannot go on from the value, which stands in a root or in an entity that paths reach
@@ -21,3 +22,9 @@ abbrev pub NothingSticks : Type 0
 NothingSticks =
     (schema : SchemaData) → IsSchema schema → (env : LinkedEnvironment) (q : Request) → RequestConforms schema q → IsOf schema q env →
     (s : Store) → StoreConforms schema s → (t : Table) → IsDeclaredTrie schema (declared_action env) t → (v : Val) → ¬ SticksAt t q s v
+
+-- and no path of it is blocked in the store
+abbrev pub NothingIsBlocked : Type 0
+NothingIsBlocked =
+    (schema : SchemaData) → IsSchema schema → (env : LinkedEnvironment) (q : Request) → RequestConforms schema q → IsOf schema q env →
+    (s : Store) → StoreConforms schema s → (t : Table) → IsDeclaredTrie schema (declared_action env) t → (v : Val) → ¬ IsBlocked t q s v
