@@ -1,5 +1,5 @@
 -- Capabilities: what is known of expressions, once a condition is true.
-use Rattle.std.specs.Prelude.{◌≡◌, ℕ, Bool, ◌&&◌, ◌⊎◌, List, [], ◌∷◌, ◌++◌, refl, fold}
+use Rattle.std.specs.Prelude.{◌≡◌, ℕ, Bool, true, false, ◌&&◌, ◌⊎◌, List, [], ◌∷◌, ◌++◌, refl, fold}
 use Rattle.std.proofs.Common.{inl, inr}
 use Rattle.std.specs.List.{list_any, list_all, filter, flat_map}
 use Rattle.std.specs.Coded.{Coded, coded_ℕ, coded_list, coded×, coded⊎, code_by}
@@ -76,6 +76,11 @@ has_cap cs k = list_any (is_alike k) cs
 -- those on the left that are known on the right
 abbrev pub common : List Capability → List Capability → List Capability
 common cs ds = filter (has_cap ds) cs
+
+-- nothing is known
+abbrev pub is_nothing : List Capability → Bool
+is_nothing [] = true
+is_nothing (c ∷ cs) = false
 
 -- the capabilities of several lists, one after another
 abbrev pub together : List (List Capability) → List Capability

@@ -1,7 +1,7 @@
 //! What is known of all expressions.
 
 ghost use Rattle.std.specs.Prelude.{◌≡◌, ◌↔◌, ◌⊎◌, ◌++◌, ◌∷◌, [], IfOk, IsTrue};
-ghost use Rattle.capabilities.specs.Capability.{Capability as Known, IsKnown, has_cap, common, is_covered, same_known, together};
+ghost use Rattle.capabilities.specs.Capability.{Capability as Known, IsKnown, has_cap, common, is_covered, is_nothing, same_known, together};
 
 use crate::Capability;
 use crate::capability::are_alike;
@@ -46,6 +46,13 @@ impl<'a> CapabilitySet<'a> {
         items.push(e)?;
         let set = set_of(alloc, items)?;
         Ok(set)
+    }
+
+    /// Whether nothing is known.
+    pub fn is_empty(&self) -> bool
+        ensures { result ≡ is_nothing self.now }
+    {
+        hold_none(&self.parts)
     }
 
     /// Whether the capability is known, that is, whether an equal one is there.
@@ -120,6 +127,27 @@ fn set_of<'a>(alloc: Global, items: Vec<Capability<'a>>) -> Result<CapabilitySet
     let mut parts = Vec::new(alloc);
     parts.push(part)?;
     Ok(CapabilitySet { parts })
+}
+
+#[tactic(auto, using(crate::proofs::PartSteps::none_more))]
+fn hold_none(parts: &Vec<Part<'_>>) -> bool
+    ensures { result ≡ is_nothing (together parts.now.items) }
+{
+    for part in parts {
+        if !holds_none(part.items()) {
+            return false;
+        }
+    }
+    true
+}
+
+fn holds_none(items: &[Capability<'_>]) -> bool
+    ensures { result ≡ is_nothing items.now }
+{
+    match items {
+        [] => true,
+        [_, ..] => false,
+    }
 }
 
 #[tactic(auto, using(crate::proofs::PartSteps::has_more))]

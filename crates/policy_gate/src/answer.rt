@@ -51,16 +51,19 @@ pub(crate) fn reply(alloc: Global, command: Command, bytes: &[u8]) -> Result<Rep
     ensures { IfOk result (λ r. IsAnswer command bytes.now (reply_view r)) }
 {
     match parse_json(alloc, bytes)? {
-        Some(value) => reply_to_value(alloc, command, &value),
+        Some(value) => reply_to_value(alloc, command, value),
         None => reply_with(alloc, Status::Document, NO_JSON),
     }
 }
 
 // The reply to a JSON value: the place of its first fault, or what is due for the document that it is.
-fn reply_to_value(alloc: Global, command: Command, value: &Value) -> Result<Reply, AllocError>
-    ensures { IfOk result (λ r. IsAnswerFor command (view value.now) (reply_view r)) }
+fn reply_to_value(alloc: Global, command: Command, value: Value) -> Result<Reply, AllocError>
+    ensures { IfOk result (λ r. IsAnswerFor command (view value) (reply_view r)) }
 {
-    match read_document(alloc, value) {
+    let read = read_document(alloc, &value);
+    // The value takes as much memory as the document: it is let go of before the reply is made.
+    drop(value);
+    match read {
         Ok(document) => {
             is_well_made(&document);
             let reply = reply_to(alloc, command, &document);

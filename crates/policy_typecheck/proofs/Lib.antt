@@ -1,4 +1,5 @@
 pub mod AllChecks
 pub mod Asks
 pub mod Lists
+pub mod Nothing
 pub mod WalkSteps

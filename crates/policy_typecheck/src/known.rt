@@ -10,7 +10,8 @@ use policy_expressions::{BinaryOp, Expr};
 use policy_names::Text;
 use std::alloc::AllocError;
 
-// Whether the attribute is known to be there.
+// Whether the attribute is known to be there. Mostly nothing is known at all, and then no capability is made.
+#[tactic(auto, using(crate::proofs::Nothing::has_none))]
 pub(crate) fn knows_attribute(
     caps: &CapabilitySet<'_>,
     x: &Expr<()>,
@@ -18,6 +19,9 @@ pub(crate) fn knows_attribute(
 ) -> Result<bool, AllocError>
     ensures { IfOk result (λ known. known ≡ has_cap caps.now (attribute_known x.now n.now)) }
 {
+    if caps.is_empty() {
+        return Ok(false);
+    }
     let k = Capability::new_attribute(x, n.try_clone()?);
     let known = caps.contains(&k);
     drop(k);

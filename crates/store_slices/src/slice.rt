@@ -30,5 +30,6 @@ pub fn restricted_store(
     let numbers = numbers_of(alloc, &places)?;
     let kept = parts_of(alloc, nodes, &numbers, entities)?;
     let named = named_by_nodes(alloc, request, nodes, &kept)?;
+    drop(kept);
     slice_of(alloc, nodes, &numbers, &named, entities)
 }
