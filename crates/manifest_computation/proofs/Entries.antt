@@ -1,5 +1,5 @@
 -- Steps of the walk through environments.
-use Rattle.std.proofs.Common.{◌≡◌, ℕ, suc, ◌+◌, ◌<◌, arith, List, [], ◌∷◌, ◌++◌, map, take, drop, length, get_or, Option, Some, None, IsSome, IfSome, refl, sym, ap, ◌∙◌, subst}
+use Rattle.std.proofs.Common.{◌≡◌, ℕ, suc, ◌+◌, ◌<◌, arith, List, [], ◌∷◌, ◌++◌, map, take, drop, length, get_or, Option, Some, None, IsSome, IfSome, Result, Ok, Err, IfOk, refl, sym, ap, ◌∙◌, subst}
 use Rattle.std.specs.BTreeMap.{insert_entry}
 use Rattle.std.specs.Cmp.{IsTotalOrder, on_total, then_total}
 use Rattle.std.specs.List.{AllByRecursion, AllZip}
@@ -110,6 +110,15 @@ all_left schema ps [] [] h = tt
 all_left schema ps [] (e ∷ m) h = absurd h
 all_left schema ps (env ∷ envs) [] h = absurd h
 all_left schema ps (env ∷ envs) (e ∷ m) h = (h.0.1, all_left schema ps envs m h.1)
+
+pub no_length : {X : Type 0} (xs : List X) → length xs ≡ 0 → xs ≡ []
+no_length [] h = refl
+no_length (x ∷ xs) h = absurd (omega (arith, h))
+
+pub each_some : {X E : Type 0} (P Q : X → Type 0) → ((x : X) → P x → Q x) → (r : Result (Option X) E) → IfOk r (λ o. IfSome o P) → IfOk r (λ o. IfSome o Q)
+each_some P Q f (Err e) h = tt
+each_some P Q f (Ok None) h = tt
+each_some P Q f (Ok (Some x)) h = f x h
 
 -- where there are no policies, nothing is left out
 pub nothing_left : (schema : SchemaData) (ps : List PolicyData) (envs : List EnvData) → ps ≡ [] → AllByRecursion (LeavesAll schema ps) envs

@@ -57,7 +57,7 @@ fn add_trie_of<'a>(
 ) -> Result<(), AllocError>
     requires declared { IsSome (request_type_in (env_data_of env.now)) }
     requires next { IfSome (request_type_in (env_data_of env.now)) (λ q. IsBehind q (keys tries.old)) }
-    ensures { OnOk result ((e : RequestType × Table) × ((tries.new.entries ≡ tries.old.entries ++ e ∷ []) × IsEntryOf schema.now (env_data_of env.now) conditions.entry.items e)) }
+    ensures { OnOk result ((e : RequestType × Table) × ((tries.new.entries ≡ tries.old.entries ++ e ∷ []) × IsEntryOf schema.now (env_data_of env.now) conditions.items e)) }
 {
     let trie = conditions_trie(alloc, schema, env, &conditions)?;
     drop(conditions);

@@ -1,5 +1,5 @@
 -- Which conditions checks leave, and what typing says of them.
-use Rattle.std.proofs.Common.{◌≡◌, ◌≤◌, ℕ, suc, Bool, true, ◌&&◌, List, [], ◌∷◌, length, map, Option, Some, None, is_some, IsTrue, IsSomeAnd, refl, sym, ap, ◌∙◌, arith, if◌then◌else◌}
+use Rattle.std.proofs.Common.{◌≡◌, ◌≤◌, suc, true, ◌&&◌, List, [], ◌∷◌, length, map, Option, Some, None, option_map, is_some, IsTrue, IsSomeAnd, refl, ap, ◌∙◌, arith, if◌then◌else◌}
 use Rattle.std.proofs.lemmas.Bool.{le-ltb}
 use Rattle.std.specs.List.{AllByRecursion, filter_map, cons_option, list_all}
 use Rattle.findings.specs.Finding.{Finding}
@@ -17,8 +17,8 @@ use Rattle.typing_findings.specs.Walked.{findings_of}
 use Rattle.policy_typecheck.specs.Policies.{passes}
 use Rattle.policy_links.specs.Accepted.{IsTyped, IsTypedIn}
 use Rattle.policy_validate.proofs.Empty.{all_more, all_both}
-use Rattle.typed_conditions.specs.Found.{condition_in}
-use Rattle.typed_conditions.proofs.Checks.{IsReady}
+use Rattle.typed_conditions.specs.Found.{condition_in, found_conditions}
+use Rattle.typed_conditions.specs.Typed.{typed_conditions}
 use Rattle.policy_acceptance.specs.Laws.{LeavesAll}
 
 -- a list of which nothing is left out
@@ -65,6 +65,10 @@ passes_typed : (o : Option Typing) (fs : List Finding) → IsSomeAnd o (λ x. Is
 passes_typed None fs h = absurd h
 passes_typed (Some x) fs h = passes_boolean x.type x.tree fs h
 
+some_typed : (o : Option Typing) → IsSomeAnd o (λ x. IsTrue (is_boolean x.type)) → is_some (option_map (λ a. a.tree) o) ≡ true
+some_typed None h = absurd h
+some_typed (Some x) h = refl
+
 -- what is typed, and not too deep, passes
 pub typed_passes : CheckIsExact → (schema : SchemaData) (e : Plain) → depth_of e ≤ 200 → (env : EnvData) → IsTyped schema e env → passes (checked schema env e) ≡ true
 typed_passes exact schema e depth env typed =
@@ -86,12 +90,12 @@ module _ (schema : SchemaData) (ps : List PolicyData) where
       all_both (λ p. is_some (condition_in (checked schema env p.condition)) ≡ true) (PassesIn envs) (PassesIn (env ∷ envs)) (λ p a b. λ i. (passing (checked schema env p.condition) ∙ a) i && b i) ps
       (each_left (λ p. condition_in (checked schema env p.condition)) ps h.0) (each_passes envs h.1)
 
-  pub all_leave : CheckIsExact → ((env : EnvData) → AllByRecursion (λ p. IsTyped schema p.condition env) ps → AllByRecursion (IsReady schema env) ps) →
+  pub all_leave : ((env : EnvData) → AllByRecursion (λ p. IsTyped schema p.condition env) ps → found_conditions schema env ps ≡ typed_conditions schema env ps) →
       (envs : List EnvData) → AllByRecursion (λ p. IsTypedIn schema p.condition envs) ps → AllByRecursion (LeavesAll schema ps) envs
-  all_leave exact ready [] typed = tt
-  all_leave exact ready (env ∷ envs) typed = (
-    all_left (λ p. condition_in (checked schema env p.condition)) ps
-    (all_more (IsReady schema env) (λ p. is_some (condition_in (checked schema env p.condition)) ≡ true) (λ p r. sym (passing (checked schema env p.condition)) ∙ typed_passes exact schema p.condition r.0 env r.1) ps
-    (ready env (all_more (λ p. IsTypedIn schema p.condition (env ∷ envs)) (λ p. IsTyped schema p.condition env) (λ p t. t.0) ps typed))),
-    all_leave exact ready envs (all_more (λ p. IsTypedIn schema p.condition (env ∷ envs)) (λ p. IsTypedIn schema p.condition envs) (λ p t. t.1) ps typed),
-  )
+  all_leave found [] typed = tt
+  all_leave found (env ∷ envs) typed =
+      let here : AllByRecursion (λ p. IsTyped schema p.condition env) ps = all_more (λ p. IsTypedIn schema p.condition (env ∷ envs)) (λ p. IsTyped schema p.condition env) (λ p t. t.0) ps typed in (
+        ap length (found env here) ∙ all_left (λ p. option_map (λ a. a.tree) (types schema env [] p.condition)) ps
+            (all_more (λ p. IsTyped schema p.condition env) (λ p. is_some (option_map (λ a. a.tree) (types schema env [] p.condition)) ≡ true) (λ p. some_typed (types schema env [] p.condition)) ps here),
+        all_leave found envs (all_more (λ p. IsTypedIn schema p.condition (env ∷ envs)) (λ p. IsTypedIn schema p.condition envs) (λ p t. t.1) ps typed),
+      )

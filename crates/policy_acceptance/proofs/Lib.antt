@@ -1,2 +1,2 @@
-pub mod Rules
-pub mod Left
+mod Exact
+mod Left

@@ -2,8 +2,9 @@
 
 ghost use Rattle.policy_acceptance.specs.Laws.{AcceptedByRules};
 
-use policy_links::laws::{links_are_written_out, statics_are_unlinked};
+use policy_links::laws::statics_are_unlinked;
 use policy_validate::laws::{accepted_are_typed, no_errors_where_accepted};
+use typed_conditions::laws::found_are_typed;
 use typing_findings::laws::check_is_exact;
 
 /// A set of policies is accepted exactly where it keeps the rules, and checks leave the condition of each policy in every
@@ -13,7 +14,7 @@ pub fn accepted_by_rules()
 {
     check_is_exact();
     statics_are_unlinked();
-    links_are_written_out();
     no_errors_where_accepted();
     accepted_are_typed();
+    found_are_typed();
 }

@@ -59,13 +59,13 @@ fn keeps_rules(
     requires { typechecker.now ≡ schema.now }
     ensures { IfOk result (λ b. b ≡ keeps_rules schema.now template.now) }
 {
-    Ok(none(validate_entity_types(alloc, schema, template)?)
-        && none(validate_enum_entity(alloc, schema, template)?)
-        && none(validate_action_ids(alloc, schema, template)?)
-        && none(validate_template_action_application(
-            alloc, schema, template,
-        )?)
-        && is_ready(alloc, typechecker, template)?)
+    Ok(
+        none(validate_entity_types(alloc, schema, template)?)
+            && none(validate_enum_entity(alloc, schema, template)?)
+            && none(validate_action_ids(alloc, schema, template)?)
+            && none(validate_template_action_application(alloc, schema, template)?)
+            && is_ready(alloc, typechecker, template)?,
+    )
 }
 
 fn is_ready(
@@ -121,12 +121,14 @@ fn link_keeps_rules(
 ) -> Result<bool, AllocError>
     ensures { IfOk result (λ b. b ≡ link_keeps_rules schema.now link.now) }
 {
-    Ok(none(validate_entity_types_in_slots(alloc, schema, link)?)
-        && none(validate_linked_action_application(alloc, schema, link)?))
+    Ok(
+        none(validate_entity_types_in_slots(alloc, schema, link)?)
+            && none(validate_linked_action_application(alloc, schema, link)?),
+    )
 }
 
 fn none<T: Drop>(found: Vec<T>) -> bool
-    ensures { result ≡ is_none found.entry.items }
+    ensures { result ≡ is_none found.items }
 {
     let none = found.is_empty();
     drop(found);

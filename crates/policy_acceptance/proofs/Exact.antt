@@ -1,17 +1,15 @@
 -- Policies are accepted exactly where they keep the rules and checks leave each condition.
-use Rattle.std.proofs.Common.{◌≡◌, ◌≤◌, Bool, true, false, not, ◌&&◌, ◌||◌, cond, List, [], ◌∷◌, ◌++◌, map, filter, fold, length, IsTrue, refl, sym, ap, ◌∙◌, subst, arith, if◌then◌else◌}
+use Rattle.std.proofs.Common.{◌≡◌, Bool, true, false, not, ◌&&◌, ◌||◌, cond, List, [], ◌∷◌, ◌++◌, map, filter, fold, length, refl, ap, ◌∙◌, subst, arith, if◌then◌else◌}
 use Rattle.std.proofs.lemmas.Bool.{le-ltb, eqb-true}
 use Rattle.std.proofs.lemmas.List.Folds.{list_all-map}
 use Rattle.std.specs.List.{AllByRecursion, list_all, flat_map}
 use Rattle.std.specs.Ordering.{match_ordering}
 use Rattle.std.specs.declared.cmp.Ordering.{Ordering}
 use Rattle.std.specs.declared.cmp.Ordering.TheVariants.{Less, Equal, Greater}
-use Rattle.findings.specs.declared.error.ValidationError.{ValidationError}
 use Rattle.findings.specs.declared.error.ValidationError.TheVariants.{UnrecognizedEntityType, InvalidEnumEntity, UnrecognizedActionId, InvalidActionApplication}
 use Rattle.policy_names.specs.Uid.{text_cmp}
 use Rattle.policy_expressions.specs.Tree.{depth_of}
-use Rattle.schema_core.specs.EnvData.{EnvData, unlinked_envs}
-use Rattle.schema_core.specs.Faults.{IsSchema}
+use Rattle.schema_core.specs.EnvData.{unlinked_envs}
 use Rattle.schema_core.specs.Schema.{SchemaData}
 use Rattle.policy_set.specs.Condition.{asks_slot, condition_of, has_scope_slot, written_of, IsPolicy}
 use Rattle.policy_set.specs.Data.{TemplateData, PolicyData}
@@ -22,13 +20,13 @@ use Rattle.typing_findings.specs.Check.{Check, Success, Irrelevant, Fail, TooDee
 use Rattle.policy_typecheck.specs.Added.{all_added, same_error}
 use Rattle.policy_typecheck.specs.Answer.{errors_of, too_deep}
 use Rattle.policy_typecheck.specs.Policies.{passes, is_too_deep, checks_of, is_accepted}
-use Rattle.policy_links.specs.Accepted.{IsTyped, IsTypedIn, IsAcceptedTemplate}
-use Rattle.policy_links.specs.Laws.{LinksAreWrittenOut, StaticsAreUnlinked}
+use Rattle.policy_links.specs.Accepted.{IsTyped, IsAcceptedTemplate}
+use Rattle.policy_links.specs.Laws.{StaticsAreUnlinked}
 use Rattle.policy_links.specs.Linked.{linked_envs}
 use Rattle.policy_validate.specs.Accepted.{typing_errors, errors_of_written, errors_of_link, IsAccepted}
 use Rattle.policy_validate.specs.Laws.{NoErrorsWhereAccepted, AcceptedAreTyped}
 use Rattle.policy_validate.proofs.Empty.{parts_empty, empty_parts, none_mapped, all_more, all_both, none_in_each, each_none, all_pass, pass_all}
-use Rattle.typed_conditions.proofs.Shallow.{accepted_ready}
+use Rattle.typed_conditions.specs.Laws.{FoundAreTyped}
 use Rattle.policy_acceptance.specs.Laws.{LeavesAll, AcceptedByRules}
 use Rattle.policy_acceptance.specs.Rules.{is_none, is_ready, keeps_rules, link_keeps_rules, keep_rules}
 use Rattle.policy_acceptance.proofs.Left.{PassesIn, each_passes, all_leave, typed_passes}
@@ -108,8 +106,8 @@ module _ (schema : SchemaData) where
           let no = or_none (asks_slot t.principal) (asks_slot t.resource) e in
           λ i. k i && (ap (λ envs. list_all passes (map (λ env. checked schema env (condition_of t)) envs)) (unlinked schema t no.0 no.1) ∙ passing e) i
 
-  accepted_ready_to : (t : TemplateData) → is_accepted schema t ≡ true → is_ready schema t ≡ true
-  accepted_ready_to t h = by (has_scope_slot t)
+  accepted_is_ready : (t : TemplateData) → is_accepted schema t ≡ true → is_ready schema t ≡ true
+  accepted_is_ready t h = by (has_scope_slot t)
     where
       by : (b : Bool) → (if b then is_accepted schema t else not (is_too_deep schema t)) ≡ true
       by true = h
@@ -133,7 +131,7 @@ module _ (schema : SchemaData) where
       let actions = parts_empty (map UnrecognizedActionId (action_id_findings schema t.id (condition_of t))) _ ids.1 in
       let scope = parts_empty (map InvalidActionApplication (application_findings schema t)) (typing_errors schema t) actions.1 in
       λ i. is_none (none_mapped UnrecognizedEntityType _ types.0 i) && (is_none (none_mapped InvalidEnumEntity _ ids.0 i) && (is_none (none_mapped UnrecognizedActionId _ actions.0 i)
-      && (is_none (none_mapped InvalidActionApplication _ scope.0 i) && accepted_ready_to t typed i)))
+      && (is_none (none_mapped InvalidActionApplication _ scope.0 i) && accepted_is_ready t typed i)))
     where
       typed : is_accepted schema t ≡ true
       typed = λ i. not (le-ltb 200 (depth_of (condition_of t)) accepted.depth i) && (list_all-map passes (λ env. checked schema env (condition_of t)) (linked_envs schema t)
@@ -150,8 +148,8 @@ module _ (schema : SchemaData) where
       let e = parts_empty (map UnrecognizedEntityType (slot_type_findings schema p)) (map InvalidActionApplication (application_findings schema (written_of p))) h in
       λ i. is_none (none_mapped UnrecognizedEntityType _ e.0 i) && is_none (none_mapped InvalidActionApplication _ e.1 i)
 
-pub by_rules : CheckIsExact → StaticsAreUnlinked → LinksAreWrittenOut → NoErrorsWhereAccepted → AcceptedAreTyped → AcceptedByRules
-by_rules exact unlinked written_out no_errors typed schema ok s set = (accepted, kept)
+pub by_rules : CheckIsExact → StaticsAreUnlinked → NoErrorsWhereAccepted → AcceptedAreTyped → FoundAreTyped → AcceptedByRules
+by_rules exact unlinked no_errors typed found schema ok s set = (accepted, kept)
   where
     accepted : (keep_rules schema s ≡ true) × AllByRecursion (LeavesAll schema s.policies) (unlinked_envs schema) → IsAccepted schema s
     accepted h =
@@ -165,10 +163,9 @@ by_rules exact unlinked written_out no_errors typed schema ok s set = (accepted,
 
     kept : IsAccepted schema s → (keep_rules schema s ≡ true) × AllByRecursion (LeavesAll schema s.policies) (unlinked_envs schema)
     kept a =
-        let none = parts_empty (flat_map (errors_of_written schema) (written s)) (flat_map (errors_of_link schema) (links s)) ((no_errors schema s).1 a) in
-        (
+        let none = parts_empty (flat_map (errors_of_written schema) (written s)) (flat_map (errors_of_link schema) (links s)) ((no_errors schema s).1 a) in (
           λ i. pass_all (keeps_rules schema) (written s) (all_both (IsAcceptedTemplate schema) (λ t. errors_of_written schema t ≡ []) (λ t. keeps_rules schema t ≡ true) (rules_kept schema exact) (written s) a.as_written
               (none_in_each (errors_of_written schema) (written s) none.0)) i
               && pass_all (link_keeps_rules schema) (links s) (all_more (λ p. errors_of_link schema p ≡ []) (λ p. link_keeps_rules schema p ≡ true) (link_rules_kept schema) (links s) (none_in_each (errors_of_link schema) (links s) none.1)) i,
-          all_leave schema s.policies exact (accepted_ready written_out schema s set a) (unlinked_envs schema) (typed schema ok s set a),
+          all_leave schema s.policies (found schema s set a) (unlinked_envs schema) (typed schema ok s set a),
         )
