@@ -1,33 +1,59 @@
 -- Steps of the walk through conditions.
-use Rattle.std.proofs.Common.{◌≡◌, ℕ, ◌+◌, ◌<◌, List, ◌++◌, map, filter, length, get_or, drop, sym, ap, ◌∙◌, append_assoc}
-use Rattle.std.proofs.lemmas.List.{at_drop_more, map-append}
-use Rattle.std.proofs.lemmas.List.Elements.{filter-append}
+use Rattle.std.proofs.Common.{◌≡◌, ℕ, ◌+◌, ◌<◌, ◌≤◌, List, [], ◌++◌, map, filter, length, get_or, drop, sym, ap, ◌∙◌, subst}
+use Rattle.std.specs.BTreeSet.{insert_key}
+use Rattle.std.proofs.Math.ListN.{drop_of_length-le}
+use Rattle.std.proofs.lemmas.List.{at_drop_more}
+use Rattle.std.proofs.lemmas.List.Sums.{fold-append}
+use Rattle.access_tries.specs.Table.{Table}
+use Rattle.access_tries.specs.Paths.{IsLeast, address_of, demand_of}
 use Rattle.schema_core.specs.EnvData.{EnvData}
 use Rattle.schema_core.specs.Schema.{SchemaData}
 use Rattle.policy_expressions.specs.Tree.{Tree}
 use Rattle.policy_reads.specs.Paths.{AccessPath, Demand}
 use Rattle.policy_reads.specs.PathTypes.{declared_part}
 use Rattle.policy_reads.specs.Reads.{reads, reads_of, demands, demands_of, are_declared, declared_reads, declared_demands}
+use Rattle.path_analysis.specs.PathOrder.{path_cmp, demand_cmp, with_paths, with_demands}
+use Rattle.path_analysis.proofs.PathLaws.{exact_path, exact_demand}
+use Rattle.path_analysis.proofs.Alike.{Alike, alike-once, alike-map, alike-filter, least_alike}
 
 module _ (schema : SchemaData) (env : EnvData) {A : Type 0} (ts : List (Tree A)) (i : ℕ) (t : Tree A) (is : t ≡ get_or ts i t) (h : i < length ts) where
-  pub reads_next : (old new : List AccessPath) → new ≡ old ++ map (declared_part schema env) (reads schema env t) →
-      (all : List AccessPath) → old ++ declared_reads schema env (drop i ts) ≡ all → new ++ declared_reads schema env (drop (i + 1) ts) ≡ all
+  pub reads_next : (old new : List AccessPath) → new ≡ with_paths old (reads schema env t) →
+      (all : List AccessPath) → with_paths old (reads_of schema env (drop i ts)) ≡ all → with_paths new (reads_of schema env (drop (i + 1) ts)) ≡ all
   reads_next old new added all left =
       let rest = drop (i + 1) ts in
-      ap (λ l. l ++ declared_reads schema env rest) added
-      ∙ append_assoc old (map (declared_part schema env) (reads schema env t)) (declared_reads schema env rest)
-      ∙ ap (λ l. old ++ l) (sym (map-append (declared_part schema env) (reads schema env t) (reads_of schema env rest)))
-      ∙ ap (λ u. old ++ map (declared_part schema env) (reads schema env u ++ reads_of schema env rest)) is
-      ∙ ap (λ l. old ++ map (declared_part schema env) l) (sym (at_drop_more (λ xs. reads_of schema env xs) ts i t h))
+      ap (λ l. with_paths l (reads_of schema env rest)) added
+      ∙ sym (fold-append (insert_key path_cmp) old (reads schema env t) (reads_of schema env rest))
+      ∙ ap (λ u. with_paths old (reads schema env u ++ reads_of schema env rest)) is
+      ∙ ap (λ l. with_paths old l) (sym (at_drop_more (λ xs. reads_of schema env xs) ts i t h))
       ∙ left
 
-  pub demands_next : (old new : List Demand) → new ≡ old ++ filter (are_declared schema env) (demands t) →
-      (all : List Demand) → old ++ declared_demands schema env (drop i ts) ≡ all → new ++ declared_demands schema env (drop (i + 1) ts) ≡ all
+  pub demands_next : (old new : List Demand) → new ≡ with_demands old (demands t) →
+      (all : List Demand) → with_demands old (demands_of (drop i ts)) ≡ all → with_demands new (demands_of (drop (i + 1) ts)) ≡ all
   demands_next old new added all left =
       let rest = drop (i + 1) ts in
-      ap (λ l. l ++ declared_demands schema env rest) added
-      ∙ append_assoc old (filter (are_declared schema env) (demands t)) (declared_demands schema env rest)
-      ∙ ap (λ l. old ++ l) (sym (filter-append (are_declared schema env) (demands t) (demands_of rest)))
-      ∙ ap (λ u. old ++ filter (are_declared schema env) (demands u ++ demands_of rest)) is
-      ∙ ap (λ l. old ++ filter (are_declared schema env) l) (sym (at_drop_more (λ xs. demands_of xs) ts i t h))
+      ap (λ l. with_demands l (demands_of rest)) added
+      ∙ sym (fold-append (insert_key demand_cmp) old (demands t) (demands_of rest))
+      ∙ ap (λ u. with_demands old (demands u ++ demands_of rest)) is
+      ∙ ap (λ l. with_demands old l) (sym (at_drop_more (λ xs. demands_of xs) ts i t h))
       ∙ left
+
+-- what is read and demanded matters, and not how often
+module _ (schema : SchemaData) (env : EnvData) {A : Type 0} (ts : List (Tree A)) where
+  reads_alike : (ps : List AccessPath) → ps ≡ with_paths [] (reads_of schema env ts) → Alike (map address_of (map (declared_part schema env) ps)) (map address_of (declared_reads schema env ts))
+  reads_alike ps is =
+      let once = subst (λ qs. Alike qs (reads_of schema env ts)) (sym is) (alike-once exact_path (reads_of schema env ts)) in
+      alike-map address_of (map (declared_part schema env) ps) (declared_reads schema env ts) (alike-map (declared_part schema env) ps (reads_of schema env ts) once)
+
+  demands_alike : (ds : List Demand) → ds ≡ with_demands [] (demands_of ts) → Alike (map demand_of (filter (are_declared schema env) ds)) (map demand_of (declared_demands schema env ts))
+  demands_alike ds is =
+      let once = subst (λ es. Alike es (demands_of ts)) (sym is) (alike-once exact_demand (demands_of ts)) in
+      alike-map demand_of (filter (are_declared schema env) ds) (declared_demands schema env ts) (alike-filter (are_declared schema env) ds (demands_of ts) once)
+
+  -- at the end of the walk
+  pub least_once : (ps : List AccessPath) (ds : List Demand) (i : ℕ) → length ts ≤ i →
+      with_paths ps (reads_of schema env (drop i ts)) ≡ with_paths [] (reads_of schema env ts) → with_demands ds (demands_of (drop i ts)) ≡ with_demands [] (demands_of ts) →
+      (t : Table) → IsLeast (map (declared_part schema env) ps) (filter (are_declared schema env) ds) t → IsLeast (declared_reads schema env ts) (declared_demands schema env ts) t
+  least_once ps ds i end reads demands t h =
+      let none = sym (drop_of_length-le ts end) in
+      least_alike (map address_of (map (declared_part schema env) ps)) (map address_of (declared_reads schema env ts)) (map demand_of (filter (are_declared schema env) ds)) (map demand_of (declared_demands schema env ts)) t
+      (reads_alike ps (ap (λ us. with_paths ps (reads_of schema env us)) none ∙ reads)) (demands_alike ds (ap (λ us. with_demands ds (demands_of us)) none ∙ demands)) h

@@ -1,7 +1,11 @@
+mod Alike
 mod Chains
 mod ConditionSteps
 mod Fields
 mod OneType
 mod PairSteps
 mod PartSteps
+mod PathLaws
+mod SetSteps
 mod Sizes
+mod Stays

@@ -2,11 +2,8 @@
 use Rattle.std.specs.Prelude.{List, [], ◌++◌, refl}
 use Rattle.std.specs.Coded.{Coded, coded_list, coded×, code_by}
 use Rattle.access_tries.specs.Paths.{coded_path}
-use Rattle.policy_expressions.specs.Tree.{Tree}
-use Rattle.schema_core.specs.EnvData.{EnvData}
-use Rattle.schema_core.specs.Schema.{SchemaData}
 use Rattle.policy_reads.specs.Paths.{Step, AccessPath, Demand, Shape, no_shape, one_of, paths, extended}
-use Rattle.policy_reads.specs.Reads.{reads, demands, shape_of, with_step}
+use Rattle.policy_reads.specs.Reads.{with_step}
 use Rattle.path_analysis.specs.ShapeCode.{coded_shape}
 
 pub record Analysis : Type 0 where
@@ -18,10 +15,6 @@ abbrev pub coded_analysis : Coded Analysis
 coded_analysis =
     code_by (List AccessPath × (List Demand × Shape)) (coded× (coded_list coded_path) (coded× (coded_list (coded× coded_path coded_path)) coded_shape))
     (λ a. (a.reads, (a.demands, a.shape))) (λ t. record { reads = t.0; demands = t.1.0; shape = t.1.1 }) (λ _. refl)
-
--- of a typed expression in an environment
-abbrev pub analysis_of : {A : Type 0} → SchemaData → EnvData → Tree A → Analysis
-analysis_of schema env t = record { reads = reads schema env t; demands = demands t; shape = shape_of t }
 
 -- where nothing is read: the result comes from there
 abbrev pub from_shape : Shape → Analysis

@@ -1,5 +1,6 @@
 pub mod Analysis
 pub mod Parts
+pub mod PathOrder
 pub mod PathView
 pub mod ShapeCode
 pub mod ShapeFalls

@@ -6,9 +6,10 @@ ghost use Rattle.access_tries.specs.Paths.{IsLeast};
 ghost use Rattle.policy_reads.specs.PathTypes.{declared_part, is_declared_path};
 ghost use Rattle.policy_reads.specs.Reads as read;
 ghost use Rattle.policy_reads.specs.Reads.{are_declared, declared_reads, declared_demands};
+ghost use Rattle.path_analysis.specs.PathOrder.{with_paths, with_demands};
 
+use crate::path_key::PathKey;
 use crate::path_type::{declared_part, is_declared_path};
-use crate::result::EntityManifestAnalysisResult;
 use crate::setting::Setting;
 use crate::walk::analyze;
 use access_tries::{AccessPath, RootAccessTrie, least_trie};
@@ -16,6 +17,7 @@ use policy_expressions::Expr;
 use schema_core::{RequestEnv, ValidatorSchema};
 use schema_types::Type;
 use std::alloc::{AllocError, Global};
+use std::collections::BTreeSet;
 
 /// The trie with exactly what conditions read on requests of an environment, and with the ancestors that they ask for, each
 /// condition with its types there: no step that the schema does not declare is in it, and nothing behind one.
@@ -28,58 +30,63 @@ pub fn conditions_trie<'a>(
     ensures { IfOk result (IsLeast (declared_reads schema.now (env_data_of env.now) conditions.now) (declared_demands schema.now (env_data_of env.now) conditions.now)) }
 {
     let at = Setting { alloc, schema, env };
-    let mut reads = Vec::new(alloc);
-    let mut demands = Vec::new(alloc);
+    let mut reads = BTreeSet::new(alloc);
+    let mut demands = BTreeSet::new(alloc);
     for condition in conditions {
         add_condition(&at, condition, &mut reads, &mut demands)?;
     }
-    least_trie(alloc, &reads, &demands)
+    declared_trie(&at, reads, demands)
 }
 
 // Adds what the condition reads and demands.
 fn add_condition(
     at: &Setting<'_>,
     condition: &Expr<Option<Type>>,
-    reads: &mut Vec<AccessPath>,
-    demands: &mut Vec<(AccessPath, AccessPath)>,
+    reads: &mut BTreeSet<PathKey>,
+    demands: &mut BTreeSet<(PathKey, PathKey)>,
 ) -> Result<(), AllocError>
-    ensures reads { OnOk result (reads.new.items ≡ reads.old.items ++ map (declared_part at.now.schema.now (env_data_of at.now.env.now)) (read.reads at.now.schema.now (env_data_of at.now.env.now) condition.now)) }
-    ensures demands { OnOk result (demands.new.items ≡ demands.old.items ++ filter (are_declared at.now.schema.now (env_data_of at.now.env.now)) (read.demands condition.now)) }
+    ensures reads { OnOk result (reads.new.keys ≡ with_paths reads.old.keys (read.reads at.now.schema.now (env_data_of at.now.env.now) condition.now)) }
+    ensures demands { OnOk result (demands.new.keys ≡ with_demands demands.old.keys (read.demands condition.now)) }
 {
-    let EntityManifestAnalysisResult {
-        reads: found,
-        demands: asked,
-        shape,
-    } = analyze(at, condition)?;
+    let shape = analyze(at, condition, reads, demands)?;
     drop(shape);
-    add_declared_parts(at, found, reads)?;
-    add_declared_demands(at, asked, demands)
-}
-
-fn add_declared_parts(
-    at: &Setting<'_>,
-    found: Vec<AccessPath>,
-    reads: &mut Vec<AccessPath>,
-) -> Result<(), AllocError>
-    ensures { OnOk result (reads.new.items ≡ reads.old.items ++ map (declared_part at.now.schema.now (env_data_of at.now.env.now)) found.items) }
-{
-    for path in found {
-        reads.push(declared_part(at, path)?)?;
-    }
     Ok(())
 }
 
-fn add_declared_demands(
+// The trie of the declared parts of paths, and of those demands whose paths are declared.
+fn declared_trie(
     at: &Setting<'_>,
-    found: Vec<(AccessPath, AccessPath)>,
-    demands: &mut Vec<(AccessPath, AccessPath)>,
-) -> Result<(), AllocError>
-    ensures { OnOk result (demands.new.items ≡ demands.old.items ++ filter (are_declared at.now.schema.now (env_data_of at.now.env.now)) found.items) }
+    reads: BTreeSet<PathKey>,
+    demands: BTreeSet<(PathKey, PathKey)>,
+) -> Result<RootAccessTrie, AllocError>
+    ensures { IfOk result (IsLeast (map (declared_part at.now.schema.now (env_data_of at.now.env.now)) reads.keys) (filter (are_declared at.now.schema.now (env_data_of at.now.env.now)) demands.keys)) }
 {
-    for demand in found {
-        add_if_declared(at, demand, demands)?;
+    let reads = declared_parts(at, reads)?;
+    let demands = declared_demands(at, demands)?;
+    least_trie(at.alloc, &reads, &demands)
+}
+
+fn declared_parts(at: &Setting<'_>, paths: BTreeSet<PathKey>) -> Result<Vec<AccessPath>, AllocError>
+    ensures { IfOk result (λ r. r.items ≡ map (declared_part at.now.schema.now (env_data_of at.now.env.now)) paths.keys) }
+{
+    let mut parts = Vec::new(at.alloc);
+    for path in paths {
+        parts.push(declared_part(at, path.into_path())?)?;
     }
-    Ok(())
+    Ok(parts)
+}
+
+fn declared_demands(
+    at: &Setting<'_>,
+    demands: BTreeSet<(PathKey, PathKey)>,
+) -> Result<Vec<(AccessPath, AccessPath)>, AllocError>
+    ensures { IfOk result (λ r. r.items ≡ filter (are_declared at.now.schema.now (env_data_of at.now.env.now)) demands.keys) }
+{
+    let mut declared = Vec::new(at.alloc);
+    for (from, to) in demands {
+        add_if_declared(at, (from.into_path(), to.into_path()), &mut declared)?;
+    }
+    Ok(declared)
 }
 
 fn add_if_declared(

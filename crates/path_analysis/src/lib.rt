@@ -3,8 +3,9 @@
 
 mod below;
 mod conditions;
+mod found;
 mod operators;
-mod parts;
+mod path_key;
 mod path_type;
 mod result;
 mod setting;

@@ -15,9 +15,9 @@ use std::marker::Model;
 /// What an expression reads of a store, of which entities it asks for which ancestors, and where its result comes from.
 #[derive(Debug, Drop)]
 pub struct EntityManifestAnalysisResult {
-    pub(crate) reads: Vec<AccessPath>,
-    pub(crate) demands: Vec<(AccessPath, AccessPath)>,
-    pub(crate) shape: Shape,
+    reads: Vec<AccessPath>,
+    demands: Vec<(AccessPath, AccessPath)>,
+    shape: Shape,
 }
 
 impl Model for EntityManifestAnalysisResult {
@@ -31,23 +31,15 @@ impl Model for EntityManifestAnalysisResult {
 }
 
 impl EntityManifestAnalysisResult {
-    /// Of a result that comes from there, where nothing is read.
-    pub(crate) fn from_shape(alloc: Global, shape: Shape) -> EntityManifestAnalysisResult
-        ensures { result ≡ from_shape shape }
-    {
-        EntityManifestAnalysisResult {
-            reads: Vec::new(alloc),
-            demands: Vec::new(alloc),
-            shape,
-        }
-    }
-
     /// Of a result that is an entry of the request or an id.
     pub fn from_root(alloc: Global, root: EntityRoot) -> EntityManifestAnalysisResult
         ensures { result ≡ from_shape (at_path (at_root root)) }
     {
-        let path = AccessPath::new(root, Vec::new(alloc));
-        EntityManifestAnalysisResult::from_shape(alloc, Shape::path(path))
+        EntityManifestAnalysisResult {
+            reads: Vec::new(alloc),
+            demands: Vec::new(alloc),
+            shape: Shape::root(alloc, root),
+        }
     }
 
     /// The paths that are read. Each is read with all paths that it goes on from.
@@ -83,12 +75,18 @@ impl EntityManifestAnalysisResult {
     ) -> Result<EntityManifestAnalysisResult, AllocError>
         ensures { IfOk result (λ r. r ≡ united self other) }
     {
-        let Both {
-            reads,
-            demands,
-            left,
-            right,
-        } = self.beside(other)?;
+        let EntityManifestAnalysisResult {
+            mut reads,
+            mut demands,
+            shape: left,
+        } = self;
+        let EntityManifestAnalysisResult {
+            reads: mut more_reads,
+            demands: mut more_demands,
+            shape: right,
+        } = other;
+        reads.append(&mut more_reads)?;
+        demands.append(&mut more_demands)?;
         let shape = Shape::one_of(alloc, left, right)?;
         Ok(EntityManifestAnalysisResult {
             reads,
@@ -105,23 +103,12 @@ impl EntityManifestAnalysisResult {
     ) -> Result<EntityManifestAnalysisResult, AllocError>
         ensures { IfOk result (λ r. r ≡ one_step_on self (Field attr.now)) }
     {
-        self.one_step_on(alloc, &Step::Field(attr.try_clone()?))
-    }
-
-    /// Of what is one step on from the result: its paths are read.
-    pub(crate) fn one_step_on(
-        self,
-        alloc: Global,
-        step: &Step,
-    ) -> Result<EntityManifestAnalysisResult, AllocError>
-        ensures { IfOk result (λ r. r ≡ one_step_on self step.now) }
-    {
         let EntityManifestAnalysisResult {
             mut reads,
             demands,
             shape,
         } = self;
-        let shape = shape.extended(alloc, step)?;
+        let shape = shape.extended(alloc, &Step::Field(attr.try_clone()?))?;
         add_longer_ones(shape.paths(alloc)?, &mut reads)?;
         Ok(EntityManifestAnalysisResult {
             reads,
@@ -129,69 +116,10 @@ impl EntityManifestAnalysisResult {
             shape,
         })
     }
-
-    /// What both read and demand, and where both results come from.
-    pub(crate) fn beside(self, other: EntityManifestAnalysisResult) -> Result<Both, AllocError>
-        ensures reads { IfOk result (λ r. r.reads.items ≡ self.reads ++ other.reads) }
-        ensures demands { IfOk result (λ r. r.demands.items ≡ self.demands ++ other.demands) }
-        ensures left { IfOk result (λ r. r.left ≡ self.shape) }
-        ensures right { IfOk result (λ r. r.right ≡ other.shape) }
-    {
-        let EntityManifestAnalysisResult {
-            mut reads,
-            mut demands,
-            shape: left,
-        } = self;
-        let EntityManifestAnalysisResult {
-            reads: mut more_reads,
-            demands: mut more_demands,
-            shape: right,
-        } = other;
-        reads.append(&mut more_reads)?;
-        demands.append(&mut more_demands)?;
-        Ok(Both {
-            reads,
-            demands,
-            left,
-            right,
-        })
-    }
-}
-
-// What two expressions read and demand, and where their results come from.
-#[derive(Drop)]
-pub(crate) struct Both {
-    pub(crate) reads: Vec<AccessPath>,
-    pub(crate) demands: Vec<(AccessPath, AccessPath)>,
-    pub(crate) left: Shape,
-    pub(crate) right: Shape,
-}
-
-impl Both {
-    /// What both read and demand, for the result of the second.
-    pub(crate) fn into_right(self) -> EntityManifestAnalysisResult
-        ensures { result ≡ record { reads = self.reads.items; demands = self.demands.items; shape = self.right } }
-    {
-        let Both {
-            reads,
-            demands,
-            left,
-            right,
-        } = self;
-        drop(left);
-        EntityManifestAnalysisResult {
-            reads,
-            demands,
-            shape: right,
-        }
-    }
 }
 
 // Adds those of the paths that have a step.
-pub(crate) fn add_longer_ones(
-    found: Vec<AccessPath>,
-    reads: &mut Vec<AccessPath>,
-) -> Result<(), AllocError>
+fn add_longer_ones(found: Vec<AccessPath>, reads: &mut Vec<AccessPath>) -> Result<(), AllocError>
     ensures { OnOk result (reads.new.items ≡ reads.old.items ++ with_step found.items) }
 {
     for path in found {

@@ -1,13 +1,17 @@
 //! Where results come from.
 
 ghost use Rattle.std.specs.Prelude.{◌≡◌, ◌++◌, ◌∷◌, [], IfOk, OnOk};
-ghost use Rattle.policy_reads.specs.Paths.{no_shape, at_path, set_shape, record_shape, one_of, beyond, paths, field_paths, shape_at, extended, shape_along};
+ghost use Rattle.policy_reads.specs.Paths.{no_shape, at_path, at_root, set_shape, record_shape, one_of, beyond, paths, field_paths, shape_at, extended, shape_along};
+ghost use Rattle.policy_reads.specs.Reads.{with_step};
+ghost use Rattle.path_analysis.specs.PathOrder.{with_paths};
 ghost use Rattle.path_analysis.specs.ShapeView.{shape_in, one_of_all, field_shapes};
 
-use access_tries::{AccessPath, Step};
+use crate::found::add_if_longer;
+use crate::path_key::PathKey;
+use access_tries::{AccessPath, EntityRoot, Step};
 use policy_names::Text;
 use std::alloc::{AllocError, Global};
-use std::collections::BTreeMap;
+use std::collections::{BTreeMap, BTreeSet};
 use std::marker::Model;
 
 /// Where the result of an expression comes from.
@@ -23,7 +27,7 @@ enum ShapeKind {
     // From nothing that is read.
     Nothing,
     // From what the path leads to.
-    Path(AccessPath),
+    Path(PathKey),
     // A set of what comes from there.
     Set(Vec<Shape>),
     // A record whose fields come from there.
@@ -64,8 +68,15 @@ impl Shape {
         ensures { result ≡ at_path path }
     {
         Shape {
-            kind: ShapeKind::Path(path),
+            kind: ShapeKind::Path(PathKey::new(path)),
         }
+    }
+
+    /// That of an entry of the request, or of an id.
+    pub(crate) fn root(alloc: Global, root: EntityRoot) -> Shape
+        ensures { result ≡ at_path (at_root root) }
+    {
+        Shape::path(AccessPath::new(root, Vec::new(alloc)))
     }
 
     pub(crate) fn set(items: Vec<Shape>) -> Shape
@@ -100,7 +111,10 @@ impl Shape {
         ensures { IfOk result (λ r. r ≡ extended self step.now) }
     {
         match self.kind {
-            ShapeKind::Path(path) => Ok(Shape::path(longer(path, step.try_clone()?)?)),
+            ShapeKind::Path(path) => {
+                let path = longer(path.into_path(), step.try_clone()?)?;
+                Ok(Shape::path(path))
+            }
             ShapeKind::Record(fields) => Ok(shape_along(fields, step)),
             ShapeKind::OneOf(a, b) => {
                 let a = Box::into_inner(a).extended(alloc, step)?;
@@ -127,7 +141,7 @@ fn add_paths(alloc: Global, shape: &Shape, found: &mut Vec<AccessPath>) -> Resul
 {
     match &shape.kind {
         ShapeKind::Nothing => Ok(()),
-        ShapeKind::Path(path) => add_path(alloc, path, found),
+        ShapeKind::Path(path) => add_path(alloc, path.as_path(), found),
         ShapeKind::Set(items) => add_paths_of_all(alloc, items, found),
         ShapeKind::Record(fields) => add_paths_of_fields(alloc, fields, found),
         ShapeKind::OneOf(a, b) => {
@@ -169,6 +183,58 @@ fn add_paths_of_fields(
 {
     for (_, value) in fields.iter() {
         add_paths(alloc, value, found)?;
+    }
+    Ok(())
+}
+
+/// Adds those of the paths in the shape that have a step.
+#[cycle(add_longer)]
+#[tactic(auto, using(crate::proofs::SetSteps::longer_more))]
+pub(crate) fn add_longer(
+    alloc: Global,
+    shape: &Shape,
+    reads: &mut BTreeSet<PathKey>,
+) -> Result<(), AllocError>
+    ensures { OnOk result (reads.new.keys ≡ with_paths reads.old.keys (with_step (paths shape.now))) }
+{
+    match &shape.kind {
+        ShapeKind::Nothing => Ok(()),
+        ShapeKind::Path(path) => add_if_longer(alloc, path, reads),
+        ShapeKind::Set(items) => add_longer_of_all(alloc, items, reads),
+        ShapeKind::Record(fields) => add_longer_of_fields(alloc, fields, reads),
+        ShapeKind::OneOf(a, b) => {
+            add_longer(alloc, a, reads)?;
+            add_longer(alloc, b, reads)
+        }
+    }
+}
+
+#[cycle(add_longer)]
+#[tactic(auto, using(crate::proofs::Sizes::size_in, crate::proofs::SetSteps::longer_more))]
+fn add_longer_of_all(
+    alloc: Global,
+    items: &Vec<Shape>,
+    reads: &mut BTreeSet<PathKey>,
+) -> Result<(), AllocError>
+    ensures { OnOk result (reads.new.keys ≡ with_paths reads.old.keys (with_step (paths (one_of_all items.now.items)))) }
+{
+    for item in items {
+        add_longer(alloc, item, reads)?;
+    }
+    Ok(())
+}
+
+#[cycle(add_longer)]
+#[tactic(auto, using(crate::proofs::SetSteps::longer_more))]
+fn add_longer_of_fields(
+    alloc: Global,
+    fields: &BTreeMap<Text, Shape>,
+    reads: &mut BTreeSet<PathKey>,
+) -> Result<(), AllocError>
+    ensures { OnOk result (reads.new.keys ≡ with_paths reads.old.keys (with_step (field_paths (field_shapes fields.now.entries)))) }
+{
+    for (_, value) in fields.iter() {
+        add_longer(alloc, value, reads)?;
     }
     Ok(())
 }

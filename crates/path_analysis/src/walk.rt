@@ -1,143 +1,184 @@
 //! The walk through a typed expression.
 
-ghost use Rattle.std.specs.Prelude.{◌≡◌, map, IfOk};
+ghost use Rattle.std.specs.Prelude.{◌≡◌, map, IfOk, OnOk};
 ghost use Rattle.schema_core.specs.RequestEnvs.{env_data_of};
-ghost use Rattle.policy_expressions.specs.Tree.{binary, conj, ite, named_of, rec, set, trees_of};
+ghost use Rattle.policy_expressions.specs.Tree.{attr, binary, conj, ite, named_of, rec, set, trees_of, unary};
 ghost use Rattle.policy_reads.specs.Paths.{no_shape};
+ghost use Rattle.policy_reads.specs.Reads as read;
 ghost use Rattle.policy_reads.specs.Reads.{reads_all, demands_all, reads_named, demands_named, shape_of, literal_shape};
-ghost use Rattle.path_analysis.specs.Analysis.{analysis_of, from_shape};
+ghost use Rattle.path_analysis.specs.PathOrder.{with_paths, with_demands};
 ghost use Rattle.path_analysis.specs.Parts.{shaped, unmarked};
 
-use crate::operators::{binary_result, unary_result};
-use crate::parts::{NamedParts, Parts};
-use crate::result::EntityManifestAnalysisResult;
+use crate::operators::{add_binary, add_one_step_on, add_unary};
+use crate::path_key::PathKey;
 use crate::setting::Setting;
 use crate::shape::Shape;
-use access_tries::EntityRoot;
-use policy_expressions::{BinaryOp, Expr, ExprKind, Literal};
+use access_tries::{EntityRoot, Step};
+use policy_expressions::{BinaryOp, Expr, ExprKind, Literal, UnaryOp};
 use policy_names::Text;
+use policy_values::push_entry;
 use schema_types::Type;
 use std::alloc::{AllocError, Global};
-use std::collections::BTreeMap;
+use std::collections::{BTreeMap, BTreeSet};
 
-// What an expression reads and demands, and where its result comes from. Parts that are not reached stand as literals
-// in a typed expression, and read nothing.
+// Adds what an expression reads and demands, and says where its result comes from. Parts that are not reached stand as
+// literals in a typed expression, and read nothing.
 #[cycle(analyze)]
 pub(crate) fn analyze(
     at: &Setting<'_>,
     e: &Expr<Option<Type>>,
-) -> Result<EntityManifestAnalysisResult, AllocError>
-    ensures { IfOk result (λ r. r ≡ analysis_of at.now.schema.now (env_data_of at.now.env.now) e.now) }
+    reads: &mut BTreeSet<PathKey>,
+    demands: &mut BTreeSet<(PathKey, PathKey)>,
+) -> Result<Shape, AllocError>
+    ensures reads { OnOk result (reads.new.keys ≡ with_paths reads.old.keys (read.reads at.now.schema.now (env_data_of at.now.env.now) e.now)) }
+    ensures demands { OnOk result (demands.new.keys ≡ with_demands demands.old.keys (read.demands e.now)) }
+    ensures shape { IfOk result (λ a. a ≡ shape_of e.now) }
 {
     match e.kind() {
-        ExprKind::Lit(literal) => literal_result(at.alloc, literal),
-        ExprKind::Var(var) => Ok(EntityManifestAnalysisResult::from_root(
-            at.alloc,
-            EntityRoot::Var(*var),
-        )),
-        ExprKind::Slot(_) => Ok(from_nothing(at.alloc)),
-        ExprKind::If(x, y, z) => analyze_if(at, x, y, z),
-        ExprKind::And(x, y) | ExprKind::Or(x, y) => analyze_sides(at, x, y),
-        ExprKind::UnaryApp(op, x) => unary_result(at, *op, analyze(at, x)?),
-        ExprKind::BinaryApp(op, x, y) => analyze_binary(at, *op, x, y),
-        ExprKind::GetAttr(x, name) => analyze(at, x)?.get_or_has_attr(at.alloc, name),
-        ExprKind::HasAttr(x, name) => {
-            let attribute = analyze(at, x)?.get_or_has_attr(at.alloc, name)?;
-            Ok(attribute.empty_paths())
-        }
-        ExprKind::Like(x, _) | ExprKind::Is(x, _) => Ok(analyze(at, x)?.empty_paths()),
-        ExprKind::ExtensionFunctionApp(_, xs) => analyze_call(at, xs),
-        ExprKind::Set(xs) => analyze_set(at, xs),
-        ExprKind::Record(fields) => analyze_record(at, fields),
+        ExprKind::Lit(literal) => shape_of_literal(at.alloc, literal),
+        ExprKind::Var(var) => Ok(Shape::root(at.alloc, EntityRoot::Var(*var))),
+        ExprKind::Slot(_) => Ok(Shape::nothing()),
+        ExprKind::If(x, y, z) => analyze_if(at, x, y, z, reads, demands),
+        ExprKind::And(x, y) | ExprKind::Or(x, y) => analyze_sides(at, x, y, reads, demands),
+        ExprKind::UnaryApp(op, x) => analyze_unary(at, *op, x, reads, demands),
+        ExprKind::BinaryApp(op, x, y) => analyze_binary(at, *op, x, y, reads, demands),
+        ExprKind::GetAttr(x, name) => analyze_attr(at, x, name, reads, demands),
+        ExprKind::HasAttr(x, name) => Ok(emptied(analyze_attr(at, x, name, reads, demands)?)),
+        ExprKind::Like(x, _) | ExprKind::Is(x, _) => Ok(emptied(analyze(at, x, reads, demands)?)),
+        ExprKind::ExtensionFunctionApp(_, xs) => analyze_call(at, xs, reads, demands),
+        ExprKind::Set(xs) => analyze_set(at, xs, reads, demands),
+        ExprKind::Record(fields) => analyze_record(at, fields, reads, demands),
     }
 }
 
-fn literal_result(
-    alloc: Global,
-    literal: &Literal,
-) -> Result<EntityManifestAnalysisResult, AllocError>
-    ensures { IfOk result (λ r. r ≡ from_shape (literal_shape literal.now)) }
+fn shape_of_literal(alloc: Global, literal: &Literal) -> Result<Shape, AllocError>
+    ensures { IfOk result (λ a. a ≡ literal_shape literal.now) }
 {
     match literal {
-        Literal::EntityUID(uid) => Ok(EntityManifestAnalysisResult::from_root(
-            alloc,
-            EntityRoot::Literal(uid.try_clone()?),
-        )),
-        Literal::Bool(_) | Literal::Long(_) | Literal::String(_) => Ok(from_nothing(alloc)),
+        Literal::EntityUID(uid) => Ok(Shape::root(alloc, EntityRoot::Literal(uid.try_clone()?))),
+        Literal::Bool(_) | Literal::Long(_) | Literal::String(_) => Ok(Shape::nothing()),
     }
 }
 
-fn from_nothing(alloc: Global) -> EntityManifestAnalysisResult
-    ensures { result ≡ from_shape no_shape }
+// That of a result that comes from nothing, in place of another.
+fn emptied(shape: Shape) -> Shape
+    ensures { result ≡ no_shape }
 {
-    EntityManifestAnalysisResult::from_shape(alloc, Shape::nothing())
+    drop(shape);
+    Shape::nothing()
 }
 
 #[cycle(analyze)]
+#[tactic(auto, using(crate::proofs::SetSteps::paths_more, crate::proofs::SetSteps::demands_more))]
 fn analyze_if(
     at: &Setting<'_>,
     x: &Expr<Option<Type>>,
     y: &Expr<Option<Type>>,
     z: &Expr<Option<Type>>,
-) -> Result<EntityManifestAnalysisResult, AllocError>
-    ensures { IfOk result (λ r. r ≡ analysis_of at.now.schema.now (env_data_of at.now.env.now) (ite x.now y.now z.now unmarked)) }
+    reads: &mut BTreeSet<PathKey>,
+    demands: &mut BTreeSet<(PathKey, PathKey)>,
+) -> Result<Shape, AllocError>
+    ensures reads { OnOk result (reads.new.keys ≡ with_paths reads.old.keys (read.reads at.now.schema.now (env_data_of at.now.env.now) (ite x.now y.now z.now unmarked))) }
+    ensures demands { OnOk result (demands.new.keys ≡ with_demands demands.old.keys (read.demands (ite x.now y.now z.now unmarked))) }
+    ensures shape { IfOk result (λ a. a ≡ shape_of (ite x.now y.now z.now unmarked)) }
 {
-    let test = analyze(at, x)?;
-    let then = analyze(at, y)?;
-    let otherwise = analyze(at, z)?;
-    let branches = then.union(at.alloc, otherwise)?;
-    Ok(test.beside(branches)?.into_right())
+    let test = analyze(at, x, reads, demands)?;
+    drop(test);
+    let then = analyze(at, y, reads, demands)?;
+    let otherwise = analyze(at, z, reads, demands)?;
+    Shape::one_of(at.alloc, then, otherwise)
 }
 
 #[cycle(analyze)]
+#[tactic(auto, using(crate::proofs::SetSteps::paths_more, crate::proofs::SetSteps::demands_more))]
 fn analyze_sides(
     at: &Setting<'_>,
     x: &Expr<Option<Type>>,
     y: &Expr<Option<Type>>,
-) -> Result<EntityManifestAnalysisResult, AllocError>
-    ensures { IfOk result (λ r. r ≡ analysis_of at.now.schema.now (env_data_of at.now.env.now) (conj x.now y.now unmarked)) }
+    reads: &mut BTreeSet<PathKey>,
+    demands: &mut BTreeSet<(PathKey, PathKey)>,
+) -> Result<Shape, AllocError>
+    ensures reads { OnOk result (reads.new.keys ≡ with_paths reads.old.keys (read.reads at.now.schema.now (env_data_of at.now.env.now) (conj x.now y.now unmarked))) }
+    ensures demands { OnOk result (demands.new.keys ≡ with_demands demands.old.keys (read.demands (conj x.now y.now unmarked))) }
+    ensures shape { IfOk result (λ a. a ≡ shape_of (conj x.now y.now unmarked)) }
 {
-    let left = analyze(at, x)?;
-    let right = analyze(at, y)?;
-    Ok(left.beside(right)?.into_right().empty_paths())
+    let left = analyze(at, x, reads, demands)?;
+    drop(left);
+    let right = analyze(at, y, reads, demands)?;
+    Ok(emptied(right))
 }
 
 #[cycle(analyze)]
+#[tactic(auto, using(crate::proofs::SetSteps::paths_more))]
+fn analyze_unary(
+    at: &Setting<'_>,
+    op: UnaryOp,
+    x: &Expr<Option<Type>>,
+    reads: &mut BTreeSet<PathKey>,
+    demands: &mut BTreeSet<(PathKey, PathKey)>,
+) -> Result<Shape, AllocError>
+    ensures reads { OnOk result (reads.new.keys ≡ with_paths reads.old.keys (read.reads at.now.schema.now (env_data_of at.now.env.now) (unary op x.now unmarked))) }
+    ensures demands { OnOk result (demands.new.keys ≡ with_demands demands.old.keys (read.demands (unary op x.now unmarked))) }
+    ensures shape { IfOk result (λ a. a ≡ shape_of (unary op x.now unmarked)) }
+{
+    let operand = analyze(at, x, reads, demands)?;
+    add_unary(at, op, &operand, reads)?;
+    Ok(emptied(operand))
+}
+
+#[cycle(analyze)]
+#[tactic(auto, using(crate::proofs::SetSteps::paths_more, crate::proofs::SetSteps::demands_more))]
 fn analyze_binary(
     at: &Setting<'_>,
     op: BinaryOp,
     x: &Expr<Option<Type>>,
     y: &Expr<Option<Type>>,
-) -> Result<EntityManifestAnalysisResult, AllocError>
-    ensures { IfOk result (λ r. r ≡ analysis_of at.now.schema.now (env_data_of at.now.env.now) (binary op x.now y.now unmarked)) }
+    reads: &mut BTreeSet<PathKey>,
+    demands: &mut BTreeSet<(PathKey, PathKey)>,
+) -> Result<Shape, AllocError>
+    ensures reads { OnOk result (reads.new.keys ≡ with_paths reads.old.keys (read.reads at.now.schema.now (env_data_of at.now.env.now) (binary op x.now y.now unmarked))) }
+    ensures demands { OnOk result (demands.new.keys ≡ with_demands demands.old.keys (read.demands (binary op x.now y.now unmarked))) }
+    ensures shape { IfOk result (λ a. a ≡ shape_of (binary op x.now y.now unmarked)) }
 {
-    let left = analyze(at, x)?;
-    let right = analyze(at, y)?;
-    binary_result(at, op, left.beside(right)?)
+    let left = analyze(at, x, reads, demands)?;
+    let right = analyze(at, y, reads, demands)?;
+    let result = add_binary(at, op, left, &right, reads, demands)?;
+    drop(right);
+    Ok(result)
+}
+
+#[cycle(analyze)]
+#[tactic(auto, using(crate::proofs::SetSteps::paths_more))]
+fn analyze_attr(
+    at: &Setting<'_>,
+    x: &Expr<Option<Type>>,
+    name: &Text,
+    reads: &mut BTreeSet<PathKey>,
+    demands: &mut BTreeSet<(PathKey, PathKey)>,
+) -> Result<Shape, AllocError>
+    ensures reads { OnOk result (reads.new.keys ≡ with_paths reads.old.keys (read.reads at.now.schema.now (env_data_of at.now.env.now) (attr x.now name.now unmarked))) }
+    ensures demands { OnOk result (demands.new.keys ≡ with_demands demands.old.keys (read.demands (attr x.now name.now unmarked))) }
+    ensures shape { IfOk result (λ a. a ≡ shape_of (attr x.now name.now unmarked)) }
+{
+    let shape = analyze(at, x, reads, demands)?;
+    let step = Step::Field(name.try_clone()?);
+    add_one_step_on(at.alloc, shape, &step, reads)
 }
 
 #[cycle(analyze)]
 fn analyze_call(
     at: &Setting<'_>,
     xs: &Vec<Expr<Option<Type>>>,
-) -> Result<EntityManifestAnalysisResult, AllocError>
-    ensures { IfOk result (λ r. r ≡ record {
-      reads = reads_all at.now.schema.now (env_data_of at.now.env.now) (trees_of xs.now.items);
-      demands = demands_all (trees_of xs.now.items);
-      shape = no_shape;
-    }) }
+    reads: &mut BTreeSet<PathKey>,
+    demands: &mut BTreeSet<(PathKey, PathKey)>,
+) -> Result<Shape, AllocError>
+    ensures reads { OnOk result (reads.new.keys ≡ with_paths reads.old.keys (reads_all at.now.schema.now (env_data_of at.now.env.now) (trees_of xs.now.items))) }
+    ensures demands { OnOk result (demands.new.keys ≡ with_demands demands.old.keys (demands_all (trees_of xs.now.items))) }
+    ensures shape { IfOk result (λ a. a ≡ no_shape) }
 {
-    let Parts {
-        reads,
-        demands,
-        shapes,
-    } = analyze_all(at, xs)?;
+    let shapes = analyze_all(at, xs, reads, demands)?;
     drop(shapes);
-    Ok(EntityManifestAnalysisResult {
-        reads,
-        demands,
-        shape: Shape::nothing(),
-    })
+    Ok(Shape::nothing())
 }
 
 #[cycle(analyze)]
@@ -145,19 +186,15 @@ fn analyze_call(
 fn analyze_set(
     at: &Setting<'_>,
     xs: &Vec<Expr<Option<Type>>>,
-) -> Result<EntityManifestAnalysisResult, AllocError>
-    ensures { IfOk result (λ r. r ≡ analysis_of at.now.schema.now (env_data_of at.now.env.now) (set (trees_of xs.now.items) unmarked)) }
+    reads: &mut BTreeSet<PathKey>,
+    demands: &mut BTreeSet<(PathKey, PathKey)>,
+) -> Result<Shape, AllocError>
+    ensures reads { OnOk result (reads.new.keys ≡ with_paths reads.old.keys (read.reads at.now.schema.now (env_data_of at.now.env.now) (set (trees_of xs.now.items) unmarked))) }
+    ensures demands { OnOk result (demands.new.keys ≡ with_demands demands.old.keys (read.demands (set (trees_of xs.now.items) unmarked))) }
+    ensures shape { IfOk result (λ a. a ≡ shape_of (set (trees_of xs.now.items) unmarked)) }
 {
-    let Parts {
-        reads,
-        demands,
-        shapes,
-    } = analyze_all(at, xs)?;
-    Ok(EntityManifestAnalysisResult {
-        reads,
-        demands,
-        shape: Shape::set(shapes),
-    })
+    let shapes = analyze_all(at, xs, reads, demands)?;
+    Ok(Shape::set(shapes))
 }
 
 #[cycle(analyze)]
@@ -165,51 +202,55 @@ fn analyze_set(
 fn analyze_record(
     at: &Setting<'_>,
     fields: &BTreeMap<Text, Expr<Option<Type>>>,
-) -> Result<EntityManifestAnalysisResult, AllocError>
-    ensures { IfOk result (λ r. r ≡ analysis_of at.now.schema.now (env_data_of at.now.env.now) (rec (named_of fields.now.entries) unmarked)) }
+    reads: &mut BTreeSet<PathKey>,
+    demands: &mut BTreeSet<(PathKey, PathKey)>,
+) -> Result<Shape, AllocError>
+    ensures reads { OnOk result (reads.new.keys ≡ with_paths reads.old.keys (read.reads at.now.schema.now (env_data_of at.now.env.now) (rec (named_of fields.now.entries) unmarked))) }
+    ensures demands { OnOk result (demands.new.keys ≡ with_demands demands.old.keys (read.demands (rec (named_of fields.now.entries) unmarked))) }
+    ensures shape { IfOk result (λ a. a ≡ shape_of (rec (named_of fields.now.entries) unmarked)) }
 {
-    let NamedParts {
-        reads,
-        demands,
-        shapes,
-    } = analyze_named(at, fields)?;
-    Ok(EntityManifestAnalysisResult {
-        reads,
-        demands,
-        shape: Shape::record(shapes),
-    })
+    let shapes = analyze_named(at, fields, reads, demands)?;
+    Ok(Shape::record(shapes))
 }
 
 // Operands, one after another.
 #[cycle(analyze)]
-#[tactic(auto, using(policy_expressions::proofs::TreeSteps::depth_in))]
-fn analyze_all(at: &Setting<'_>, xs: &Vec<Expr<Option<Type>>>) -> Result<Parts, AllocError>
-    ensures reads { IfOk result (λ r. r.reads.items ≡ reads_all at.now.schema.now (env_data_of at.now.env.now) (trees_of xs.now.items)) }
-    ensures demands { IfOk result (λ r. r.demands.items ≡ demands_all (trees_of xs.now.items)) }
-    ensures shapes { IfOk result (λ r. r.shapes.items ≡ map shape_of xs.now.items) }
+#[tactic(auto, using(policy_expressions::proofs::TreeSteps::depth_in, crate::proofs::SetSteps::paths_more, crate::proofs::SetSteps::demands_more))]
+fn analyze_all(
+    at: &Setting<'_>,
+    xs: &Vec<Expr<Option<Type>>>,
+    reads: &mut BTreeSet<PathKey>,
+    demands: &mut BTreeSet<(PathKey, PathKey)>,
+) -> Result<Vec<Shape>, AllocError>
+    ensures reads { OnOk result (reads.new.keys ≡ with_paths reads.old.keys (reads_all at.now.schema.now (env_data_of at.now.env.now) (trees_of xs.now.items))) }
+    ensures demands { OnOk result (demands.new.keys ≡ with_demands demands.old.keys (demands_all (trees_of xs.now.items))) }
+    ensures shapes { IfOk result (λ r. r.items ≡ map shape_of xs.now.items) }
 {
-    let mut parts = Parts::new(at.alloc);
+    let mut shapes = Vec::new(at.alloc);
     for x in xs {
-        let found = analyze(at, x)?;
-        parts.add(found)?;
+        let shape = analyze(at, x, reads, demands)?;
+        shapes.push(shape)?;
     }
-    Ok(parts)
+    Ok(shapes)
 }
 
 // Fields, by ascending keys.
 #[cycle(analyze)]
+#[tactic(auto, using(crate::proofs::SetSteps::paths_more, crate::proofs::SetSteps::demands_more))]
 fn analyze_named(
     at: &Setting<'_>,
     fields: &BTreeMap<Text, Expr<Option<Type>>>,
-) -> Result<NamedParts, AllocError>
-    ensures reads { IfOk result (λ r. r.reads.items ≡ reads_named at.now.schema.now (env_data_of at.now.env.now) (named_of fields.now.entries)) }
-    ensures demands { IfOk result (λ r. r.demands.items ≡ demands_named (named_of fields.now.entries)) }
-    ensures shapes { IfOk result (λ r. r.shapes.entries ≡ map shaped fields.now.entries) }
+    reads: &mut BTreeSet<PathKey>,
+    demands: &mut BTreeSet<(PathKey, PathKey)>,
+) -> Result<BTreeMap<Text, Shape>, AllocError>
+    ensures reads { OnOk result (reads.new.keys ≡ with_paths reads.old.keys (reads_named at.now.schema.now (env_data_of at.now.env.now) (named_of fields.now.entries))) }
+    ensures demands { OnOk result (demands.new.keys ≡ with_demands demands.old.keys (demands_named (named_of fields.now.entries))) }
+    ensures shapes { IfOk result (λ r. r.entries ≡ map shaped fields.now.entries) }
 {
-    let mut parts = NamedParts::new(at.alloc);
+    let mut shapes = BTreeMap::new(at.alloc);
     for (name, item) in fields.iter() {
-        let found = analyze(at, item)?;
-        parts.add(name.try_clone()?, found)?;
+        let shape = analyze(at, item, reads, demands)?;
+        push_entry(&mut shapes, name.try_clone()?, shape)?;
     }
-    Ok(parts)
+    Ok(shapes)
 }

@@ -1,0 +1,55 @@
+-- Loading by computed manifests.
+use Rattle.std.specs.Prelude.{◌≡◌, List, Some, None}
+use Rattle.outside.specs.Steps.{Rose}
+use Rattle.policy_store.specs.declared.request.Request.{Request}
+use Rattle.policy_store.specs.Store.{Store}
+use Rattle.policy_values.specs.Value.{Val}
+use Rattle.access_tries.specs.Paths.{IsLeast}
+use Rattle.access_tries.specs.Table.{Table}
+use Rattle.schema_core.specs.EnvData.{EnvData}
+use Rattle.schema_core.specs.Faults.{IsSchema}
+use Rattle.schema_core.specs.Schema.{SchemaData}
+use Rattle.policy_set.specs.Data.{PolicyData}
+use Rattle.policy_typing.specs.Conforms.{RequestConforms, StoreConforms}
+use Rattle.policy_reads.specs.Reads.{declared_reads, declared_demands}
+use Rattle.typed_conditions.specs.Typed.{typed_conditions}
+use Rattle.entity_loader.specs.State.{LoaderState}
+use Rattle.entity_loading.specs.Causes.{IsRight}
+use Rattle.entity_loading.specs.declared.error.EntitySliceError.{EntitySliceError}
+use Rattle.entity_loading.specs.declared.error.EntitySliceError.TheVariants.{OutOfMemory}
+use Rattle.store_slices.specs.Blocked.{IsBlocked}
+use Rattle.entity_manifest.specs.Manifest.{Manifest}
+use Rattle.manifest_computation.specs.Computed.{IsManifestOf}
+use Rattle.manifest_loading.specs.Chosen.{trie_in}
+use Rattle.loading_laws.specs.Declared.{IsDeclaredTrie}
+use Rattle.loading_laws.specs.Sticking.{SticksAt}
+
+-- the trie of exactly what typed conditions read and ask for has declared paths alone, and asks only ids for ancestors
+abbrev pub ComputedTriesAreDeclared : Type 0
+ComputedTriesAreDeclared =
+    (schema : SchemaData) (env : EnvData) (ps : List PolicyData) (t : Table) →
+    IsLeast (declared_reads schema env (typed_conditions schema env ps)) (declared_demands schema env (typed_conditions schema env ps)) t → IsDeclaredTrie schema env t
+
+-- where the request and the store conform, the trie that the manifest of policies has for the request sticks at no value
+abbrev pub ComputedManifestsFit : Type 0
+ComputedManifestsFit =
+    (schema : SchemaData) → IsSchema schema → (ps : List PolicyData) (m : Manifest) → IsManifestOf schema ps m →
+    (q : Request) → RequestConforms schema q → (s : Store) → StoreConforms schema s → (t : Table) → trie_in m q ≡ Some t → (v : Val) → ¬ SticksAt t q s v
+
+-- a refusal as loading by the manifest promises it of an honest loader of the store
+pub record IsRightRefusal (m : Manifest) (q : Request) (s : Store) (old new : LoaderState) (e : EntitySliceError) : Type 0 where
+  pub without : trie_in m q ≡ None → e ≡ OutOfMemory
+  pub right : (t : Table) → trie_in m q ≡ Some t → IsRight (SticksAt t q s) old new e
+
+-- there an honest loader whose count of faults did not rise is refused for want of memory alone
+abbrev pub HonestLoadingSucceeds : Type 0
+HonestLoadingSucceeds =
+    (schema : SchemaData) → IsSchema schema → (ps : List PolicyData) (m : Manifest) → IsManifestOf schema ps m →
+    (q : Request) → RequestConforms schema q → (s : Store) → StoreConforms schema s →
+    (old new : LoaderState) → ¬ Rose old.faults new.faults → (e : EntitySliceError) → IsRightRefusal m q s old new e → e ≡ OutOfMemory
+
+-- there no path of the trie is blocked in the store, so slicing along it does not refuse the trie
+abbrev pub ComputedSlicesFit : Type 0
+ComputedSlicesFit =
+    (schema : SchemaData) → IsSchema schema → (ps : List PolicyData) (m : Manifest) → IsManifestOf schema ps m →
+    (q : Request) → RequestConforms schema q → (s : Store) → StoreConforms schema s → (t : Table) → trie_in m q ≡ Some t → (v : Val) → ¬ IsBlocked t q s v

@@ -1,0 +1,4 @@
+//! Laws of loading by computed manifests.
+#![tactic(auto)]
+
+pub mod laws;
