@@ -1,5 +1,5 @@
 -- Steps of the walk through environments.
-use Rattle.std.proofs.Common.{◌≡◌, ℕ, suc, ◌+◌, ◌<◌, arith, List, [], ◌∷◌, ◌++◌, map, take, drop, length, get_or, Option, Some, None, IsSome, IfSome, refl, sym, ap, ◌∙◌, subst}
+use Rattle.std.proofs.Common.{◌≡◌, ℕ, suc, ◌+◌, ◌<◌, arith, List, [], ◌∷◌, ◌++◌, map, take, drop, length, get_or, Option, Some, None, IsSome, IfSome, Result, Ok, Err, IfOk, refl, sym, ap, ◌∙◌, subst}
 use Rattle.std.specs.BTreeMap.{insert_entry}
 use Rattle.std.specs.Cmp.{IsTotalOrder, on_total, then_total}
 use Rattle.std.specs.List.{AllByRecursion, AllZip}
@@ -21,6 +21,7 @@ use Rattle.schema_core.specs.Schema.{SchemaData}
 use Rattle.policy_set.specs.Data.{PolicyData}
 use Rattle.entity_manifest.specs.Manifest.{Manifest}
 use Rattle.policy_links.specs.Accepted.{IsTyped, IsTypedIn}
+use Rattle.policy_acceptance.specs.Laws.{LeavesAll}
 use Rattle.typed_conditions.specs.Found.{found_conditions}
 use Rattle.typed_conditions.specs.Typed.{typed_conditions}
 use Rattle.manifest_computation.specs.Computed.{IsEntryOf, IsManifestOf}
@@ -60,7 +61,7 @@ next_behind schema ps [] [] env rest q is h b = tt
 next_behind schema ps [] (x ∷ m) env rest q is h b = absurd h
 next_behind schema ps (e ∷ done) [] env rest q is h b = absurd h
 next_behind schema ps (e ∷ done) (x ∷ m) env rest q is h b =
-    (before_types e env x.0 q h.0.request_type is (at_seam (IsBefore e) done env rest b.0), next_behind schema ps done m env rest q is h.1 b.1)
+    (before_types e env x.0 q h.0.0.request_type is (at_seam (IsBefore e) done env rest b.0), next_behind schema ps done m env rest q is h.1 b.1)
 
 split_at : {X : Type 0} (xs : List X) (i : ℕ) (d : X) → i < length xs → xs ≡ take i xs ++ get_or xs i d ∷ drop (i + 1) xs
 split_at xs i d h = sym (take-append-drop i xs) ∙ ap (λ l. take i xs ++ l) (at_drop_more (λ ys. ys) xs i d h)
@@ -84,6 +85,9 @@ module _ (schema : SchemaData) (ok : IsSchema schema) (ps : List PolicyData) (it
   pub declared_here : IsSome (request_type_in (env_data_of env))
   declared_here = at_seam (λ e. IsSome (request_type_in e)) done (env_data_of env) rest (subst (AllByRecursion (λ e. IsSome (request_type_in e))) whole (envs_declared schema))
 
+  pub left_here : AllByRecursion (LeavesAll schema ps) (unlinked_envs schema) → LeavesAll schema ps (env_data_of env)
+  left_here left = at_seam (LeavesAll schema ps) done (env_data_of env) rest (subst (AllByRecursion (LeavesAll schema ps)) whole left)
+
   pub behind_here : (m : Manifest) → AreEntries schema ps done m → IfSome (request_type_in (env_data_of env)) (λ q. IsBehind q (keys_of m))
   behind_here m entries = by (request_type_in (env_data_of env)) refl
     where
@@ -92,13 +96,37 @@ module _ (schema : SchemaData) (ok : IsSchema schema) (ps : List PolicyData) (it
       by (Some q) e = next_behind schema ps done m (env_data_of env) rest q e entries (subst (Pairwise IsBefore) whole (envs_ascend schema ok))
 
   pub entries_here : (m new : Manifest) (x : RequestType × Table) → AreEntries schema ps done m → new ≡ m ++ x ∷ [] → IsEntryOf schema (env_data_of env) (found_conditions schema (env_data_of env) ps) x →
-      AreEntries schema ps (map env_data_of (take (i + 1) items)) new
-  entries_here m new x entries added entry =
+      LeavesAll schema ps (env_data_of env) → AreEntries schema ps (map env_data_of (take (i + 1) items)) new
+  entries_here m new x entries added entry left =
       let more : map env_data_of (take (i + 1) items) ≡ done ++ env_data_of env ∷ [] =
       ap (map env_data_of) (taken_one_more items i env h ∙ ap (λ e. take i items ++ e ∷ []) (sym is)) ∙ map-append env_data_of (take i items) (env ∷ []) in
       subst (λ es. AreEntries schema ps es new) (sym more)
       (subst (λ n. AreEntries schema ps (done ++ env_data_of env ∷ []) n) (sym added)
-      (zip_last (λ e y. IsEntryOf schema e (found_conditions schema e ps) y) done m (env_data_of env) x entries entry))
+      (zip_last (λ e y. IsEntryOf schema e (found_conditions schema e ps) y × LeavesAll schema ps e) done m (env_data_of env) x entries (entry, left)))
+
+-- where there is an entry for each environment, checks leave each condition
+pub all_left : (schema : SchemaData) (ps : List PolicyData) (envs : List EnvData) (m : Manifest) → AreEntries schema ps envs m → AllByRecursion (LeavesAll schema ps) envs
+all_left schema ps [] [] h = tt
+all_left schema ps [] (e ∷ m) h = absurd h
+all_left schema ps (env ∷ envs) [] h = absurd h
+all_left schema ps (env ∷ envs) (e ∷ m) h = (h.0.1, all_left schema ps envs m h.1)
+
+pub no_length : {X : Type 0} (xs : List X) → length xs ≡ 0 → xs ≡ []
+no_length [] h = refl
+no_length (x ∷ xs) h = absurd (omega (arith, h))
+
+pub each_some : {X E : Type 0} (P Q : X → Type 0) → ((x : X) → P x → Q x) → (r : Result (Option X) E) → IfOk r (λ o. IfSome o P) → IfOk r (λ o. IfSome o Q)
+each_some P Q f (Err e) h = tt
+each_some P Q f (Ok None) h = tt
+each_some P Q f (Ok (Some x)) h = f x h
+
+-- where there are no policies, nothing is left out
+pub nothing_left : (schema : SchemaData) (ps : List PolicyData) (envs : List EnvData) → ps ≡ [] → AllByRecursion (LeavesAll schema ps) envs
+nothing_left schema ps [] h = tt
+nothing_left schema ps (env ∷ envs) h = (subst (λ qs. LeavesAll schema qs env) (sym h) refl, nothing_left schema ps envs h)
+
+pub no_manifest : (schema : SchemaData) (ps : List PolicyData) (m : Manifest) → ps ≡ [] → m ≡ [] → IsManifestOf schema ps m
+no_manifest schema ps m h k = subst (λ qs. IsManifestOf schema qs m) (sym h) k
 
 -- where there are policies, their entries make their manifest
 pub whole_manifest : (schema : SchemaData) (ps : List PolicyData) (m : Manifest) → (ps ≡ [] → ⊥) → AllZip (λ env e. IsEntryOf schema env (typed_conditions schema env ps) e) (unlinked_envs schema) m → IsManifestOf schema ps m
@@ -112,6 +140,6 @@ entries_same schema ps same [] [] typed h = tt
 entries_same schema ps same [] (e ∷ m) typed h = absurd h
 entries_same schema ps same (env ∷ envs) [] typed h = absurd h
 entries_same schema ps same (env ∷ envs) (e ∷ m) typed h = (
-  subst (λ ts. IsEntryOf schema env ts e) (same env (all_more (λ p. IsTypedIn schema p.condition (env ∷ envs)) (λ p. IsTyped schema p.condition env) (λ p t. t.0) ps typed)) h.0,
+  subst (λ ts. IsEntryOf schema env ts e) (same env (all_more (λ p. IsTypedIn schema p.condition (env ∷ envs)) (λ p. IsTyped schema p.condition env) (λ p t. t.0) ps typed)) h.0.0,
   entries_same schema ps same envs m (all_more (λ p. IsTypedIn schema p.condition (env ∷ envs)) (λ p. IsTypedIn schema p.condition envs) (λ p t. t.1) ps typed) h.1,
 )

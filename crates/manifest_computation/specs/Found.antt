@@ -9,11 +9,12 @@ use Rattle.schema_core.specs.Schema.{SchemaData}
 use Rattle.policy_set.specs.Data.{PolicyData}
 use Rattle.typed_conditions.specs.Found.{found_conditions}
 use Rattle.entity_manifest.specs.Manifest.{Manifest}
+use Rattle.policy_acceptance.specs.Laws.{LeavesAll}
 use Rattle.manifest_computation.specs.Computed.{IsEntryOf}
 
--- an entry for each environment, of what is found there
+-- an entry for each environment, of what checks leave there: the condition of each policy
 abbrev pub AreEntries : SchemaData → List PolicyData → List EnvData → Manifest → Type 0
-AreEntries schema ps envs m = AllZip (λ env e. IsEntryOf schema env (found_conditions schema env ps) e) envs m
+AreEntries schema ps envs m = AllZip (λ env e. IsEntryOf schema env (found_conditions schema env ps) e × LeavesAll schema ps env) envs m
 
 -- the request type comes behind all these
 abbrev pub IsBehind : RequestType → List RequestType → Type 0

@@ -1,8 +1,10 @@
 //! The manifest of policies.
 
-ghost use Rattle.std.specs.Prelude.{IfOk, IfErr};
-ghost use Rattle.std.specs.List.{AllZip};
+ghost use Rattle.std.specs.Prelude.{◌≡◌, ◌↔◌, IfOk, IfErr, IfSome, IsTrue, None};
+ghost use Rattle.std.specs.List.{AllByRecursion, AllZip};
 ghost use Rattle.schema_core.specs.EnvData.{unlinked_envs};
+ghost use Rattle.policy_acceptance.specs.Laws.{LeavesAll};
+ghost use Rattle.policy_acceptance.specs.Rules.{keep_rules};
 ghost use Rattle.policy_validate.specs.Accepted.{IsAccepted};
 ghost use Rattle.entity_manifest.specs.Manifest.{Manifest};
 ghost use Rattle.manifest_computation.specs.Computed.{IsEntryOf, IsManifestOf, WhyNone};
@@ -14,6 +16,8 @@ use crate::tries::tries_of;
 use access_tries::RootAccessTrie;
 use entity_manifest::EntityManifest;
 use extension_types::{ExtensionSchemas, all_objects};
+use policy_acceptance::keep_rules;
+use policy_acceptance::laws::accepted_by_rules;
 use policy_set::PolicySet;
 use policy_set::laws::is_policy_set;
 use policy_store::RequestType;
@@ -37,38 +41,68 @@ pub fn compute_entity_manifest(
     ensures accepted { IfOk result (λ m. IsAccepted schema.now policies.now) }
     ensures refused { IfErr result (WhyNone schema.now policies.now) }
 {
-    let found = Validator::new(schema).validate(alloc, policies, ValidationMode::Strict)?;
-    if !found.validation_passed() {
-        return Err(EntityManifestError::Validation(found));
+    match tries_where_accepted(alloc, schema, policies)? {
+        Some(tries) => Ok(EntityManifest::new(tries)),
+        None => {
+            let found = Validator::new(schema).validate(alloc, policies, ValidationMode::Strict)?;
+            Err(EntityManifestError::Validation(found))
+        }
     }
-    drop(found);
-    Ok(EntityManifest::new(all_tries(alloc, schema, policies)?))
 }
 
-// A trie for each environment of the schema; none without policies.
-fn all_tries(
+// A trie for each environment of the schema, or none without policies; nothing where the policies are not accepted. Each
+// condition is typed once in an environment: the check that accepts it also gives what goes into the trie.
+fn tries_where_accepted(
     alloc: Global,
     schema: &ValidatorSchema,
     policies: &PolicySet,
-) -> Result<BTreeMap<RequestType, RootAccessTrie>, AllocError>
-    requires { IsAccepted schema.now policies.now }
-    ensures { IfOk result (λ m. IsManifestOf schema.now policies.now.policies m.entries) }
+) -> Result<Option<BTreeMap<RequestType, RootAccessTrie>>, AllocError>
+    ensures tries { IfOk result (λ o. IfSome o (λ m. IsAccepted schema.now policies.now × IsManifestOf schema.now policies.now.policies m.entries)) }
+    ensures refused { IfOk result (λ o. o ≡ None → ¬ IsAccepted schema.now policies.now) }
 {
-    if policies.len() == 0 {
-        return Ok(BTreeMap::new(alloc));
-    }
-    entries_where_accepted(schema, policies);
+    accepted_exactly(schema, policies);
     let objects = all_objects(alloc)?;
     let extensions = ExtensionSchemas::all_available(alloc, &objects)?;
     let typechecker = Typechecker::new(schema, &extensions, ValidationMode::Strict);
-    let tries = tries_of(alloc, schema, &typechecker, policies)?;
-    Ok(tries)
+    if keep_rules(alloc, schema, &typechecker, policies)? {
+        tries_where_left(alloc, schema, &typechecker, policies)
+    } else {
+        Ok(None)
+    }
+}
+
+// The same of policies that keep the rules.
+fn tries_where_left(
+    alloc: Global,
+    schema: &ValidatorSchema,
+    typechecker: &Typechecker<'_, '_>,
+    policies: &PolicySet,
+) -> Result<Option<BTreeMap<RequestType, RootAccessTrie>>, AllocError>
+    requires typechecker { typechecker.now ≡ schema.now }
+    requires rules { IsTrue (keep_rules schema.now policies.now) }
+    ensures tries { IfOk result (λ o. IfSome o (λ m. IsAccepted schema.now policies.now × IsManifestOf schema.now policies.now.policies m.entries)) }
+    ensures refused { IfOk result (λ o. o ≡ None → ¬ IsAccepted schema.now policies.now) }
+{
+    accepted_exactly(schema, policies);
+    entries_where_accepted(schema, policies);
+    if policies.len() == 0 {
+        return Ok(Some(BTreeMap::new(alloc)));
+    }
+    tries_of(alloc, schema, typechecker, policies)
+}
+
+// The policies are accepted exactly where they keep the rules and checks leave each condition.
+fn accepted_exactly(schema: &ValidatorSchema, policies: &PolicySet)
+    ensures { (IsTrue (keep_rules schema.now policies.now) × AllByRecursion (LeavesAll schema.now policies.now.policies) (unlinked_envs schema.now)) ↔ IsAccepted schema.now policies.now }
+{
+    accepted_by_rules();
+    let _actions = schema.action_ids();
+    is_policy_set(policies);
 }
 
 // Of accepted policies the conditions that checks leave are those that typing gives.
 fn entries_where_accepted(schema: &ValidatorSchema, policies: &PolicySet)
-    requires { IsAccepted schema.now policies.now }
-    ensures { (m : Manifest) → AreEntries schema.now policies.now.policies (unlinked_envs schema.now) m → AllZip (λ env e. IsEntryOf schema.now env (typed_conditions schema.now env policies.now.policies) e) (unlinked_envs schema.now) m }
+    ensures { IsAccepted schema.now policies.now → (m : Manifest) → AreEntries schema.now policies.now.policies (unlinked_envs schema.now) m → AllZip (λ env e. IsEntryOf schema.now env (typed_conditions schema.now env policies.now.policies) e) (unlinked_envs schema.now) m }
 {
     found_are_typed();
     accepted_are_typed();
