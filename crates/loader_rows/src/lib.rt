@@ -1,0 +1,11 @@
+//! Rows of what loaders, slices and manifests give, each worked out by hand.
+#![tactic(auto)]
+
+#[cfg(test)]
+mod liar;
+#[cfg(test)]
+mod loaders;
+#[cfg(test)]
+mod manifests;
+#[cfg(test)]
+mod texts;
