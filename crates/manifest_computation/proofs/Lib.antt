@@ -1,2 +1,3 @@
 mod Ascending
 mod Entries
+pub mod Additions

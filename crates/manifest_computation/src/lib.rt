@@ -3,6 +3,7 @@
 
 mod compute;
 mod error;
+mod gathering;
 mod tries;
 
 pub use compute::compute_entity_manifest;

@@ -1,0 +1,31 @@
+-- What a trie holds, with conditions that are still to be added to it.
+use Rattle.std.specs.Prelude.{◌≡◌, Bool, ◌||◌, List, map}
+use Rattle.std.specs.List.{list_any}
+use Rattle.access_tries.specs.Edges.{Address}
+use Rattle.access_tries.specs.Paths.{address_of, demand_of, is_front, is_same, IsLeast}
+use Rattle.access_tries.specs.Table.{Table, leads, is_marked}
+use Rattle.schema_core.specs.EnvData.{EnvData}
+use Rattle.schema_core.specs.Schema.{SchemaData}
+use Rattle.policy_typing.specs.Typing.{Typed}
+use Rattle.policy_set.specs.Data.{PolicyData}
+use Rattle.policy_reads.specs.Reads.{declared_reads, declared_demands}
+use Rattle.policy_acceptance.specs.Laws.{LeavesAll}
+use Rattle.typed_conditions.specs.Found.{found_conditions}
+
+module _ (schema : SchemaData) (env : EnvData) where
+  -- whether the edges are a front of what conditions read or ask for, and whether they are what one of them asks for
+  abbrev pub goes_along : List Typed → Address → Bool
+  goes_along ts es = list_any (is_front es) (map address_of (declared_reads schema env ts)) || list_any (is_front es) (map demand_of (declared_demands schema env ts))
+
+  abbrev pub asks_along : List Typed → Address → Bool
+  asks_along ts es = list_any (is_same es) (map demand_of (declared_demands schema env ts))
+
+  -- two tries hold the same, each with what conditions read and ask for beside it
+  pub record HoldSame (t : Table) (ts : List Typed) (u : Table) (us : List Typed) : Type 0 where
+    pub paths : (es : Address) → (leads t es || goes_along ts es) ≡ (leads u es || goes_along us es)
+    pub marks : (es : Address) → (is_marked t es || asks_along ts es) ≡ (is_marked u es || asks_along us es)
+
+  -- the trie of what checks leave of policies, of which they leave each condition
+  pub record IsTrieLeft (ps : List PolicyData) (t : Table) : Type 0 where
+    pub trie : IsLeast (declared_reads schema env (found_conditions schema env ps)) (declared_demands schema env (found_conditions schema env ps)) t
+    pub left : LeavesAll schema ps env
