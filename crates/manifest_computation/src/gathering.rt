@@ -16,7 +16,8 @@ use schema_core::{RequestEnv, ValidatorSchema};
 use schema_types::Type;
 use std::alloc::{AllocError, Global};
 
-// How many conditions are kept with their types at a time: few, so that they are still near when they are read.
+// How many conditions are kept with their types at a time: few, so that they are still near when they are read, but the more
+// the larger the trie is, which is copied each time.
 const AT_ONCE: usize = 8;
 
 /// The trie of what the policies' conditions read and ask for in the environment, each with its types there; nothing where
@@ -71,11 +72,15 @@ fn take<'a>(
     ensures { OnOk result ((ts : List Typed) → HoldSame schema.now (env_data_of env.now) trie.new (conditions.new.items ++ ts) trie.old (conditions.old.items ++ condition ∷ ts)) }
 {
     conditions.push(condition)?;
-    if conditions.len() < AT_ONCE {
-        Ok(())
-    } else {
+    if is_enough(conditions.len(), trie.nodes().len()) {
         add_all(alloc, schema, env, conditions, trie)
+    } else {
+        Ok(())
     }
+}
+
+fn is_enough(conditions: usize, nodes: usize) -> bool {
+    conditions >= AT_ONCE && conditions >= nodes / 4
 }
 
 // Adds what the conditions read and ask for to the trie, and lets go of them.

@@ -3,8 +3,8 @@ use Rattle.schema_core.specs.RequestEnvs.{env_data_of}
 use Rattle.manifest_computation.proofs.Additions.{and_then, both_ok, same_list, taken}
 use Rattle.manifest_computation.proofs.gathering.take.Goals as goal
 
-pub returns-else-len-lt-AT_ONCE : goal.returns-else-len-lt-AT_ONCE
-returns-else-len-lt-AT_ONCE c =
+pub returns-then-is_enough : goal.returns-then-is_enough
+returns-then-is_enough c =
     let schema = c.args.schema.now in
     let env = env_data_of c.args.env.now in
     let t = c.args.trie.now in
