@@ -24,7 +24,7 @@ use Rattle.policy_set.specs.Condition.{anything, condition_of}
 use Rattle.policy_expressions.specs.Plain.{unmarked}
 use Rattle.policy_set.specs.Links.{own_condition, linked_of}
 use Rattle.policy_links.specs.Linked.{types_around, linked_env, linked_envs}
-use Rattle.policy_scope.specs.Names.{is_known_type}
+use Rattle.findings.specs.Mentioned.{is_known_type}
 use Rattle.policy_scope.specs.Scope.{is_applicable}
 
 abbrev id : List ℕ → List ℕ → EntityUID

@@ -13,7 +13,7 @@ use Rattle.policy_set.specs.Data.{TemplateData}
 use Rattle.policy_set.specs.Condition.{condition_of}
 use Rattle.policy_set.specs.Links.{linked_of}
 use Rattle.policy_links.specs.Linked.{linked_envs}
-use Rattle.policy_scope.specs.Names.{is_known_type}
+use Rattle.findings.specs.Mentioned.{is_known_type}
 use Rattle.typing_findings.specs.Names.{has_known_names}
 use Rattle.policy_scope.specs.Scope.{is_applicable}
 

@@ -9,7 +9,8 @@ use Rattle.schema_core.specs.Schema.{SchemaData}
 use Rattle.findings.specs.declared.rules.UnrecognizedEntityType.{UnrecognizedEntityType}
 use Rattle.findings.specs.declared.rules.UnrecognizedActionId.{UnrecognizedActionId}
 use Rattle.findings.specs.declared.rules.InvalidEnumEntity.{InvalidEnumEntity}
-use Rattle.policy_scope.specs.Names.{loc_cmp, entity_type_cmp, action_id_cmp, enum_cmp, action_id_hint, choices_without, enum_finding, an_id}
+use Rattle.findings.specs.Mentioned.{an_id}
+use Rattle.policy_scope.specs.Names.{loc_cmp, entity_type_cmp, action_id_cmp, enum_cmp, action_id_hint, choices_without, enum_finding}
 use Rattle.policy_scope.proofs.Once.{order}
 use Rattle.policy_names.specs.Uid.{uid_cmp_total}
 use Rattle.std.specs.Cmp.{IsTotalOrder, on_total, then_total, nat_cmp_total}

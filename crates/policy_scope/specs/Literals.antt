@@ -3,7 +3,7 @@ use Rattle.std.specs.Prelude.{Option}
 use Rattle.policy_expressions.specs.declared.kinds.Loc.{Loc}
 use Rattle.policy_scope.specs.declared.names.Mention.{Mention}
 use Rattle.policy_scope.specs.declared.names.Mention.TheVariants.{Id, EntityType}
-use Rattle.policy_scope.specs.Names.{Mentioned, an_id, a_type}
+use Rattle.findings.specs.Mentioned.{Mentioned, an_id, a_type}
 
 -- the name that is referred to
 abbrev pub mentioned : Mention → Mentioned

@@ -1,5 +1,5 @@
--- The names in a condition: the types that it names and the actions of its literals, which have to be declared, and the ids of
--- enumerated types, which have to be listed.
+-- What is found of the names in a condition: types and actions that are not declared, and ids that their enumerated types do not
+-- list.
 use Rattle.std.specs.Prelude.{◌||◌, not, Bool, ℕ, List, [], ◌∷◌, ◌++◌, Option, Some, None, map, fold, find, option_map, option_to_list, is_some, codes, eqb, if◌then◌else◌}
 use Rattle.std.specs.List.{filter_map, starts_with}
 use Rattle.std.specs.Option.{option_cmp, option_and_then}
@@ -8,59 +8,17 @@ use Rattle.std.specs.declared.cmp.Ordering.{Ordering}
 use Rattle.hierarchy.specs.Reaches.{has}
 use Rattle.policy_names.specs.declared.entity_uid.EntityUID.{EntityUID}
 use Rattle.policy_names.specs.Uid.{text_cmp, uid_cmp}
-use Rattle.policy_names.specs.Basename.{is_action_type}
 use Rattle.policy_expressions.specs.declared.kinds.Loc.{Loc}
-use Rattle.policy_expressions.specs.declared.kinds.Literal.TheVariants as literal
-use Rattle.policy_expressions.specs.Tree.{Tree, lit, var, slot, ite, conj, disj, unary, binary, attr, like, is_type, call, set, rec, Trees, no_trees, tree, Named, no_named, named, Mark}
-use Rattle.policy_expressions.specs.Tree as core
 use Rattle.policy_expressions.specs.Plain.{Plain}
 use Rattle.policy_set.specs.Data.{LinkData, PolicyData}
 use Rattle.schema_core.specs.Kinds.{Kind, standard, enumerated}
-use Rattle.schema_core.specs.Schema.{SchemaData, ActionData, type_at, action_at}
+use Rattle.schema_core.specs.Schema.{SchemaData, ActionData, type_at}
+use Rattle.findings.specs.Mentioned.{Mentioned, an_id, a_type, type_of, names_in, is_known_type, is_known_action}
 use Rattle.findings.specs.declared.rules.UnrecognizedEntityType.{UnrecognizedEntityType}
 use Rattle.findings.specs.declared.rules.UnrecognizedActionId.{UnrecognizedActionId}
 use Rattle.findings.specs.declared.rules.InvalidEnumEntity.{InvalidEnumEntity}
 use Rattle.findings.specs.declared.rules.UnrecognizedActionIdHelp.{UnrecognizedActionIdHelp}
 use Rattle.findings.specs.declared.rules.UnrecognizedActionIdHelp.TheVariants.{AvoidActionTypeInActionId}
-
--- a name in a condition: the id of a literal, or the type that `is` tests for
-pub data Mentioned : Type 0 where
-  an_id : EntityUID → Mentioned
-  a_type : List ℕ → Mentioned
-
--- the type of the id, or the type itself
-abbrev pub type_of : Mentioned → List ℕ
-type_of (an_id uid) = uid.entity_type
-type_of (a_type ty) = ty
-
--- all names, each with the place of its literal or of its `is`, reached or not, in the order in which they stand
-module _ {T : Type 0} where
-  abbrev mutual
-    pub names_in : Tree (Mark T) → List (Mentioned × Option Loc)
-    names_in (lit (literal.EntityUID uid) a) = (an_id uid, a.loc) ∷ []
-    names_in (lit l a) = []
-    names_in (var v a) = []
-    names_in (slot i a) = []
-    names_in (ite x y z a) = names_in x ++ (names_in y ++ names_in z)
-    names_in (conj x y a) = names_in x ++ names_in y
-    names_in (disj x y a) = names_in x ++ names_in y
-    names_in (unary o x a) = names_in x
-    names_in (binary o x y a) = names_in x ++ names_in y
-    names_in (attr x n a) = names_in x
-    names_in (core.has x n a) = names_in x
-    names_in (like x p a) = names_in x
-    names_in (is_type x t a) = names_in x ++ (a_type t, a.loc) ∷ []
-    names_in (call f xs a) = names_in_all xs
-    names_in (set xs a) = names_in_all xs
-    names_in (rec xs a) = names_in_named xs
-
-    pub names_in_all : Trees (Mark T) → List (Mentioned × Option Loc)
-    names_in_all no_trees = []
-    names_in_all (tree x xs) = names_in x ++ names_in_all xs
-
-    pub names_in_named : Named (Mark T) → List (Mentioned × Option Loc)
-    names_in_named no_named = []
-    names_in_named (named k x xs) = names_in x ++ names_in_named xs
 
 module _ {X : Type 0} (cmp : X → X → Ordering) where
   -- the items with one more, unless they have it
@@ -84,10 +42,6 @@ action_id_cmp a b = ordering_then (uid_cmp a.actual_action_id b.actual_action_id
 
 abbrev pub enum_cmp : InvalidEnumEntity → InvalidEnumEntity → Ordering
 enum_cmp a b = ordering_then (uid_cmp a.err.uid b.err.uid) (option_cmp loc_cmp a.source_loc b.source_loc)
-
--- the type is declared, or is a type of actions
-abbrev pub is_known_type : SchemaData → List ℕ → Bool
-is_known_type schema ty = is_some (type_at schema ty) || is_action_type ty
 
 -- what is found of a name's type: that it is not known
 abbrev pub entity_type_finding : SchemaData → List ℕ → Mentioned × Option Loc → Option UnrecognizedEntityType
@@ -118,10 +72,6 @@ repeats_type uid a = occurs_in (codes "Action::" ++ uid.eid) a.name.eid || occur
 -- the least action whose eid repeats the type of actions, where there is one
 abbrev pub action_id_hint : SchemaData → EntityUID → Option UnrecognizedActionIdHelp
 action_id_hint schema uid = option_map (λ a. AvoidActionTypeInActionId a.name) (find (repeats_type uid) schema.action_ids)
-
--- the id is none of an action, or that of a declared one
-abbrev pub is_known_action : SchemaData → EntityUID → Bool
-is_known_action schema uid = not (is_action_type uid.entity_type) || is_some (action_at schema uid)
 
 -- what is found of an id: that it is of an action which is not declared
 abbrev pub unknown_action : SchemaData → List ℕ → EntityUID → Option Loc → Option UnrecognizedActionId

@@ -3,7 +3,8 @@
 
 ghost use Rattle.std.specs.Prelude.{◌≡◌, ◌++◌, IfOk, OnOk, map, None, option_copied, option_to_list};
 ghost use Rattle.policy_expressions.specs.Tree.{trees_of, named_of};
-ghost use Rattle.policy_scope.specs.Names.{type_of, names_in, names_in_all, names_in_named, is_known_type, is_known_action, an_id, distinct, entity_type_cmp, entity_type_finding, entity_type_findings, slot_type_findings, action_id_findings, enum_findings, choices_without, others_listed, choices_in, action_id_hint, occurs_in};
+ghost use Rattle.findings.specs.Mentioned.{type_of, names_in, names_in_all, names_in_named, is_known_type, is_known_action, an_id};
+ghost use Rattle.policy_scope.specs.Names.{distinct, entity_type_cmp, entity_type_finding, entity_type_findings, slot_type_findings, action_id_findings, enum_findings, choices_without, others_listed, choices_in, action_id_hint, occurs_in};
 ghost use Rattle.std.specs.List.{filter_map};
 ghost use Rattle.std.specs.Ordering.{is_eq};
 ghost use Rattle.hierarchy.specs.Reaches.{has};

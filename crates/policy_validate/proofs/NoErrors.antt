@@ -9,7 +9,8 @@ use Rattle.schema_core.specs.Schema.{SchemaData}
 use Rattle.policy_set.specs.Data.{TemplateData, PolicyData, LinkData}
 use Rattle.policy_set.specs.Condition.{condition_of, written_of}
 use Rattle.policy_set.specs.PolicySet.{PolicySetData, written, links}
-use Rattle.policy_scope.specs.Names.{an_id, distinct, entity_type_cmp, is_known_type, entity_type_finding, entity_type_findings, enum_findings, action_id_findings, ids_given, slot_type_findings}
+use Rattle.findings.specs.Mentioned.{an_id, is_known_type}
+use Rattle.policy_scope.specs.Names.{distinct, entity_type_cmp, entity_type_finding, entity_type_findings, enum_findings, action_id_findings, ids_given, slot_type_findings}
 use Rattle.policy_scope.specs.Scope.{application_finding, application_findings, is_applicable}
 use Rattle.typing_findings.specs.Check.{CheckIsExact}
 use Rattle.policy_links.specs.Accepted.{IsAcceptedTemplate, HasKnownType}

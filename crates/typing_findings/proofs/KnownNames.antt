@@ -11,7 +11,7 @@ use Rattle.policy_expressions.specs.Tree.{Tree, lit, var, slot, ite, conj, disj,
 use Rattle.policy_expressions.specs.Tree as core
 use Rattle.schema_core.specs.Schema.{SchemaData, TypeData, ActionData, type_at, action_at}
 use Rattle.schema_core.specs.EnvData.{id_type}
-use Rattle.policy_scope.specs.Names.{Mentioned, a_type, names_in, names_in_all, names_in_named, is_known_type, is_known_action}
+use Rattle.findings.specs.Mentioned.{Mentioned, a_type, names_in, names_in_all, names_in_named, is_known_type, is_known_action}
 use Rattle.policy_typing.specs.Conforms.{is_listed}
 use Rattle.policy_typing.specs.Environment.{type_of_literal}
 use Rattle.typing_findings.specs.Names.{is_known_id, is_known_name}

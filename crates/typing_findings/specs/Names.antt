@@ -4,7 +4,7 @@ use Rattle.std.specs.List.{list_all}
 use Rattle.policy_names.specs.declared.entity_uid.EntityUID.{EntityUID}
 use Rattle.policy_expressions.specs.Tree.{Tree, Mark}
 use Rattle.schema_core.specs.Schema.{SchemaData}
-use Rattle.policy_scope.specs.Names.{Mentioned, an_id, a_type, names_in, is_known_type, is_known_action}
+use Rattle.findings.specs.Mentioned.{Mentioned, an_id, a_type, names_in, is_known_type, is_known_action}
 use Rattle.policy_typing.specs.Conforms.{is_listed}
 
 module _ (schema : SchemaData) where

@@ -1,6 +1,6 @@
 use Rattle.std.proofs.Common.{◌≡◌, ◌≤◌, ◌+◌, ◌*◌, ◌++◌, drop, map}
 use Rattle.policy_expressions.specs.Tree.{depth_of, deepest, deepest_named, trees_of, named_of}
-use Rattle.policy_scope.specs.Names.{names_in_all, names_in_named}
+use Rattle.findings.specs.Mentioned.{names_in_all, names_in_named}
 use Rattle.policy_scope.specs.Literals.{pair_of}
 use Rattle.policy_scope.proofs.names.+names.Given as goal
 
