@@ -7,6 +7,7 @@ mod Listing
 pub mod Making
 pub mod Merging
 mod SameTries
+mod Searching
 mod UnionLaws
 pub mod Unions
 mod With

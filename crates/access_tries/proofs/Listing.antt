@@ -22,7 +22,7 @@ each_so f [] h = tt
 each_so f (x ∷ xs) h = (f x h.0, each_so f xs h.1)
 
 -- each link is the one that is found by its edge
-all_found : (ls : List Link) → Ascend ls → AllByRecursion (λ m. number_at m.edge ls ≡ Some m.number) ls
+pub all_found : (ls : List Link) → Ascend ls → AllByRecursion (λ m. number_at m.edge ls ≡ Some m.number) ls
 all_found [] up = tt
 all_found (l ∷ ls) up = (
   ap (λ b. option_map (λ m. m.number) (cond b (Some l) (find (λ m. edge_eq m.edge l.edge) ls))) (ap is_eq (tied_itself edge_total l.edge)),

@@ -1,8 +1,8 @@
 -- Edges that are borrowed.
 use Rattle.access_tries.specs.declared.edge.Edge.{Edge}
 use Rattle.access_tries.specs.declared.edge.Edge.TheVariants.{Field, AnyTag, Root}
-use Rattle.access_tries.specs.declared.views.EdgeRef.{EdgeRef}
-use Rattle.access_tries.specs.declared.views.EdgeRef.TheVariants as lent
+use Rattle.access_tries.specs.declared.edge.EdgeRef.{EdgeRef}
+use Rattle.access_tries.specs.declared.edge.EdgeRef.TheVariants as lent
 
 abbrev pub edge_in : EdgeRef → Edge
 edge_in (lent.Field n) = Field n.now

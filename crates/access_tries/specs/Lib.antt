@@ -2,6 +2,7 @@ pub mod EdgeLaws
 pub mod EdgeView
 pub mod Edges
 pub mod Laws
+pub mod PathLaws
 pub mod Paths
 pub mod Same
 pub mod SameLaws

@@ -2,6 +2,8 @@
 use Rattle.std.specs.Prelude.{◌≡◌, Bool, true, false, ◌||◌, ◌&&◌, List, [], ◌∷◌, ◌++◌, map, refl}
 use Rattle.std.specs.List.{list_any}
 use Rattle.std.specs.Coded.{Coded, coded_list, coded×, code_by}
+use Rattle.std.specs.Cmp.Lexicographic.{slice_cmp}
+use Rattle.std.specs.declared.cmp.Ordering.{Ordering}
 use Rattle.access_tries.specs.declared.edge.EntityRoot.{EntityRoot}
 use Rattle.access_tries.specs.contracts.edge.EntityRoot.{the_row as root_row}
 use Rattle.access_tries.specs.declared.edge.Step.{Step}
@@ -9,7 +11,7 @@ use Rattle.access_tries.specs.declared.edge.Step.TheVariants as step
 use Rattle.access_tries.specs.contracts.edge.Step.{the_row as step_row}
 use Rattle.access_tries.specs.declared.edge.Edge.{Edge}
 use Rattle.access_tries.specs.declared.edge.Edge.TheVariants.{Field, AnyTag, Root}
-use Rattle.access_tries.specs.Edges.{Address, edge_eq}
+use Rattle.access_tries.specs.Edges.{Address, edge_cmp, edge_eq}
 use Rattle.access_tries.specs.Table.{Table, leads, is_marked}
 
 -- a path: where it begins, and the steps from there
@@ -30,6 +32,10 @@ address_of p = Root p.root ∷ map edge_of p.steps
 
 abbrev pub demand_of : AccessPath × AccessPath → Address
 demand_of d = address_of d.0 ++ address_of d.1
+
+-- the order of paths, edge by edge
+abbrev pub path_cmp : AccessPath → AccessPath → Ordering
+path_cmp p q = slice_cmp edge_cmp (address_of p) (address_of q)
 
 -- whether the trie has the path
 abbrev pub has_path : Table → AccessPath → Bool

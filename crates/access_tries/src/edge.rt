@@ -1,14 +1,12 @@
 //! Access paths, and the edges of tries.
 
 ghost use Rattle.std.specs.Prelude.{◌≡◌, IfOk};
-ghost use Rattle.access_tries.specs.Edges.{edge_cmp};
+ghost use Rattle.access_tries.specs.EdgeView.{edge_in};
 ghost use Rattle.access_tries.specs.Paths.{edge_of};
-ghost use Rattle.access_tries.specs.declared.edge.Edge.TheVariants.{Root};
 
 use policy_expressions::Var;
 use policy_names::{EntityUID, Text};
 use std::alloc::{AllocError, Global};
-use std::cmp::Ordering;
 use std::marker::Model;
 
 /// Where a path begins.
@@ -146,6 +144,17 @@ impl Edge {
         }
     }
 
+    // The edge, with its parts borrowed.
+    pub(crate) fn borrowed(&self) -> EdgeRef<'_>
+        ensures { edge_in result ≡ self.now }
+    {
+        match self {
+            Edge::Field(name) => EdgeRef::Field(name),
+            Edge::AnyTag => EdgeRef::AnyTag,
+            Edge::Root(root) => EdgeRef::Root(root),
+        }
+    }
+
     pub(crate) fn of_step(step: &Step) -> Result<Edge, AllocError>
         ensures { IfOk result (λ e. e ≡ edge_of step.now) }
     {
@@ -156,30 +165,10 @@ impl Edge {
     }
 }
 
-/// The order of edges.
-#[tactic(auto, using(crate::specs::EdgeLaws::then_end))]
-pub fn compare(a: &Edge, b: &Edge) -> Ordering
-    ensures { result ≡ edge_cmp a.now b.now }
-{
-    match (a, b) {
-        (Edge::Field(a), Edge::Field(b)) => a.cmp(b),
-        (Edge::Field(_), _) => Ordering::Less,
-        (_, Edge::Field(_)) => Ordering::Greater,
-        (Edge::AnyTag, Edge::AnyTag) => Ordering::Equal,
-        (Edge::AnyTag, _) => Ordering::Less,
-        (_, Edge::AnyTag) => Ordering::Greater,
-        (Edge::Root(a), Edge::Root(b)) => compare_roots(a, b),
-    }
-}
-
-// The order of roots, which is that of their edges.
-pub(crate) fn compare_roots(a: &EntityRoot, b: &EntityRoot) -> Ordering
-    ensures { result ≡ edge_cmp (Root a.now) (Root b.now) }
-{
-    match (a, b) {
-        (EntityRoot::Literal(a), EntityRoot::Literal(b)) => a.cmp(b),
-        (EntityRoot::Literal(_), EntityRoot::Var(_)) => Ordering::Less,
-        (EntityRoot::Var(_), EntityRoot::Literal(_)) => Ordering::Greater,
-        (EntityRoot::Var(a), EntityRoot::Var(b)) => a.cmp(b),
-    }
+// An edge whose parts are borrowed.
+#[derive(Clone, Copy)]
+pub(crate) enum EdgeRef<'a> {
+    Field(&'a Text),
+    AnyTag,
+    Root(&'a EntityRoot),
 }

@@ -5,7 +5,8 @@ ghost use Rattle.access_tries.specs.Edges.{Address};
 ghost use Rattle.access_tries.specs.Table.{IsTable, IsClosed, IsOrdered, Ascend, at_path, has_mark, links_at};
 ghost use Rattle.access_tries.specs.Walks.{Keeps, Takes, IsBeforeAll};
 
-use crate::edge::{Edge, compare};
+use crate::edge::Edge;
+use crate::order::compare;
 use std::alloc::{AllocError, Global};
 use std::cmp::Ordering;
 use std::marker::Model;

@@ -4,16 +4,16 @@ ghost use Rattle.std.specs.Prelude.{◌≡◌, [], map, MatchOption};
 ghost use Rattle.std.specs.Iterator.{YieldsFirstBy, item_count};
 ghost use Rattle.std.specs.List.Sorted.{IsStrictlySortedBy};
 ghost use Rattle.policy_names.specs.Uid.{text_cmp};
-ghost use Rattle.access_tries.specs.Edges.{edge_eq, root_cmp};
-ghost use Rattle.access_tries.specs.Table.{IsTable};
+ghost use Rattle.access_tries.specs.Edges.{root_cmp};
+ghost use Rattle.access_tries.specs.Table.{Ascend, IsTable};
 ghost use Rattle.access_tries.specs.Views.{view_marks, LeadsNowhere, LeadsTo, number_at, children_of, roots_of, AreChildren, AreRoots};
 ghost use Rattle.access_tries.specs.EdgeView.{edge_in};
 ghost use Rattle.access_tries.specs.declared.edge.Edge.TheVariants.{Field, AnyTag, Root};
 
-use crate::edge::{Edge, EntityRoot, compare_roots};
+use crate::edge::{Edge, EdgeRef, EntityRoot};
+use crate::order::compare_to;
 use crate::table::{Link, Node, links_of, mark_of};
 use policy_names::Text;
-use std::cmp::Ordering;
 use std::marker::Model;
 
 /// What is read of a value, as it stands in a trie.
@@ -257,36 +257,13 @@ impl<'a> Iterator for Roots<'a> {
     }
 }
 
-// An edge whose parts are borrowed.
-#[derive(Clone, Copy)]
-enum EdgeRef<'a> {
-    Field(&'a Text),
-    AnyTag,
-    Root(&'a EntityRoot),
-}
-
 // The number of the node to which an edge leads, where there is such a link.
 fn number_at(edge: &EdgeRef<'_>, links: &[Link]) -> Option<usize>
+    requires { Ascend links.now }
     ensures { result ≡ number_at (edge_in edge.now) links.now }
 {
-    for link in links {
-        if is_edge(&link.edge, edge) {
-            return Some(link.number);
-        }
-    }
-    None
-}
-
-#[tactic(auto, using(crate::specs::EdgeLaws::then_end))]
-fn is_edge(edge: &Edge, other: &EdgeRef<'_>) -> bool
-    ensures { result ≡ edge_eq edge.now (edge_in other.now) }
-{
-    match (edge, other) {
-        (Edge::Field(a), EdgeRef::Field(b)) => a.cmp(b) == Ordering::Equal,
-        (Edge::AnyTag, EdgeRef::AnyTag) => true,
-        (Edge::Root(a), EdgeRef::Root(b)) => compare_roots(a, b) == Ordering::Equal,
-        (Edge::Field(_), EdgeRef::AnyTag | EdgeRef::Root(_)) => false,
-        (Edge::AnyTag, EdgeRef::Field(_) | EdgeRef::Root(_)) => false,
-        (Edge::Root(_), EdgeRef::Field(_) | EdgeRef::AnyTag) => false,
+    match links.binary_search_by(|link| compare_to(&link.edge, edge)) {
+        Ok(i) => Some(links[i].number),
+        Err(_) => None,
     }
 }

@@ -34,7 +34,8 @@ use Rattle.entity_loading.specs.Between.{IsBetween}
 use Rattle.entity_loading.specs.Joining.{AreAscending, IsAskedFor, IsJoined}
 use Rattle.entity_loading.specs.KeptPart.{left, along, bare, AreAlike, IsState}
 use Rattle.entity_loading.specs.Keeping.{Found}
-use Rattle.entity_loading.specs.Reached.{IsReached, HasOrder}
+use Rattle.entity_loading.specs.Ordered.{HasOrder}
+use Rattle.store_slices.specs.Reached.{IsReached}
 use Rattle.entity_loading.proofs.MoreSteps.{has_from, from_has}
 use Rattle.entity_loading.proofs.NamedSteps.{entity_gone, names_larger}
 use Rattle.entity_loading.proofs.ReachSteps.{front_leads}
@@ -148,10 +149,10 @@ module _ (exact : Bool) (ns : Table) (q : Request) (s : Store) (asked : List Pla
   to_reached : (x : EntityUID) (cs : List Step) → kept_steps reads q s x cs ≡ true → IsReached false ns q s x (map edge_of cs)
   to_reached x cs h =
       let r = (kept_means reads q s x cs).0 h in
-      record { path = r.path; reaches = r.reached; has = ap (sees false (whole ns)) (sym (behind_path r.path cs)) ∙ (fit.paths (beyond r.path cs)).1 r.read }
+      record { path = r.path; reached = r.reached; passes = ap (sees false (whole ns)) (sym (behind_path r.path cs)) ∙ (fit.paths (beyond r.path cs)).1 r.read }
 
   from_reached : (x : EntityUID) (cs : List Step) → IsReached false ns q s x (map edge_of cs) → kept_steps reads q s x cs ≡ true
-  from_reached x cs r = (kept_means reads q s x cs).1 (record { path = r.path; reached = r.reaches; read = (fit.paths (beyond r.path cs)).0 (ap (sees false (whole ns)) (behind_path r.path cs) ∙ r.has) })
+  from_reached x cs r = (kept_means reads q s x cs).1 (record { path = r.path; reached = r.reached; read = (fit.paths (beyond r.path cs)).0 (ap (sees false (whole ns)) (behind_path r.path cs) ∙ r.passes) })
 
   wanted_reached : (b : Bool) (x : EntityUID) (a : Address) → wants b ns asked x a ≡ true → IsReached b ns q s x a
   wanted_reached b x a h = st.sound.reached b x a (or_true (wants b ns asked x a) (wants b ns [] x a) h)
@@ -182,18 +183,18 @@ module _ (exact : Bool) (ns : Table) (q : Request) (s : Store) (asked : List Pla
       let c = and_parts (list_any (is_id x) (reach s q d.0.0)) (list_any (names_id y) (reach (part (by_paths reads q s) s) q d.0.1)) d.2 in
       record {
         path = d.0.1;
-        marked = asked_reached ns q s asked st.complete true x (address_of d.0.1) (record { path = d.0.0; reaches = id_in x d.0.0 c.0; has = (fit.asks d.0.0 d.0.1).1 d.1 });
+        marked = asked_reached ns q s asked st.complete true x (address_of d.0.1) (record { path = d.0.0; reached = id_in x d.0.0 c.0; passes = (fit.asks d.0.0 d.0.1).1 d.1 });
         named = names_larger (by_paths reads q s) k chains tags s q d.0.1 y c.1;
       }
 
   only_demanded : exact ≡ true → (x y : EntityUID) → IsAskedFor ns q asked (part k s) x y → n.ancestors x y ≡ true
   only_demanded e x y a =
       let r = wanted_reached true x (address_of a.path) a.marked in
-      let front : IsReached false ns q s x [] = record { path = r.path; reaches = r.reaches; has = ap (sees false (whole ns)) (nil_right (address_of r.path)) ∙ front_leads true ns 0 (address_of r.path) (address_of a.path) r.has } in
+      let front : IsReached false ns q s x [] = record { path = r.path; reached = r.reached; passes = ap (sees false (whole ns)) (nil_right (address_of r.path)) ∙ front_leads true ns 0 (address_of r.path) (address_of a.path) r.passes } in
       let d : Demand = (r.path, a.path) in
       and_from (kept_chain reads q s x []) (kept_ancestor reads demands q s x y) (from_reached x [] front)
-      (any_in (asks_for x y) d demands ((fit.asks r.path a.path).0 r.has)
-      (and_from (list_any (is_id x) (reach s q r.path)) (list_any (names_id y) (reach (part (by_paths reads q s) s) q a.path)) (any_in (is_id x) (entity x) (reach s q r.path) r.reaches (uid_self x))
+      (any_in (asks_for x y) d demands ((fit.asks r.path a.path).0 r.passes)
+      (and_from (list_any (is_id x) (reach s q r.path)) (list_any (names_id y) (reach (part (by_paths reads q s) s) q a.path)) (any_in (is_id x) (entity x) (reach s q r.path) r.reached (uid_self x))
       (names_larger k (by_paths reads q s) (only_chains e) (only_tags e) s q a.path y a.named)))
 
   kept_is : (x : EntityUID) → k.chains x [] ≡ true → kept x ≡ option_map (cut_entity k) (entity_at s x)

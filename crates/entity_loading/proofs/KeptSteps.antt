@@ -18,7 +18,7 @@ use Rattle.policy_reads.proofs.Cuts.{uid_at}
 use Rattle.policy_reads.proofs.Lists.{IsIn, or_true, or_right, any_in}
 use Rattle.policy_reads.proofs.Words.{any_out}
 use Rattle.entity_asking.specs.Places.{node_of}
-use Rattle.entity_loading.specs.Reached.{HasOrder}
+use Rattle.entity_loading.specs.Ordered.{HasOrder}
 use Rattle.entity_loading.proofs.ReachSteps.{any_more, front_leads}
 use Rattle.policy_reads.proofs.Merging.{merge_entities-cut}
 use Rattle.policy_reads.proofs.Order.{IsClosed, cases, cut_fields-same, either_keep, IsWellFormed}

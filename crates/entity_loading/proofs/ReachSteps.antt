@@ -32,7 +32,7 @@ use Rattle.policy_reads.proofs.Words.{any_out}
 use Rattle.entity_asking.specs.Begun.{root_points, roots_point}
 use Rattle.entity_asking.specs.Wants.{Test, sees, wants, points, fields_point, entity_points}
 use Rattle.entity_asking.specs.declared.place.Place.{Place}
-use Rattle.entity_loading.specs.Reached.{IsReached}
+use Rattle.store_slices.specs.Reached.{IsReached}
 use Rattle.entity_loading.proofs.PointSteps.{points_more, in_fields}
 
 -- ---- addresses
@@ -190,8 +190,8 @@ start_reached b ns q s x a o h =
         let w = value_leads s (root_value q r) (sees b v) x a (o r) g in
         record {
           path = record { root = r; steps = w.steps };
-          reaches = w.reaches;
-          has = subst (λ d. sees b (whole ns) (d ∷ (map edge_of w.steps ++ a)) ≡ true) e (behind_link b ns l (map edge_of w.steps ++ a) i w.passes);
+          reached = w.reaches;
+          passes = subst (λ d. sees b (whole ns) (d ∷ (map edge_of w.steps ++ a)) ≡ true) e (behind_link b ns l (map edge_of w.steps ++ a) i w.passes);
         }
     by l i (Field n) e g = absurd (false≢true g)
     by l i AnyTag e g = absurd (false≢true g)
@@ -202,8 +202,8 @@ further_reached b ns q s y x t a l f =
     let r = f (map edge_of l.steps ++ a) l.passes in
     record {
       path = record { root = r.path.root; steps = r.path.steps ++ l.steps };
-      reaches = walk_on s (root_value q r.path.root) (entity y) (entity x) r.path.steps l.steps r.reaches l.reaches;
-      has = subst (λ es. sees b (whole ns) (Root r.path.root ∷ es) ≡ true) (sym (append_assoc (map edge_of r.path.steps) (map edge_of l.steps) a) ∙ ap (λ es. es ++ a) (sym (map_append r.path.steps l.steps))) r.has;
+      reached = walk_on s (root_value q r.path.root) (entity y) (entity x) r.path.steps l.steps r.reached l.reaches;
+      passes = subst (λ es. sees b (whole ns) (Root r.path.root ∷ es) ≡ true) (sym (append_assoc (map edge_of r.path.steps) (map edge_of l.steps) a) ∙ ap (λ es. es ++ a) (sym (map_append r.path.steps l.steps))) r.passes;
     }
 
 -- ---- what is reached is asked for
@@ -249,7 +249,7 @@ module _ (b : Bool) (ns : Table) (q : Request) (s : Store) (asked : List Place)
   -- where the roots' values lead is asked for
   pub reached_asked : ((x : EntityUID) (a : Address) → roots_point ns q b x a ≡ true → wants b ns asked x a ≡ true) → (x : EntityUID) (a : Address) → IsReached b ns q s x a → wants b ns asked x a ≡ true
   reached_asked begun x a r =
-      let d = begins b ns (Root r.path.root) (map edge_of r.path.steps ++ a) r.has in
+      let d = begins b ns (Root r.path.root) (map edge_of r.path.steps ++ a) r.passes in
       walked r.path.steps (root_value q r.path.root) (sees b (record { nodes = ns; number = d.link.number }))
       (λ z c g. begun z c (any_in (λ l. root_points b (record { nodes = ns; number = l.number }) q l.edge z c) d.link (links_at ns 0) d.among
-      (subst (λ e. root_points b (record { nodes = ns; number = d.link.number }) q e z c ≡ true) (sym d.edge) g))) x a r.reaches d.rest
+      (subst (λ e. root_points b (record { nodes = ns; number = d.link.number }) q e z c ≡ true) (sym d.edge) g))) x a r.reached d.rest

@@ -22,7 +22,7 @@ use Rattle.entity_loader.specs.declared.loader.EntityRequest.{EntityRequest}
 use Rattle.entity_loading.specs.Causes.{IsRight}
 use Rattle.entity_loading.specs.Keeping.{Found, AreNotTaken, refusal_of}
 use Rattle.entity_loading.specs.KeptPart.{IsState}
-use Rattle.entity_loading.specs.Reached.{HasOrder}
+use Rattle.entity_loading.specs.Ordered.{HasOrder}
 use Rattle.entity_loading.specs.Right.{IsStuck, IsRefused}
 use Rattle.entity_loading.specs.Rounds.{AsksFor, AreAnswers}
 use Rattle.entity_loading.specs.declared.error.EntitySliceError.{EntitySliceError}

@@ -24,7 +24,8 @@ use Rattle.entity_asking.specs.declared.place.Place.{Place}
 use Rattle.entity_loader.specs.Answers.{IsHonest}
 use Rattle.entity_loader.specs.declared.loader.EntityRequest.{EntityRequest}
 use Rattle.entity_loading.specs.Keeping.{Found}
-use Rattle.entity_loading.specs.Reached.{IsReached, HasOrder}
+use Rattle.entity_loading.specs.Ordered.{HasOrder}
+use Rattle.store_slices.specs.Reached.{IsReached}
 use Rattle.entity_loading.specs.Rounds.{AsksFor, AreAnswers, IsRound, IsComplete, IsSound}
 use Rattle.std.specs.Option.{option_map}
 use Rattle.entity_loading.specs.KeptPart.{IsState, IsBegun, IsLoaded, AreAlike, bare, along}

@@ -17,7 +17,8 @@ use Rattle.entity_asking.specs.Begun.{roots_point}
 use Rattle.entity_asking.specs.Wants.{Adds, wants}
 use Rattle.entity_asking.specs.declared.place.Place.{Place}
 use Rattle.entity_loading.specs.Keeping.{Found}
-use Rattle.entity_loading.specs.Reached.{IsReached, HasOrder}
+use Rattle.entity_loading.specs.Ordered.{HasOrder}
+use Rattle.store_slices.specs.Reached.{IsReached}
 use Rattle.entity_loading.specs.Rounds.{IsComplete, IsSound}
 
 -- what a choice leaves of an entity

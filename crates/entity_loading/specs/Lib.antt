@@ -1,7 +1,7 @@
 pub mod Lending
 pub mod Answering
 pub mod Keeping
-pub mod Reached
+pub mod Ordered
 pub mod Rounds
 pub mod KeptPart
 pub mod Causes

@@ -14,7 +14,7 @@ use Rattle.entity_asking.specs.Wants.{Test}
 use Rattle.entity_asking.specs.declared.place.Place.{Place}
 use Rattle.entity_loader.specs.State.{LoaderState}
 use Rattle.entity_loading.specs.Keeping.{Found, AreNotKept}
-use Rattle.entity_loading.specs.Reached.{IsReached}
+use Rattle.store_slices.specs.Reached.{IsReached}
 use Rattle.entity_loading.specs.Rounds.{AreAnswers}
 use Rattle.entity_loading.specs.declared.error.EntitySliceError.{EntitySliceError}
 use Rattle.entity_loading.specs.declared.error.EntitySliceError.TheVariants as error

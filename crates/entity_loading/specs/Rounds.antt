@@ -16,7 +16,7 @@ use Rattle.entity_asking.specs.declared.place.Place.{Place}
 use Rattle.entity_loader.specs.Answers.{IsHonest}
 use Rattle.entity_loader.specs.declared.loader.EntityRequest.{EntityRequest}
 use Rattle.entity_loading.specs.Keeping.{Found, kept_and}
-use Rattle.entity_loading.specs.Reached.{IsReached}
+use Rattle.store_slices.specs.Reached.{IsReached}
 
 -- in attributes or tags of an entity a value stands from which a path below a node of the table cannot go on
 pub record Sticks (ns : Table) (u : Val) : Type 0 where

@@ -18,7 +18,7 @@ ghost use Rattle.entity_loading.specs.Answering.{AreUnderIds};
 ghost use Rattle.entity_loading.specs.Between.{IsBetween};
 ghost use Rattle.entity_loading.specs.Causes.{CauseOf, IsPartial, IsRight};
 ghost use Rattle.entity_loading.specs.KeptPart.{IsLoaded};
-ghost use Rattle.entity_loading.specs.Reached.{HasOrder};
+ghost use Rattle.entity_loading.specs.Ordered.{HasOrder};
 ghost use Rattle.entity_loading.specs.Right.{IsStuck};
 ghost use Rattle.entity_loading.specs.Rounds.{Sticks};
 

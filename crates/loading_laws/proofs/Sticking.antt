@@ -31,7 +31,7 @@ use Rattle.policy_reads.proofs.Lists.{IsIn}
 use Rattle.entity_asking.specs.Begun.{SomeRootSticks}
 use Rattle.entity_asking.specs.Stuck.{Tests, tests_of, behind, GoesOn, Demands, Sticks, FieldsStick, SomeSticks, EntitySticks}
 use Rattle.entity_asking.specs.Wants.{Test}
-use Rattle.entity_loading.specs.Reached.{IsReached}
+use Rattle.store_slices.specs.Reached.{IsReached}
 use Rattle.entity_loading.specs.Right.{IsStuck}
 use Rattle.store_slices.specs.Blocked.{IsBlockedInStore}
 use Rattle.loading_laws.specs.Declared.{is_of_ids, IsDeclaredTrie}
@@ -192,9 +192,9 @@ module _ (d : SchemaData) (g : EnvData) (ns : Table) (trie : IsDeclaredTrie d g 
     reached_tests : (x : EntityUID) (below : Bool → Test) → ((b : Bool) (a : Address) → below b a ≡ true → IsReached b ns q s x a) → TestsFit d (Some (entity (x.entity_type ∷ []))) (record { leads = below false; marks = below true })
     reached_tests x below reached = record {
       leads = λ ms h. let r = reached false (map edge_of ms) h in
-          id_declared r.path x r.reaches ms (declared_front (root_type d g r.path.root) r.path.steps ms (path_declared r.path ms r.has));
+          id_declared r.path x r.reached ms (declared_front (root_type d g r.path.root) r.path.steps ms (path_declared r.path ms r.passes));
       marks = λ ms k ls h. let r = reached true (map edge_of ms ++ (Root k ∷ map edge_of ls)) h in
-          id_marked r.path x r.reaches ms (path_to_ids r.path ms k ls r.has);
+          id_marked r.path x r.reached ms (path_to_ids r.path ms k ls r.passes);
     }
 
     stored_tests : (x : EntityUID) (e : StoredEntity) → entity_at s x ≡ Some e → (below : Bool → Test) → ((b : Bool) (a : Address) → below b a ≡ true → IsReached b ns q s x a) →
@@ -209,4 +209,4 @@ module _ (d : SchemaData) (g : EnvData) (ns : Table) (trie : IsDeclaredTrie d g 
     pub none_blocked : (u : Val) → IsBlockedInStore ns q s u → ⊥
     none_blocked u k =
         whole_never d k.stored (record { leads = k.below false; marks = k.below true }) u (all_at (EntityHas d) s k.id k.stored all k.at)
-        (stored_tests k.id k.stored k.at k.below (λ b a h. let r = k.reached b a h in record { path = r.path; reaches = r.reached; has = r.passes })) k.sticks
+        (stored_tests k.id k.stored k.at k.below k.reached) k.sticks

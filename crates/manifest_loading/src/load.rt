@@ -9,7 +9,7 @@ ghost use Rattle.entity_asking.specs.Begun.{PathsWithin, SomeRootSticks};
 ghost use Rattle.entity_loader.specs.State.{Continues};
 ghost use Rattle.entity_loading.specs.Between.{IsBetween};
 ghost use Rattle.entity_loading.specs.Causes.{CauseOf, IsPartial, IsRight};
-ghost use Rattle.entity_loading.specs.Reached.{HasOrder};
+ghost use Rattle.entity_loading.specs.Ordered.{HasOrder};
 ghost use Rattle.entity_loading.specs.Right.{IsStuck};
 ghost use Rattle.entity_loading.specs.Rounds.{Sticks};
 ghost use Rattle.entity_loading.specs.declared.error.EntitySliceError.TheVariants.{OutOfMemory};

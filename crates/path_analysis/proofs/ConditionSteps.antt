@@ -4,16 +4,17 @@ use Rattle.std.specs.BTreeSet.{insert_key}
 use Rattle.std.proofs.Math.ListN.{drop_of_length-le}
 use Rattle.std.proofs.lemmas.List.{at_drop_more}
 use Rattle.std.proofs.lemmas.List.Sums.{fold-append}
+use Rattle.std.proofs.lemmas.Map.Lookups.{CmpEqualImpliesEq, exact_pairs}
 use Rattle.access_tries.specs.Table.{Table}
-use Rattle.access_tries.specs.Paths.{IsLeast, address_of, demand_of}
+use Rattle.access_tries.specs.Paths.{IsLeast, address_of, demand_of, path_cmp}
+use Rattle.access_tries.specs.PathLaws.{exact_path}
 use Rattle.schema_core.specs.EnvData.{EnvData}
 use Rattle.schema_core.specs.Schema.{SchemaData}
 use Rattle.policy_expressions.specs.Tree.{Tree}
 use Rattle.policy_reads.specs.Paths.{AccessPath, Demand}
 use Rattle.policy_reads.specs.PathTypes.{declared_part}
 use Rattle.policy_reads.specs.Reads.{reads, reads_of, demands, demands_of, are_declared, declared_reads, declared_demands}
-use Rattle.path_analysis.specs.PathOrder.{path_cmp, demand_cmp, with_paths, with_demands}
-use Rattle.path_analysis.proofs.PathLaws.{exact_path, exact_demand}
+use Rattle.path_analysis.specs.PathOrder.{demand_cmp, with_paths, with_demands}
 use Rattle.path_analysis.proofs.Alike.{Alike, alike-once, alike-map, alike-filter, least_alike}
 
 module _ (schema : SchemaData) (env : EnvData) {A : Type 0} (ts : List (Tree A)) (i : ℕ) (t : Tree A) (is : t ≡ get_or ts i t) (h : i < length ts) where
@@ -36,6 +37,9 @@ module _ (schema : SchemaData) (env : EnvData) {A : Type 0} (ts : List (Tree A))
       ∙ ap (λ u. with_demands old (demands u ++ demands_of rest)) is
       ∙ ap (λ l. with_demands old l) (sym (at_drop_more (λ xs. demands_of xs) ts i t h))
       ∙ left
+
+exact_demand : CmpEqualImpliesEq demand_cmp
+exact_demand = exact_pairs path_cmp path_cmp exact_path exact_path
 
 -- what is read and demanded matters, and not how often
 module _ (schema : SchemaData) (env : EnvData) {A : Type 0} (ts : List (Tree A)) where

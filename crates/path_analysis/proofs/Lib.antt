@@ -5,7 +5,6 @@ mod Fields
 mod OneType
 mod PairSteps
 mod PartSteps
-mod PathLaws
 mod SetSteps
 mod Sizes
 mod Stays

@@ -5,7 +5,8 @@ use Rattle.std.proofs.lemmas.List.Sums.{fold-append}
 use Rattle.std.proofs.lemmas.List.Elements.{filter-append}
 use Rattle.policy_reads.specs.Paths.{AccessPath, Demand, has_step}
 use Rattle.policy_reads.specs.Reads.{with_step}
-use Rattle.path_analysis.specs.PathOrder.{path_cmp, demand_cmp, with_paths, with_demands}
+use Rattle.access_tries.specs.Paths.{path_cmp}
+use Rattle.path_analysis.specs.PathOrder.{demand_cmp, with_paths, with_demands}
 
 -- more is added after more
 pub paths_more : (old xs ys : List AccessPath) → with_paths (with_paths old xs) ys ≡ with_paths old (xs ++ ys)

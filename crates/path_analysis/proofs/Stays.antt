@@ -8,8 +8,8 @@ use Rattle.std.specs.BTreeSet.{insert_key}
 use Rattle.std.specs.BTreeMap.{is_at}
 use Rattle.std.specs.Cmp.{IsTotalOrder}
 use Rattle.std.specs.List.Sorted.{IsStrictlySortedBy}
-use Rattle.access_tries.specs.Paths.{AccessPath}
-use Rattle.path_analysis.specs.PathOrder.{path_cmp, path_total}
+use Rattle.access_tries.specs.Paths.{AccessPath, path_cmp}
+use Rattle.access_tries.specs.PathLaws.{path_total}
 
 module _ {K : Type 0} {cmp : K → K → Ordering} (o : IsTotalOrder cmp) (k : K) where
   level : (r : Ordering) (b : Bool) → r ≡ Less → (is_eq r || b) ≡ true → b ≡ true

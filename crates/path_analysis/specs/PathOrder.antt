@@ -1,20 +1,9 @@
--- The order of paths.
+-- Paths and demands in order.
 use Rattle.std.specs.Prelude.{List, fold}
 use Rattle.std.specs.declared.cmp.Ordering.{Ordering}
 use Rattle.std.specs.Ordering.{ordering_then}
-use Rattle.std.specs.Cmp.{IsTotalOrder, on_total}
-use Rattle.std.specs.Cmp.Lexicographic.{slice_cmp, lists_total}
 use Rattle.std.specs.BTreeSet.{insert_key}
-use Rattle.access_tries.specs.Edges.{edge_cmp}
-use Rattle.access_tries.specs.EdgeLaws.{edge_total}
-use Rattle.access_tries.specs.Paths.{AccessPath, address_of}
-
--- edge by edge
-abbrev pub path_cmp : AccessPath → AccessPath → Ordering
-path_cmp p q = slice_cmp edge_cmp (address_of p) (address_of q)
-
-pub path_total : IsTotalOrder path_cmp
-path_total = on_total address_of (lists_total edge_total)
+use Rattle.access_tries.specs.Paths.{AccessPath, path_cmp}
 
 -- demands by their first paths, and then by their second ones
 abbrev pub demand_cmp : AccessPath × AccessPath → AccessPath × AccessPath → Ordering

@@ -8,7 +8,6 @@ ghost use Rattle.policy_reads.specs.Reads as read;
 ghost use Rattle.policy_reads.specs.Reads.{are_declared, declared_reads, declared_demands};
 ghost use Rattle.path_analysis.specs.PathOrder.{with_paths, with_demands};
 
-use crate::path_key::PathKey;
 use crate::path_type::{declared_part, is_declared_path};
 use crate::setting::Setting;
 use crate::walk::analyze;
@@ -42,8 +41,8 @@ pub fn conditions_trie<'a>(
 fn add_condition(
     at: &Setting<'_>,
     condition: &Expr<Option<Type>>,
-    reads: &mut BTreeSet<PathKey>,
-    demands: &mut BTreeSet<(PathKey, PathKey)>,
+    reads: &mut BTreeSet<AccessPath>,
+    demands: &mut BTreeSet<(AccessPath, AccessPath)>,
 ) -> Result<(), AllocError>
     ensures reads { OnOk result (reads.new.keys ≡ with_paths reads.old.keys (read.reads at.now.schema.now (env_data_of at.now.env.now) condition.now)) }
     ensures demands { OnOk result (demands.new.keys ≡ with_demands demands.old.keys (read.demands condition.now)) }
@@ -56,8 +55,8 @@ fn add_condition(
 // The trie of the declared parts of paths, and of those demands whose paths are declared.
 fn declared_trie(
     at: &Setting<'_>,
-    reads: BTreeSet<PathKey>,
-    demands: BTreeSet<(PathKey, PathKey)>,
+    reads: BTreeSet<AccessPath>,
+    demands: BTreeSet<(AccessPath, AccessPath)>,
 ) -> Result<RootAccessTrie, AllocError>
     ensures { IfOk result (IsLeast (map (declared_part at.now.schema.now (env_data_of at.now.env.now)) reads.keys) (filter (are_declared at.now.schema.now (env_data_of at.now.env.now)) demands.keys)) }
 {
@@ -66,25 +65,25 @@ fn declared_trie(
     least_trie(at.alloc, &reads, &demands)
 }
 
-fn declared_parts(at: &Setting<'_>, paths: BTreeSet<PathKey>) -> Result<Vec<AccessPath>, AllocError>
+fn declared_parts(at: &Setting<'_>, paths: BTreeSet<AccessPath>) -> Result<Vec<AccessPath>, AllocError>
     ensures { IfOk result (λ r. r.items ≡ map (declared_part at.now.schema.now (env_data_of at.now.env.now)) paths.keys) }
 {
     let mut parts = Vec::new(at.alloc);
     for path in paths {
-        parts.push(declared_part(at, path.into_path())?)?;
+        parts.push(declared_part(at, path)?)?;
     }
     Ok(parts)
 }
 
 fn declared_demands(
     at: &Setting<'_>,
-    demands: BTreeSet<(PathKey, PathKey)>,
+    demands: BTreeSet<(AccessPath, AccessPath)>,
 ) -> Result<Vec<(AccessPath, AccessPath)>, AllocError>
     ensures { IfOk result (λ r. r.items ≡ filter (are_declared at.now.schema.now (env_data_of at.now.env.now)) demands.keys) }
 {
     let mut declared = Vec::new(at.alloc);
-    for (from, to) in demands {
-        add_if_declared(at, (from.into_path(), to.into_path()), &mut declared)?;
+    for demand in demands {
+        add_if_declared(at, demand, &mut declared)?;
     }
     Ok(declared)
 }

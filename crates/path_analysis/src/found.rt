@@ -3,9 +3,9 @@
 ghost use Rattle.std.specs.Prelude.{◌≡◌, [], ◌∷◌, OnOk};
 ghost use Rattle.std.specs.BTreeSet.{insert_key};
 ghost use Rattle.policy_reads.specs.Reads.{with_step};
-ghost use Rattle.path_analysis.specs.PathOrder.{path_cmp, demand_cmp, with_paths};
+ghost use Rattle.access_tries.specs.Paths.{path_cmp};
+ghost use Rattle.path_analysis.specs.PathOrder.{demand_cmp, with_paths};
 
-use crate::path_key::PathKey;
 use access_tries::AccessPath;
 use std::alloc::{AllocError, Global};
 use std::collections::BTreeSet;
@@ -13,12 +13,12 @@ use std::collections::BTreeSet;
 /// Adds the path, if it has a step. It is copied only if it is new.
 pub(crate) fn add_if_longer(
     alloc: Global,
-    path: &PathKey,
-    reads: &mut BTreeSet<PathKey>,
+    path: &AccessPath,
+    reads: &mut BTreeSet<AccessPath>,
 ) -> Result<(), AllocError>
     ensures { OnOk result (reads.new.keys ≡ with_paths reads.old.keys (with_step (path.now ∷ []))) }
 {
-    if path.as_path().steps().is_empty() {
+    if path.steps().is_empty() {
         Ok(())
     } else {
         add_copy(alloc, path, reads)
@@ -26,7 +26,7 @@ pub(crate) fn add_if_longer(
 }
 
 #[tactic(auto, using(crate::proofs::Stays::path_stays))]
-fn add_copy(alloc: Global, path: &PathKey, reads: &mut BTreeSet<PathKey>) -> Result<(), AllocError>
+fn add_copy(alloc: Global, path: &AccessPath, reads: &mut BTreeSet<AccessPath>) -> Result<(), AllocError>
     ensures { OnOk result (reads.new.keys ≡ insert_key path_cmp reads.old.keys path.now) }
 {
     if reads.len() == 0 || !reads.contains(path) {
@@ -38,12 +38,12 @@ fn add_copy(alloc: Global, path: &PathKey, reads: &mut BTreeSet<PathKey>) -> Res
 /// Adds all the paths.
 pub(crate) fn add_all(
     paths: Vec<AccessPath>,
-    reads: &mut BTreeSet<PathKey>,
+    reads: &mut BTreeSet<AccessPath>,
 ) -> Result<(), AllocError>
     ensures { OnOk result (reads.new.keys ≡ with_paths reads.old.keys paths.items) }
 {
     for path in paths {
-        reads.insert(PathKey::new(path))?;
+        reads.insert(path)?;
     }
     Ok(())
 }
@@ -52,10 +52,10 @@ pub(crate) fn add_all(
 pub(crate) fn add_demand(
     from: AccessPath,
     to: AccessPath,
-    demands: &mut BTreeSet<(PathKey, PathKey)>,
+    demands: &mut BTreeSet<(AccessPath, AccessPath)>,
 ) -> Result<(), AllocError>
     ensures { OnOk result (demands.new.keys ≡ insert_key demand_cmp demands.old.keys (from, to)) }
 {
-    demands.insert((PathKey::new(from), PathKey::new(to)))?;
+    demands.insert((from, to))?;
     Ok(())
 }

@@ -5,7 +5,6 @@ mod below;
 mod conditions;
 mod found;
 mod operators;
-mod path_key;
 mod path_type;
 mod result;
 mod setting;

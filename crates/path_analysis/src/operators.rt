@@ -9,7 +9,6 @@ ghost use Rattle.path_analysis.specs.PathOrder.{with_paths, with_demands};
 
 use crate::below::add_all_below;
 use crate::found::{add_all, add_demand};
-use crate::path_key::PathKey;
 use crate::setting::Setting;
 use crate::shape::{Shape, add_longer};
 use access_tries::{AccessPath, Step};
@@ -22,7 +21,7 @@ pub(crate) fn add_unary(
     at: &Setting<'_>,
     op: UnaryOp,
     operand: &Shape,
-    reads: &mut BTreeSet<PathKey>,
+    reads: &mut BTreeSet<AccessPath>,
 ) -> Result<(), AllocError>
     ensures { OnOk result (reads.new.keys ≡ with_paths reads.old.keys (unary_reads at.now.schema.now (env_data_of at.now.env.now) op operand.now)) }
 {
@@ -38,8 +37,8 @@ pub(crate) fn add_binary(
     op: BinaryOp,
     left: Shape,
     right: &Shape,
-    reads: &mut BTreeSet<PathKey>,
-    demands: &mut BTreeSet<(PathKey, PathKey)>,
+    reads: &mut BTreeSet<AccessPath>,
+    demands: &mut BTreeSet<(AccessPath, AccessPath)>,
 ) -> Result<Shape, AllocError>
     ensures reads { OnOk result (reads.new.keys ≡ with_paths reads.old.keys (binary_reads at.now.schema.now (env_data_of at.now.env.now) op left right.now)) }
     ensures demands { OnOk result (demands.new.keys ≡ with_demands demands.old.keys (binary_demands op left right.now)) }
@@ -74,7 +73,7 @@ pub(crate) fn add_one_step_on(
     alloc: Global,
     shape: Shape,
     step: &Step,
-    reads: &mut BTreeSet<PathKey>,
+    reads: &mut BTreeSet<AccessPath>,
 ) -> Result<Shape, AllocError>
     ensures reads { OnOk result (reads.new.keys ≡ with_paths reads.old.keys (with_step (paths (extended shape step.now)))) }
     ensures shape { IfOk result (λ a. a ≡ extended shape step.now) }
@@ -90,7 +89,7 @@ fn add_compared(
     at: &Setting<'_>,
     left: &Shape,
     right: &Shape,
-    reads: &mut BTreeSet<PathKey>,
+    reads: &mut BTreeSet<AccessPath>,
 ) -> Result<(), AllocError>
     ensures { OnOk result (reads.new.keys ≡ with_paths reads.old.keys (wholly at.now.schema.now (env_data_of at.now.env.now) left.now ++ wholly at.now.schema.now (env_data_of at.now.env.now) right.now)) }
 {
@@ -104,8 +103,8 @@ fn add_within(
     at: &Setting<'_>,
     left: &Shape,
     right: &Shape,
-    reads: &mut BTreeSet<PathKey>,
-    demands: &mut BTreeSet<(PathKey, PathKey)>,
+    reads: &mut BTreeSet<AccessPath>,
+    demands: &mut BTreeSet<(AccessPath, AccessPath)>,
 ) -> Result<(), AllocError>
     ensures reads { OnOk result (reads.new.keys ≡ with_paths reads.old.keys (binary_reads at.now.schema.now (env_data_of at.now.env.now) In left.now right.now)) }
     ensures demands { OnOk result (demands.new.keys ≡ with_demands demands.old.keys (pairs (paths left.now) (paths right.now))) }
@@ -122,7 +121,7 @@ fn add_within(
 fn add_wholly(
     at: &Setting<'_>,
     shape: &Shape,
-    reads: &mut BTreeSet<PathKey>,
+    reads: &mut BTreeSet<AccessPath>,
 ) -> Result<(), AllocError>
     ensures { OnOk result (reads.new.keys ≡ with_paths reads.old.keys (wholly at.now.schema.now (env_data_of at.now.env.now) shape.now)) }
 {
@@ -138,7 +137,7 @@ fn add_pairs(
     alloc: Global,
     from: &[AccessPath],
     to: &[AccessPath],
-    demands: &mut BTreeSet<(PathKey, PathKey)>,
+    demands: &mut BTreeSet<(AccessPath, AccessPath)>,
 ) -> Result<(), AllocError>
     ensures { OnOk result (demands.new.keys ≡ with_demands demands.old.keys (pairs from.now to.now)) }
 {
@@ -152,7 +151,7 @@ fn add_pairs_of(
     alloc: Global,
     from: &AccessPath,
     to: &[AccessPath],
-    demands: &mut BTreeSet<(PathKey, PathKey)>,
+    demands: &mut BTreeSet<(AccessPath, AccessPath)>,
 ) -> Result<(), AllocError>
     ensures { OnOk result (demands.new.keys ≡ with_demands demands.old.keys (map (λ r. (from.now, r)) to.now)) }
 {

@@ -7,7 +7,6 @@ ghost use Rattle.path_analysis.specs.PathOrder.{with_paths};
 ghost use Rattle.path_analysis.specs.ShapeView.{shape_in, one_of_all, field_shapes};
 
 use crate::found::add_if_longer;
-use crate::path_key::PathKey;
 use access_tries::{AccessPath, EntityRoot, Step};
 use policy_names::Text;
 use std::alloc::{AllocError, Global};
@@ -27,7 +26,7 @@ enum ShapeKind {
     // From nothing that is read.
     Nothing,
     // From what the path leads to.
-    Path(PathKey),
+    Path(AccessPath),
     // A set of what comes from there.
     Set(Vec<Shape>),
     // A record whose fields come from there.
@@ -68,7 +67,7 @@ impl Shape {
         ensures { result ≡ at_path path }
     {
         Shape {
-            kind: ShapeKind::Path(PathKey::new(path)),
+            kind: ShapeKind::Path(path),
         }
     }
 
@@ -112,7 +111,7 @@ impl Shape {
     {
         match self.kind {
             ShapeKind::Path(path) => {
-                let path = longer(path.into_path(), step.try_clone()?)?;
+                let path = longer(path, step.try_clone()?)?;
                 Ok(Shape::path(path))
             }
             ShapeKind::Record(fields) => Ok(shape_along(fields, step)),
@@ -141,7 +140,7 @@ fn add_paths(alloc: Global, shape: &Shape, found: &mut Vec<AccessPath>) -> Resul
 {
     match &shape.kind {
         ShapeKind::Nothing => Ok(()),
-        ShapeKind::Path(path) => add_path(alloc, path.as_path(), found),
+        ShapeKind::Path(path) => add_path(alloc, path, found),
         ShapeKind::Set(items) => add_paths_of_all(alloc, items, found),
         ShapeKind::Record(fields) => add_paths_of_fields(alloc, fields, found),
         ShapeKind::OneOf(a, b) => {
@@ -193,7 +192,7 @@ fn add_paths_of_fields(
 pub(crate) fn add_longer(
     alloc: Global,
     shape: &Shape,
-    reads: &mut BTreeSet<PathKey>,
+    reads: &mut BTreeSet<AccessPath>,
 ) -> Result<(), AllocError>
     ensures { OnOk result (reads.new.keys ≡ with_paths reads.old.keys (with_step (paths shape.now))) }
 {
@@ -214,7 +213,7 @@ pub(crate) fn add_longer(
 fn add_longer_of_all(
     alloc: Global,
     items: &Vec<Shape>,
-    reads: &mut BTreeSet<PathKey>,
+    reads: &mut BTreeSet<AccessPath>,
 ) -> Result<(), AllocError>
     ensures { OnOk result (reads.new.keys ≡ with_paths reads.old.keys (with_step (paths (one_of_all items.now.items)))) }
 {
@@ -229,7 +228,7 @@ fn add_longer_of_all(
 fn add_longer_of_fields(
     alloc: Global,
     fields: &BTreeMap<Text, Shape>,
-    reads: &mut BTreeSet<PathKey>,
+    reads: &mut BTreeSet<AccessPath>,
 ) -> Result<(), AllocError>
     ensures { OnOk result (reads.new.keys ≡ with_paths reads.old.keys (with_step (field_paths (field_shapes fields.now.entries)))) }
 {

@@ -10,10 +10,9 @@ ghost use Rattle.path_analysis.specs.PathOrder.{with_paths, with_demands};
 ghost use Rattle.path_analysis.specs.Parts.{shaped, unmarked};
 
 use crate::operators::{add_binary, add_one_step_on, add_unary};
-use crate::path_key::PathKey;
 use crate::setting::Setting;
 use crate::shape::Shape;
-use access_tries::{EntityRoot, Step};
+use access_tries::{AccessPath, EntityRoot, Step};
 use policy_expressions::{BinaryOp, Expr, ExprKind, Literal, UnaryOp};
 use policy_names::Text;
 use policy_values::push_entry;
@@ -27,8 +26,8 @@ use std::collections::{BTreeMap, BTreeSet};
 pub(crate) fn analyze(
     at: &Setting<'_>,
     e: &Expr<Option<Type>>,
-    reads: &mut BTreeSet<PathKey>,
-    demands: &mut BTreeSet<(PathKey, PathKey)>,
+    reads: &mut BTreeSet<AccessPath>,
+    demands: &mut BTreeSet<(AccessPath, AccessPath)>,
 ) -> Result<Shape, AllocError>
     ensures reads { OnOk result (reads.new.keys ≡ with_paths reads.old.keys (read.reads at.now.schema.now (env_data_of at.now.env.now) e.now)) }
     ensures demands { OnOk result (demands.new.keys ≡ with_demands demands.old.keys (read.demands e.now)) }
@@ -75,8 +74,8 @@ fn analyze_if(
     x: &Expr<Option<Type>>,
     y: &Expr<Option<Type>>,
     z: &Expr<Option<Type>>,
-    reads: &mut BTreeSet<PathKey>,
-    demands: &mut BTreeSet<(PathKey, PathKey)>,
+    reads: &mut BTreeSet<AccessPath>,
+    demands: &mut BTreeSet<(AccessPath, AccessPath)>,
 ) -> Result<Shape, AllocError>
     ensures reads { OnOk result (reads.new.keys ≡ with_paths reads.old.keys (read.reads at.now.schema.now (env_data_of at.now.env.now) (ite x.now y.now z.now unmarked))) }
     ensures demands { OnOk result (demands.new.keys ≡ with_demands demands.old.keys (read.demands (ite x.now y.now z.now unmarked))) }
@@ -95,8 +94,8 @@ fn analyze_sides(
     at: &Setting<'_>,
     x: &Expr<Option<Type>>,
     y: &Expr<Option<Type>>,
-    reads: &mut BTreeSet<PathKey>,
-    demands: &mut BTreeSet<(PathKey, PathKey)>,
+    reads: &mut BTreeSet<AccessPath>,
+    demands: &mut BTreeSet<(AccessPath, AccessPath)>,
 ) -> Result<Shape, AllocError>
     ensures reads { OnOk result (reads.new.keys ≡ with_paths reads.old.keys (read.reads at.now.schema.now (env_data_of at.now.env.now) (conj x.now y.now unmarked))) }
     ensures demands { OnOk result (demands.new.keys ≡ with_demands demands.old.keys (read.demands (conj x.now y.now unmarked))) }
@@ -114,8 +113,8 @@ fn analyze_unary(
     at: &Setting<'_>,
     op: UnaryOp,
     x: &Expr<Option<Type>>,
-    reads: &mut BTreeSet<PathKey>,
-    demands: &mut BTreeSet<(PathKey, PathKey)>,
+    reads: &mut BTreeSet<AccessPath>,
+    demands: &mut BTreeSet<(AccessPath, AccessPath)>,
 ) -> Result<Shape, AllocError>
     ensures reads { OnOk result (reads.new.keys ≡ with_paths reads.old.keys (read.reads at.now.schema.now (env_data_of at.now.env.now) (unary op x.now unmarked))) }
     ensures demands { OnOk result (demands.new.keys ≡ with_demands demands.old.keys (read.demands (unary op x.now unmarked))) }
@@ -133,8 +132,8 @@ fn analyze_binary(
     op: BinaryOp,
     x: &Expr<Option<Type>>,
     y: &Expr<Option<Type>>,
-    reads: &mut BTreeSet<PathKey>,
-    demands: &mut BTreeSet<(PathKey, PathKey)>,
+    reads: &mut BTreeSet<AccessPath>,
+    demands: &mut BTreeSet<(AccessPath, AccessPath)>,
 ) -> Result<Shape, AllocError>
     ensures reads { OnOk result (reads.new.keys ≡ with_paths reads.old.keys (read.reads at.now.schema.now (env_data_of at.now.env.now) (binary op x.now y.now unmarked))) }
     ensures demands { OnOk result (demands.new.keys ≡ with_demands demands.old.keys (read.demands (binary op x.now y.now unmarked))) }
@@ -153,8 +152,8 @@ fn analyze_attr(
     at: &Setting<'_>,
     x: &Expr<Option<Type>>,
     name: &Text,
-    reads: &mut BTreeSet<PathKey>,
-    demands: &mut BTreeSet<(PathKey, PathKey)>,
+    reads: &mut BTreeSet<AccessPath>,
+    demands: &mut BTreeSet<(AccessPath, AccessPath)>,
 ) -> Result<Shape, AllocError>
     ensures reads { OnOk result (reads.new.keys ≡ with_paths reads.old.keys (read.reads at.now.schema.now (env_data_of at.now.env.now) (attr x.now name.now unmarked))) }
     ensures demands { OnOk result (demands.new.keys ≡ with_demands demands.old.keys (read.demands (attr x.now name.now unmarked))) }
@@ -169,8 +168,8 @@ fn analyze_attr(
 fn analyze_call(
     at: &Setting<'_>,
     xs: &Vec<Expr<Option<Type>>>,
-    reads: &mut BTreeSet<PathKey>,
-    demands: &mut BTreeSet<(PathKey, PathKey)>,
+    reads: &mut BTreeSet<AccessPath>,
+    demands: &mut BTreeSet<(AccessPath, AccessPath)>,
 ) -> Result<Shape, AllocError>
     ensures reads { OnOk result (reads.new.keys ≡ with_paths reads.old.keys (reads_all at.now.schema.now (env_data_of at.now.env.now) (trees_of xs.now.items))) }
     ensures demands { OnOk result (demands.new.keys ≡ with_demands demands.old.keys (demands_all (trees_of xs.now.items))) }
@@ -186,8 +185,8 @@ fn analyze_call(
 fn analyze_set(
     at: &Setting<'_>,
     xs: &Vec<Expr<Option<Type>>>,
-    reads: &mut BTreeSet<PathKey>,
-    demands: &mut BTreeSet<(PathKey, PathKey)>,
+    reads: &mut BTreeSet<AccessPath>,
+    demands: &mut BTreeSet<(AccessPath, AccessPath)>,
 ) -> Result<Shape, AllocError>
     ensures reads { OnOk result (reads.new.keys ≡ with_paths reads.old.keys (read.reads at.now.schema.now (env_data_of at.now.env.now) (set (trees_of xs.now.items) unmarked))) }
     ensures demands { OnOk result (demands.new.keys ≡ with_demands demands.old.keys (read.demands (set (trees_of xs.now.items) unmarked))) }
@@ -202,8 +201,8 @@ fn analyze_set(
 fn analyze_record(
     at: &Setting<'_>,
     fields: &BTreeMap<Text, Expr<Option<Type>>>,
-    reads: &mut BTreeSet<PathKey>,
-    demands: &mut BTreeSet<(PathKey, PathKey)>,
+    reads: &mut BTreeSet<AccessPath>,
+    demands: &mut BTreeSet<(AccessPath, AccessPath)>,
 ) -> Result<Shape, AllocError>
     ensures reads { OnOk result (reads.new.keys ≡ with_paths reads.old.keys (read.reads at.now.schema.now (env_data_of at.now.env.now) (rec (named_of fields.now.entries) unmarked))) }
     ensures demands { OnOk result (demands.new.keys ≡ with_demands demands.old.keys (read.demands (rec (named_of fields.now.entries) unmarked))) }
@@ -219,8 +218,8 @@ fn analyze_record(
 fn analyze_all(
     at: &Setting<'_>,
     xs: &Vec<Expr<Option<Type>>>,
-    reads: &mut BTreeSet<PathKey>,
-    demands: &mut BTreeSet<(PathKey, PathKey)>,
+    reads: &mut BTreeSet<AccessPath>,
+    demands: &mut BTreeSet<(AccessPath, AccessPath)>,
 ) -> Result<Vec<Shape>, AllocError>
     ensures reads { OnOk result (reads.new.keys ≡ with_paths reads.old.keys (reads_all at.now.schema.now (env_data_of at.now.env.now) (trees_of xs.now.items))) }
     ensures demands { OnOk result (demands.new.keys ≡ with_demands demands.old.keys (demands_all (trees_of xs.now.items))) }
@@ -240,8 +239,8 @@ fn analyze_all(
 fn analyze_named(
     at: &Setting<'_>,
     fields: &BTreeMap<Text, Expr<Option<Type>>>,
-    reads: &mut BTreeSet<PathKey>,
-    demands: &mut BTreeSet<(PathKey, PathKey)>,
+    reads: &mut BTreeSet<AccessPath>,
+    demands: &mut BTreeSet<(AccessPath, AccessPath)>,
 ) -> Result<BTreeMap<Text, Shape>, AllocError>
     ensures reads { OnOk result (reads.new.keys ≡ with_paths reads.old.keys (reads_named at.now.schema.now (env_data_of at.now.env.now) (named_of fields.now.entries))) }
     ensures demands { OnOk result (demands.new.keys ≡ with_demands demands.old.keys (demands_named (named_of fields.now.entries))) }

@@ -11,12 +11,9 @@ use policy_scope::{
     validate_enum_entity, validate_linked_action_application, validate_template_action_application,
 };
 use policy_set::{Policy, PolicySet, Template};
-use policy_typecheck::Typechecker;
+use policy_typecheck::{Typechecker, is_too_deep};
 use schema_core::ValidatorSchema;
 use std::alloc::{AllocError, Global};
-
-// What is deeper is not typed.
-const MAX_TYPED_DEPTH: u32 = 200;
 
 /// Whether the policies keep the rules that stand beside the typing of each policy's own condition: nothing is found of the
 /// names and of the scope of each template and static policy, nor of what a link gives for slots and of its own scope; each
@@ -78,8 +75,7 @@ fn is_ready(
     if template.has_slot() {
         is_typed(alloc, typechecker, template)
     } else {
-        let is_too_deep = template.condition().depth() > MAX_TYPED_DEPTH;
-        Ok(!is_too_deep)
+        Ok(!is_too_deep(template.condition()))
     }
 }
 

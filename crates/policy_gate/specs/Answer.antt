@@ -1,15 +1,12 @@
 -- Which status and text are due for a command and the bytes of a document.
 use Rattle.std.specs.Prelude.{◌≡◌, ◌⊎◌, ◌&&◌, ℕ, Bool, true, List, [], ◌∷◌, ◌++◌, length, Option, Some, None, is_some, Ok, Err, codes, option_map, if◌then◌else◌}
-use Rattle.std.specs.List.{AllByRecursion}
 use Rattle.std.specs.Option.{option_or}
 use Rattle.serde_json.specs.Data.{Data}
 use Rattle.json_parts.specs.Json.{json_of}
 use Rattle.policy_names.specs.declared.entity_uid.EntityUID.{EntityUID}
-use Rattle.policy_expressions.specs.Keys.{HasKeysOnce}
 use Rattle.policy_store.specs.declared.request.Request.{Request}
 use Rattle.policy_store.specs.Store.{Store}
-use Rattle.policy_set.specs.Data.{PolicyData}
-use Rattle.policy_set.specs.PolicySet.{IsPolicySet}
+use Rattle.policy_set.specs.PolicySet.{IsPolicySet, AreKeyedOnce}
 use Rattle.schema_core.specs.Faults.{IsSchema}
 use Rattle.authorizer.specs.Response.{response}
 use Rattle.authorizer.specs.declared.response.Decision.{Decision}
@@ -145,14 +142,11 @@ IsRefusedOr (Some r) IsDone a = a ≡ r
 abbrev pub IsAnswerTo : Command → Document → Answer → Type 0
 IsAnswerTo c d a = IsRefusedOr (refusal c d) (IsWork c d) a
 
-abbrev pub AreKeysOnce : List PolicyData → Type 0
-AreKeysOnce ps = AllByRecursion (λ p. HasKeysOnce p.condition) ps
-
 -- what holds of each document that is read: its schema is one, its policies are a set, and each record of a condition has each of its keys once
 pub record IsWellMade (d : Document) : Type 0 where
   pub schema : IsSchema d.schema
   pub policies : IsPolicySet d.policies
-  pub keys : AreKeysOnce d.policies.policies
+  pub keys : AreKeyedOnce d.policies.policies
 
 -- what is due for a JSON value: the place of the first fault, where it is no document
 abbrev pub IsAnswerFor : Command → Data → Answer → Type 0

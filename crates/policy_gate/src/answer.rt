@@ -7,7 +7,7 @@ ghost use Rattle.conformance.specs.Misfits.{knows};
 ghost use Rattle.conformance.specs.RequestRules.{first_request_fault};
 ghost use Rattle.conformance_errors.specs.Written.{request_text};
 ghost use Rattle.finding_texts.specs.Written.{findings_text};
-ghost use Rattle.policy_gate.specs.Answer.{AreKeysOnce, IsAnswer, IsAnswerFor, IsAnswerTo, IsRefusedOr, IsWellMade, IsWork, found_at, found_in, decision_word, manifest_text, refused_data, refused_decision, refused_policies, refused_request, refused_store, refused_with, request_fault, sample_text, slice_of, status_of, store_fault};
+ghost use Rattle.policy_gate.specs.Answer.{IsAnswer, IsAnswerFor, IsAnswerTo, IsRefusedOr, IsWellMade, IsWork, found_at, found_in, decision_word, manifest_text, refused_data, refused_decision, refused_policies, refused_request, refused_store, refused_with, request_fault, sample_text, slice_of, status_of, store_fault};
 ghost use Rattle.policy_gate.specs.Headline.{KeepsRules};
 ghost use Rattle.policy_gate.specs.Reply.{reply_view};
 
@@ -25,11 +25,10 @@ use entity_manifest::EntityManifest;
 use extension_types::{ExtensionSchemas, all_objects};
 use manifest_computation::{EntityManifestError, compute_entity_manifest};
 use policy_documents::{Document, DocumentFault, parse_json, read_document};
-use policy_expressions::laws::keys_are_once;
 use policy_names::Text;
 use policy_scope::{ValidationResult, findings_text};
 use policy_set::PolicySet;
-use policy_set::laws::is_policy_set;
+use policy_set::laws::{have_keys_once, is_policy_set};
 use policy_store::Entities;
 use policy_validate::laws::no_errors_where_accepted;
 use policy_validate::{ValidationMode, Validator};
@@ -85,14 +84,6 @@ fn is_well_made(document: &Document)
     is_policy_set(&document.policies);
     have_keys_once(&document.policies);
     let _actions = document.schema.action_ids();
-}
-
-fn have_keys_once(policies: &PolicySet)
-    ensures { AreKeysOnce policies.now.policies }
-{
-    for policy in policies.policies() {
-        keys_are_once(policy.condition());
-    }
 }
 
 // The reply to a document.

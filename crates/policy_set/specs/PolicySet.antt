@@ -11,6 +11,7 @@ use Rattle.policy_names.specs.declared.entity_uid.EntityUID.{EntityUID}
 use Rattle.policy_expressions.specs.declared.kinds.SlotId.{SlotId}
 use Rattle.policy_expressions.specs.declared.kinds.SlotId.TheVariants.{Principal, Resource}
 use Rattle.policy_expressions.specs.declared.kinds.SlotValues.{SlotValues}
+use Rattle.policy_expressions.specs.Keys.{HasKeysOnce}
 use Rattle.policy_set.specs.Data.{TemplateData, PolicyData, coded_template, coded_policy}
 use Rattle.policy_set.specs.declared.constraint.PrincipalOrResourceConstraint.{PrincipalOrResourceConstraint}
 use Rattle.policy_set.specs.Condition.{IsPolicy, asks_slot, has_scope_slot, written_of}
@@ -56,6 +57,10 @@ with_template t s = record s { templates = placed s.templates t }
 -- the set with one more policy, at its place
 abbrev pub with_policy : PolicyData → PolicySetData → PolicySetData
 with_policy p s = record s { policies = with_value text_cmp (λ q. q.id) p s.policies }
+
+-- each record of a policy's condition has each of its keys once
+abbrev pub AreKeyedOnce : List PolicyData → Type 0
+AreKeyedOnce ps = AllByRecursion (λ p. HasKeysOnce p.condition) ps
 
 -- whether a policy is a link, and whether it is static
 abbrev pub is_link : PolicyData → Bool

@@ -1,3 +1,3 @@
 //! Laws of sets of policies.
 
-pub use crate::policy_set::is_policy_set;
+pub use crate::policy_set::{have_keys_once, is_policy_set};

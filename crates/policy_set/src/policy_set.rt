@@ -3,6 +3,7 @@
 use crate::link::{check_slots, slot_values};
 use crate::{Policy, Template};
 use policy_expressions::SlotId;
+use policy_expressions::laws::keys_are_once;
 use policy_names::{EntityUID, Text};
 use std::alloc::{AllocError, Global};
 use std::collections::BTreeMap;
@@ -278,7 +279,7 @@ impl PolicySet {
 }
 
 ghost use Rattle.std.specs.Prelude.{◌≡◌, OnOk, OnErr, IfOk, Some};
-ghost use Rattle.policy_set.specs.PolicySet.{IsNotAdded, IsPolicySet};
+ghost use Rattle.policy_set.specs.PolicySet.{AreKeyedOnce, IsNotAdded, IsPolicySet};
 ghost use Rattle.policy_set.specs.declared.policy_set.PolicySetError.TheVariants.{DuplicateId};
 ghost use Rattle.std.specs.BTreeMap.{IsOrdered, insert_entry, values};
 ghost use Rattle.policy_names.specs.Uid.{text_cmp};
@@ -288,6 +289,15 @@ pub fn is_policy_set(set: &PolicySet)
     ensures { IsPolicySet set.now }
 {
     let _policies = &set.policies;
+}
+
+/// Each record of a policy's condition has each of its keys once.
+pub fn have_keys_once(set: &PolicySet)
+    ensures { AreKeyedOnce set.now.policies }
+{
+    for policy in set.policies() {
+        keys_are_once(policy.condition());
+    }
 }
 
 // The templates in the order of their ids.

@@ -24,7 +24,7 @@ use typing_rules::Expected;
 const MAX_TYPED_DEPTH: u32 = 200;
 
 /// Whether a condition is too deep to be typed.
-pub(crate) fn is_too_deep(condition: &Expr<()>) -> bool
+pub fn is_too_deep(condition: &Expr<()>) -> bool
     ensures { result ≡ nat_lt 200 (depth_of condition.now) }
 {
     condition.depth() > MAX_TYPED_DEPTH

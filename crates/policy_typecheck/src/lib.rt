@@ -11,6 +11,7 @@ mod setting;
 mod typechecker;
 mod walks;
 
+pub use conditions::is_too_deep;
 pub use policy_check::PolicyCheck;
 pub use typecheck_answer::TypecheckAnswer;
 pub use typechecker::Typechecker;

@@ -1,10 +1,9 @@
 -- What holds of the sets that are accepted.
 use Rattle.std.specs.Prelude.{◌≡◌, ◌↔◌, []}
 use Rattle.std.specs.List.{AllByRecursion}
-use Rattle.policy_expressions.specs.Keys.{HasKeysOnce}
 use Rattle.policy_store.specs.declared.request.Request.{Request}
 use Rattle.policy_store.specs.Store.{Store}
-use Rattle.policy_set.specs.PolicySet.{PolicySetData, IsPolicySet}
+use Rattle.policy_set.specs.PolicySet.{PolicySetData, IsPolicySet, AreKeyedOnce}
 use Rattle.schema_core.specs.EnvData.{unlinked_envs}
 use Rattle.schema_core.specs.Faults.{IsSchema}
 use Rattle.schema_core.specs.Schema.{SchemaData}
@@ -26,5 +25,5 @@ AcceptedAreTyped =
 -- and keeps what typing promises of conditions, for each request and each store that conform
 abbrev pub AcceptedAreSound : Type 0
 AcceptedAreSound =
-    (schema : SchemaData) → IsSchema schema → (s : PolicySetData) → IsPolicySet s → AllByRecursion (λ p. HasKeysOnce p.condition) s.policies → IsAccepted schema s →
+    (schema : SchemaData) → IsSchema schema → (s : PolicySetData) → IsPolicySet s → AreKeyedOnce s.policies → IsAccepted schema s →
     (q : Request) → RequestConforms schema q → (e : Store) → StoreConforms schema e → AllByRecursion (λ p. IsConditionFor schema p.condition q e) s.policies

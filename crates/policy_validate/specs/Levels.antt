@@ -1,14 +1,13 @@
 -- The findings on a set of policies that is checked for a level, and the sets that are accepted at it.
 use Rattle.std.specs.Prelude.{◌≡◌, ◌↔◌, ℕ, List, [], ◌∷◌, ◌++◌, Option, Some, None, flat_map, option_map}
 use Rattle.std.specs.List.{AllByRecursion, filter_map}
-use Rattle.policy_expressions.specs.Keys.{HasKeysOnce}
 use Rattle.policy_expressions.specs.Plain.{Plain}
 use Rattle.policy_store.specs.declared.request.Request.{Request}
 use Rattle.policy_store.specs.Store.{Store}
 use Rattle.policy_core.specs.Eval.{eval}
 use Rattle.policy_set.specs.Data.{TemplateData}
 use Rattle.policy_set.specs.Condition.{condition_of}
-use Rattle.policy_set.specs.PolicySet.{PolicySetData, IsPolicySet, written, links}
+use Rattle.policy_set.specs.PolicySet.{PolicySetData, IsPolicySet, AreKeyedOnce, written, links}
 use Rattle.schema_core.specs.EnvData.{EnvData, action_in}
 use Rattle.schema_core.specs.Faults.{IsSchema}
 use Rattle.schema_core.specs.Schema.{SchemaData}
@@ -84,4 +83,4 @@ NoErrorsWhereAcceptedAt = (schema : SchemaData) (n : ℕ) (s : PolicySetData) �
 -- levels are sound
 abbrev pub AcceptedLevelsAreSound : Type 0
 AcceptedLevelsAreSound =
-    (schema : SchemaData) → IsSchema schema → (n : ℕ) (s : PolicySetData) → IsPolicySet s → AllByRecursion (λ p. HasKeysOnce p.condition) s.policies → IsAcceptedAt schema n s → CutIsEnough schema n s
+    (schema : SchemaData) → IsSchema schema → (n : ℕ) (s : PolicySetData) → IsPolicySet s → AreKeyedOnce s.policies → IsAcceptedAt schema n s → CutIsEnough schema n s

@@ -1,8 +1,7 @@
 //! Policies that are checked for a level.
 
 ghost use Rattle.std.specs.Prelude.{◌≡◌, ◌↔◌, ◌++◌, [], map, flat_map, IfOk, OnOk};
-ghost use Rattle.std.specs.List.{AllByRecursion, filter_map};
-ghost use Rattle.policy_expressions.specs.Keys.{HasKeysOnce};
+ghost use Rattle.std.specs.List.{filter_map};
 ghost use Rattle.policy_set.specs.PolicySet.{written};
 ghost use Rattle.level_checks.specs.Errors.{condition_in};
 ghost use Rattle.policy_validate.specs.Accepted.{warnings_of};
@@ -15,9 +14,8 @@ use crate::validator::{add_all_links, add_written};
 use extension_types::{ExtensionSchemas, all_objects};
 use level_checks::level_errors;
 use policy_expressions::Expr;
-use policy_expressions::laws::keys_are_once;
 use policy_scope::{ValidationError, ValidationResult, ValidationWarning};
-use policy_set::laws::is_policy_set;
+use policy_set::laws::{have_keys_once, is_policy_set};
 use policy_set::{PolicySet, Template};
 use policy_typecheck::{PolicyCheck, Typechecker};
 use schema_core::{RequestEnv, ValidationMode, ValidatorSchema};
@@ -76,14 +74,6 @@ fn sound_where_accepted(schema: &ValidatorSchema, policies: &PolicySet, level: u
     is_policy_set(policies);
     have_keys_once(policies);
     let _level = level;
-}
-
-fn have_keys_once(policies: &PolicySet)
-    ensures { AllByRecursion (λ p. HasKeysOnce p.condition) policies.now.policies }
-{
-    for policy in policies.policies() {
-        keys_are_once(policy.condition());
-    }
 }
 
 fn findings_at(

@@ -1,11 +1,9 @@
 -- The slice is enough.
 use Rattle.std.specs.Prelude.{◌≡◌, List}
-use Rattle.std.specs.List.{AllByRecursion}
-use Rattle.policy_expressions.specs.Keys.{HasKeysOnce}
 use Rattle.policy_store.specs.declared.request.Request.{Request}
 use Rattle.policy_store.specs.Store.{Store}
 use Rattle.policy_set.specs.Data.{PolicyData}
-use Rattle.policy_set.specs.PolicySet.{PolicySetData, IsPolicySet}
+use Rattle.policy_set.specs.PolicySet.{PolicySetData, IsPolicySet, AreKeyedOnce}
 use Rattle.authorizer.specs.Allowed.{AreAllowed}
 use Rattle.authorizer.specs.Response.{outcomes, response}
 use Rattle.schema_core.specs.Faults.{IsSchema}
@@ -31,11 +29,11 @@ pub record IsEnough (ps : List PolicyData) (q : Request) (part whole : Store) : 
 -- where every rule holds, the slice is enough
 abbrev pub SlicesAreEnough : Type 0
 SlicesAreEnough =
-    (schema : SchemaData) → IsSchema schema → (policies : PolicySetData) → IsPolicySet policies → AllByRecursion (λ p. HasKeysOnce p.condition) policies.policies →
+    (schema : SchemaData) → IsSchema schema → (policies : PolicySetData) → IsPolicySet policies → AreKeyedOnce policies.policies →
     (q : Request) (s : Store) → KeepRules schema policies q s → IsEnough policies.policies q (slice schema policies.policies q s) s
 
 -- where every rule holds, each policy has an outcome on the store that is allowed
 abbrev pub OutcomesAreAllowed : Type 0
 OutcomesAreAllowed =
-    (schema : SchemaData) → IsSchema schema → (policies : PolicySetData) → IsPolicySet policies → AllByRecursion (λ p. HasKeysOnce p.condition) policies.policies →
+    (schema : SchemaData) → IsSchema schema → (policies : PolicySetData) → IsPolicySet policies → AreKeyedOnce policies.policies →
     (q : Request) (s : Store) → KeepRules schema policies q s → AreAllowed policies.policies q s

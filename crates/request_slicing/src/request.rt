@@ -1,8 +1,6 @@
 //! The slice for a request, after every check.
 
 ghost use Rattle.std.specs.Prelude.{◌≡◌, IfErr, IfOk};
-ghost use Rattle.std.specs.List.{AllByRecursion};
-ghost use Rattle.policy_expressions.specs.Keys.{HasKeysOnce};
 ghost use Rattle.request_slices.specs.Enough.{IsEnough};
 ghost use Rattle.request_slicing.specs.Refused.{WhyNoSlice};
 ghost use Rattle.request_slices.specs.Rules.{KeepRules};
@@ -10,9 +8,8 @@ ghost use Rattle.request_slices.specs.Slice.{slice};
 
 use crate::checks::check_rules;
 use crate::error::SliceForRequestError;
-use policy_expressions::laws::keys_are_once;
 use policy_set::PolicySet;
-use policy_set::laws::is_policy_set;
+use policy_set::laws::{have_keys_once, is_policy_set};
 use policy_store::{Entities, Request};
 use request_slices::laws::slices_are_enough;
 use request_slices::restricted_to_reads;
@@ -61,12 +58,4 @@ fn slice_is_enough(
     let _actions = schema.action_ids();
     is_policy_set(policies);
     have_keys_once(policies);
-}
-
-fn have_keys_once(policies: &PolicySet)
-    ensures { AllByRecursion (λ p. HasKeysOnce p.condition) policies.now.policies }
-{
-    for policy in policies.policies() {
-        keys_are_once(policy.condition());
-    }
 }
