@@ -7,7 +7,7 @@ ghost use Rattle.access_tries.specs.Table.{IsTable, has_mark, links_at};
 ghost use Rattle.access_tries.specs.Trees.{branch_at, branches_by, branches_of};
 ghost use Rattle.access_tries.specs.Same.{same_branch, same_branches, same_roots, same_tries};
 
-use crate::edge::compare;
+use crate::order::compare;
 use crate::table::{Link, Node, links_of, mark_of};
 use crate::tries::{AccessTrie, RootAccessTrie};
 use std::cmp::Ordering;
