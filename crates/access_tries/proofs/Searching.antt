@@ -20,10 +20,11 @@ at_place P [] all i d lt = absurd (omega arith)
 at_place P (l ∷ ls) all zero d lt = all.0
 at_place P (l ∷ ls) all (suc i) d lt = at_place P ls all.1 i d (omega arith)
 
-next_before : (ls : List Link) → Ascend ls → (i : ℕ) (d : Link) → i + 1 < length ls → edge_cmp (get_or ls i d).edge (get_or ls (i + 1) d).edge ≡ Less
-next_before [] up i d lt = absurd (omega arith)
-next_before (l ∷ ls) up zero d lt = at_place (λ m. edge_cmp l.edge m.edge ≡ Less) ls up.0 zero d (omega arith)
-next_before (l ∷ ls) up (suc i) d lt = next_before ls up.1 i d (omega arith)
+earlier_before : (ls : List Link) → Ascend ls → (i j : ℕ) (d : Link) → i < j → j < length ls → edge_cmp (get_or ls i d).edge (get_or ls j d).edge ≡ Less
+earlier_before [] up i j d lt end = absurd (omega arith)
+earlier_before (l ∷ ls) up i zero d lt end = absurd (omega arith)
+earlier_before (l ∷ ls) up zero (suc j) d lt end = at_place (λ m. edge_cmp l.edge m.edge ≡ Less) ls up.0 j d (omega arith)
+earlier_before (l ∷ ls) up (suc i) (suc j) d lt end = earlier_before ls up.1 i j d (omega arith) (omega arith)
 
 none_at : (p : Link → Bool) (ls : List Link) → ((i : ℕ) (d : Link) → i < length ls → p (get_or ls i d) ≡ false) → find p ls ≡ None
 none_at p [] none = refl
@@ -41,4 +42,4 @@ module _ (e : Edge) (ls : List Link) where
 
   -- along the links the answers rise
   pub answers_rise : Ascend ls → IsNonDecreasingBy (λ l. ordering_index (edge_cmp l.edge e)) ls
-  answers_rise up = searchable_from_sorted edge_total (λ l. l.edge) ls e (λ k d _ lt. rw (edge_total.antisymm (get_or ls (k + 1) d).edge (get_or ls k d).edge, next_before ls up k d lt) refl)
+  answers_rise up = searchable_from_sorted edge_total (λ l. l.edge) ls e (λ k d _ lt. rw (edge_total.antisymm (get_or ls (k + 1) d).edge (get_or ls k d).edge, earlier_before ls up k (k + 1) d (omega arith) lt) refl)
