@@ -36,5 +36,5 @@ kind_falls (ExtensionType n) = omega arith
 pub falls : (a : Inside) → deep-Type a ≤ size_of (ty_of a.kind)
 falls a = omega (arith, kind_falls a.kind)
 
-pub attrs_fall : (a : InsideAttrs) → deep-Attributes a ≤ size_of_attrs (attrs_of a.attrs.entries)
-attrs_fall a = omega (arith, most_le-attrs a.attrs.entries)
+pub attrs_fall : (a : InsideAttrs) → deep-Attributes a ≤ size_of_attrs (attrs_of a.attrs.value.entries)
+attrs_fall a = omega (arith, most_le-attrs a.attrs.value.entries)

@@ -3,11 +3,8 @@
 ghost use Rattle.std.specs.Prelude.{◌≡◌, IfOk};
 ghost use Rattle.schema_types.specs.TyView.{ty_of};
 
-use crate::{AttributeType, Attributes, EntityRecordKind, Type, TypeKind};
-use policy_names::Text;
-use policy_values::push_entry;
+use crate::{AttributeType, EntityRecordKind, Type, TypeKind};
 use std::alloc::{AllocError, Global};
-use std::collections::BTreeMap;
 
 impl Type {
     /// An equal type.
@@ -33,15 +30,6 @@ impl EntityRecordKind {
         ensures { IfOk result (λ k. k ≡ self.now) }
     {
         copy_of_kind(alloc, self)
-    }
-}
-
-impl Attributes {
-    /// Equal attributes.
-    pub fn try_clone(&self, alloc: Global) -> Result<Attributes, AllocError>
-        ensures { IfOk result (λ a. a ≡ self.now) }
-    {
-        copy_of_attributes(alloc, self)
     }
 }
 
@@ -94,7 +82,6 @@ fn copy_of_type_kind(alloc: Global, k: &TypeKind) -> Result<TypeKind, AllocError
     }
 }
 
-#[cycle(copy)]
 fn copy_of_kind(alloc: Global, k: &EntityRecordKind) -> Result<EntityRecordKind, AllocError>
     ensures { IfOk result (λ copy. copy ≡ k.now) }
 {
@@ -103,7 +90,7 @@ fn copy_of_kind(alloc: Global, k: &EntityRecordKind) -> Result<EntityRecordKind,
             attrs,
             open_attributes,
         } => {
-            let attrs = copy_of_attributes(alloc, attrs)?;
+            let attrs = attrs.try_clone()?;
             Ok(EntityRecordKind::Record {
                 attrs,
                 open_attributes: *open_attributes,
@@ -113,36 +100,8 @@ fn copy_of_kind(alloc: Global, k: &EntityRecordKind) -> Result<EntityRecordKind,
         EntityRecordKind::Entity(lub) => Ok(EntityRecordKind::Entity(lub.try_clone()?)),
         EntityRecordKind::ActionEntity { name, attrs } => {
             let name = name.try_clone()?;
-            let attrs = copy_of_attributes(alloc, attrs)?;
+            let attrs = attrs.try_clone()?;
             Ok(EntityRecordKind::ActionEntity { name, attrs })
         }
     }
-}
-
-#[cycle(copy)]
-fn copy_of_attributes(alloc: Global, a: &Attributes) -> Result<Attributes, AllocError>
-    ensures { IfOk result (λ copy. copy ≡ a.now) }
-{
-    let entries = copy_of_entries(alloc, a.entries())?;
-    Ok(Attributes::with_attributes(entries))
-}
-
-#[cycle(copy)]
-fn copy_of_entries(
-    alloc: Global,
-    entries: &BTreeMap<Text, AttributeType>,
-) -> Result<BTreeMap<Text, AttributeType>, AllocError>
-    ensures { IfOk result (λ copy. copy.entries ≡ entries.now.entries) }
-{
-    let mut copies = BTreeMap::new(alloc);
-    for (key, x) in entries.iter() {
-        let attr_type = copy_of(alloc, &x.attr_type)?;
-        let key = key.try_clone()?;
-        let copy = AttributeType {
-            attr_type,
-            is_required: x.is_required,
-        };
-        push_entry(&mut copies, key, copy)?;
-    }
-    Ok(copies)
 }

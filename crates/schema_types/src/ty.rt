@@ -14,6 +14,7 @@ use policy_names::{EntityType, Name, Text};
 use std::alloc::{AllocError, Global};
 use std::collections::{BTreeMap, btree_map};
 use std::marker::Model;
+use std::rc::Rc;
 
 /// A type.
 #[derive(Debug, Drop)]
@@ -75,11 +76,11 @@ pub enum EntityRecordKind {
     },
 }
 
-/// Attributes under their keys, ascending.
+/// Attributes under their keys, ascending. A copy shares them.
 #[derive(Debug, Drop)]
 #[cycle(ty)]
 pub struct Attributes {
-    attrs: BTreeMap<Text, AttributeType>,
+    attrs: Rc<BTreeMap<Text, AttributeType>>,
 }
 
 /// The type of an attribute, and whether the attribute has to be there.
@@ -121,12 +122,12 @@ impl Model for Attributes {
 
     ghost use Rattle.schema_types.specs.TyView.{attrs_of};
 
-    ghost view = { λ a. attrs_of a.attrs.entries };
+    ghost view = { λ a. attrs_of a.attrs.value.entries };
 
     ghost use Rattle.std.specs.BTreeMap.{IsOrdered};
     ghost use Rattle.policy_names.specs.Uid.{text_cmp};
 
-    ghost invariant = { λ a. IsOrdered text_cmp a.attrs };
+    ghost invariant = { λ a. IsOrdered text_cmp a.attrs.value };
 
     ghost size = { size_of_attrs };
 
@@ -231,21 +232,23 @@ impl Type {
     }
 
     /// The type of all records.
-    pub fn any_record(alloc: Global) -> Type
-        ensures { result ≡ record_of no_attrs OpenAttributes }
+    pub fn any_record(alloc: Global) -> Result<Type, AllocError>
+        ensures { IfOk result (λ t. t ≡ record_of no_attrs OpenAttributes) }
     {
-        let attrs = Attributes::with_attributes(BTreeMap::new(alloc));
-        Type::record(attrs, OpenTag::OpenAttributes)
+        let attrs = Attributes::with_attributes(alloc, BTreeMap::new(alloc))?;
+        Ok(Type::record(attrs, OpenTag::OpenAttributes))
     }
 
     /// The type of records with the attributes of a map.
     pub fn record_with_attributes(
+        alloc: Global,
         attrs: BTreeMap<Text, AttributeType>,
         open_attributes: OpenTag,
-    ) -> Type
-        ensures { result ≡ record_of (attrs_of attrs.entries) open_attributes }
+    ) -> Result<Type, AllocError>
+        ensures { IfOk result (λ t. t ≡ record_of (attrs_of attrs.entries) open_attributes) }
     {
-        Type::record(Attributes::with_attributes(attrs), open_attributes)
+        let attrs = Attributes::with_attributes(alloc, attrs)?;
+        Ok(Type::record(attrs, open_attributes))
     }
 
     /// The type of all entities.
@@ -280,25 +283,30 @@ impl Type {
 
 impl Attributes {
     /// The attributes of a map.
-    pub fn with_attributes(attrs: BTreeMap<Text, AttributeType>) -> Attributes
-        ensures { result ≡ attrs_of attrs.entries }
+    pub fn with_attributes(
+        alloc: Global,
+        attrs: BTreeMap<Text, AttributeType>,
+    ) -> Result<Attributes, AllocError>
+        ensures { IfOk result (λ a. a ≡ attrs_of attrs.entries) }
     {
         let _count = attrs.len();
-        Attributes { attrs }
+        let attrs = Rc::new(alloc, attrs)?;
+        Ok(Attributes { attrs })
+    }
+
+    /// Equal attributes, which share the map.
+    pub fn try_clone(&self) -> Result<Attributes, AllocError>
+        ensures { IfOk result (λ a. a ≡ self.now) }
+    {
+        let attrs = self.attrs.clone()?;
+        Ok(Attributes { attrs })
     }
 
     /// The map of the attributes.
     pub fn entries(&self) -> &BTreeMap<Text, AttributeType>
         ensures { attrs_of result.now.entries ≡ self.now }
     {
-        &self.attrs
-    }
-
-    /// The map of the attributes.
-    pub fn into_entries(self) -> BTreeMap<Text, AttributeType>
-        ensures { attrs_of result.entries ≡ self }
-    {
-        self.attrs
+        self.attrs.as_ref()
     }
 
     /// The attributes with their keys, ascending.
@@ -306,7 +314,7 @@ impl Attributes {
         ensures value { attrs_of result ≡ self.now }
         ensures ascending { IsStrictlySortedBy text_cmp (keys_in self.now) }
     {
-        self.attrs.iter()
+        self.attrs.as_ref().iter()
     }
 
     /// The keys, ascending.
@@ -314,7 +322,7 @@ impl Attributes {
         ensures value { result ≡ keys_in self.now }
         ensures ascending { IsStrictlySortedBy text_cmp (keys_in self.now) }
     {
-        keys_of(&self.attrs)
+        keys_of(self.entries())
     }
 
     /// The attribute under a key.

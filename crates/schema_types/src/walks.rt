@@ -36,21 +36,7 @@ impl Attributes {
         for (key, attr_type) in attrs {
             push_entry(&mut made, key, AttributeType::required_attribute(attr_type))?;
         }
-        Ok(Attributes::with_attributes(made))
-    }
-}
-
-impl IntoIterator for Attributes {
-    ghost use Rattle.schema_types.specs.TyView.{attrs_of};
-
-    type Item = (Text, AttributeType);
-
-    type IntoIter = btree_map::IntoIter<Text, AttributeType, Global>;
-
-    ghost into_iter_gives = { λ a entries. attrs_of entries ≡ a };
-
-    fn into_iter(self) -> btree_map::IntoIter<Text, AttributeType, Global> {
-        self.into_entries().into_iter()
+        Attributes::with_attributes(alloc, made)
     }
 }
 

@@ -6,4 +6,4 @@ use Rattle.schema_types.proofs.AttrSteps.{keys_of_attrs}
 use Rattle.schema_types.proofs.ty.Attributes.iter.Goals as goal
 
 pub returns-clause-ascending : goal.returns-clause-ascending
-returns-clause-ascending c = rw c.self.view_is at (subst (IsStrictlySortedBy text_cmp) (keys_of_attrs c.self.inside.attrs.entries) c.self.invariant)
+returns-clause-ascending c = rw c.self.view_is at (subst (IsStrictlySortedBy text_cmp) (keys_of_attrs c.self.inside.attrs.value.entries) c.self.invariant)
