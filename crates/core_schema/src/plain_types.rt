@@ -28,7 +28,7 @@ pub(crate) fn record_type(alloc: Global, attributes: &Attributes) -> Result<Sche
     requires { plain_attrs attributes.now ≡ Some attributes.now }
     ensures { IfOk result (λ t. t ≡ record_of attributes.now ClosedAttributes) }
 {
-    let attributes = attributes.try_clone(alloc)?;
+    let attributes = attributes.try_clone()?;
     same_type(alloc, &Type::record(attributes, OpenTag::ClosedAttributes))
 }
 

@@ -188,8 +188,8 @@ fn context_of(
     ensures { IfOk result (λ o. o ≡ Some (record_of (option_map_or (λ a. a.context) (action_at schema.now action.now) no_attrs) ClosedAttributes)) }
 {
     let attrs = match schema.context_type(action) {
-        Some(attrs) => attrs.try_clone(alloc)?,
-        None => Attributes::with_attributes(BTreeMap::new(alloc)),
+        Some(attrs) => attrs.try_clone()?,
+        None => Attributes::with_attributes(alloc, BTreeMap::new(alloc))?,
     };
     Ok(Some(Type::record(attrs, OpenTag::ClosedAttributes)))
 }

@@ -104,7 +104,7 @@ fn attributes_in<S: DeclaredAttributes>(
 {
     match t.kind() {
         TypeKind::EntityOrRecord(kind) => attributes_in_kind(alloc, schema, kind),
-        _ => Ok(no_attributes(alloc)),
+        _ => no_attributes(alloc),
     }
 }
 
@@ -116,10 +116,10 @@ fn attributes_in_kind<S: DeclaredAttributes>(
     ensures { IfOk result (λ xs. xs ≡ attrs_in (S.declared schema.now) (kind_of kind.now)) }
 {
     match kind {
-        EntityRecordKind::Record { attrs, .. } => attrs.try_clone(alloc),
-        EntityRecordKind::AnyEntity => Ok(no_attributes(alloc)),
+        EntityRecordKind::Record { attrs, .. } => attrs.try_clone(),
+        EntityRecordKind::AnyEntity => no_attributes(alloc),
         EntityRecordKind::Entity(lub) => attributes_of_union(alloc, schema, lub),
-        EntityRecordKind::ActionEntity { attrs, .. } => attrs.try_clone(alloc),
+        EntityRecordKind::ActionEntity { attrs, .. } => attrs.try_clone(),
     }
 }
 
@@ -133,7 +133,7 @@ fn attributes_of_union<S: DeclaredAttributes>(
 {
     let mut names = lub.iter();
     match names.next() {
-        None => Ok(no_attributes(alloc)),
+        None => no_attributes(alloc),
         Some(first) => {
             let mut attrs = declared_or_none(alloc, schema, first)?;
             for name in names {
@@ -154,7 +154,7 @@ fn shared_with_declared<S: DeclaredAttributes>(
 {
     match schema.attributes_of(name) {
         Some(declared) => shared_attributes(alloc, attrs, declared),
-        None => shared_attributes(alloc, attrs, &no_attributes(alloc)),
+        None => shared_attributes(alloc, attrs, &no_attributes(alloc)?),
     }
 }
 
@@ -166,15 +166,15 @@ fn declared_or_none<S: DeclaredAttributes>(
     ensures { IfOk result (λ xs. xs ≡ or_none (S.declared schema.now name.now)) }
 {
     match schema.attributes_of(name) {
-        Some(declared) => declared.try_clone(alloc),
-        None => Ok(no_attributes(alloc)),
+        Some(declared) => declared.try_clone(),
+        None => no_attributes(alloc),
     }
 }
 
-fn no_attributes(alloc: Global) -> Attributes
-    ensures { result ≡ no_attrs }
+fn no_attributes(alloc: Global) -> Result<Attributes, AllocError>
+    ensures { IfOk result (λ xs. xs ≡ no_attrs) }
 {
-    Attributes::with_attributes(BTreeMap::new(alloc))
+    Attributes::with_attributes(alloc, BTreeMap::new(alloc))
 }
 
 fn copied(

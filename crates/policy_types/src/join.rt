@@ -271,7 +271,7 @@ fn join_attributes(
     ensures { IfOk result (λ r. r ≡ join_attrs a.now b.now) }
 {
     match join_entries(alloc, a.entries(), b.entries())? {
-        Ok(entries) => Ok(Ok(Attributes::with_attributes(entries))),
+        Ok(entries) => Ok(Ok(Attributes::with_attributes(alloc, entries)?)),
         Err(help) => Ok(Err(help)),
     }
 }
@@ -320,7 +320,7 @@ pub fn shared_attributes(
     ensures { IfOk result (λ xs. xs ≡ shared a.now b.now) }
 {
     let entries = shared_entries(alloc, a.entries(), b.entries())?;
-    Ok(Attributes::with_attributes(entries))
+    Attributes::with_attributes(alloc, entries)
 }
 
 #[cycle(join)]

@@ -24,7 +24,7 @@ pub fn euid_literal(
         schema.get_entity_type(uid.entity_type()),
     ) {
         (Some(_), _) => {
-            let attrs = Attributes::with_attributes(BTreeMap::new(alloc));
+            let attrs = Attributes::with_attributes(alloc, BTreeMap::new(alloc))?;
             Ok(Some(Type::action_entity(name, attrs)))
         }
         (None, Some(_)) => {

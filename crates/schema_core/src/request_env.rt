@@ -128,10 +128,10 @@ impl<'a> RequestEnv<'a> {
     {
         match self {
             RequestEnv::DeclaredAction { context, .. } => {
-                let attrs = context.try_clone(alloc)?;
+                let attrs = context.try_clone()?;
                 Ok(Type::record(attrs, OpenTag::ClosedAttributes))
             }
-            RequestEnv::UndeclaredAction => Ok(Type::any_record(alloc)),
+            RequestEnv::UndeclaredAction => Type::any_record(alloc),
         }
     }
 

@@ -127,7 +127,7 @@ impl ValidatorActionId {
     pub fn context_type(&self, alloc: Global) -> Result<Type, AllocError>
         ensures { IfOk result (λ t. t ≡ record_of self.now.context ClosedAttributes) }
     {
-        let attrs = self.context.try_clone(alloc)?;
+        let attrs = self.context.try_clone()?;
         Ok(Type::record(attrs, OpenTag::ClosedAttributes))
     }
 

@@ -93,7 +93,7 @@ impl ValidatorEntityType {
         ensures kind { IfOk result (λ t. t.kind ≡ kind_of kind) }
     {
         let descendants = set_of(alloc, descendants)?;
-        Ok(ValidatorEntityType::with_set(alloc, name, descendants, kind))
+        ValidatorEntityType::with_set(alloc, name, descendants, kind)
     }
 
     // The type with an ascending set of descendants.
@@ -102,17 +102,17 @@ impl ValidatorEntityType {
         name: EntityType,
         descendants: BTreeSet<EntityType>,
         kind: ValidatorEntityTypeKind,
-    ) -> ValidatorEntityType
+    ) -> Result<ValidatorEntityType, AllocError>
         requires { IsOrdered text_cmp descendants }
-        ensures { result ≡ record { name = name; descendants = descendants.keys; kind = kind_of kind } }
+        ensures { IfOk result (λ t. t ≡ record { name = name; descendants = descendants.keys; kind = kind_of kind }) }
     {
-        let no_attributes = Attributes::with_attributes(BTreeMap::new(alloc));
-        ValidatorEntityType {
+        let no_attributes = Attributes::with_attributes(alloc, BTreeMap::new(alloc))?;
+        Ok(ValidatorEntityType {
             name,
             descendants,
             kind,
             no_attributes,
-        }
+        })
     }
 
     /// The name of the type.

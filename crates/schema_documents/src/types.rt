@@ -119,7 +119,7 @@ pub fn read_attributes(alloc: Global, value: &Value) -> Result<Option<Attributes
         return Ok(None);
     };
     match read_entries(alloc, members)? {
-        Some(entries) => Ok(Some(Attributes::with_attributes(entries))),
+        Some(entries) => Ok(Some(Attributes::with_attributes(alloc, entries)?)),
         None => Ok(None),
     }
 }

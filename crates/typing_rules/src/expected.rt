@@ -230,7 +230,7 @@ fn types(alloc: Global, x: Expected<'_>) -> Result<Vec<Type>, AllocError>
         }
         Expected::Owner | Expected::OwnerOfHas => {
             types.push(Type::any_entity_reference())?;
-            types.push(Type::any_record(alloc))?;
+            types.push(Type::any_record(alloc)?)?;
         }
         Expected::Argument(expected) => types.push(expected.try_clone(alloc)?)?,
     }
