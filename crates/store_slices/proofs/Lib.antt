@@ -4,3 +4,5 @@ pub mod LeastSteps
 mod KeptSteps
 mod PartSteps
 mod BlockedSteps
+pub mod Fronts
+mod Enumerating
