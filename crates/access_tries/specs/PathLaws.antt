@@ -13,7 +13,7 @@ use Rattle.access_tries.specs.declared.edge.Edge.{Edge}
 use Rattle.access_tries.specs.declared.edge.Edge.TheVariants.{Root}
 use Rattle.access_tries.specs.Edges.{edge_cmp}
 use Rattle.access_tries.specs.EdgeLaws.{then_end, edge_total, exact_edge}
-use Rattle.access_tries.specs.Paths.{AccessPath, edge_of, address_of, path_cmp}
+use Rattle.access_tries.specs.Paths.{edge_of, address_of, path_cmp}
 
 pub path_total : IsTotalOrder path_cmp
 path_total = on_total address_of (lists_total edge_total)

@@ -10,7 +10,7 @@ use Rattle.policy_store.specs.Store.{StoredEntity, Store, entity_at}
 use Rattle.policy_values.specs.Value.{Val}
 use Rattle.access_tries.specs.Paths.{AccessPath, edge_of, address_of}
 use Rattle.access_tries.specs.Views.{ViewData, view_marks}
-use Rattle.policy_reads.proofs.Lists.{IsIn}
+use Rattle.policy_reads.specs.Among.{IsIn}
 use Rattle.policy_reads.specs.Paths.{Step}
 use Rattle.policy_reads.specs.Restrict.{names_id, walk, reach}
 

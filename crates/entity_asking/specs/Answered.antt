@@ -6,7 +6,7 @@ use Rattle.policy_store.specs.Store.{StoredEntity}
 use Rattle.policy_values.specs.Value.{Val}
 use Rattle.access_tries.specs.Table.{Table}
 use Rattle.access_tries.specs.Views.{ViewData}
-use Rattle.policy_reads.proofs.Lists.{IsIn}
+use Rattle.policy_reads.specs.Among.{IsIn}
 use Rattle.entity_asking.specs.declared.place.Place.{Place}
 use Rattle.entity_asking.specs.Places.{node_of}
 use Rattle.entity_asking.specs.Stuck.{Tests, tests_of, EntitySticks}

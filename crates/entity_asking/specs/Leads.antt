@@ -13,7 +13,7 @@ use Rattle.access_tries.specs.Table.{Table}
 use Rattle.access_tries.specs.Views.{ViewData, whole}
 use Rattle.policy_reads.specs.Paths.{Step}
 use Rattle.policy_reads.specs.Restrict.{step_in_entity, step_in_record, walk, root_value}
-use Rattle.policy_reads.proofs.Lists.{IsIn}
+use Rattle.policy_reads.specs.Among.{IsIn}
 use Rattle.entity_asking.specs.Wants.{Test, sees, points}
 
 -- from the value steps lead to the entity, whatever the store, and with this address behind them they pass the test

@@ -8,7 +8,7 @@ use Rattle.access_tries.specs.Paths.{edge_of}
 use Rattle.access_tries.specs.Table.{Table}
 use Rattle.access_tries.specs.Views.{ViewData, view_leads}
 use Rattle.policy_reads.specs.Paths.{Step}
-use Rattle.policy_reads.proofs.Lists.{IsIn}
+use Rattle.policy_reads.specs.Among.{IsIn}
 use Rattle.entity_asking.specs.declared.place.Place.{Place}
 
 -- places by their ids, and then by their numbers

@@ -3,7 +3,7 @@
 ghost use Rattle.std.specs.Prelude.{◌≡◌, ◌⊎◌, Bool, true, [], IsSome, IfOk, OnOk, IfErr};
 ghost use Rattle.access_tries.specs.Edges.{Address};
 ghost use Rattle.access_tries.specs.Views.{view_leads};
-ghost use Rattle.policy_reads.proofs.Lists.{IsIn};
+ghost use Rattle.policy_reads.specs.Among.{IsIn};
 ghost use Rattle.policy_reads.specs.Restrict.{root_value};
 ghost use Rattle.policy_names.specs.declared.entity_uid.EntityUID.{EntityUID};
 ghost use Rattle.policy_store.specs.Request.{IsWhole, known};

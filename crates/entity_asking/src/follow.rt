@@ -3,7 +3,7 @@
 ghost use Rattle.std.specs.Prelude.{◌≡◌, ◌⊎◌, true, [], OnOk};
 ghost use Rattle.access_tries.specs.Views.{view_leads};
 ghost use Rattle.std.specs.List.{list_any};
-ghost use Rattle.policy_reads.proofs.Lists.{IsIn};
+ghost use Rattle.policy_reads.specs.Among.{IsIn};
 ghost use Rattle.policy_reads.specs.Restrict.{values_in};
 ghost use Rattle.policy_values.specs.Value.{fields_of};
 ghost use Rattle.entity_asking.specs.declared.place.Place.{Place};

@@ -11,7 +11,7 @@ use Rattle.access_tries.specs.Paths.{edge_of}
 use Rattle.access_tries.specs.Table.{Table}
 use Rattle.policy_reads.specs.Paths.{Chain, steps_of}
 use Rattle.policy_reads.specs.Restrict.{Keep, cut_entity, root_value}
-use Rattle.policy_reads.proofs.Order.{IsWellFormed}
+use Rattle.policy_reads.specs.Among.{IsWellFormed}
 use Rattle.policy_reads.specs.Merge.{IsOrdered}
 use Rattle.entity_asking.specs.Begun.{roots_point}
 use Rattle.entity_asking.specs.Wants.{Adds, wants}

@@ -10,7 +10,7 @@ ghost use Rattle.entity_asking.specs.declared.place.Place.{Place};
 ghost use Rattle.entity_merging.specs.Kept.{kept_with};
 ghost use Rattle.policy_names.specs.Uid.{uid_cmp, uid_eq};
 ghost use Rattle.policy_names.specs.declared.entity_uid.EntityUID.{EntityUID};
-ghost use Rattle.policy_reads.proofs.Lists.{IsIn};
+ghost use Rattle.policy_reads.specs.Among.{IsIn};
 ghost use Rattle.entity_loading.specs.Answering.{AreUnderIds};
 ghost use Rattle.entity_loading.specs.Keeping.{kept_and, refusal_of, IsNotKept, AreNotKept, AreNotTaken, Keeps};
 

@@ -9,7 +9,7 @@ ghost use Rattle.entity_asking.specs.Places.{IsBelowSome};
 ghost use Rattle.entity_asking.specs.declared.place.Place.{Place};
 ghost use Rattle.entity_loader.specs.State.{Continues};
 ghost use Rattle.policy_names.specs.Uid.{uid_cmp};
-ghost use Rattle.policy_reads.proofs.Lists.{IsIn};
+ghost use Rattle.policy_reads.specs.Among.{IsIn};
 ghost use Rattle.policy_store.specs.Store.{Store};
 ghost use Rattle.policy_store.specs.declared.request.Request.{Request};
 ghost use Rattle.entity_loading.specs.KeptPart.{IsState, IsBegun};

@@ -9,19 +9,35 @@ use outside::{MemorySink, SliceSource};
 use policy_gate::{Status, run};
 use std::alloc::{AllocError, Global};
 
-/// Why there is no slice: the status, and the text that says more.
+/// Why there is no slice.
 #[derive(Debug, Drop)]
-pub struct Refusal {
-    /// How the run ended.
-    pub status: Status,
-    /// What it wrote, as far as there was memory for it.
-    pub text: Vec<u8>,
+pub enum SliceError {
+    /// The document is refused.
+    Refused {
+        /// How the run ended.
+        status: Status,
+        /// The text that says more.
+        text: Vec<u8>,
+    },
+    /// There was no memory for it.
+    OutOfMemory,
+}
+
+impl From<AllocError> for SliceError {
+    ghost use Rattle.std.specs.Prelude.{◌≡◌};
+    ghost use Rattle.example_service.specs.declared.SliceError.{SliceError};
+
+    ghost from_gives = { λ _ e. e ≡ SliceError.OutOfMemory };
+
+    fn from(_: AllocError) -> SliceError {
+        SliceError::OutOfMemory
+    }
 }
 
 /// The decision on the document's request, with a slice of its store on which every policy does what it does on the whole.
-pub fn slice(alloc: Global, document: &[u8]) -> Result<Result<Vec<u8>, Refusal>, AllocError>
-    ensures sliced { IfOk result (λ answer. IfOk answer (λ text.
-        (d : Document) × IsDocumentOf document.now d × KeepsRules d × IsSliced d text.items)) }
+pub fn slice(alloc: Global, document: &[u8]) -> Result<Vec<u8>, SliceError>
+    ensures sliced { IfOk result (λ text.
+        (d : Document) × IsDocumentOf document.now d × KeepsRules d × IsSliced d text.items) }
 {
     let mut words = Vec::new(alloc);
     words.push(String::from_str(alloc, "slice")?)?;
@@ -30,7 +46,8 @@ pub fn slice(alloc: Global, document: &[u8]) -> Result<Result<Vec<u8>, Refusal>,
     let status = run(alloc, &words, &mut source, &mut sink);
     let MemorySink { bytes: text, .. } = sink;
     match status {
-        Status::Done => Ok(Ok(text)),
-        _ => Ok(Err(Refusal { status, text })),
+        Status::Done => Ok(text),
+        Status::OutOfMemory => Err(SliceError::OutOfMemory),
+        _ => Err(SliceError::Refused { status, text }),
     }
 }

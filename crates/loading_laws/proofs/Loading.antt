@@ -9,7 +9,7 @@ use Rattle.entity_loading.specs.declared.error.EntitySliceError.{EntitySliceErro
 use Rattle.entity_loading.specs.declared.error.EntitySliceError.TheVariants as error
 use Rattle.loading_laws.specs.Computed.{ComputedManifestsFit, ComputedSlicesFit, HonestLoadingSucceeds}
 use Rattle.loading_laws.specs.Sticking.{SticksAt}
-use Rattle.manifest_loading.specs.Chosen.{trie_in}
+use Rattle.entity_manifest.specs.Manifest.{trie_for}
 use Rattle.loading_laws.proofs.Conforming.{nothing_sticks, nothing_is_blocked}
 use Rattle.loading_laws.proofs.Manifests.{trie_chosen}
 
@@ -28,9 +28,9 @@ memory_alone P none old new quiet error.LoaderFault h = absurd (quiet h)
 memory_alone P none old new quiet error.OutOfMemory h = refl
 
 pub honest_succeeds : HonestLoadingSucceeds
-honest_succeeds schema valid ps m is q request s store old new quiet e h = by (trie_in m q) refl
+honest_succeeds schema valid ps m is q request s store old new quiet e h = by (trie_for m q) refl
   where
-    by : (o : Option Table) → trie_in m q ≡ o → e ≡ error.OutOfMemory
+    by : (o : Option Table) → trie_for m q ≡ o → e ≡ error.OutOfMemory
     by None i = h.without i
     by (Some t) i = memory_alone (SticksAt t q s) (manifests_fit schema valid ps m is q request s store t i) old new quiet e (h.right t i)
 

@@ -30,9 +30,8 @@ use Rattle.policy_reads.proofs.DeclaredPaths.{declared_read}
 use Rattle.policy_reads.proofs.Lists.{IsIn, flat_map_out}
 use Rattle.typed_conditions.specs.Typed.{typed_conditions}
 use Rattle.store_slices.proofs.LeastSteps.{declared_trie}
-use Rattle.entity_manifest.specs.Manifest.{Manifest}
+use Rattle.entity_manifest.specs.Manifest.{Manifest, trie_for}
 use Rattle.manifest_computation.specs.Computed.{IsEntryOf, IsManifestOf}
-use Rattle.manifest_loading.specs.Chosen.{trie_in}
 use Rattle.loading_laws.specs.Declared.{IsDeclaredTrie}
 use Rattle.loading_laws.specs.Computed.{ComputedTriesAreDeclared}
 use Rattle.loading_laws.proofs.Conditions.{Asks, AsksIds, asks_both, none_asked, types_fine}
@@ -170,7 +169,7 @@ pub record IsChosen (d : SchemaData) (q : Request) (t : Table) : Type 0 where
   pub of : IsOf d q linked
   pub declared : IsDeclaredTrie d (declared_action linked) t
 
-pub trie_chosen : (d : SchemaData) → IsSchema d → (ps : List PolicyData) (m : Manifest) → IsManifestOf d ps m → (q : Request) (t : Table) → trie_in m q ≡ Some t → IsChosen d q t
+pub trie_chosen : (d : SchemaData) → IsSchema d → (ps : List PolicyData) (m : Manifest) → IsManifestOf d ps m → (q : Request) (t : Table) → trie_for m q ≡ Some t → IsChosen d q t
 trie_chosen d valid ps m is q t h = by (request_type_of q) refl h
   where
     none : (rt : RequestType) → m ≡ [] → lookup (is_at (request_type_cmp rt)) m ≡ Some t → IsChosen d q t

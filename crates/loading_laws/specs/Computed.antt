@@ -18,9 +18,8 @@ use Rattle.entity_loading.specs.Causes.{IsRight}
 use Rattle.entity_loading.specs.declared.error.EntitySliceError.{EntitySliceError}
 use Rattle.entity_loading.specs.declared.error.EntitySliceError.TheVariants.{OutOfMemory}
 use Rattle.store_slices.specs.Blocked.{IsBlocked}
-use Rattle.entity_manifest.specs.Manifest.{Manifest}
+use Rattle.entity_manifest.specs.Manifest.{Manifest, trie_for}
 use Rattle.manifest_computation.specs.Computed.{IsManifestOf}
-use Rattle.manifest_loading.specs.Chosen.{trie_in}
 use Rattle.loading_laws.specs.Declared.{IsDeclaredTrie}
 use Rattle.loading_laws.specs.Sticking.{SticksAt}
 
@@ -34,12 +33,12 @@ ComputedTriesAreDeclared =
 abbrev pub ComputedManifestsFit : Type 0
 ComputedManifestsFit =
     (schema : SchemaData) → IsSchema schema → (ps : List PolicyData) (m : Manifest) → IsManifestOf schema ps m →
-    (q : Request) → RequestConforms schema q → (s : Store) → StoreConforms schema s → (t : Table) → trie_in m q ≡ Some t → (v : Val) → ¬ SticksAt t q s v
+    (q : Request) → RequestConforms schema q → (s : Store) → StoreConforms schema s → (t : Table) → trie_for m q ≡ Some t → (v : Val) → ¬ SticksAt t q s v
 
 -- a refusal as loading by the manifest promises it of an honest loader of the store
 pub record IsRightRefusal (m : Manifest) (q : Request) (s : Store) (old new : LoaderState) (e : EntitySliceError) : Type 0 where
-  pub without : trie_in m q ≡ None → e ≡ OutOfMemory
-  pub right : (t : Table) → trie_in m q ≡ Some t → IsRight (SticksAt t q s) old new e
+  pub without : trie_for m q ≡ None → e ≡ OutOfMemory
+  pub right : (t : Table) → trie_for m q ≡ Some t → IsRight (SticksAt t q s) old new e
 
 -- there an honest loader whose count of faults did not rise is refused for want of memory alone
 abbrev pub HonestLoadingSucceeds : Type 0
@@ -52,4 +51,4 @@ HonestLoadingSucceeds =
 abbrev pub ComputedSlicesFit : Type 0
 ComputedSlicesFit =
     (schema : SchemaData) → IsSchema schema → (ps : List PolicyData) (m : Manifest) → IsManifestOf schema ps m →
-    (q : Request) → RequestConforms schema q → (s : Store) → StoreConforms schema s → (t : Table) → trie_in m q ≡ Some t → (v : Val) → ¬ IsBlocked t q s v
+    (q : Request) → RequestConforms schema q → (s : Store) → StoreConforms schema s → (t : Table) → trie_for m q ≡ Some t → (v : Val) → ¬ IsBlocked t q s v

@@ -22,7 +22,7 @@ const AT_ONCE: usize = 8;
 
 /// The trie of what the policies' conditions read and ask for in the environment, each with its types there; nothing where
 /// the check of one fails.
-pub(crate) fn trie_in<'a>(
+pub(crate) fn trie_of_policies<'a>(
     alloc: Global,
     schema: &'a ValidatorSchema,
     typechecker: &Typechecker<'_, '_>,

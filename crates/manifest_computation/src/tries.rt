@@ -9,7 +9,7 @@ ghost use Rattle.schema_core.specs.RequestEnvs.{env_data_of};
 ghost use Rattle.manifest_computation.specs.Found.{AreEntries, IsBehind};
 ghost use Rattle.policy_acceptance.specs.Laws.{LeavesAll};
 
-use crate::gathering::trie_in;
+use crate::gathering::trie_of_policies;
 use access_tries::RootAccessTrie;
 use policy_set::PolicySet;
 use policy_store::RequestType;
@@ -33,7 +33,7 @@ pub(crate) fn tries_of(
     let envs = schema.unlinked_request_envs(alloc)?;
     let mut tries = BTreeMap::new(alloc);
     for env in &envs {
-        match trie_in(alloc, schema, typechecker, env, policies)? {
+        match trie_of_policies(alloc, schema, typechecker, env, policies)? {
             Some(trie) => add_trie_of(env, trie, &mut tries)?,
             None => return Ok(None),
         }

@@ -1,28 +1,21 @@
 -- Slices by manifests.
-use Rattle.std.specs.Prelude.{◌≡◌, List, []}
-use Rattle.std.specs.Map.{lookup}
-use Rattle.std.specs.BTreeMap.{is_at}
-use Rattle.std.specs.Option.{option_map_or}
+use Rattle.std.specs.Prelude.{◌≡◌, List, [], Option}
+use Rattle.std.specs.Option.{unwrap_or}
 use Rattle.policy_store.specs.declared.request.Request.{Request}
-use Rattle.policy_store.specs.declared.request.RequestType.{RequestType}
-use Rattle.policy_store.specs.Request.{IsWhole, request_type_of, request_type_cmp}
+use Rattle.policy_store.specs.Request.{IsWhole}
 use Rattle.policy_store.specs.Store.{Store}
 use Rattle.policy_values.specs.Value.{Val}
 use Rattle.access_tries.specs.Table.{Table}
 use Rattle.policy_reads.specs.Paths.{AccessPath, Demand}
 use Rattle.policy_reads.specs.Restrict.{restrict}
-use Rattle.entity_manifest.specs.Manifest.{Manifest}
 use Rattle.entity_loading.specs.declared.error.EntitySliceError.{EntitySliceError}
 use Rattle.entity_loading.specs.declared.error.EntitySliceError.TheVariants.{PartialRequest, IncompatibleEntityManifest, OutOfMemory}
 use Rattle.store_slices.specs.Blocked.{IsBlocked}
 use Rattle.store_slices.specs.Tries.{IsTrieOf}
 
--- the trie that the manifest has for a type of requests; where it has none, that of nothing
-abbrev pub trie_at : Manifest → RequestType → Table
-trie_at m t = option_map_or (λ z. z) (lookup (is_at (request_type_cmp t)) m) []
-
-abbrev pub trie_for : Manifest → Request → Table
-trie_for m q = option_map_or (trie_at m) (request_type_of q) []
+-- the trie, or that of nothing
+abbrev pub trie_or_none : Option Table → Table
+trie_or_none o = unwrap_or o []
 
 -- no path of the trie is blocked, and the store is the one restricted to what the trie is of
 pub record IsSlice (t : Table) (q : Request) (s sliced : Store) : Type 0 where

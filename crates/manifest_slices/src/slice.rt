@@ -2,7 +2,8 @@
 
 ghost use Rattle.std.specs.Prelude.{MatchResult};
 ghost use Rattle.policy_store.specs.Request.{IsWhole};
-ghost use Rattle.manifest_slices.specs.Sliced.{trie_at, trie_for, IsSlice, IsRefused};
+ghost use Rattle.entity_manifest.specs.Manifest.{trie_at, trie_for};
+ghost use Rattle.manifest_slices.specs.Sliced.{trie_or_none, IsSlice, IsRefused};
 
 use access_tries::RootAccessTrie;
 use entity_loading::{EntitySliceError, IncompatibleEntityManifestError, PartialRequestError};
@@ -21,7 +22,7 @@ pub fn slice_entities(
     entities: &Entities,
     request: &Request,
 ) -> Result<Entities, EntitySliceError>
-    ensures { MatchResult result (IsSlice (trie_for manifest.now request.now) request.now entities.now) (IsRefused (trie_for manifest.now request.now) request.now entities.now) }
+    ensures { MatchResult result (IsSlice (trie_or_none (trie_for manifest.now request.now)) request.now entities.now) (IsRefused (trie_or_none (trie_for manifest.now request.now)) request.now entities.now) }
 {
     if !request.is_whole() {
         return Err(EntitySliceError::PartialRequest(PartialRequestError {}));
@@ -40,7 +41,7 @@ fn slice_typed(
     request: &Request,
 ) -> Result<Entities, EntitySliceError>
     requires { IsWhole request.now }
-    ensures { MatchResult result (IsSlice (trie_at manifest.now request_type.now) request.now entities.now) (IsRefused (trie_at manifest.now request_type.now) request.now entities.now) }
+    ensures { MatchResult result (IsSlice (trie_or_none (trie_at manifest.now request_type.now)) request.now entities.now) (IsRefused (trie_or_none (trie_at manifest.now request_type.now)) request.now entities.now) }
 {
     match manifest.per_action().get(request_type) {
         Some(trie) => slice_along(alloc, trie, entities, request),

@@ -65,7 +65,10 @@ fn declared_trie(
     least_trie(at.alloc, &reads, &demands)
 }
 
-fn declared_parts(at: &Setting<'_>, paths: BTreeSet<AccessPath>) -> Result<Vec<AccessPath>, AllocError>
+fn declared_parts(
+    at: &Setting<'_>,
+    paths: BTreeSet<AccessPath>,
+) -> Result<Vec<AccessPath>, AllocError>
     ensures { IfOk result (λ r. r.items ≡ map (declared_part at.now.schema.now (env_data_of at.now.env.now)) paths.keys) }
 {
     let mut parts = Vec::new(at.alloc);

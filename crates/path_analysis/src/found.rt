@@ -26,7 +26,11 @@ pub(crate) fn add_if_longer(
 }
 
 #[tactic(auto, using(crate::proofs::Stays::path_stays))]
-fn add_copy(alloc: Global, path: &AccessPath, reads: &mut BTreeSet<AccessPath>) -> Result<(), AllocError>
+fn add_copy(
+    alloc: Global,
+    path: &AccessPath,
+    reads: &mut BTreeSet<AccessPath>,
+) -> Result<(), AllocError>
     ensures { OnOk result (reads.new.keys ≡ insert_key path_cmp reads.old.keys path.now) }
 {
     if reads.len() == 0 || !reads.contains(path) {

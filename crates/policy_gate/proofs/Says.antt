@@ -182,7 +182,7 @@ module _ (laws : Laws) (d : Document) where
     decided text rules is = record { written = is; allowed = laws.outcomes d.schema made.schema d.policies made.policies made.keys d.request d.entities rules }
 
     sliced : (text : List ℕ) → KeepsRules d → IsWork Slice d text → IsSliced d text
-    sliced text rules is = let e = enough rules in record { written = is; covers = e.covers; allowed = e.allowed; decision = e.decision }
+    sliced text rules is = record { written = is; enough = enough rules }
 
     says : (c : Command) (text : List ℕ) → refusal c d ≡ None → IsWork c d text → Says c d text
     says Check text none is = record { written = is; accepted = accepted none }

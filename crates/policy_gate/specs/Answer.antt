@@ -58,22 +58,23 @@ store_fault d = first_store_fault d.schema d.entities
 abbrev pub is_whole : Request → Bool
 is_whole q = is_some q.principal && (is_some q.action && (is_some q.resource && is_some q.context))
 
+-- what is answered where an entry of the request is not known
 abbrev pub partial_request : Answer
 partial_request = answer status.PartialRequest (codes "request: entity slicing requires a fully concrete request. Got a partial request\n")
 
--- What is answered in place of a command's work: that an entry of the request is not known,
+-- what is answered in place of a command's work, if anything: that an entry of the request is not known
 abbrev pub refused_partial : Document → Option Answer
 refused_partial d = if is_whole d.request then None else Some partial_request
 
--- that the request breaks a rule,
+-- that the request breaks a rule
 abbrev pub refused_request : Document → Option Answer
 refused_request d = option_map (λ e. answer status.Request (request_text e)) (request_fault d)
 
--- that the store breaks one,
+-- that an entity of the store breaks one
 abbrev pub refused_store : Document → Option Answer
 refused_store d = option_map (λ f. answer status.Store (entity_text (record { uid = f.0; rule = f.1 }))) (store_fault d)
 
--- or that there are errors in the policies; a warning alone does not matter
+-- that there are errors among the findings; a warning alone does not matter
 abbrev pub refused_with : List ValidationError → Findings → Option Answer
 refused_with [] found = None
 refused_with (e ∷ es) found = Some (answer status.Findings (findings_text found))
@@ -83,19 +84,23 @@ abbrev pub status_of : List ValidationError → Status
 status_of [] = status.Done
 status_of (e ∷ es) = status.Findings
 
+-- that there are errors in the policies
 abbrev pub refused_policies : Document → Option Answer
 refused_policies d = refused_with (found_in d).errors (found_in d)
 
+-- that there are errors in them where they are checked for a level
 abbrev pub refused_levels : ℕ → Document → Option Answer
 refused_levels n d = refused_with (found_at n d).errors (found_at n d)
 
--- the first that there is of these, in the order of the rules that a command looks at
+-- the request's first broken rule, or else the store's
 abbrev pub refused_data : Document → Option Answer
 refused_data d = option_or (refused_request d) (refused_store d)
 
+-- why there is no slice and no decision: the request is not whole, or breaks a rule, or the store does, or there are errors in the policies
 abbrev pub refused_decision : Document → Option Answer
 refused_decision d = option_or (refused_partial d) (option_or (refused_data d) (refused_policies d))
 
+-- what is answered in place of the command's work, where some rule of it is broken
 abbrev pub refusal : Command → Document → Option Answer
 refusal Check d = refused_policies d
 refusal (Level n) d = refused_levels n d

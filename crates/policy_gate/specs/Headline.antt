@@ -1,5 +1,5 @@
 -- What status 0 says of each command.
-use Rattle.std.specs.Prelude.{◌≡◌, ℕ, List, [], length, Some, None, Ok, codes}
+use Rattle.std.specs.Prelude.{◌≡◌, ℕ, List, length, Some, None, Ok, codes}
 use Rattle.authorizer.specs.Allowed.{AreAllowed}
 use Rattle.authorizer.specs.Response.{response}
 use Rattle.policy_documents.specs.Reading.{IsRead}
@@ -9,7 +9,7 @@ use Rattle.finding_texts.specs.Written.{findings_text}
 use Rattle.policy_typing.specs.Conforms.{StoreConforms}
 use Rattle.policy_validate.specs.Accepted.{IsAccepted}
 use Rattle.policy_validate.specs.Levels.{IsAcceptedAt, CutIsEnough}
-use Rattle.request_slices.specs.Enough.{Covers, AreAllowedBetween, IsEnough}
+use Rattle.request_slices.specs.Enough.{IsEnough}
 use Rattle.request_slices.specs.Rules.{KeepRules}
 use Rattle.policy_writing.specs.SliceJson.{slice_text, response_text}
 use Rattle.json_parts.specs.Json.{json_of}
@@ -79,14 +79,12 @@ pub record IsManifested (d : Document) (text : List ℕ) : Type 0 where
   pub written : text ≡ manifest_text manifest
   pub accepted : HasAcceptedPolicies d
 
--- the text is the slice with the decision. The slice covers the policies: on it, and on every store between it and the whole one,
--- each policy has the outcome that it has on the whole store, which is a truth value, a missing entity or an overflow; so the response
--- on it is that on the whole store
+-- the text is the slice with the response on it. The slice is a part of the store, and enough: on it, and on every store between the
+-- two, each policy has the outcome that it has on the whole store, which is a truth value, a missing entity or an overflow; so the
+-- response is the same
 pub record IsSliced (d : Document) (text : List ℕ) : Type 0 where
   pub written : text ≡ slice_text (response d.policies.policies d.request (slice_of d)) (slice_of d)
-  pub covers : Covers d.policies.policies d.request (slice_of d) d.entities
-  pub allowed : AreAllowedBetween d.policies.policies d.request (slice_of d) d.entities
-  pub decision : response d.policies.policies d.request (slice_of d) ≡ response d.policies.policies d.request d.entities
+  pub enough : IsEnough d.policies.policies d.request (slice_of d) d.entities
 
 -- the text is the response on the whole store, on which the outcome of each policy is a truth value, a missing entity or an overflow
 pub record IsDecided (d : Document) (text : List ℕ) : Type 0 where

@@ -5,10 +5,13 @@ use Rattle.policy_validate.specs.Levels.{NoErrorsWhereAcceptedAt, AcceptedLevels
 use Rattle.request_slices.specs.Enough.{OutcomesAreAllowed, SlicesAreEnough}
 
 pub record Laws : Type 0 where
+  -- no error is found exactly where the policies are accepted, at a level too
   pub errors : NoErrorsWhereAccepted
   pub errors_at : NoErrorsWhereAcceptedAt
+  -- no broken rule is found exactly where request and store conform
   pub requests : RequestRulesAreExact
   pub stores : StoreRulesAreExact
+  -- where every rule holds: the store cut at a level is enough, the slice is, and outcomes on the whole store are allowed
   pub levels : AcceptedLevelsAreSound
   pub slices : SlicesAreEnough
   pub outcomes : OutcomesAreAllowed

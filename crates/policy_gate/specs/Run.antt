@@ -46,6 +46,7 @@ abbrev pub IsGivenBy : Option (List ℕ) → SourceState → SourceState → Lis
 IsGivenBy None source source' bytes = WasRead source source' bytes
 IsGivenBy (Some own) source source' bytes = (bytes ≡ own) × (source' ≡ source)
 
+-- the same for a command
 abbrev pub IsGiven : Command → SourceState → SourceState → List ℕ → Type 0
 IsGiven command source source' bytes = IsGivenBy (own_document command) source source' bytes
 
@@ -59,6 +60,7 @@ abbrev pub IsToReadBy : Option (List ℕ) → SourceState → SourceState → Li
 IsToReadBy None source source' bytes = (source.left ≡ Some bytes) × (length bytes ≤ DOCUMENT_LIMIT) × IsQuiet source.faults source'.faults
 IsToReadBy (Some own) source source' bytes = bytes ≡ own
 
+-- the same for a command
 abbrev pub IsToWorkOn : Command → SourceState → SourceState → List ℕ → Type 0
 IsToWorkOn command source source' bytes = IsToReadBy (own_document command) source source' bytes
 

@@ -185,11 +185,11 @@ fn cut(alloc: Global, document: &Document) -> Result<Reply, AllocError>
 {
     match refused_decision(alloc, document)? {
         Some(reply) => Ok(reply),
-        None => sliced(alloc, document),
+        None => slice_reply(alloc, document),
     }
 }
 
-fn sliced(alloc: Global, document: &Document) -> Result<Reply, AllocError>
+fn slice_reply(alloc: Global, document: &Document) -> Result<Reply, AllocError>
     requires { refused_decision document.now ≡ None }
     ensures done { IfOk result (λ r. r.status ≡ Status.Done) }
     ensures work { IfOk result (λ r. IsWork Command.Slice document.now (string_bytes r.text)) }
@@ -207,14 +207,15 @@ fn sliced(alloc: Global, document: &Document) -> Result<Reply, AllocError>
 fn sampled(alloc: Global, document: &Document, seed: u64, size: u64) -> Result<Reply, AllocError>
     ensures { IfOk result (λ r. IsAnswerTo (Command.Sample seed size) document.now (reply_view r)) }
 {
+    // The seed stands in the contract alone.
     let _seed = seed;
     match refused_decision(alloc, document)? {
         Some(reply) => Ok(reply),
-        None => counted(alloc, document, size),
+        None => sample_reply(alloc, document, size),
     }
 }
 
-fn counted(alloc: Global, document: &Document, size: u64) -> Result<Reply, AllocError>
+fn sample_reply(alloc: Global, document: &Document, size: u64) -> Result<Reply, AllocError>
     requires { refused_decision document.now ≡ None }
     ensures done { IfOk result (λ r. r.status ≡ Status.Done) }
     ensures work { IfOk result (λ r. string_bytes r.text ≡ sample_text size (length (slice_of document.now))
@@ -269,11 +270,11 @@ fn decided(alloc: Global, document: &Document) -> Result<Reply, AllocError>
 {
     match refused_decision(alloc, document)? {
         Some(reply) => Ok(reply),
-        None => decision(alloc, document),
+        None => decision_reply(alloc, document),
     }
 }
 
-fn decision(alloc: Global, document: &Document) -> Result<Reply, AllocError>
+fn decision_reply(alloc: Global, document: &Document) -> Result<Reply, AllocError>
     requires { IsWhole document.now.request }
     ensures done { IfOk result (λ r. r.status ≡ Status.Done) }
     ensures work { IfOk result (λ r. IsWork Command.Decide document.now (string_bytes r.text)) }
@@ -332,7 +333,7 @@ fn broken_rule(alloc: Global, document: &Document) -> Result<Option<Text>, Alloc
     ensures { IfOk result (λ o. o ≡ option_map request_text (request_fault document.now)) }
 {
     let objects = all_objects(alloc)?;
-    let extensions = ExtensionSchemas::all_available(alloc, objects.as_slice())?;
+    let extensions = ExtensionSchemas::all_available(alloc, &objects)?;
     all_functions_are_known();
     broken_with(alloc, document, &extensions)
 }

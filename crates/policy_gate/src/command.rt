@@ -29,7 +29,7 @@ pub enum Command {
     Decide,
     /// Cut the store of a document that a number makes, and say how much is kept and what is decided.
     Sample {
-        /// The number.
+        /// The number that the document is made from.
         seed: u64,
         /// How many users the document has.
         size: u64,

@@ -16,6 +16,5 @@ pub use outside::{
 };
 pub use policy_documents::{DocumentFault, Place, read_schema, read_value};
 pub use policy_writing::write_value;
-pub use reply::Reply;
 pub use runner::run;
 pub use status::Status;

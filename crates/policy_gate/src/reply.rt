@@ -1,19 +1,18 @@
 //! What is answered.
 ghost use Rattle.std.specs.Prelude.{◌≡◌, IfOk};
+ghost use Rattle.policy_gate.specs.Reply.{answer, reply_view};
 
 use crate::status::Status;
 use std::alloc::{AllocError, Global};
 
 /// A status, and the text that goes with it.
-#[derive(Drop)]
+#[derive(Debug, Drop)]
 pub struct Reply {
     /// The status that is due.
     pub status: Status,
     /// All that is to be written, its last newline included.
     pub text: String,
 }
-
-ghost use Rattle.policy_gate.specs.Reply.{answer, reply_view};
 
 /// A reply of this status with a copy of the text.
 pub(crate) fn reply_with(alloc: Global, status: Status, text: &str) -> Result<Reply, AllocError>

@@ -101,9 +101,8 @@ pub fn run<S: Source, K: Sink>(
     ensures cause { Cause (command_of (map string_bytes words.now.items))
         (S.state source.old) (S.state source.new) (K.state sink.old) (K.state sink.new) result }
 
-    // At most one byte more is taken than a document may have; all but usage, a failing source,
-    // want of memory and a document that is too long means that the source was read to its end, or that the command has a
-    // document of its own.
+    // At most one byte more is taken than a document may have. Every status but usage, a failing source, want of memory and a
+    // document that is too long means that the source was read to its end, or that the command has a document of its own.
     ensures taken { TakesFew (S.state source.old) (S.state source.new) }
     ensures read { IsAfterEnd result
         → (command : Command) × (command_of (map string_bytes words.now.items) ≡ Some command)

@@ -12,6 +12,7 @@ use Rattle.policy_names.specs.declared.entity_uid.EntityUID.{EntityUID}
 use Rattle.policy_names.specs.Uid.{text_cmp, uid_cmp, uid_cmp_total, exact_uid, uid_eq}
 use Rattle.policy_reads.specs.Paths.{Step, along, any_tag}
 use Rattle.policy_reads.specs.Restrict.{same_step, is_prefix}
+pub use Rattle.policy_reads.specs.Among.{IsIn}
 
 -- names that compare equal are equal
 is_equal : (o : Ordering) → is_eq o ≡ true → o ≡ Equal
@@ -30,11 +31,6 @@ same_uid x y h = exact_uid x y (is_equal (uid_cmp x y) h)
 
 pub uid_self : (x : EntityUID) → uid_eq x x ≡ true
 uid_self x = ap is_eq (tied_itself uid_cmp_total x)
-
--- x is one of these
-abbrev pub IsIn : {A : Type 0} → A → List A → Type 0
-IsIn x [] = ⊥
-IsIn x (y ∷ ys) = (y ≡ x) ⊎ IsIn x ys
 
 pub in_left : {A : Type 0} (x : A) (xs ys : List A) → IsIn x xs → IsIn x (xs ++ ys)
 in_left x [] ys h = absurd h
@@ -77,7 +73,7 @@ any_in f x [] h k = absurd h
 any_in f x (z ∷ xs) (inl e) k = or_true (f z) (list_any f xs) (rw e k)
 any_in f x (z ∷ xs) (inr h) k = or_right (f z) (list_any f xs) (any_in f x xs h k)
 
-pub same_step-self : (c : Step) → same_step c c ≡ true
+same_step-self : (c : Step) → same_step c c ≡ true
 same_step-self (along n) = text_self n
 same_step-self any_tag = refl
 

@@ -13,6 +13,7 @@ use Rattle.policy_store.specs.Store.{StoredEntity, Store, entity_at}
 use Rattle.policy_reads.specs.Paths.{Step, along, any_tag, Chain, steps_of, AccessPath, Demand}
 use Rattle.policy_reads.specs.Restrict.{Keep, cut, cut_fields, cut_entity, part, same_step, is_prefix, is_id, root_value, step, keeps, kept_steps, kept_chain, kept_tag, kept_ancestor, needed}
 use Rattle.policy_reads.specs.Cover.{IsPartOf}
+pub use Rattle.policy_reads.specs.Among.{IsClosed, IsWellFormed}
 use Rattle.policy_reads.proofs.Lists.{same_text, text_self, same_uid, uid_self, IsIn, in_filter, or_true, or_right}
 use Rattle.policy_reads.proofs.Cuts.{field_at-cut, entity_at-part, cut_fields_all}
 
@@ -22,10 +23,6 @@ Chains = Chain → Bool
 -- both choices
 abbrev pub either : Chains → Chains → Chains
 either k n = λ c. k c || n c
-
--- a chain is chosen only with its beginnings
-pub record IsClosed (n : Chains) : Type 0 where
-  pub first : (m : List ℕ) (c rest : Chain) → n (m ∷ (c ++ rest)) ≡ true → n (m ∷ c) ≡ true
 
 or_known : (a b : Bool) → (b ≡ true → a ≡ true) → (a || b) ≡ a
 or_known true b f = refl
@@ -166,14 +163,6 @@ order-filter ys k n j e =
 -- stores
 abbrev pub either_keep : Keep → Keep → Keep
 either_keep k n = record { chains = λ x c. k.chains x c || n.chains x c; ancestors = λ x y. k.ancestors x y || n.ancestors x y; tags = λ x c. k.tags x c || n.tags x c }
-
--- chains come with their beginnings, and all that is of an entity with the entity
-pub record IsWellFormed (n : Keep) : Type 0 where
-  pub chains : (x : EntityUID) → IsClosed (n.chains x)
-  pub tags : (x : EntityUID) → IsClosed (n.tags x)
-  pub of_chains : (x : EntityUID) (c : Chain) → n.chains x c ≡ true → n.chains x [] ≡ true
-  pub of_tags : (x : EntityUID) (c : Chain) → n.tags x c ≡ true → n.chains x [] ≡ true
-  pub of_ancestors : (x y : EntityUID) → n.ancestors x y ≡ true → n.chains x [] ≡ true
 
 entity_gone : (k : Keep) (s : Store) (x : EntityUID) → k.chains x [] ≡ false → entity_at (part k s) x ≡ None
 entity_gone k [] x h = refl

@@ -18,15 +18,17 @@ module _ (schema : SchemaData) where
   abbrev pub step_on : Option Ty → Step → Option Ty
   step_on o n = option_and_then (λ t. type_along t n) o
 
+  -- the type to which steps lead from there
   abbrev pub types_along : Option Ty → List Step → Option Ty
   types_along o [] = o
   types_along o (n ∷ ns) = types_along (step_on o n) ns
 
-  -- whether each step is declared, and the steps as far as they are
+  -- whether each step is declared
   abbrev pub is_declared : Option Ty → List Step → Bool
   is_declared o [] = true
   is_declared o (n ∷ ns) = is_some (step_on o n) && is_declared (step_on o n) ns
 
+  -- the steps as far as they are declared
   abbrev pub declared_steps : Option Ty → List Step → List Step
   declared_steps o [] = []
   declared_steps o (n ∷ ns) = if is_some (step_on o n) then n ∷ declared_steps (step_on o n) ns else []
@@ -41,10 +43,11 @@ module _ (schema : SchemaData) (env : EnvData) where
   abbrev pub path_type : AccessPath → Option Ty
   path_type p = types_along schema (root_type p.root) p.steps
 
-  -- whether each step of a path is declared, and the path as far as they are
+  -- whether each step of a path is declared
   abbrev pub is_declared_path : AccessPath → Bool
   is_declared_path p = is_declared schema (root_type p.root) p.steps
 
+  -- the path as far as its steps are declared
   abbrev pub declared_part : AccessPath → AccessPath
   declared_part p = record { root = p.root; steps = declared_steps schema (root_type p.root) p.steps }
 

@@ -58,12 +58,13 @@ module _ (schema : SchemaData) (env : EnvData) where
   abbrev pub wholly : Shape → List AccessPath
   wholly a = with_step (paths a) ++ flat_map all_below (paths a)
 
-  -- what an operator reads, whose operands have these shapes: a comparison and a question about sets read them wholly, `in`
-  -- its left paths besides, and tags are read one step on
+  -- what an operator reads, whose operand has this shape: a question about a set reads it wholly
   abbrev pub unary_reads : UnaryOp → Shape → List AccessPath
   unary_reads IsEmpty a = wholly a
   unary_reads o a = []
 
+  -- whose two operands have these shapes: a comparison and a question about sets read them wholly, `in` its left paths besides,
+  -- and tags are read one step on from the left
   abbrev pub binary_reads : BinaryOp → Shape → Shape → List AccessPath
   binary_reads Eq a b = wholly a ++ wholly b
   binary_reads In a b = (wholly a ++ wholly b) ++ paths a
@@ -101,7 +102,7 @@ module _ (schema : SchemaData) (env : EnvData) where
     reads_named no_named = []
     reads_named (named k x xs) = reads x ++ reads_named xs
 
-  -- what conditions read, of declared and of other steps
+  -- all that conditions read, whether the schema declares it or not
   abbrev pub reads_of : {A : Type 0} → List (Tree A) → List AccessPath
   reads_of [] = []
   reads_of (t ∷ ts) = reads t ++ reads_of ts
@@ -144,18 +145,20 @@ module _ {A : Type 0} where
     demands_named no_named = []
     demands_named (named k x xs) = demands x ++ demands_named xs
 
-  -- what conditions demand, of declared and of other steps
+  -- all that conditions demand, whether the schema declares it or not
   abbrev pub demands_of : List (Tree A) → List Demand
   demands_of [] = []
   demands_of (t ∷ ts) = demands t ++ demands_of ts
 
 module _ (schema : SchemaData) (env : EnvData) where
-  -- what conditions read and demand: no step that the schema does not declare, and nothing behind one
+  -- what conditions read, each path as far as the schema declares it
   abbrev pub declared_reads : {A : Type 0} → List (Tree A) → List AccessPath
   declared_reads ts = map (declared_part schema env) (reads_of schema env ts)
 
+  -- whether the schema declares both paths of a demand
   abbrev pub are_declared : Demand → Bool
   are_declared e = is_declared_path schema env e.0 && is_declared_path schema env e.1
 
+  -- the demands whose two paths the schema declares
   abbrev pub declared_demands : {A : Type 0} → List (Tree A) → List Demand
   declared_demands ts = filter are_declared (demands_of ts)

@@ -28,6 +28,7 @@ abbrev mutual
   cut_fields no_fields k = no_fields
   cut_fields (field n v fs) k = if k (n ∷ []) then field n (cut v (λ c. k (n ∷ c))) (cut_fields fs k) else cut_fields fs k
 
+-- the part of an entity that the choice leaves
 abbrev pub cut_entity : Keep → StoredEntity → StoredEntity
 cut_entity k e = record {
   uid = e.uid;
@@ -46,6 +47,7 @@ abbrev pub is_id : EntityUID → Val → Bool
 is_id x (entity y) = uid_eq x y
 is_id x v = false
 
+-- whether the id is one of the values
 abbrev pub lists_id : EntityUID → Vals → Bool
 lists_id x no_vals = false
 lists_id x (val v vs) = is_id x v || lists_id x vs
@@ -55,16 +57,19 @@ abbrev pub names_id : EntityUID → Val → Bool
 names_id x (set vs) = lists_id x vs
 names_id x v = is_id x v
 
+-- whether the two steps are one
 abbrev pub same_step : Step → Step → Bool
 same_step (along m) (along n) = is_eq (text_cmp m n)
 same_step any_tag any_tag = true
 same_step m n = false
 
+-- whether the first steps are a front of the second
 abbrev pub is_prefix : List Step → List Step → Bool
 is_prefix [] ns = true
 is_prefix (m ∷ ms) [] = false
 is_prefix (m ∷ ms) (n ∷ ns) = same_step m n && is_prefix ms ns
 
+-- the value from which a path with this root goes on: an entry of the request, or an id
 abbrev pub root_value : Request → Root → Val
 root_value q (variable v) = variable_value v q
 root_value q (an_id u) = entity u
@@ -84,6 +89,7 @@ abbrev pub step_in_record : Fields → Step → List Val
 step_in_record fs (along n) = option_to_list (field_at fs n)
 step_in_record fs any_tag = []
 
+-- the values one step on from a value
 abbrev pub step : Store → Val → Step → List Val
 step s (entity x) n = step_in_entity (entity_at s x) n
 step s (rec fs) n = step_in_record fs n

@@ -1,6 +1,6 @@
 -- What is found of the names in a condition: types and actions that are not declared, and ids that their enumerated types do not
 -- list.
-use Rattle.std.specs.Prelude.{◌||◌, not, Bool, ℕ, List, [], ◌∷◌, ◌++◌, Option, Some, None, map, fold, find, option_map, option_to_list, is_some, codes, eqb, if◌then◌else◌}
+use Rattle.std.specs.Prelude.{◌||◌, Bool, ℕ, List, [], ◌∷◌, ◌++◌, Option, Some, None, map, fold, find, option_map, option_to_list, codes, eqb, if◌then◌else◌}
 use Rattle.std.specs.List.{filter_map, starts_with}
 use Rattle.std.specs.Option.{option_cmp, option_and_then}
 use Rattle.std.specs.Ordering.{nat_cmp, ordering_then}

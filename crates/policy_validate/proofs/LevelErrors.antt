@@ -31,14 +31,15 @@ use Rattle.policy_typecheck.specs.declared.policy_check.PolicyCheck.{PolicyCheck
 use Rattle.policy_typecheck.specs.declared.policy_check.PolicyCheck.TheVariants.{Success, Irrelevant, Fail}
 use Rattle.level_checks.specs.Errors.{Condition, PassesIn, LevelErrorsAreExact}
 use Rattle.policy_validate.specs.Accepted.{errors_of_written, errors_of_link}
+use Rattle.policy_validate.specs.Checks.{condition_in}
 use Rattle.policy_validate.specs.Laws.{NoErrorsWhereAccepted}
-use Rattle.policy_validate.specs.Levels.{tree_in, or_else, condition_at, conditions_of, level_errors_of, errors_at_level, level_findings_of, IsAcceptedAt, LevelErrorsOfAreExact, NoErrorsWhereAcceptedAt}
-use Rattle.policy_validate.specs.Told.{told_by, condition_told}
+use Rattle.policy_validate.specs.Levels.{or_else, condition_at, conditions_of, level_errors_of, errors_at_level, level_findings_of, IsAcceptedAt, LevelErrorsOfAreExact, NoErrorsWhereAcceptedAt}
+use Rattle.policy_validate.specs.Told.{told_by, level_condition_told}
 use Rattle.policy_validate.proofs.Empty.{parts_empty, empty_parts, all_more, all_both, none_in_each, each_none}
 use Rattle.policy_validate.proofs.NoErrors.{template_accepted}
 
 -- what is told of checks is what the definitions say of their environments
-tells_same : (id : List ℕ) (env : EnvData) (c : Check) (p : PolicyCheck) → Tells id c p → told_by env p ≡ option_map {U = Condition} (λ t. (action_in env, t)) (tree_in c)
+tells_same : (id : List ℕ) (env : EnvData) (c : Check) (p : PolicyCheck) → Tells id c p → told_by env p ≡ option_map {U = Condition} (λ t. (action_in env, t)) (condition_in c)
 tells_same id env (check.Success t) (Success u) h = ap (λ v. Some (action_in env, v)) h
 tells_same id env (check.Irrelevant t) (Irrelevant u) h = ap (λ v. Some (action_in env, v)) h
 tells_same id env (check.Fail fs) (Fail es) h = refl
@@ -46,29 +47,29 @@ tells_same id env check.TooDeep (Fail es) h = refl
 tells_same id env c p h = absurd h
 
 pub conditions_told : (schema : SchemaData) (id : List ℕ) (x : Plain) (rs : List (RequestEnv × PolicyCheck)) → AllByRecursion (TellsIn schema id x) rs →
-    (envs : List EnvData) → map (λ r. env_data_of r.0) rs ≡ envs → filter_map condition_told rs ≡ filter_map (condition_at schema x) envs
+    (envs : List EnvData) → map (λ r. env_data_of r.0) rs ≡ envs → filter_map level_condition_told rs ≡ filter_map (condition_at schema x) envs
 conditions_told schema id x rs h envs same = each rs h ∙ ap (filter_map (condition_at schema x)) same
   where
-    each : (rs : List (RequestEnv × PolicyCheck)) → AllByRecursion (TellsIn schema id x) rs → filter_map condition_told rs ≡ filter_map (condition_at schema x) (map (λ r. env_data_of r.0) rs)
+    each : (rs : List (RequestEnv × PolicyCheck)) → AllByRecursion (TellsIn schema id x) rs → filter_map level_condition_told rs ≡ filter_map (condition_at schema x) (map (λ r. env_data_of r.0) rs)
     each [] h = refl
     each (r ∷ rs) h = λ i. cons_option (tells_same id (env_data_of r.0) (checked schema (env_data_of r.0) x) r.1 h.0 i) (each rs h.1 i)
 
 -- a typed condition is that of its typing
-tree_of : (u : Ty) (t : Typed) (fs : List Finding) → is_boolean u ≡ true → tree_in (check_of u t fs) ≡ Some t
+tree_of : (u : Ty) (t : Typed) (fs : List Finding) → is_boolean u ≡ true → condition_in (check_of u t fs) ≡ Some t
 tree_of true_type t fs h = refl
 tree_of false_type t fs h = refl
 tree_of (primitive BoolType) t fs h = refl
 tree_of u t fs h = absurd (cc h)
 
 condition_by : (env : EnvData) (o : Option Typing) (fs : List Finding) → IsSomeAnd o (λ r. IsTrue (is_boolean r.type)) →
-    option_map {U = Condition} (λ t. (action_in env, t)) (tree_in (check_by o fs)) ≡ option_map {U = Condition} (λ r. (action_in env, r.tree)) o
+    option_map {U = Condition} (λ t. (action_in env, t)) (condition_in (check_by o fs)) ≡ option_map {U = Condition} (λ r. (action_in env, r.tree)) o
 condition_by env None fs h = absurd h
 condition_by env (Some r) fs h = ap (option_map {U = Condition} (λ t. (action_in env, t))) (tree_of r.type r.tree fs h)
 
 module _ (exact : CheckIsExact) (schema : SchemaData) (n : ℕ) (x : Plain) (flat : nat_lt 200 (depth_of x) ≡ false) where
   condition_is : (env : EnvData) → IsTyped schema x env → condition_at schema x env ≡ option_map {U = Condition} (λ r. (action_in env, r.tree)) (types schema env [] x)
   condition_is env typed =
-      ap (λ c. option_map {U = Condition} (λ t. (action_in env, t)) (tree_in c)) (exact schema env x ∙ ap (λ b. if b then TooDeep else check_by (types schema env [] x) (findings_of (condition_walked schema env x))) flat)
+      ap (λ c. option_map {U = Condition} (λ t. (action_in env, t)) (condition_in c)) (exact schema env x ∙ ap (λ b. if b then TooDeep else check_by (types schema env [] x) (findings_of (condition_walked schema env x))) flat)
       ∙ condition_by env (types schema env [] x) (findings_of (condition_walked schema env x)) typed
 
   module _ (env : EnvData) (rest : List Condition) where

@@ -1,5 +1,5 @@
 -- The findings on a set of policies that is checked for a level, and the sets that are accepted at it.
-use Rattle.std.specs.Prelude.{◌≡◌, ◌↔◌, ℕ, List, [], ◌∷◌, ◌++◌, Option, Some, None, flat_map, option_map}
+use Rattle.std.specs.Prelude.{◌≡◌, ◌↔◌, ℕ, List, [], ◌∷◌, ◌++◌, Option, flat_map, option_map}
 use Rattle.std.specs.List.{AllByRecursion, filter_map}
 use Rattle.policy_expressions.specs.Plain.{Plain}
 use Rattle.policy_store.specs.declared.request.Request.{Request}
@@ -14,19 +14,13 @@ use Rattle.schema_core.specs.Schema.{SchemaData}
 use Rattle.findings.specs.declared.error.ValidationError.{ValidationError}
 use Rattle.finding_texts.specs.Findings.{Findings}
 use Rattle.policy_typing.specs.Conforms.{RequestConforms, StoreConforms}
-use Rattle.policy_typing.specs.Typing.{Typed}
-use Rattle.typing_findings.specs.Check.{Check, Success, Irrelevant, checked}
+use Rattle.typing_findings.specs.Check.{checked}
 use Rattle.policy_links.specs.Linked.{linked_envs}
 use Rattle.policy_levels.specs.Cut.{cut}
 use Rattle.policy_levels.specs.Policies.{PassesAt}
 use Rattle.level_checks.specs.Errors.{Condition, dereferences_in, level_errors_in, IsToldOf}
 use Rattle.policy_validate.specs.Accepted.{errors_of_written, errors_of_link, warnings_of, IsAccepted}
-
--- the typed condition of a check, where it has one
-abbrev pub tree_in : Check → Option Typed
-tree_in (Success t) = Some t
-tree_in (Irrelevant t) = Some t
-tree_in c = None
+use Rattle.policy_validate.specs.Checks.{condition_in}
 
 -- the first list, or the other where it is empty
 abbrev pub or_else : {X : Type 0} → List X → List X → List X
@@ -36,7 +30,7 @@ or_else (x ∷ xs) ys = x ∷ xs
 module _ (schema : SchemaData) where
   -- the typed condition in an environment
   abbrev pub condition_at : Plain → EnvData → Option Condition
-  condition_at e env = option_map (λ t. (action_in env, t)) (tree_in (checked schema env e))
+  condition_at e env = option_map (λ t. (action_in env, t)) (condition_in (checked schema env e))
 
   -- those of a template, or of a static policy, in its environments
   abbrev pub conditions_of : TemplateData → List Condition

@@ -7,10 +7,12 @@ use Rattle.policy_typecheck.specs.declared.policy_check.PolicyCheck.{PolicyCheck
 use Rattle.policy_typecheck.specs.declared.policy_check.PolicyCheck.TheVariants.{Success, Irrelevant, Fail}
 use Rattle.level_checks.specs.Errors.{Condition}
 
+-- that of a check in an environment, with the action there
 abbrev pub told_by : EnvData → PolicyCheck → Option Condition
 told_by env (Success t) = Some (action_in env, t)
 told_by env (Irrelevant t) = Some (action_in env, t)
 told_by env (Fail es) = None
 
-abbrev pub condition_told : RequestEnv × PolicyCheck → Option Condition
-condition_told r = told_by (env_data_of r.0) r.1
+-- the same, in the environment that code has beside the check
+abbrev pub level_condition_told : RequestEnv × PolicyCheck → Option Condition
+level_condition_told r = told_by (env_data_of r.0) r.1

@@ -6,7 +6,7 @@ ghost use Rattle.policy_set.specs.PolicySet.{written};
 ghost use Rattle.level_checks.specs.Errors.{condition_in};
 ghost use Rattle.policy_validate.specs.Accepted.{warnings_of};
 ghost use Rattle.policy_validate.specs.Levels.{level_errors_of, errors_at_level, level_findings_of, IsAcceptedAt, CutIsEnough};
-ghost use Rattle.policy_validate.specs.Told.{condition_told};
+ghost use Rattle.policy_validate.specs.Told.{level_condition_told};
 
 use crate::Validator;
 use crate::laws::{accepted_levels_are_sound, no_errors_where_accepted_at};
@@ -175,7 +175,7 @@ fn typed_conditions<'a>(
     alloc: Global,
     checks: Vec<(RequestEnv<'a>, PolicyCheck)>,
 ) -> Result<Vec<(RequestEnv<'a>, Expr<Option<Type>>)>, AllocError>
-    ensures { IfOk result (λ conditions. map condition_in conditions.items ≡ filter_map condition_told checks.entry.items) }
+    ensures { IfOk result (λ conditions. map condition_in conditions.items ≡ filter_map level_condition_told checks.entry.items) }
 {
     let mut conditions = Vec::new(alloc);
     for (env, check) in checks {

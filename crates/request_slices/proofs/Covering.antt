@@ -83,11 +83,17 @@ module _ (covered : PoliciesAreCovered) (everywhere : TypedEverywhere) (typed : 
           subst (λ r. IsPartOf r s) (sym part_is)
           (needed (declared_reads schema (declared_action (env_for a q)) (map (λ p. p.1.tree) pairs.pairs)) (declared_demands schema (declared_action (env_for a q)) (map (λ p. p.1.tree) pairs.pairs)) q s, refl)
 
+      same : outcomes policies.policies q (slice schema policies.policies q s) ≡ outcomes policies.policies q s
+      same = covers (slice schema policies.policies q s) (part_of_itself (slice schema policies.policies q s)) is_part
+
       enough_at : AreAllowed policies.policies q s → IsEnough policies.policies q (slice schema policies.policies q s) s
       enough_at fine = record {
+        is_part = is_part;
+        same = same;
+        allowed = subst (AllByRecursion IsAllowedOutcome) (sym same) fine;
+        decision = response_same policies.policies q (slice schema policies.policies q s) s same;
         covers = covers;
-        allowed = λ t low high. subst (AllByRecursion IsAllowedOutcome) (sym (covers t low high)) fine;
-        decision = response_same policies.policies q (slice schema policies.policies q s) s (covers (slice schema policies.policies q s) (part_of_itself (slice schema policies.policies q s)) is_part);
+        allowed_between = λ t low high. subst (AllByRecursion IsAllowedOutcome) (sym (covers t low high)) fine;
       }
 
   pub enough : SlicesAreEnough

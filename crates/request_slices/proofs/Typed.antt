@@ -18,7 +18,7 @@ use Rattle.policy_typing.specs.Typing.{Typing, types}
 use Rattle.policy_links.specs.Accepted.{IsTyped, IsTypedIn}
 use Rattle.policy_links.specs.Laws.{TypedEverywhere}
 use Rattle.policy_links.proofs.Statics.{env_for, for_request}
-use Rattle.policy_coverage.specs.Policies.{IsAcceptedPolicy}
+use Rattle.policy_coverage.specs.Policies.{PolicyHasTyping}
 use Rattle.typed_conditions.specs.Typed.{typed_conditions}
 use Rattle.request_slices.specs.Slice.{env_of}
 
@@ -42,7 +42,7 @@ module _ (schema : SchemaData) (a : ActionData) (q : Request) where
     pub pairs : List (PolicyData × Typing)
     pub policies : map (λ p. p.0) pairs ≡ ps
     pub trees : map (λ p. p.1.tree) pairs ≡ typed_conditions schema (declared_action (env_for a q)) ps
-    pub accepted : AllByRecursion (IsAcceptedPolicy schema (env_for a q)) pairs
+    pub accepted : AllByRecursion (PolicyHasTyping schema (env_for a q)) pairs
 
   cons_pair : (p : PolicyData) (ps : List PolicyData) → HasKeysOnce p.condition → IsPolicy p → IsTyped schema p.condition (declared_action (env_for a q)) → Pairs ps → Pairs (p ∷ ps)
   cons_pair p ps once policy typed rest = by (TypingOf p) refl typed

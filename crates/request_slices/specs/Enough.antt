@@ -20,11 +20,15 @@ Covers ps q part whole = (s : Store) → IsPartOf part s → IsPartOf s whole �
 abbrev pub AreAllowedBetween : List PolicyData → Request → Store → Store → Type 0
 AreAllowedBetween ps q part whole = (s : Store) → IsPartOf part s → IsPartOf s whole → AreAllowed ps q s
 
--- the part of the store covers the policies, and the response on it is that on the whole store
+-- the part is one of the store. On it, and on each store between the two, each policy has the outcome that it has on the whole store, which
+-- is allowed; and the response on the part is that on the whole store
 pub record IsEnough (ps : List PolicyData) (q : Request) (part whole : Store) : Type 0 where
-  pub covers : Covers ps q part whole
-  pub allowed : AreAllowedBetween ps q part whole
+  pub is_part : IsPartOf part whole
+  pub same : outcomes ps q part ≡ outcomes ps q whole
+  pub allowed : AreAllowed ps q part
   pub decision : response ps q part ≡ response ps q whole
+  pub covers : Covers ps q part whole
+  pub allowed_between : AreAllowedBetween ps q part whole
 
 -- where every rule holds, the slice is enough
 abbrev pub SlicesAreEnough : Type 0

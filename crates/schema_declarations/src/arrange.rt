@@ -27,12 +27,7 @@ pub fn arranged_types(
     let mut list = Vec::new(alloc);
     for (name, kind) in kinds {
         let descendants = copied_set(alloc, types, &name)?;
-        list.push(ValidatorEntityType::with_set(
-            alloc,
-            name,
-            descendants,
-            kind,
-        )?)?;
+        list.push(ValidatorEntityType::with_set(alloc, name, descendants, kind)?)?;
     }
     Ok(list)
 }

@@ -54,10 +54,7 @@ fn read_attributes_at(
 {
     match value {
         Some(value) => read_attributes(alloc, value),
-        None => Ok(Some(Attributes::with_attributes(
-            alloc,
-            BTreeMap::new(alloc),
-        )?)),
+        None => Ok(Some(Attributes::with_attributes(alloc, BTreeMap::new(alloc))?)),
     }
 }
 

@@ -24,7 +24,8 @@ use Rattle.policy_reads.specs.Paths.{Step, along, any_tag, AccessPath, Demand, S
 use Rattle.policy_reads.specs.PathTypes.{is_declared_path}
 use Rattle.policy_reads.specs.Reads.{shape_of, wholly, binary_reads, reads, reads_all, reads_named, reads_of, pairs, binary_demands, demands, demands_all, demands_named, demands_of, declared_reads, declared_demands, are_declared}
 use Rattle.policy_reads.proofs.Lists.{IsIn, in_left, in_right, in_map, any_in, or_true, nil_right}
-use Rattle.policy_reads.proofs.Words.{IsRead, any_out}
+use Rattle.policy_reads.specs.Among.{IsFrontOfRead}
+use Rattle.policy_reads.proofs.Words.{any_out}
 use Rattle.policy_reads.proofs.DeclaredPaths.{declared_read}
 use Rattle.store_slices.specs.Tries.{IsTrieOf, LeastTriesFit}
 
@@ -171,15 +172,15 @@ in_map_out f y (x ∷ xs) (inr h) = let r = in_map_out f y xs h in (r.0, inr r.1
 longer : (p z : AccessPath) (more rest : List Step) → z ≡ beyond p more → beyond z rest ≡ beyond p (more ++ rest)
 longer p z more rest is = ap (λ y. beyond y rest) is ∙ (λ i. record { root = p.root; steps = append_assoc p.steps more rest i })
 
-module _ (rs : List AccessPath) (ds : List Demand) (t : Table) (read : (d : Demand) → IsIn d ds → IsRead rs d.0) (l : IsLeast rs ds t) where
-  read_part : (p : AccessPath) → list_any (is_front (address_of p)) (map address_of rs) ≡ true → IsRead rs p
+module _ (rs : List AccessPath) (ds : List Demand) (t : Table) (read : (d : Demand) → IsIn d ds → IsFrontOfRead rs d.0) (l : IsLeast rs ds t) where
+  read_part : (p : AccessPath) → list_any (is_front (address_of p)) (map address_of rs) ≡ true → IsFrontOfRead rs p
   read_part p h =
       let a = any_out (is_front (address_of p)) (map address_of rs) h in
       let z = in_map_out address_of a.0 rs a.1 in
       let f = path_front p z.0 (ap (is_front (address_of p)) z.2 ∙ a.2) in
       record { rest = f.0; among = subst (λ y. IsIn y rs) f.1 z.1 }
 
-  demanded_part : (p : AccessPath) → list_any (is_front (address_of p)) (map demand_of ds) ≡ true → IsRead rs p
+  demanded_part : (p : AccessPath) → list_any (is_front (address_of p)) (map demand_of ds) ≡ true → IsFrontOfRead rs p
   demanded_part p h =
       let a = any_out (is_front (address_of p)) (map demand_of ds) h in
       let d = in_map_out demand_of a.0 ds a.1 in
@@ -187,14 +188,14 @@ module _ (rs : List AccessPath) (ds : List Demand) (t : Table) (read : (d : Dema
       let r = read d.0 d.1 in
       record { rest = f.0 ++ r.rest; among = subst (λ y. IsIn y rs) (longer p d.0.0 f.0 r.rest f.1) r.among }
 
-  to_read : (p : AccessPath) → has_path t p ≡ true → IsRead rs p
+  to_read : (p : AccessPath) → has_path t p ≡ true → IsFrontOfRead rs p
   to_read p h = by (or_cases (list_any (is_front (address_of p)) (map address_of rs)) (list_any (is_front (address_of p)) (map demand_of ds)) (sym (l.paths (address_of p)) ∙ h))
     where
-      by : (list_any (is_front (address_of p)) (map address_of rs) ≡ true) ⊎ (list_any (is_front (address_of p)) (map demand_of ds) ≡ true) → IsRead rs p
+      by : (list_any (is_front (address_of p)) (map address_of rs) ≡ true) ⊎ (list_any (is_front (address_of p)) (map demand_of ds) ≡ true) → IsFrontOfRead rs p
       by (inl i) = read_part p i
       by (inr i) = demanded_part p i
 
-  from_read : (p : AccessPath) → IsRead rs p → has_path t p ≡ true
+  from_read : (p : AccessPath) → IsFrontOfRead rs p → has_path t p ≡ true
   from_read p r =
       l.paths (address_of p) ∙ or_true (list_any (is_front (address_of p)) (map address_of rs)) (list_any (is_front (address_of p)) (map demand_of ds))
       (any_in (is_front (address_of p)) (address_of (beyond p r.rest)) (map address_of rs) (in_map address_of (beyond p r.rest) rs r.among) (front_beyond p r.rest))
@@ -290,7 +291,7 @@ pub whole_path : (p : AccessPath) → beyond p [] ≡ p
 whole_path p i = record { root = p.root; steps = nil_right p.steps i }
 
 -- each declared path of which conditions demand something is read
-pub declared_demand : {A : Type 0} (schema : SchemaData) (env : EnvData) (ts : List (Tree A)) (d : Demand) → IsIn d (declared_demands schema env ts) → IsRead (declared_reads schema env ts) d.0
+pub declared_demand : {A : Type 0} (schema : SchemaData) (env : EnvData) (ts : List (Tree A)) (d : Demand) → IsIn d (declared_demands schema env ts) → IsFrontOfRead (declared_reads schema env ts) d.0
 declared_demand schema env ts d h =
     let f = in_filter_out (are_declared schema env) d (demands_of ts) h in
     let declared = and_parts (is_declared_path schema env d.0) (is_declared_path schema env d.1) f.1 in

@@ -12,7 +12,7 @@ use Rattle.access_tries.specs.Table.{Table}
 use Rattle.access_tries.specs.Views.{ViewData, whole}
 use Rattle.policy_reads.specs.Paths.{AccessPath}
 use Rattle.policy_reads.specs.Restrict.{reach, root_value}
-use Rattle.policy_reads.proofs.Lists.{IsIn}
+use Rattle.policy_reads.specs.Among.{IsIn}
 use Rattle.entity_asking.specs.declared.place.Place.{Place}
 use Rattle.entity_asking.specs.Leads.{EntityLeads, IsLed}
 use Rattle.entity_asking.specs.Wants.{sees, wants, points, entity_points}

@@ -2,7 +2,7 @@
 
 ghost use Rattle.std.specs.Prelude.{◌≡◌, ◌⊎◌, ◌∷◌, ◌++◌, [], IfOk, OnOk};
 ghost use Rattle.access_tries.specs.Table.{IsTable};
-ghost use Rattle.policy_reads.proofs.Lists.{IsIn};
+ghost use Rattle.policy_reads.specs.Among.{IsIn};
 ghost use Rattle.policy_store.specs.Request.{IsWhole};
 ghost use Rattle.policy_store.specs.Store.{entity_at};
 ghost use Rattle.policy_store.specs.declared.request.Request.{Request};

@@ -3,7 +3,7 @@ use Rattle.schema_core.specs.RequestEnvs.{env_data_of}
 use Rattle.policy_acceptance.specs.Laws.{LeavesAll}
 use Rattle.typed_conditions.specs.Found.{found_conditions}
 use Rattle.manifest_computation.specs.Gathered.{HoldSame}
-use Rattle.manifest_computation.proofs.gathering.trie_in.Given as goal
+use Rattle.manifest_computation.proofs.gathering.trie_of_policies.Given as goal
 
 -- what was added, what is kept and what is left are all, and checks leave all where they leave what is left
 abbrev pub invariant-loop-policy : goal.invariant-loop-policy
