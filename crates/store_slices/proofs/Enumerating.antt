@@ -50,7 +50,7 @@ begins f ns c i e es h =
       later = each_of (λ l. (i < l.number) × (l.number < length ns)) a.0 (links_at ns i) (c.each i (omega arith)) a.1;
     }
 
--- what leads from the node is among them, if they are as deep as there are nodes
+-- all that leads from the node is among these, if they go as deep as there are nodes
 listed : (f : Option NodeData → Bool) (ns : Table) → IsClosed 0 ns → (k i : ℕ) → length ns ≤ i + k → (es : Address) → at_path f ns i es ≡ true
     → IsIn es (addresses k ns i)
 listed f ns c zero i u [] h = inl refl
