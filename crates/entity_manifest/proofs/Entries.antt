@@ -17,6 +17,7 @@ request_types_total =
     then_total (on_total (λ t. t.action) (then_total (on_total (λ u. u.entity_type) nat_list_cmp_total) (on_total (λ u. u.eid) nat_list_cmp_total)))
     (then_total (on_total (λ t. t.principal) nat_list_cmp_total) (on_total (λ t. t.resource) nat_list_cmp_total))
 
+-- what is put behind all others stands last
 pub put_next : {X : Type 0} → (es : List (RequestType × X)) (k : RequestType) (v : X) → IsNext k (keys_of es) → insert_entry request_type_cmp es k v ≡ es ++ (k, v) ∷ []
 put_next [] k v h = refl
 put_next (e ∷ es) k v h = rw (h.0) (ap (λ r. e ∷ r) (put_next es k v h.1))

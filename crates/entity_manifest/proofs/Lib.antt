@@ -1,4 +1,4 @@
-mod Entries
+pub mod Entries
 mod Filling
 pub mod Floats
 mod Items

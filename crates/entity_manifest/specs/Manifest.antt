@@ -1,11 +1,10 @@
 -- Manifests: a trie for each type of requests.
 use Rattle.std.specs.Prelude.{◌≡◌, List, Option}
-use Rattle.std.specs.BTreeMap.{is_at}
 use Rattle.std.specs.List.{AllByRecursion}
-use Rattle.std.specs.Map.{lookup}
 use Rattle.std.specs.Option.{option_and_then}
 use Rattle.std.specs.declared.cmp.Ordering.TheVariants.{Greater}
 use Rattle.std.specs.Coded.{Coded, coded_list, coded×}
+use Rattle.hierarchy.specs.Reaches.{at}
 use Rattle.policy_store.specs.declared.request.Request.{Request}
 use Rattle.policy_store.specs.declared.request.RequestType.{RequestType}
 use Rattle.policy_store.specs.contracts.request.RequestType.{the_row as request_type_row}
@@ -18,7 +17,7 @@ Manifest = List (RequestType × Table)
 
 -- the trie that the manifest has for a type of requests, where it has one
 abbrev pub trie_at : Manifest → RequestType → Option Table
-trie_at m t = lookup (is_at (request_type_cmp t)) m
+trie_at m t = at request_type_cmp m t
 
 -- the trie that it has for a request
 abbrev pub trie_for : Manifest → Request → Option Table

@@ -14,6 +14,7 @@ request_type_data t = object (member (codes "action") (uid_data t.action)
     (member (codes "principal") (string t.principal)
     (member (codes "resource") (string t.resource) no_members)))
 
+-- a request type with its trie
 abbrev pub trie_entry_data : RequestType × Table → Data
 trie_entry_data e = entry_data (request_type_data e.0) (root_trie_data e.1)
 

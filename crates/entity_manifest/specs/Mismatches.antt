@@ -21,9 +21,11 @@ use Rattle.entity_manifest.specs.declared.error.MismatchedEntityManifestError.{M
 use Rattle.entity_manifest.specs.declared.error.MismatchedEntityManifestError.TheVariants.{MismatchedMissingEntity, MismatchedNotStrictSchema, ChildOfPrimitive}
 use Rattle.entity_manifest.specs.Manifest.{Manifest}
 
+-- the id has no type, or the action is not declared
 abbrev pub missing : EntityUID → Mismatch
 missing u = MismatchedMissingEntity record { entity = u }
 
+-- a type of principals or of resources is not declared
 abbrev pub not_strict : Mismatch
 not_strict = MismatchedNotStrictSchema record {}
 

@@ -22,6 +22,7 @@ Entry = RequestType × List Place
 abbrev pub coded_entry : Coded Entry
 coded_entry = coded× request_type_row.coded (coded_list coded_place)
 
+-- the request type of these parts, where each is there and the names are right
 abbrev pub request_type_form : Bool → Option EntityUID → Option (List ℕ) → Option (List ℕ) → Option RequestType
 request_type_form named action principal resource = do
   u ← action
@@ -29,6 +30,7 @@ request_type_form named action principal resource = do
   r ← resource
   if named then Some (record { action = u; principal = p; resource = r }) else None
 
+-- whether these are the names of its members
 abbrev pub are_names : List ℕ → List ℕ → List ℕ → Bool
 are_names k l m = bytes_eq k (codes "action") && (bytes_eq l (codes "principal") && bytes_eq m (codes "resource"))
 
@@ -40,9 +42,11 @@ request_type_in (member k d (member l e no_members)) = None
 request_type_in (member k d (member l e (member m f no_members))) = request_type_form (are_names k l m) (uid_of d) (name_of e) (name_of f)
 request_type_in (member k d (member l e (member m f (member n g ms)))) = None
 
+-- the request type that a value says
 abbrev pub request_type_of : Data → Option RequestType
 request_type_of d = option_and_then request_type_in (as_object d)
 
+-- the entry of a request type and of nodes, where both are there
 abbrev pub entry_form : Option RequestType → Option (List Place) → Option Entry
 entry_form t ps = do
   request_type ← t
@@ -53,10 +57,12 @@ entry_form t ps = do
 abbrev pub entry_of : Data → Option Entry
 entry_of d = option_and_then (λ p. entry_form (request_type_of p.0) (option_map places_in (trie_of p.1))) (option_and_then pair_of (as_array d))
 
+-- the entries that items say, where each says one
 abbrev pub entries_of_items : Items → Option (List Entry)
 entries_of_items no_items = Some []
 entries_of_items (item d ds) = with_first (entry_of d) (entries_of_items ds)
 
+-- those of the member under this key
 abbrev pub entries_form : List ℕ → Data → Option (List Entry)
 entries_form k d = if bytes_eq k (codes "perAction") then option_and_then entries_of_items (as_array d) else None
 
@@ -64,6 +70,7 @@ entries_form k d = if bytes_eq k (codes "perAction") then option_and_then entrie
 abbrev pub entries_of : Data → Option (List Entry)
 entries_of d = option_and_then (λ m. entries_form m.0 m.1) (option_and_then only_member (as_object d))
 
+-- the request types of the entries
 abbrev pub types_of : List Entry → List RequestType
 types_of es = map (λ e. e.0) es
 

@@ -13,7 +13,7 @@ use Rattle.access_tries.specs.Table.{Table, leads, is_marked}
 use Rattle.trie_documents.specs.Places.{Place}
 use Rattle.entity_manifest.specs.declared.error.EntityManifestFromJsonError.{EntityManifestFromJsonError}
 use Rattle.entity_manifest.specs.declared.error.EntityManifestFromJsonError.TheVariants.{SerdeJsonParseError, MismatchedEntityManifest, OutOfMemory}
-use Rattle.entity_manifest.specs.Manifest.{Manifest}
+use Rattle.entity_manifest.specs.Manifest.{Manifest, trie_at}
 use Rattle.entity_manifest.specs.Mismatches.{is_declared_address}
 use Rattle.entity_manifest.specs.Reading.{Entry, AreDistinct}
 use Rattle.entity_manifest.specs.Placed.{entries_fault}
@@ -24,6 +24,7 @@ module _ (s : SchemaData) where
     pub paths : (es : Address) → leads a es ≡ (list_any (λ p. is_front es p.0) ps && is_declared_address s t never es)
     pub marks : (es : Address) → is_marked a es ≡ (list_any (λ p. p.1 && is_same es p.0) ps && is_declared_address s t never es)
 
+  -- the same, where nodes are said; where none are, there is no trie
   abbrev pub IsTypedAt : RequestType → Option (List Place) → Option Table → Type 0
   IsTypedAt t None None = Unit {0}
   IsTypedAt t None (Some a) = ⊥
@@ -32,11 +33,11 @@ module _ (s : SchemaData) where
 
   -- the request types of the entries, each with what is declared of its trie
   abbrev pub AreTypedOf : List Entry → Manifest → Type 0
-  AreTypedOf es m = (t : RequestType) → IsTypedAt t (at request_type_cmp es t) (at request_type_cmp m t)
+  AreTypedOf es m = (t : RequestType) → IsTypedAt t (at request_type_cmp es t) (trie_at m t)
 
   -- the one list has a typed trie at the request type of the entry, and elsewhere what the other one has
   abbrev pub IsPut : Entry → Manifest → Manifest → Type 0
-  IsPut e m n = (a : Table) × IsTypedOf e.0 e.1 a × ((t : RequestType) → at request_type_cmp n t ≡ cond (is_eq (request_type_cmp e.0 t)) (Some a) (at request_type_cmp m t))
+  IsPut e m n = (a : Table) × IsTypedOf e.0 e.1 a × ((t : RequestType) → trie_at n t ≡ cond (is_eq (request_type_cmp e.0 t)) (Some a) (trie_at m t))
 
   -- the value says a manifest that fits, and this is it, typed
   abbrev pub IsSaid : Option (List Entry) → Manifest → Type 0

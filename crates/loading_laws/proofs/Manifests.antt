@@ -27,7 +27,7 @@ use Rattle.policy_typing.specs.Conforms.{IsOf}
 use Rattle.policy_typing.specs.Typing.{Typing, types}
 use Rattle.policy_reads.specs.Reads.{demands, demands_of, reads_of, are_declared, declared_reads, declared_demands}
 use Rattle.policy_reads.proofs.DeclaredPaths.{declared_read}
-use Rattle.policy_reads.proofs.Lists.{IsIn, flat_map_out}
+use Rattle.policy_reads.proofs.Lists.{IsIn, in_map_out, flat_map_out}
 use Rattle.typed_conditions.specs.Typed.{typed_conditions}
 use Rattle.store_slices.proofs.LeastSteps.{declared_trie}
 use Rattle.entity_manifest.specs.Manifest.{Manifest, trie_for}
@@ -96,11 +96,6 @@ entry_found d ps (env ∷ envs) (e ∷ m) rt t z h = by (is_at (request_type_cmp
     by false f k rest = let r = rest k in record { env = r.env; among = inr r.among; request_type = r.request_type; trie = r.trie }
 
 -- ---- environments of a schema
-
-in_map_out : {A B : Type 0} (f : A → B) (y : B) (xs : List A) → IsIn y (map f xs) → (x : A) × IsIn x xs × (f x ≡ y)
-in_map_out f y [] h = absurd h
-in_map_out f y (x ∷ xs) (inl e) = (x, inl refl, e)
-in_map_out f y (x ∷ xs) (inr h) = let r = in_map_out f y xs h in (r.0, inr r.1, r.2)
 
 -- environments of an action have it
 env_action : (a : ActionData) (e : Environment) → IsIn e (environments_of a) → a.name ≡ e.action

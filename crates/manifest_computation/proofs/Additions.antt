@@ -15,24 +15,13 @@ use Rattle.policy_set.specs.Data.{PolicyData}
 use Rattle.policy_reads.specs.PathTypes.{declared_part}
 use Rattle.policy_reads.specs.Reads.{reads_of, reads, demands, demands_of, are_declared, declared_reads, declared_demands}
 use Rattle.policy_acceptance.specs.Laws.{LeavesAll}
-use Rattle.typing_findings.specs.Check.{Check, Success, Irrelevant, Fail, TooDeep, checked}
-use Rattle.policy_typecheck.specs.Answer.{Tells}
-use Rattle.policy_typecheck.specs.declared.policy_check.PolicyCheck.{PolicyCheck}
-use Rattle.policy_typecheck.specs.declared.policy_check.PolicyCheck.TheVariants as told
-use Rattle.typed_conditions.specs.Found.{condition_in, condition_told, found_conditions}
+use Rattle.typing_findings.specs.Check.{checked}
+use Rattle.typed_conditions.specs.Found.{condition_in, found_conditions}
 use Rattle.manifest_computation.specs.Gathered.{goes_along, asks_along, HoldSame, IsTrieLeft}
 
 pub both_ok : {A E : Type 0} (P Q R : Type 0) → (P → Q → R) → (r : Result A E) → OnOk r P → OnOk r Q → OnOk r R
 both_ok P Q R f (Ok a) p q = f p q
 both_ok P Q R f (Err e) p q = tt
-
--- a check in code leaves what the check leaves
-pub told_condition : (id : List ℕ) (c : Check) (r : PolicyCheck) → Tells id c r → condition_told r ≡ condition_in c
-told_condition id (Success t) (told.Success u) h = ap Some h
-told_condition id (Irrelevant t) (told.Irrelevant u) h = ap Some h
-told_condition id (Fail fs) (told.Fail es) h = refl
-told_condition id TooDeep (told.Fail es) h = refl
-told_condition id c r h = absurd h
 
 or_assoc : (a b c : Bool) → ((a || b) || c) ≡ (a || (b || c))
 or_assoc true b c = refl

@@ -1,6 +1,5 @@
 -- Steps of the walk through environments.
 use Rattle.std.proofs.Common.{◌≡◌, ℕ, suc, ◌+◌, ◌<◌, arith, List, [], ◌∷◌, ◌++◌, map, take, drop, length, get_or, Option, Some, None, IsSome, IfSome, Result, Ok, Err, IfOk, refl, sym, ap, ◌∙◌, subst}
-use Rattle.std.specs.BTreeMap.{insert_entry}
 use Rattle.std.specs.Cmp.{IsTotalOrder, on_total, then_total}
 use Rattle.std.specs.List.{AllByRecursion, AllZip}
 use Rattle.std.specs.Map.{keys_of}
@@ -19,22 +18,17 @@ use Rattle.schema_core.specs.RequestEnvs.{env_data_of}
 use Rattle.schema_core.specs.declared.request_env.RequestEnv.{RequestEnv}
 use Rattle.schema_core.specs.Schema.{SchemaData}
 use Rattle.policy_set.specs.Data.{PolicyData}
-use Rattle.entity_manifest.specs.Manifest.{Manifest}
+use Rattle.entity_manifest.specs.Manifest.{Manifest, IsNext}
 use Rattle.policy_links.specs.Accepted.{IsTyped, IsTypedIn}
 use Rattle.policy_acceptance.specs.Laws.{LeavesAll}
 use Rattle.typed_conditions.specs.Found.{found_conditions}
 use Rattle.typed_conditions.specs.Typed.{typed_conditions}
 use Rattle.manifest_computation.specs.Computed.{IsEntryOf, IsManifestOf}
-use Rattle.manifest_computation.specs.Found.{AreEntries, IsBehind}
+use Rattle.manifest_computation.specs.Found.{AreEntries}
 use Rattle.manifest_computation.proofs.Ascending.{Pairwise, IsBefore, all_more, envs_ascend, envs_declared}
 
 request_types_total : IsTotalOrder request_type_cmp
 request_types_total = then_total (on_total (λ t. t.action) uid_cmp_total) (then_total (on_total (λ t. t.principal) nat_list_cmp_total) (on_total (λ t. t.resource) nat_list_cmp_total))
-
--- what is put behind all others stands last
-pub put_last : {X : Type 0} (es : List (RequestType × X)) (q : RequestType) (v : X) → IsBehind q (keys_of es) → insert_entry request_type_cmp es q v ≡ es ++ (q, v) ∷ []
-put_last [] q v h = refl
-put_last (e ∷ es) q v h = rw (h.0) (ap (λ r. e ∷ r) (put_last es q v h.1))
 
 at_seam : {X : Type 0} (P : X → Type 0) (xs : List X) (y : X) (ys : List X) → AllByRecursion P (xs ++ y ∷ ys) → P y
 at_seam P [] y ys h = h.0
@@ -56,7 +50,7 @@ before_types undeclared_action f p q h k b = absurd b
 
 -- the request type of the next environment comes behind those of the entries so far
 pub next_behind : (schema : SchemaData) (ps : List PolicyData) (done : List EnvData) (m : Manifest) (env : EnvData) (rest : List EnvData) (q : RequestType) →
-    request_type_in env ≡ Some q → AreEntries schema ps done m → Pairwise IsBefore (done ++ env ∷ rest) → IsBehind q (keys_of m)
+    request_type_in env ≡ Some q → AreEntries schema ps done m → Pairwise IsBefore (done ++ env ∷ rest) → IsNext q (keys_of m)
 next_behind schema ps [] [] env rest q is h b = tt
 next_behind schema ps [] (x ∷ m) env rest q is h b = absurd h
 next_behind schema ps (e ∷ done) [] env rest q is h b = absurd h
@@ -88,10 +82,10 @@ module _ (schema : SchemaData) (ok : IsSchema schema) (ps : List PolicyData) (it
   pub left_here : AllByRecursion (LeavesAll schema ps) (unlinked_envs schema) → LeavesAll schema ps (env_data_of env)
   left_here left = at_seam (LeavesAll schema ps) done (env_data_of env) rest (subst (AllByRecursion (LeavesAll schema ps)) whole left)
 
-  pub behind_here : (m : Manifest) → AreEntries schema ps done m → IfSome (request_type_in (env_data_of env)) (λ q. IsBehind q (keys_of m))
+  pub behind_here : (m : Manifest) → AreEntries schema ps done m → IfSome (request_type_in (env_data_of env)) (λ q. IsNext q (keys_of m))
   behind_here m entries = by (request_type_in (env_data_of env)) refl
     where
-      by : (o : Option RequestType) → request_type_in (env_data_of env) ≡ o → IfSome o (λ q. IsBehind q (keys_of m))
+      by : (o : Option RequestType) → request_type_in (env_data_of env) ≡ o → IfSome o (λ q. IsNext q (keys_of m))
       by None e = tt
       by (Some q) e = next_behind schema ps done m (env_data_of env) rest q e entries (subst (Pairwise IsBefore) whole (envs_ascend schema ok))
 

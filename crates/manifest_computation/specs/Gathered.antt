@@ -13,10 +13,11 @@ use Rattle.policy_acceptance.specs.Laws.{LeavesAll}
 use Rattle.typed_conditions.specs.Found.{found_conditions}
 
 module _ (schema : SchemaData) (env : EnvData) where
-  -- whether the edges are a front of what conditions read or ask for, and whether they are what one of them asks for
+  -- whether the edges are a front of what conditions read or ask for
   abbrev pub goes_along : List Typed → Address → Bool
   goes_along ts es = list_any (is_front es) (map address_of (declared_reads schema env ts)) || list_any (is_front es) (map demand_of (declared_demands schema env ts))
 
+  -- whether they are what one of them asks for
   abbrev pub asks_along : List Typed → Address → Bool
   asks_along ts es = list_any (is_same es) (map demand_of (declared_demands schema env ts))
 

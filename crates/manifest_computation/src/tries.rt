@@ -6,7 +6,8 @@ ghost use Rattle.std.specs.List.{AllByRecursion};
 ghost use Rattle.policy_store.specs.declared.request.RequestType.{RequestType};
 ghost use Rattle.schema_core.specs.EnvData.{request_type_in, unlinked_envs};
 ghost use Rattle.schema_core.specs.RequestEnvs.{env_data_of};
-ghost use Rattle.manifest_computation.specs.Found.{AreEntries, IsBehind};
+ghost use Rattle.entity_manifest.specs.Manifest.{IsNext};
+ghost use Rattle.manifest_computation.specs.Found.{AreEntries};
 ghost use Rattle.policy_acceptance.specs.Laws.{LeavesAll};
 
 use crate::gathering::trie_of_policies;
@@ -48,7 +49,7 @@ fn add_trie_of(
     tries: &mut BTreeMap<RequestType, RootAccessTrie>,
 ) -> Result<(), AllocError>
     requires declared { IsSome (request_type_in (env_data_of env.now)) }
-    requires next { IfSome (request_type_in (env_data_of env.now)) (λ q. IsBehind q (keys tries.old)) }
+    requires next { IfSome (request_type_in (env_data_of env.now)) (λ q. IsNext q (keys tries.old)) }
     ensures { OnOk result ((q : RequestType) × ((tries.new.entries ≡ tries.old.entries ++ (q, trie) ∷ []) × (request_type_in (env_data_of env.now) ≡ Some q))) }
 {
     match env.to_request_type()? {
@@ -63,7 +64,7 @@ fn push_trie(
     request_type: RequestType,
     trie: RootAccessTrie,
 ) -> Result<(), AllocError>
-    requires { IsBehind request_type (keys tries.old) }
+    requires { IsNext request_type (keys tries.old) }
     ensures { OnOk result (tries.new.entries ≡ tries.old.entries ++ (request_type, trie) ∷ []) }
 {
     tries.insert(request_type, trie)?;

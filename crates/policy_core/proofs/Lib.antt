@@ -1,3 +1,4 @@
+mod EntrySteps
 mod EvalSteps
 mod IdSteps
 pub mod LawSteps

@@ -1,15 +1,18 @@
 //! Evaluation.
 
-ghost use Rattle.std.specs.Prelude.{◌≡◌, IfOk, IsOk, IsSome, true, false};
-ghost use Rattle.policy_values.specs.Value.{entity, rec, truth};
+ghost use Rattle.std.specs.Prelude.{◌≡◌, IfOk, IfSome, IsOk, IsSome, true, false};
+ghost use Rattle.policy_values.specs.Value.{entity, field_at, rec, truth};
 ghost use Rattle.policy_store.specs.Request.{IsWhole, known};
 ghost use Rattle.policy_expressions.specs.Tree.{trees_of, named_of};
 ghost use Rattle.policy_core.specs.Eval.{eval, eval_all, eval_named, result_map, known_fields, literal_value, variable_value, truth_of, truth_outcome, choose, with_value, set_outcome, record_outcome, IsPlain, IsPlainLiteral};
 ghost use Rattle.policy_core.specs.Calls.{call_outcome};
-ghost use Rattle.policy_core.specs.Operators.{unary_value, binary_value, attr_value, has_value, like_value, is_value};
+ghost use Rattle.policy_core.specs.Operators.{unary_value, binary_value, attr_value, found_or, has_value, like_value, is_value};
 
 use crate::calls::call;
-use crate::operators::{apply, apply_two, attribute, has_attribute, is_of_type, matches_pattern};
+use crate::operators::{
+    apply, apply_two, attribute, entry_of_entity, entry_of_value, has_attribute, is_of_type,
+    matches_pattern,
+};
 use crate::{
     BinaryOp, Context, Entities, EntityType, EntityUID, EvalError, Expr, ExprKind, Literal, Name,
     Outcome, Pattern, Request, Text, UnaryOp, Value, ValueKind, Var, push_entry, try_clone_fields,
@@ -39,6 +42,7 @@ pub fn evaluate<T>(
 }
 
 #[cycle(evaluate)]
+#[tactic(auto, using(crate::proofs::EntrySteps::has_where_entry))]
 fn outcome_of<T>(
     alloc: Global,
     expr: &Expr<T>,
@@ -60,14 +64,20 @@ fn outcome_of<T>(
             Ok(applied(*op, x))
         }
         ExprKind::BinaryApp(op, x, y) => both_of(alloc, *op, x, y, request, entities),
-        ExprKind::GetAttr(x, name) => {
-            let x = outcome_of(alloc, x, request, entities)?;
-            attribute_of(alloc, x, name, entities)
-        }
-        ExprKind::HasAttr(x, name) => {
-            let x = outcome_of(alloc, x, request, entities)?;
-            Ok(has_attribute_of(x, name, entities))
-        }
+        ExprKind::GetAttr(x, name) => match entry_of(x, name, request, entities) {
+            Some(value) => Ok(Outcome::Value(value.try_clone(alloc)?)),
+            None => {
+                let x = outcome_of(alloc, x, request, entities)?;
+                attribute_of(alloc, x, name, entities)
+            }
+        },
+        ExprKind::HasAttr(x, name) => match entry_of(x, name, request, entities) {
+            Some(_) => Ok(Outcome::Value(Value::bool(true))),
+            None => {
+                let x = outcome_of(alloc, x, request, entities)?;
+                Ok(has_attribute_of(x, name, entities))
+            }
+        },
         ExprKind::Like(x, pattern) => {
             let x = outcome_of(alloc, x, request, entities)?;
             like_of(alloc, x, pattern)
@@ -327,6 +337,68 @@ fn applied_to_both(
             drop(x);
             Ok(Outcome::Error(error))
         }
+    }
+}
+
+// What an expression has under a name, as it stands in the request or the store, so that nothing of what it goes through is copied; none
+// where it has no such thing, or where that has to be made first.
+fn entry_of<'a, T>(
+    x: &Expr<T>,
+    name: &Text,
+    request: &'a Request,
+    entities: &'a Entities,
+) -> Option<&'a Value>
+    requires { IsWhole request.now }
+    ensures { IfSome result (λ v. with_value (eval x.now request.now entities.now) (λ w. attr_value w name.now entities.now) ≡ Outcome.Value v.now) }
+{
+    match x.kind() {
+        ExprKind::Var(var) => entry_of_variable(*var, name, request, entities),
+        ExprKind::GetAttr(y, before) => match entry_of(y, before, request, entities) {
+            Some(value) => entry_of_value(value, name, entities),
+            None => None,
+        },
+        _ => None,
+    }
+}
+
+fn entry_of_variable<'a>(
+    var: Var,
+    name: &Text,
+    request: &'a Request,
+    entities: &'a Entities,
+) -> Option<&'a Value>
+    requires { IsWhole request.now }
+    ensures { IfSome result (λ v. attr_value (variable_value var request.now) name.now entities.now ≡ Outcome.Value v.now) }
+{
+    match var {
+        Var::Principal => entry_of_known(&request.principal, name, entities),
+        Var::Action => entry_of_known(&request.action, name, entities),
+        Var::Resource => entry_of_known(&request.resource, name, entities),
+        Var::Context => entry_of_context(&request.context, name),
+    }
+}
+
+fn entry_of_known<'a>(
+    uid: &Option<EntityUID>,
+    name: &Text,
+    entities: &'a Entities,
+) -> Option<&'a Value>
+    requires { IsSome uid.now }
+    ensures { IfSome result (λ v. attr_value (entity (known uid.now)) name.now entities.now ≡ Outcome.Value v.now) }
+{
+    match uid {
+        Some(uid) => entry_of_entity(uid, name, entities),
+        None => None,
+    }
+}
+
+fn entry_of_context<'a>(context: &'a Option<Context>, name: &Text) -> Option<&'a Value>
+    requires { IsSome context.now }
+    ensures { IfSome result (λ v. found_or EvalError.MissingAttribute (field_at (known_fields context.now) name.now) ≡ Outcome.Value v.now) }
+{
+    match context {
+        Some(context) => context.get(name),
+        None => None,
     }
 }
 

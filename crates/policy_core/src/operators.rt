@@ -1,8 +1,8 @@
 //! What each operator makes of the values of its operands.
 
-ghost use Rattle.std.specs.Prelude.{◌≡◌, IfOk, ◌+ℤ◌, ◌-ℤ◌, ◌*ℤ◌, neg_ℤ, int_lt, int_le};
+ghost use Rattle.std.specs.Prelude.{◌≡◌, IfOk, IfSome, ◌+ℤ◌, ◌-ℤ◌, ◌*ℤ◌, neg_ℤ, int_lt, int_le};
 ghost use Rattle.std.specs.Option.{option_copied};
-ghost use Rattle.policy_values.specs.Value.{vals_of};
+ghost use Rattle.policy_values.specs.Value.{entity, vals_of};
 ghost use Rattle.policy_core.specs.Operators.{unary_value, fit, long_of, compared, calculated, contains_value, contains_all_value, contains_any_value, get_tag_value, has_tag_of, has_tag_value, in_value, binary_value, above, within, within_any, attr_value, found_or, has_value, like_value, is_value};
 ghost use Rattle.std.specs.Ordering.{is_eq};
 ghost use Rattle.policy_names.specs.Uid.{text_cmp};
@@ -247,6 +247,33 @@ fn is_in_any(x: &EntityUID, ys: &Vec<Value>, entities: &Entities) -> Outcome
         }
     }
     Outcome::Value(Value::bool(found))
+}
+
+/// The attribute of an entity or the field of a record, as it stands there, where there is one.
+#[tactic(auto, using(policy_store::proofs::FieldsFound::field_found))]
+pub fn entry_of_value<'a>(x: &'a Value, name: &Text, entities: &'a Entities) -> Option<&'a Value>
+    ensures { IfSome result (λ v. attr_value x.now name.now entities.now ≡ Outcome.Value v.now) }
+{
+    match x.kind() {
+        ValueKind::EntityUID(uid) => entry_of_entity(uid, name, entities),
+        ValueKind::Record(fields) => fields.get(name),
+        _ => None,
+    }
+}
+
+/// The attribute of an entity of the store, where there is one.
+#[tactic(auto, using(policy_store::proofs::FieldsFound::field_found))]
+pub fn entry_of_entity<'a>(
+    uid: &EntityUID,
+    name: &Text,
+    entities: &'a Entities,
+) -> Option<&'a Value>
+    ensures { IfSome result (λ v. attr_value (entity uid.now) name.now entities.now ≡ Outcome.Value v.now) }
+{
+    match entities.entity(uid) {
+        Some(found) => found.get(name),
+        None => None,
+    }
 }
 
 /// The attribute of an entity or the field of a record.

@@ -46,6 +46,12 @@ in_map f x [] h = absurd h
 in_map f x (z ∷ xs) (inl e) = inl (ap f e)
 in_map f x (z ∷ xs) (inr h) = inr (in_map f x xs h)
 
+-- what a value of a map came from
+pub in_map_out : {A B : Type 0} (f : A → B) (y : B) (xs : List A) → IsIn y (map f xs) → (x : A) × IsIn x xs × (f x ≡ y)
+in_map_out f y [] h = absurd h
+in_map_out f y (x ∷ xs) (inl e) = (x, inl refl, e)
+in_map_out f y (x ∷ xs) (inr h) = let r = in_map_out f y xs h in (r.0, inr r.1, r.2)
+
 pub in_filter : {A : Type 0} (t : A → Bool) (x : A) (xs : List A) → IsIn x xs → t x ≡ true → IsIn x (filter t xs)
 in_filter t x [] h k = h
 in_filter t x (z ∷ xs) (inl e) k = let f : t z ≡ true = rw e k in rw f (inl e)

@@ -23,6 +23,7 @@ steps_of c = map along c
 abbrev pub Demand : Type 0
 Demand = AccessPath × AccessPath
 
+-- the path without steps
 abbrev pub at_root : Root → AccessPath
 at_root r = record { root = r; steps = [] }
 
@@ -39,6 +40,7 @@ mutual
     record_shape : FieldShapes → Shape
     one_of : Shape → Shape → Shape
 
+  -- of each field of a record
   pub data FieldShapes : Type 0 where
     no_field_shapes : FieldShapes
     field_shape : List ℕ → Shape → FieldShapes → FieldShapes

@@ -79,12 +79,13 @@ abbrev pub values_in : Fields → List Val
 values_in no_fields = []
 values_in (field n v fs) = v ∷ values_in fs
 
--- one step along a path: to an attribute or to each tag of an entity of the store, or to a field of a record
+-- one step along a path: to an attribute or to each tag of an entity of the store
 abbrev pub step_in_entity : Option StoredEntity → Step → List Val
 step_in_entity None n = []
 step_in_entity (Some e) (along n) = option_to_list (field_at e.attrs n)
 step_in_entity (Some e) any_tag = values_in e.tags
 
+-- and to a field of a record
 abbrev pub step_in_record : Fields → Step → List Val
 step_in_record fs (along n) = option_to_list (field_at fs n)
 step_in_record fs any_tag = []
@@ -113,10 +114,11 @@ keeps s x cs (n ∷ ns) v = (is_id x v && is_prefix cs (n ∷ ns)) || list_any (
 abbrev pub kept_steps : List AccessPath → Request → Store → EntityUID → List Step → Bool
 kept_steps ps q s x cs = list_any (λ p. keeps s x cs p.steps (root_value q p.root)) ps
 
--- the chains of attributes, and of tags, that the paths keep; a path along any tag keeps each
+-- the chains of attributes that the paths keep
 abbrev pub kept_chain : List AccessPath → Request → Store → EntityUID → Chain → Bool
 kept_chain ps q s x c = kept_steps ps q s x (steps_of c)
 
+-- the chains of tags that they keep; a path along any tag keeps each
 abbrev pub kept_tag : List AccessPath → Request → Store → EntityUID → Chain → Bool
 kept_tag ps q s x [] = false
 kept_tag ps q s x (n ∷ c) = kept_steps ps q s x (any_tag ∷ steps_of c)

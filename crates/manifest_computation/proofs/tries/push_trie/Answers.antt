@@ -1,6 +1,6 @@
 use Rattle.std.proofs.Common.{◌∙◌}
-use Rattle.manifest_computation.proofs.Entries.{put_last}
+use Rattle.entity_manifest.proofs.Entries.{put_next}
 use Rattle.manifest_computation.proofs.tries.push_trie.Goals as goal
 
 pub returns : goal.returns
-returns c = c.in_ok-insert.ensures.entries ∙ put_last c.args.tries.now.entries c.args.request_type c.args.trie c.requires
+returns c = c.in_ok-insert.ensures.entries ∙ put_next c.args.tries.now.entries c.args.request_type c.args.trie c.requires
