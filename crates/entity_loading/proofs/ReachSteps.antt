@@ -1,6 +1,6 @@
 -- What is asked for is what is reached.
 use Rattle.std.proofs.Common.{◌≡◌, ◌⊎◌, ℕ, Bool, true, false, ◌&&◌, List, [], ◌∷◌, ◌++◌, map, Option, Some, None, refl, sym, ap, ◌∙◌, subst, inl, inr, is_some, append_assoc}
-use Rattle.std.specs.Prelude.{if◌then◌else◌, slice_get}
+use Rattle.std.specs.Prelude.{if◌then◌else◌}
 use Rattle.std.specs.List.{list_any}
 use Rattle.std.specs.Option.{option_to_list}
 use Rattle.std.specs.Ordering.{is_eq}
@@ -20,7 +20,7 @@ use Rattle.access_tries.specs.declared.edge.EntityRoot.{EntityRoot}
 use Rattle.access_tries.specs.declared.table.Link.{Link}
 use Rattle.access_tries.specs.Edges.{Address, rank, first_text, second_text, edge_cmp, edge_eq}
 use Rattle.access_tries.specs.Paths.{edge_of}
-use Rattle.access_tries.specs.Table.{Table, NodeData, at_path, has_mark, links_at}
+use Rattle.access_tries.specs.Table.{Table, at_path, has_mark, links_at}
 use Rattle.access_tries.specs.Views.{ViewData, whole}
 use Rattle.policy_names.proofs.Ties.{equal_of}
 use Rattle.policy_reads.specs.Merge.{IsBelowAll, IsOrdered, AreOrdered, IsEntityOrdered}
@@ -33,6 +33,7 @@ use Rattle.entity_asking.specs.Begun.{root_points, roots_point}
 use Rattle.entity_asking.specs.Wants.{Test, sees, wants, points, fields_point, entity_points}
 use Rattle.entity_asking.specs.declared.place.Place.{Place}
 use Rattle.store_slices.specs.Reached.{IsReached}
+use Rattle.store_slices.proofs.Fronts.{front_leads as front_there}
 use Rattle.entity_loading.proofs.PointSteps.{points_more, in_fields}
 
 -- ---- addresses
@@ -46,28 +47,10 @@ same_edge a b h = exact_edge a b (equal_of (edge_cmp a b) h)
 pub any_more : {X : Type 0} (g h : X → Bool) (ls : List X) → ((l : X) → g l ≡ true → h l ≡ true) → list_any g ls ≡ true → list_any h ls ≡ true
 any_more g h ls f p = let r = any_out g ls p in any_in h r.0 ls r.1 (f r.0 r.2)
 
-seen_there : (b : Bool) (ns : Table) (i : ℕ) (a : Address) → sees b (record { nodes = ns; number = i }) a ≡ true → is_some (slice_get ns i) ≡ true
-seen_there b ns i a h = by (slice_get ns i) refl a h
-  where
-    by : (o : Option NodeData) → slice_get ns i ≡ o → (c : Address) → sees b (record { nodes = ns; number = i }) c ≡ true → is_some (slice_get ns i) ≡ true
-    by (Some n) e c g = ap is_some e
-    by None e c g = absurd (false≢true (sym (nowhere b c) ∙ g))
-      where
-        nowhere : (d : Bool) (f : Address) → sees d (record { nodes = ns; number = i }) f ≡ false
-        nowhere true [] = rw e refl
-        nowhere false [] = rw e refl
-        nowhere true (x ∷ xs) = rw e refl
-        nowhere false (x ∷ xs) = rw e refl
-
 -- a front of what is seen leads somewhere
 pub front_leads : (b : Bool) (ns : Table) (i : ℕ) (es a : Address) → sees b (record { nodes = ns; number = i }) (es ++ a) ≡ true → sees false (record { nodes = ns; number = i }) es ≡ true
-front_leads b ns i [] a h = seen_there b ns i a h
-front_leads true ns i (e ∷ es) a h =
-    any_more (λ l. edge_eq l.edge e && at_path has_mark ns l.number (es ++ a)) (λ l. edge_eq l.edge e && at_path is_some ns l.number es) (links_at ns i)
-    (λ l p. let c = and_parts (edge_eq l.edge e) (at_path has_mark ns l.number (es ++ a)) p in and_from (edge_eq l.edge e) (at_path is_some ns l.number es) c.0 (front_leads true ns l.number es a c.1)) h
-front_leads false ns i (e ∷ es) a h =
-    any_more (λ l. edge_eq l.edge e && at_path is_some ns l.number (es ++ a)) (λ l. edge_eq l.edge e && at_path is_some ns l.number es) (links_at ns i)
-    (λ l p. let c = and_parts (edge_eq l.edge e) (at_path is_some ns l.number (es ++ a)) p in and_from (edge_eq l.edge e) (at_path is_some ns l.number es) c.0 (front_leads false ns l.number es a c.1)) h
+front_leads true ns i es a h = front_there has_mark refl ns es a i h
+front_leads false ns i es a h = front_there is_some refl ns es a i h
 
 behind_link : (b : Bool) (ns : Table) (l : Link) (a : Address) → IsIn l (links_at ns 0) → sees b (record { nodes = ns; number = l.number }) a ≡ true → sees b (whole ns) (l.edge ∷ a) ≡ true
 behind_link true ns l a i h = any_in (λ m. edge_eq m.edge l.edge && at_path has_mark ns m.number a) l (links_at ns 0) i (and_from (edge_eq l.edge l.edge) (at_path has_mark ns l.number a) (edge_self l.edge) h)

@@ -34,7 +34,7 @@ use Rattle.store_slices.specs.Tries.{IsTrieOf, LeastTriesFit}
 edge_self : (e : Edge) → edge_eq e e ≡ true
 edge_self e = rw (tied_itself nat_cmp_total (rank e), tied_itself nat_list_cmp_total (first_text e), tied_itself nat_list_cmp_total (second_text e)) refl
 
-same_edge : (a b : Edge) → edge_eq a b ≡ true → a ≡ b
+pub same_edge : (a b : Edge) → edge_eq a b ≡ true → a ≡ b
 same_edge a b h = exact_edge a b (equal_of (edge_cmp a b) h)
 
 same_address : (es fs : Address) → is_same es fs ≡ true → es ≡ fs
@@ -66,11 +66,11 @@ behind_steps (Field n ∷ es) = behind_steps es
 behind_steps (AnyTag ∷ es) = behind_steps es
 behind_steps (Root r ∷ es) = Root r ∷ es
 
-abbrev first_path : Address → AccessPath
+abbrev pub first_path : Address → AccessPath
 first_path (Root r ∷ es) = record { root = r; steps = steps_in es }
 first_path es = record { root = Var Principal; steps = [] }
 
-abbrev behind_first : Address → Address
+abbrev pub behind_first : Address → Address
 behind_first (Root r ∷ es) = behind_steps es
 behind_first es = es
 
@@ -89,16 +89,16 @@ steps_alone [] = refl
 steps_alone (along n ∷ ns) = ap (λ ms. along n ∷ ms) (steps_alone ns)
 steps_alone (any_tag ∷ ns) = ap (λ ms. any_tag ∷ ms) (steps_alone ns)
 
-first_then : (p r : AccessPath) → first_path (address_of p ++ address_of r) ≡ p
+pub first_then : (p r : AccessPath) → first_path (address_of p ++ address_of r) ≡ p
 first_then p r i = record { root = p.root; steps = steps_then p.steps r i }
 
-rest_then : (p r : AccessPath) → behind_first (address_of p ++ address_of r) ≡ address_of r
+pub rest_then : (p r : AccessPath) → behind_first (address_of p ++ address_of r) ≡ address_of r
 rest_then p r = behind_then p.steps r
 
-path_alone : (p : AccessPath) → first_path (address_of p) ≡ p
+pub path_alone : (p : AccessPath) → first_path (address_of p) ≡ p
 path_alone p i = record { root = p.root; steps = steps_alone p.steps i }
 
-abbrev demand : AccessPath → AccessPath → Demand
+abbrev pub demand : AccessPath → AccessPath → Demand
 demand p r = (p, r)
 
 same_demand : (p r : AccessPath) (d : Demand) → demand_of (p, r) ≡ demand_of d → d ≡ demand p r
@@ -157,7 +157,7 @@ demand_front p d h =
     let r = front_before p.steps d.0.steps d.1 b.1 in
     (r.0, λ i. record { root = root_same p.root d.0.root b.0 i; steps = r.1 i })
 
-map_append : (ms ns : List Step) → map edge_of (ms ++ ns) ≡ map edge_of ms ++ map edge_of ns
+pub map_append : (ms ns : List Step) → map edge_of (ms ++ ns) ≡ map edge_of ms ++ map edge_of ns
 map_append [] ns = refl
 map_append (m ∷ ms) ns = ap (λ es. edge_of m ∷ es) (map_append ms ns)
 
@@ -278,7 +278,7 @@ module _ (schema : SchemaData) (env : EnvData) (d : Demand) where
   demands_read [] h = h
   demands_read (t ∷ ts) h = either_part d (demands t) (demands_of ts) (reads schema env t) (reads_of schema env ts) (demand_read t) (demands_read ts) h
 
-in_filter_out : {A : Type 0} (f : A → Bool) (y : A) (xs : List A) → IsIn y (filter f xs) → IsIn y xs × (f y ≡ true)
+pub in_filter_out : {A : Type 0} (f : A → Bool) (y : A) (xs : List A) → IsIn y (filter f xs) → IsIn y xs × (f y ≡ true)
 in_filter_out f y [] h = absurd h
 in_filter_out f y (x ∷ xs) h = by (f x) refl h (in_filter_out f y xs)
   where
@@ -287,7 +287,7 @@ in_filter_out f y (x ∷ xs) h = by (f x) refl h (in_filter_out f y xs)
     by true e (inr i) g = let r = g i in (inr r.0, r.1)
     by false e i g = let r = g i in (inr r.0, r.1)
 
-whole_path : (p : AccessPath) → beyond p [] ≡ p
+pub whole_path : (p : AccessPath) → beyond p [] ≡ p
 whole_path p i = record { root = p.root; steps = nil_right p.steps i }
 
 -- each declared path of which conditions demand something is read

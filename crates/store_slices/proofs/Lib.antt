@@ -3,4 +3,7 @@ mod ReachSteps
 pub mod LeastSteps
 mod KeptSteps
 mod PartSteps
+mod PickSteps
 mod BlockedSteps
+pub mod Fronts
+mod Enumerating

@@ -1,6 +1,6 @@
 -- Tries of what is read.
 use Rattle.std.specs.Prelude.{◌≡◌, ◌↔◌, true, List}
-use Rattle.access_tries.specs.Table.{Table}
+use Rattle.access_tries.specs.Table.{Table, IsTable}
 use Rattle.access_tries.specs.Paths.{has_path, asks, IsLeast}
 use Rattle.policy_reads.specs.Paths.{AccessPath, Demand}
 use Rattle.policy_reads.specs.Among.{IsIn, IsFrontOfRead}
@@ -14,3 +14,7 @@ pub record IsTrieOf (reads : List AccessPath) (demands : List Demand) (t : Table
 abbrev pub LeastTriesFit : Type 0
 LeastTriesFit =
     (reads : List AccessPath) (demands : List Demand) (t : Table) → ((d : Demand) → IsIn d demands → IsFrontOfRead reads d.0) → IsLeast reads demands t → IsTrieOf reads demands t
+
+-- each trie is one of some paths and demands
+abbrev pub EveryTrieIsOfSome : Type 0
+EveryTrieIsOfSome = (t : Table) → IsTable t → (reads : List AccessPath) × (demands : List Demand) × IsTrieOf reads demands t

@@ -32,14 +32,19 @@ pub(crate) fn named_by_nodes(
 
 /// Those ancestors of an entity that some of the nodes names.
 pub(crate) fn ancestors_among(
+    alloc: Global,
     entity: &Entity,
     numbers: &[usize],
     named: &[BTreeSet<EntityUID>],
 ) -> Result<BTreeSet<EntityUID>, AllocError>
     ensures { IfOk result (λ ids. ids.keys ≡ filter (some_names named.now numbers.now) entity.now.ancestors) }
 {
-    let mut ids = entity.ancestors().clone()?;
-    ids.retain(|uid| some_names(named, numbers, uid));
+    let mut ids = BTreeSet::new(alloc);
+    for uid in entity.ancestors().iter() {
+        if some_names(named, numbers, uid) {
+            ids.insert(uid.try_clone()?)?;
+        }
+    }
     Ok(ids)
 }
 

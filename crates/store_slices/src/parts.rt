@@ -51,7 +51,7 @@ pub(crate) fn slice_of(
     let mut slice = Entities::new(alloc);
     for entity in entities.iter() {
         if let Some(list) = numbers.get(entity.uid()) {
-            let ancestors = ancestors_among(entity, list, named)?;
+            let ancestors = ancestors_among(alloc, entity, list, named)?;
             slice.push(cut_entity(alloc, entity, nodes, list, ancestors)?)?;
         }
     }
