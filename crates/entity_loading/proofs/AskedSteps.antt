@@ -2,8 +2,7 @@
 use Rattle.std.proofs.Common.{◌≡◌, ◌⊎◌, Bool, true, false, cond, ◌&&◌, ◌||◌, List, [], ◌∷◌, ◌++◌, Option, Some, None, refl, sym, ap, ◌∙◌, subst, inl, inr}
 use Rattle.std.specs.Prelude.{◌↔◌}
 use Rattle.std.specs.BTreeMap.{BTreeMap, get, is_at}
-use Rattle.std.specs.BTreeSet.{BTreeSet, contains}
-use Rattle.std.specs.List.{list_any, AllByRecursion}
+use Rattle.std.specs.List.{AllByRecursion}
 use Rattle.std.specs.List.Sorted.{IsStrictlySortedBy}
 use Rattle.std.specs.Map.{keys_of, lookup}
 use Rattle.std.specs.Ordering.{is_eq, ordering_reverse}
@@ -13,11 +12,11 @@ use Rattle.std.proofs.lemmas.List.Folds.{list_any-append}
 use Rattle.policy_names.specs.declared.entity_uid.EntityUID.{EntityUID}
 use Rattle.policy_names.specs.Uid.{uid_cmp, uid_eq, uid_cmp_total}
 use Rattle.policy_store.specs.declared.request.Request.{Request}
-use Rattle.policy_store.specs.Store.{StoredEntity, Store}
+use Rattle.policy_store.specs.Store.{Store}
 use Rattle.access_tries.specs.Paths.{address_of}
 use Rattle.access_tries.specs.Table.{Table}
 use Rattle.policy_reads.proofs.Lists.{same_uid, uid_self, or_true, or_right}
-use Rattle.ancestor_names.specs.Names.{IsKept, IsNamed}
+use Rattle.ancestor_names.specs.Names.{IsNamed}
 use Rattle.entity_asking.specs.declared.place.Place.{Place}
 use Rattle.entity_loader.specs.declared.loader.AncestorsRequest.{AncestorsRequest}
 use Rattle.entity_loading.specs.declared.lent.Lent.{Lent}

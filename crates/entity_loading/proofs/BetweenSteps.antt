@@ -9,20 +9,19 @@ use Rattle.std.proofs.lemmas.Bool.{and_parts, and_from, or_cases, false≢true}
 use Rattle.std.proofs.lemmas.List.{map-append}
 use Rattle.hierarchy.proofs.SameSorted.{same_values, same_sorted}
 use Rattle.policy_names.specs.declared.entity_uid.EntityUID.{EntityUID}
-use Rattle.policy_names.specs.Uid.{uid_cmp, uid_eq, uid_cmp_total, exact_uid}
+use Rattle.policy_names.specs.Uid.{uid_cmp, uid_cmp_total, exact_uid}
 use Rattle.policy_core.specs.Operators.{above}
 use Rattle.policy_store.specs.declared.request.Request.{Request}
 use Rattle.policy_store.specs.Store.{StoredEntity, Store, entity_at}
-use Rattle.policy_values.specs.Value.{Val, entity, Fields, no_fields, field}
+use Rattle.policy_values.specs.Value.{entity, Fields, no_fields, field}
 use Rattle.access_tries.specs.declared.edge.Edge.TheVariants.{AnyTag, Root}
 use Rattle.access_tries.specs.Edges.{Address}
-use Rattle.access_tries.specs.Paths.{AccessPath, edge_of, address_of, has_path}
+use Rattle.access_tries.specs.Paths.{AccessPath, edge_of, address_of}
 use Rattle.access_tries.specs.Table.{Table}
 use Rattle.access_tries.specs.Views.{whole}
-use Rattle.policy_reads.specs.Cover.{IsPartOf}
 use Rattle.policy_reads.specs.Paths.{Step, any_tag, Chain, steps_of, Demand, beyond}
-use Rattle.policy_reads.specs.Restrict.{Keep, cut, cut_fields, cut_entity, part, is_id, names_id, reach, kept_steps, kept_chain, kept_tag, by_paths, kept_ancestor, needed, restrict}
-use Rattle.policy_reads.proofs.Cuts.{entity_at-part, above-part, uid_at}
+use Rattle.policy_reads.specs.Restrict.{Keep, cut, cut_fields, cut_entity, part, is_id, names_id, reach, kept_steps, kept_chain, kept_tag, by_paths, kept_ancestor, needed}
+use Rattle.policy_reads.proofs.Cuts.{entity_at-part, above-part}
 use Rattle.policy_reads.proofs.Lists.{IsIn, any_in, or_true, or_right, uid_self}
 use Rattle.policy_reads.proofs.Order.{cases, part_twice}
 use Rattle.policy_reads.proofs.Words.{any_out, id_of, kept_means, same_tests}

@@ -3,7 +3,6 @@ mod AskSteps
 mod AnswerSteps
 mod KeepSteps
 mod RoundSteps
-mod NoteSteps
 mod PointSteps
 mod ReachSteps
 mod KeptSteps

@@ -1,5 +1,5 @@
 -- Why loading is refused of a loader that tells its store.
-use Rattle.std.specs.Prelude.{◌≡◌, Bool, true, false, List, Some}
+use Rattle.std.specs.Prelude.{◌≡◌, ◌⊎◌, Bool, true, false, List, Some}
 use Rattle.outside.specs.Steps.{Rose}
 use Rattle.policy_names.specs.declared.entity_uid.EntityUID.{EntityUID}
 use Rattle.policy_store.specs.declared.request.Request.{Request}
@@ -9,6 +9,7 @@ use Rattle.access_tries.specs.Edges.{Address}
 use Rattle.access_tries.specs.Table.{Table}
 use Rattle.policy_reads.specs.Restrict.{Keep, cut_entity}
 use Rattle.entity_asking.specs.Answered.{SomeAnswerSticks}
+use Rattle.entity_asking.specs.Begun.{SomeRootSticks}
 use Rattle.entity_asking.specs.Stuck.{EntitySticks}
 use Rattle.entity_asking.specs.Wants.{Test}
 use Rattle.entity_asking.specs.declared.place.Place.{Place}
@@ -28,6 +29,10 @@ pub record IsStuck (ns : Table) (q : Request) (s : Store) (u : Val) : Type 0 whe
   pub below : Bool → Test
   pub reached : (b : Bool) (a : Address) → below b a ≡ true → IsReached b ns q s id a
   pub sticks : EntitySticks (cut_entity keep stored) (record { leads = below false; marks = below true }) u
+
+-- a path of the trie cannot go on from the value, which stands in a root or in an entity that paths reach
+abbrev pub SticksAt : Table → Request → Store → Val → Type 0
+SticksAt t q s v = SomeRootSticks t q v ⊎ IsStuck t q s v
 
 -- a round is refused: honest answers lead nowhere on, or do not merge with what is kept, or the loader failed
 abbrev pub IsRefused : Bool → Store → Table → List Place → Found → LoaderState → LoaderState → EntitySliceError → Type 0

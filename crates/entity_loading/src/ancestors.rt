@@ -56,10 +56,7 @@ pub(crate) fn with_ancestors<D: EntityLoader>(
     if requests.is_empty() {
         return Ok(kept);
     }
-    let lists = match lists_for(alloc, &requests, loader) {
-        Ok(lists) => lists,
-        Err(error) => return Err(error),
-    };
+    let lists = lists_for(alloc, &requests, loader)?;
     add_all(alloc, &requests, lists, &mut kept)?;
     Ok(kept)
 }

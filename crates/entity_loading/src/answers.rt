@@ -42,10 +42,7 @@ pub(crate) fn answers_for<D: EntityLoader>(
         let error = WrongNumberOfEntitiesError { expected, got };
         return Err(EntitySliceError::WrongNumberOfEntities(error));
     }
-    match under_ids(alloc, requests, answers) {
-        Ok(found) => Ok(found),
-        Err(error) => Err(error),
-    }
+    under_ids(alloc, requests, answers)
 }
 
 // The entities under their ids.
@@ -65,9 +62,7 @@ fn under_ids(
         let Some(answer) = left.next() else {
             return Ok(found);
         };
-        if let Err(error) = put_answer(&mut found, &request.entity_id, answer) {
-            return Err(error);
-        }
+        put_answer(&mut found, &request.entity_id, answer)?;
     }
     Ok(found)
 }

@@ -57,10 +57,8 @@ pub(crate) fn take_answers(
         Ok(next) => next,
         Err(error) => return Err(refusal(error)),
     };
-    match keep_all(alloc, kept, found) {
-        Ok(()) => Ok(next),
-        Err(error) => Err(error),
-    }
+    keep_all(alloc, kept, found)?;
+    Ok(next)
 }
 
 // Keeps all that was found.
@@ -76,9 +74,7 @@ fn keep_all(
     ensures why { IfErr result (AreNotKept (get uid_cmp kept.old) (get uid_cmp found)) }
 {
     while let Some((uid, entity)) = found.pop_first() {
-        if let Err(error) = keep_one(alloc, kept, uid, entity) {
-            return Err(error);
-        }
+        keep_one(alloc, kept, uid, entity)?;
     }
     Ok(())
 }

@@ -19,7 +19,7 @@ ghost use Rattle.entity_loading.specs.Between.{IsBetween};
 ghost use Rattle.entity_loading.specs.Causes.{CauseOf, IsPartial, IsRight};
 ghost use Rattle.entity_loading.specs.KeptPart.{IsLoaded};
 ghost use Rattle.entity_loading.specs.Ordered.{HasOrder};
-ghost use Rattle.entity_loading.specs.Right.{IsStuck};
+ghost use Rattle.entity_loading.specs.Right.{SticksAt};
 ghost use Rattle.entity_loading.specs.Rounds.{Sticks};
 
 use crate::ancestors::with_ancestors;
@@ -58,7 +58,7 @@ pub fn load_trie<D: EntityLoader, L: Ledger>(
     ensures honest { (s : Store) → (D.state loader.old).store ≡ Some s → HasOrder s → ((r : EntityRoot) → IsOrdered (root_value request.now r)) → IfOk result (IsLoaded (D.state loader.old).exact trie.now request.now s) }
     ensures between { (s : Store) → (D.state loader.old).store ≡ Some s → HasOrder s → IsStrictlySortedBy uid_cmp (map (λ e. e.uid) s) → ((r : EntityRoot) → IsOrdered (root_value request.now r)) → (reads : List AccessPath) (demands : List Demand) → IsTrieOf reads demands trie.now → IfOk result (IsBetween (D.state loader.old).exact reads demands request.now s) }
     ensures cause { IsWhole request.now → IfErr result (CauseOf (λ v. SomeRootSticks trie.now request.now v ⊎ Sticks trie.now v) (D.state loader.old) (D.state loader.new)) }
-    ensures right { IsWhole request.now → (s : Store) → (D.state loader.old).store ≡ Some s → HasOrder s → ((r : EntityRoot) → IsOrdered (root_value request.now r)) → IfErr result (IsRight (λ v. SomeRootSticks trie.now request.now v ⊎ IsStuck trie.now request.now s v) (D.state loader.old) (D.state loader.new)) }
+    ensures right { IsWhole request.now → (s : Store) → (D.state loader.old).store ≡ Some s → HasOrder s → ((r : EntityRoot) → IsOrdered (root_value request.now r)) → IfErr result (IsRight (SticksAt trie.now request.now s) (D.state loader.old) (D.state loader.new)) }
 {
     if !request.is_whole() {
         return Err(EntitySliceError::PartialRequest(PartialRequestError {}));
@@ -81,20 +81,14 @@ fn load_whole<D: EntityLoader, L: Ledger>(
     ensures honest { (s : Store) → (D.state loader.old).store ≡ Some s → HasOrder s → ((r : EntityRoot) → IsOrdered (root_value request.now r)) → IfOk result (IsLoaded (D.state loader.old).exact trie.now request.now s) }
     ensures between { (s : Store) → (D.state loader.old).store ≡ Some s → HasOrder s → IsStrictlySortedBy uid_cmp (map (λ e. e.uid) s) → ((r : EntityRoot) → IsOrdered (root_value request.now r)) → (reads : List AccessPath) (demands : List Demand) → IsTrieOf reads demands trie.now → IfOk result (IsBetween (D.state loader.old).exact reads demands request.now s) }
     ensures cause { IfErr result (CauseOf (λ v. SomeRootSticks trie.now request.now v ⊎ Sticks trie.now v) (D.state loader.old) (D.state loader.new)) }
-    ensures right { (s : Store) → (D.state loader.old).store ≡ Some s → HasOrder s → ((r : EntityRoot) → IsOrdered (root_value request.now r)) → IfErr result (IsRight (λ v. SomeRootSticks trie.now request.now v ⊎ IsStuck trie.now request.now s v) (D.state loader.old) (D.state loader.new)) }
+    ensures right { (s : Store) → (D.state loader.old).store ≡ Some s → HasOrder s → ((r : EntityRoot) → IsOrdered (root_value request.now r)) → IfErr result (IsRight (SticksAt trie.now request.now s) (D.state loader.old) (D.state loader.new)) }
 {
     let start = match first_places(alloc, request, trie) {
         Ok(start) => start,
         Err(error) => return Err(refusal(error)),
     };
-    let loaded = match load_rounds(alloc, trie.nodes(), start, loader, steps) {
-        Ok(loaded) => loaded,
-        Err(error) => return Err(error),
-    };
-    let kept = match with_ancestors(alloc, trie.nodes(), request, loaded, loader) {
-        Ok(kept) => kept,
-        Err(error) => return Err(error),
-    };
+    let loaded = load_rounds(alloc, trie.nodes(), start, loader, steps)?;
+    let kept = with_ancestors(alloc, trie.nodes(), request, loaded, loader)?;
     Ok(store_of(alloc, kept)?)
 }
 

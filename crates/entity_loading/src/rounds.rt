@@ -24,7 +24,7 @@ use crate::keeping::take_answers;
 use crate::lent::{lent_tries, requests_of};
 use crate::steps::Steps;
 use access_tries::Node;
-use entity_asking::Place;
+use entity_asking::{Place, ask};
 use entity_loader::EntityLoader;
 use policy_names::EntityUID;
 use policy_store::Entity;
@@ -58,10 +58,7 @@ fn answers_at<D: EntityLoader>(
 {
     let lent = lent_tries(alloc, nodes, pending)?;
     let requests = requests_of(alloc, nodes, &lent)?;
-    match answers_for(alloc, &requests, loader) {
-        Ok(found) => Ok(found),
-        Err(error) => Err(error),
-    }
+    answers_for(alloc, &requests, loader)
 }
 
 // Asks for what is pending, keeps what comes, and answers what is to be asked for next.
@@ -85,14 +82,8 @@ fn one_round<D: EntityLoader, L: Ledger>(
     ensures right { (s : Store) → (D.state loader.old).store ≡ Some s → IfErr result (IsRefused (D.state loader.old).exact s nodes.now pending.now.keys (get uid_cmp kept.old) (D.state loader.old) (D.state loader.new)) }
 {
     steps.tick();
-    let found = match answers_at(alloc, nodes, pending, loader) {
-        Ok(found) => found,
-        Err(error) => return Err(error),
-    };
-    match take_answers(alloc, nodes, pending, found, kept) {
-        Ok(next) => Ok(next),
-        Err(error) => Err(error),
-    }
+    let found = answers_at(alloc, nodes, pending, loader)?;
+    take_answers(alloc, nodes, pending, found, kept)
 }
 
 // Adds places to those that were asked for.
@@ -100,11 +91,7 @@ fn note(asked: &mut BTreeSet<Place>, pending: &BTreeSet<Place>) -> Result<(), Al
     ensures { OnOk result (AreNoted pending.now.keys asked.old.keys asked.new.keys) }
 {
     for place in pending.iter() {
-        let uid = place.uid.try_clone()?;
-        asked.insert(Place {
-            uid,
-            number: place.number,
-        })?;
+        ask(asked, &place.uid, place.number)?;
     }
     Ok(())
 }
@@ -132,10 +119,7 @@ pub(crate) fn load_rounds<D: EntityLoader, L: Ledger>(
     let mut pending = start;
     let mut kept = BTreeMap::new(alloc);
     'rounds: while !pending.is_empty() {
-        let next = match one_round(alloc, nodes, &pending, &mut kept, loader, steps) {
-            Ok(next) => next,
-            Err(error) => return Err(error),
-        };
+        let next = one_round(alloc, nodes, &pending, &mut kept, loader, steps)?;
         note(&mut asked, &pending)?;
         pending = next;
     }

@@ -10,7 +10,7 @@ ghost use Rattle.entity_loader.specs.State.{Continues};
 ghost use Rattle.entity_loading.specs.Between.{IsBetween};
 ghost use Rattle.entity_loading.specs.Causes.{CauseOf, IsPartial, IsRight};
 ghost use Rattle.entity_loading.specs.Ordered.{HasOrder};
-ghost use Rattle.entity_loading.specs.Right.{IsStuck};
+ghost use Rattle.entity_loading.specs.Right.{SticksAt};
 ghost use Rattle.entity_loading.specs.Rounds.{Sticks};
 ghost use Rattle.entity_loading.specs.declared.error.EntitySliceError.TheVariants.{OutOfMemory};
 ghost use Rattle.policy_names.specs.Uid.{uid_cmp};
@@ -51,15 +51,14 @@ pub fn load_entities<D: EntityLoader, L: Ledger>(
     ensures between { (t : Table) → trie_for manifest.now request.now ≡ Some t → (s : Store) → (D.state loader.old).store ≡ Some s → HasOrder s → IsStrictlySortedBy uid_cmp (map (λ e. e.uid) s) → ((r : EntityRoot) → IsOrdered (root_value request.now r)) → (reads : List AccessPath) (demands : List Demand) → IsTrieOf reads demands t → IfOk result (IsBetween (D.state loader.old).exact reads demands request.now s) }
     ensures cause { IsWhole request.now → (t : Table) → trie_for manifest.now request.now ≡ Some t → IfErr result (CauseOf (λ v. SomeRootSticks t request.now v ⊎ Sticks t v) (D.state loader.old) (D.state loader.new)) }
     ensures cause_without { IsWhole request.now → trie_for manifest.now request.now ≡ None → IfErr result (λ e. e ≡ OutOfMemory) }
-    ensures right { IsWhole request.now → (t : Table) → trie_for manifest.now request.now ≡ Some t → (s : Store) → (D.state loader.old).store ≡ Some s → HasOrder s → ((r : EntityRoot) → IsOrdered (root_value request.now r)) → IfErr result (IsRight (λ v. SomeRootSticks t request.now v ⊎ IsStuck t request.now s v) (D.state loader.old) (D.state loader.new)) }
+    ensures right { IsWhole request.now → (t : Table) → trie_for manifest.now request.now ≡ Some t → (s : Store) → (D.state loader.old).store ≡ Some s → HasOrder s → ((r : EntityRoot) → IsOrdered (root_value request.now r)) → IfErr result (IsRight (SticksAt t request.now s) (D.state loader.old) (D.state loader.new)) }
 {
     if !request.is_whole() {
         return Err(EntitySliceError::PartialRequest(PartialRequestError {}));
     }
-    match chosen_trie(manifest, request) {
-        Ok(Some(trie)) => load_trie(alloc, trie, request, loader, steps),
-        Ok(None) => Ok(Entities::new(alloc)),
-        Err(AllocError) => Err(EntitySliceError::OutOfMemory),
+    match chosen_trie(manifest, request)? {
+        Some(trie) => load_trie(alloc, trie, request, loader, steps),
+        None => Ok(Entities::new(alloc)),
     }
 }
 

@@ -1,4 +1,5 @@
-use Rattle.std.proofs.Common.{◌⊎◌, inr, [], sym, ap, ◌∙◌, subst, arith}
+use Rattle.std.proofs.Common.{inr, [], sym, ap, ◌∙◌, subst, arith}
+use Rattle.std.proofs.lemmas.Result.{err_from_is_err_and}
 use Rattle.std.specs.BTreeMap.{get}
 use Rattle.std.specs.Option.{option_map}
 use Rattle.policy_names.specs.Uid.{uid_cmp}
@@ -6,31 +7,31 @@ use Rattle.policy_reads.specs.Restrict.{part}
 use Rattle.entity_loading.specs.Joining.{IsAskedFor, IsJoined}
 use Rattle.entity_loading.specs.KeptPart.{IsState, IsBegun, bare}
 use Rattle.entity_loading.specs.Causes.{IsRight}
-use Rattle.entity_loading.specs.Right.{IsStuck}
+use Rattle.entity_loading.specs.Right.{IsStuck, SticksAt}
 use Rattle.entity_loading.proofs.BetweenSteps.{part_at, left_ascends, loaded_between}
 use Rattle.entity_loading.proofs.RightSteps.{right_later}
 use Rattle.entity_loading.proofs.RoundSteps.{goes_on_here}
 use Rattle.entity_loading.proofs.StateSteps.{loaded}
-use Rattle.entity_asking.specs.Begun.{PathsWithin, IsFirst, SomeRootSticks}
+use Rattle.entity_asking.specs.Begun.{PathsWithin, IsFirst}
 use Rattle.entity_loading.proofs.load.load_whole.Goals as goal
 
 pub load_rounds-requires-clause-start : goal.load_rounds-requires-clause-start
 load_rounds-requires-clause-start g c = λ q h. subst (λ ns. IsFirst ns q) (sym c.nodes.ensures.nodes) (c.in-Ok.ensures.first q h)
 
-pub returns-in-Err-load_rounds-clause-rounds : goal.returns-in-Err-load_rounds-clause-rounds
-returns-in-Err-load_rounds-clause-rounds g c = λ n w. c.load_rounds.ensures.rounds n (subst (λ ns. PathsWithin ns n) (sym c.nodes.ensures.nodes) w)
+pub returns-in_err-loaded-clause-rounds : goal.returns-in_err-loaded-clause-rounds
+returns-in_err-loaded-clause-rounds g c = λ n w. c.load_rounds.ensures.rounds n (subst (λ ns. PathsWithin ns n) (sym c.nodes.ensures.nodes) w)
 
-pub returns-in-Err-load_rounds-clause-steps : goal.returns-in-Err-load_rounds-clause-steps
-returns-in-Err-load_rounds-clause-steps g c = λ n w. c.load_rounds.ensures.steps n (subst (λ ns. PathsWithin ns n) (sym c.nodes.ensures.nodes) w)
+pub returns-in_err-loaded-clause-steps : goal.returns-in_err-loaded-clause-steps
+returns-in_err-loaded-clause-steps g c = λ n w. c.load_rounds.ensures.steps n (subst (λ ns. PathsWithin ns n) (sym c.nodes.ensures.nodes) w)
 
-pub returns-in-Err-with_ancestors-clause-rounds : goal.returns-in-Err-with_ancestors-clause-rounds
-returns-in-Err-with_ancestors-clause-rounds g c = λ n w.
+pub returns-in_err-kept-clause-rounds : goal.returns-in_err-kept-clause-rounds
+returns-in_err-kept-clause-rounds g c = λ n w.
     let a = c.load_rounds.ensures.rounds n (subst (λ ns. PathsWithin ns n) (sym c.nodes.ensures.nodes) w) in
     let b = c.with_ancestors.ensures.rounds in
     omega (arith, a, b)
 
-pub returns-in-Err-with_ancestors-clause-steps : goal.returns-in-Err-with_ancestors-clause-steps
-returns-in-Err-with_ancestors-clause-steps g c = λ n w. c.load_rounds.ensures.steps n (subst (λ ns. PathsWithin ns n) (sym c.nodes.ensures.nodes) w)
+pub returns-in_err-kept-clause-steps : goal.returns-in_err-kept-clause-steps
+returns-in_err-kept-clause-steps g c = λ n w. c.load_rounds.ensures.steps n (subst (λ ns. PathsWithin ns n) (sym c.nodes.ensures.nodes) w)
 
 pub returns-in_err-store_of-clause-rounds : goal.returns-in_err-store_of-clause-rounds
 returns-in_err-store_of-clause-rounds g c = λ n w.
@@ -56,42 +57,46 @@ returns-clause-honest g c = λ s told order context.
     let q = c.args.request.now in
     let exact = (g.D.EntityLoader.state c.args.loader.now).exact in
     let begun : IsBegun ns q s c.in-Ok.start.keys = record { asked = c.in-Ok.ensures.asked; order = order; context = context } in
-    let state = subst (λ t. IsState exact t q s c.in-Ok-load_rounds.loaded.asked.keys [] (get uid_cmp c.in-Ok-load_rounds.loaded.kept)) c.nodes.ensures.nodes
-    (c.in-Ok-load_rounds.ensures.honest s told q (subst (λ t. IsBegun t q s c.in-Ok.start.keys) (sym c.nodes.ensures.nodes) begun)) in
-    loaded exact ns q s c.in_ok-store_of.field-0 c.in-Ok-load_rounds.loaded.asked.keys (get uid_cmp c.in-Ok-load_rounds.loaded.kept) state
-    (λ x. ap (option_map bare) (c.in_ok-store_of.ensures.at x) ∙ c.in-Ok-with_ancestors.ensures.alike x)
+    let state = subst (λ t. IsState exact t q s c.in_ok-loaded.loaded.asked.keys [] (get uid_cmp c.in_ok-loaded.loaded.kept)) c.nodes.ensures.nodes
+    (c.in_ok-loaded.ensures.honest s told q (subst (λ t. IsBegun t q s c.in-Ok.start.keys) (sym c.nodes.ensures.nodes) begun)) in
+    loaded exact ns q s c.in_ok-store_of.field-0 c.in_ok-loaded.loaded.asked.keys (get uid_cmp c.in_ok-loaded.loaded.kept) state
+    (λ x. ap (option_map bare) (c.in_ok-store_of.ensures.at x) ∙ c.in_ok-kept.ensures.alike x)
 
 pub returns-clause-between : goal.returns-clause-between
 returns-clause-between g c = λ s told order ids context reads demands fit.
     let ns = c.args.trie.now in
     let q = c.args.request.now in
     let exact = (g.D.EntityLoader.state c.args.loader.now).exact in
-    let loaded = c.in-Ok-load_rounds.loaded in
+    let loaded = c.in_ok-loaded.loaded in
     let kept = get uid_cmp loaded.kept in
-    let new = get uid_cmp c.in-Ok-with_ancestors.kept in
+    let new = get uid_cmp c.in_ok-kept.kept in
     let begun : IsBegun ns q s c.in-Ok.start.keys = record { asked = c.in-Ok.ensures.asked; order = order; context = context } in
     let state = subst (λ t. IsState exact t q s loaded.asked.keys [] kept) c.nodes.ensures.nodes
-    (c.in-Ok-load_rounds.ensures.honest s told q (subst (λ t. IsBegun t q s c.in-Ok.start.keys) (sym c.nodes.ensures.nodes) begun)) in
+    (c.in_ok-loaded.ensures.honest s told q (subst (λ t. IsBegun t q s c.in-Ok.start.keys) (sym c.nodes.ensures.nodes) begun)) in
     let joined = subst (λ e. IsJoined e s (IsAskedFor c.nodes-2.result.now q loaded.asked.keys (part state.part.choice s)) kept new) c.load_rounds.ensures.goes_on.exact
-    (c.in-Ok-with_ancestors.ensures.honest s (c.load_rounds.ensures.goes_on.told s told) (part state.part.choice s) (λ x. part_at state.part.choice s x ∙ sym (state.part.is x))) in
+    (c.in_ok-kept.ensures.honest s (c.load_rounds.ensures.goes_on.told s told) (part state.part.choice s) (λ x. part_at state.part.choice s x ∙ sym (state.part.is x))) in
     loaded_between exact ns q s loaded.asked.keys kept new state order
     (subst (λ t. IsJoined exact s (IsAskedFor t q loaded.asked.keys (part state.part.choice s)) kept new) c.nodes-2.ensures.nodes joined)
-    c.in-Ok-with_ancestors.ensures.alike (c.in-Ok-with_ancestors.ensures.ascending (left_ascends state.part.choice s kept order state.part.is))
+    c.in_ok-kept.ensures.alike (c.in_ok-kept.ensures.ascending (left_ascends state.part.choice s kept order state.part.is))
     reads demands fit ids c.in_ok-store_of.field-0 c.in_ok-store_of.ensures.at c.in_ok-store_of.ensures.ascending
 
-pub returns-in-Err-load_rounds-clause-right : goal.returns-in-Err-load_rounds-clause-right
-returns-in-Err-load_rounds-clause-right g c = λ s told order context.
+pub returns-in_err-loaded-clause-right : goal.returns-in_err-loaded-clause-right
+returns-in_err-loaded-clause-right g c = λ s told order context.
     let ns = c.args.trie.now in
     let q = c.args.request.now in
     let old = g.D.EntityLoader.state c.args.loader.now in
     let new = g.D.EntityLoader.state c.load_rounds.new.loader in
     let begun : IsBegun ns q s c.in-Ok.start.keys = record { asked = c.in-Ok.ensures.asked; order = order; context = context } in
-    right_later (IsStuck ns q s) (λ v. SomeRootSticks ns q v ⊎ IsStuck ns q s v) old old new (goes_on_here old) (λ v h. inr h) c.in-Err-load_rounds.error
-    (subst (λ t. IsRight (IsStuck t q s) old new c.in-Err-load_rounds.error) c.nodes.ensures.nodes (c.in-Err-load_rounds.ensures.right s told q (subst (λ t. IsBegun t q s c.in-Ok.start.keys) (sym c.nodes.ensures.nodes) begun)))
+    let exit = err_from_is_err_and c.from_residual.result c.from_residual.ensures.1 in
+    rw (exit.1, exit.2)
+    (right_later (IsStuck ns q s) (SticksAt ns q s) old old new (goes_on_here old) (λ v h. inr h) c.in_err-loaded.field-0.0
+    (subst (λ t. IsRight (IsStuck t q s) old new c.in_err-loaded.field-0.0) c.nodes.ensures.nodes (c.in_err-loaded.ensures.right s told q (subst (λ t. IsBegun t q s c.in-Ok.start.keys) (sym c.nodes.ensures.nodes) begun))))
 
-pub returns-in-Err-with_ancestors-clause-right : goal.returns-in-Err-with_ancestors-clause-right
-returns-in-Err-with_ancestors-clause-right g c = λ s told order context.
+pub returns-in_err-kept-clause-right : goal.returns-in_err-kept-clause-right
+returns-in_err-kept-clause-right g c = λ s told order context.
     let old = g.D.EntityLoader.state c.args.loader.now in
     let mid = g.D.EntityLoader.state c.load_rounds.new.loader in
-    right_later (λ v. ⊥) (λ v. SomeRootSticks c.args.trie.now c.args.request.now v ⊎ IsStuck c.args.trie.now c.args.request.now s v) old mid (g.D.EntityLoader.state c.with_ancestors.new.loader) c.load_rounds.ensures.goes_on (λ v h. absurd h) c.in-Err-with_ancestors.error
-    (c.in-Err-with_ancestors.ensures.right s (c.load_rounds.ensures.goes_on.told s told))
+    let exit = err_from_is_err_and c.from_residual-in_err-kept.result c.from_residual-in_err-kept.ensures.1 in
+    rw (exit.1, exit.2)
+    (right_later (λ v. ⊥) (SticksAt c.args.trie.now c.args.request.now s) old mid (g.D.EntityLoader.state c.with_ancestors.new.loader) c.load_rounds.ensures.goes_on (λ v h. absurd h) c.in_err-kept.field-0.0
+    (c.in_err-kept.ensures.right s (c.load_rounds.ensures.goes_on.told s told)))

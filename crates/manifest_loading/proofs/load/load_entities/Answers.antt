@@ -8,10 +8,10 @@ use Rattle.manifest_loading.proofs.load.load_entities.Goals as goal
 same_trie : (t u : Table) (o : Option Table) → Some t ≡ o → o ≡ Some u → u ≡ t
 same_trie t u o e f = let both : Some t ≡ Some u = e ∙ f in cc
 
-pub returns-in-Ok-Some-clause-rounds : goal.returns-in-Ok-Some-clause-rounds
-returns-in-Ok-Some-clause-rounds g c = λ t chosen n within.
-    c.load_trie.ensures.rounds n (subst (λ u. PathsWithin u n) (same_trie c.in-Ok-Some.trie.now t (trie_for c.args.manifest.now c.args.request.now) (sym (ap option_copied c.in-Ok-Some.field-0-is) ∙ c.in-Ok-Some.ensures) chosen) within)
+pub returns-in-Some-clause-rounds : goal.returns-in-Some-clause-rounds
+returns-in-Some-clause-rounds g c = λ t chosen n within.
+    c.load_trie.ensures.rounds n (subst (λ u. PathsWithin u n) (same_trie c.in-Some.trie.now t (trie_for c.args.manifest.now c.args.request.now) (sym (ap option_copied c.in-Some.is) ∙ c.in_ok-trie.ensures) chosen) within)
 
-pub returns-in-Ok-Some-clause-steps : goal.returns-in-Ok-Some-clause-steps
-returns-in-Ok-Some-clause-steps g c = λ t chosen n within.
-    c.load_trie.ensures.steps n (subst (λ u. PathsWithin u n) (same_trie c.in-Ok-Some.trie.now t (trie_for c.args.manifest.now c.args.request.now) (sym (ap option_copied c.in-Ok-Some.field-0-is) ∙ c.in-Ok-Some.ensures) chosen) within)
+pub returns-in-Some-clause-steps : goal.returns-in-Some-clause-steps
+returns-in-Some-clause-steps g c = λ t chosen n within.
+    c.load_trie.ensures.steps n (subst (λ u. PathsWithin u n) (same_trie c.in-Some.trie.now t (trie_for c.args.manifest.now c.args.request.now) (sym (ap option_copied c.in-Some.is) ∙ c.in_ok-trie.ensures) chosen) within)
