@@ -5,10 +5,10 @@ use Rattle.policy_values.specs.Value.{Val}
 use Rattle.access_tries.specs.Table.{Table}
 use Rattle.entity_loader.specs.State.{LoaderState}
 use Rattle.entity_loading.specs.Causes.{IsRight}
+use Rattle.entity_loading.specs.Right.{SticksAt}
 use Rattle.entity_loading.specs.declared.error.EntitySliceError.{EntitySliceError}
 use Rattle.entity_loading.specs.declared.error.EntitySliceError.TheVariants as error
 use Rattle.loading_laws.specs.Computed.{ComputedManifestsFit, ComputedSlicesFit, HonestLoadingSucceeds}
-use Rattle.loading_laws.specs.Sticking.{SticksAt}
 use Rattle.entity_manifest.specs.Manifest.{trie_for}
 use Rattle.loading_laws.proofs.Conforming.{nothing_sticks, nothing_is_blocked}
 use Rattle.loading_laws.proofs.Manifests.{trie_chosen}

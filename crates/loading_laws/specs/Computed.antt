@@ -15,13 +15,13 @@ use Rattle.policy_reads.specs.Reads.{declared_reads, declared_demands}
 use Rattle.typed_conditions.specs.Typed.{typed_conditions}
 use Rattle.entity_loader.specs.State.{LoaderState}
 use Rattle.entity_loading.specs.Causes.{IsRight}
+use Rattle.entity_loading.specs.Right.{SticksAt}
 use Rattle.entity_loading.specs.declared.error.EntitySliceError.{EntitySliceError}
 use Rattle.entity_loading.specs.declared.error.EntitySliceError.TheVariants.{OutOfMemory}
 use Rattle.store_slices.specs.Blocked.{IsBlocked}
 use Rattle.entity_manifest.specs.Manifest.{Manifest, trie_for}
 use Rattle.manifest_computation.specs.Computed.{IsManifestOf}
 use Rattle.loading_laws.specs.Declared.{IsDeclaredTrie}
-use Rattle.loading_laws.specs.Sticking.{SticksAt}
 
 -- the trie of exactly what typed conditions read and ask for has declared paths alone, and asks only ids for ancestors
 abbrev pub ComputedTriesAreDeclared : Type 0

@@ -1,5 +1,4 @@
 -- Nothing sticks where paths are declared.
-use Rattle.std.specs.Prelude.{◌⊎◌}
 use Rattle.policy_store.specs.declared.request.Request.{Request}
 use Rattle.policy_store.specs.Store.{Store}
 use Rattle.policy_values.specs.Value.{Val}
@@ -8,14 +7,9 @@ use Rattle.schema_core.specs.EnvData.{LinkedEnvironment, declared_action}
 use Rattle.schema_core.specs.Faults.{IsSchema}
 use Rattle.schema_core.specs.Schema.{SchemaData}
 use Rattle.policy_typing.specs.Conforms.{RequestConforms, StoreConforms, IsOf}
-use Rattle.entity_asking.specs.Begun.{SomeRootSticks}
-use Rattle.entity_loading.specs.Right.{IsStuck}
+use Rattle.entity_loading.specs.Right.{SticksAt}
 use Rattle.store_slices.specs.Blocked.{IsBlocked}
 use Rattle.loading_laws.specs.Declared.{IsDeclaredTrie}
-
--- a path of the trie cannot go on from the value, which stands in a root or in an entity that paths reach
-abbrev pub SticksAt : Table → Request → Store → Val → Type 0
-SticksAt t q s v = SomeRootSticks t q v ⊎ IsStuck t q s v
 
 -- where the request, of the environment, and the store conform, a trie whose paths are declared there sticks at no value
 abbrev pub NothingSticks : Type 0
