@@ -1,7 +1,7 @@
 //! How a service calls the library: the slice of a document in memory.
 #![tactic(auto)]
 
-ghost use Rattle.std.specs.Prelude.{IfOk};
+ghost use Rattle.std.specs.Prelude.{◌≡◌, ◌∷◌, [], IfOk, codes, map, string_bytes};
 ghost use Rattle.policy_documents.specs.declared.document.Document.{Document};
 ghost use Rattle.policy_gate.specs.Headline.{IsDocumentOf, KeepsRules, IsSliced};
 
@@ -39,8 +39,7 @@ pub fn slice(alloc: Global, document: &[u8]) -> Result<Vec<u8>, SliceError>
     ensures sliced { IfOk result (λ text.
         (d : Document) × IsDocumentOf document.now d × KeepsRules d × IsSliced d text.items) }
 {
-    let mut words = Vec::new(alloc);
-    words.push(String::from_str(alloc, "slice")?)?;
+    let words = words(alloc)?;
     let mut source = SliceSource::new(document);
     let mut sink = MemorySink::new(alloc, usize::MAX, Vec::new(alloc));
     let status = run(alloc, &words, &mut source, &mut sink);
@@ -50,4 +49,13 @@ pub fn slice(alloc: Global, document: &[u8]) -> Result<Vec<u8>, SliceError>
         Status::OutOfMemory => Err(SliceError::OutOfMemory),
         _ => Err(SliceError::Refused { status, text }),
     }
+}
+
+// The words of the command.
+fn words(alloc: Global) -> Result<Vec<String>, AllocError>
+    ensures { IfOk result (λ words. map string_bytes words.items ≡ codes "slice" ∷ []) }
+{
+    let mut words = Vec::new(alloc);
+    words.push(String::from_str(alloc, "slice")?)?;
+    Ok(words)
 }
