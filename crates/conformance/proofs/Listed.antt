@@ -7,7 +7,7 @@ use Rattle.policy_names.specs.Uid.{text_cmp}
 use Rattle.policy_values.specs.Value.{Val, truth, long, string, entity, set, rec, decimal, ip, datetime, duration, Vals, no_vals, val, Fields, no_fields, field}
 use Rattle.schema_core.specs.Kinds.{Kind, standard, enumerated}
 use Rattle.schema_core.specs.Schema.{SchemaData, TypeData, type_at}
-use Rattle.policy_typing.specs.Conforms.{is_listed, is_listed_in, lists_ids, lists_all, lists_fields}
+use Rattle.typing_spec.specs.Conforms.{is_listed, is_listed_in, lists_ids, lists_all, lists_fields}
 use Rattle.policy_scope.specs.Names.{choices_in, others_listed}
 use Rattle.conformance.specs.Ids.{unlisted_in, unlisted_in_all, unlisted_in_fields}
 use Rattle.conformance.specs.RequestRules.{listed_fault}

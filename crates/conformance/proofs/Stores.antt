@@ -12,7 +12,7 @@ use Rattle.policy_names.specs.declared.entity_uid.EntityUID.{EntityUID}
 use Rattle.policy_names.specs.Basename.{is_action_type}
 use Rattle.policy_names.specs.Uid.{text_cmp, uid_cmp, uid_cmp_total, exact_uid}
 use Rattle.policy_values.specs.Value.{Val, Fields, no_fields, field}
-use Rattle.policy_store.specs.Store.{StoredEntity, Store}
+use Rattle.entity_store.specs.Store.{StoredEntity, Store}
 use Rattle.schema_types.specs.declared.kinds.OpenTag.TheVariants.{ClosedAttributes}
 use Rattle.schema_types.specs.declared.ty.AttributeType.{AttributeType}
 use Rattle.schema_types.specs.Attrs.{attr_at}
@@ -21,7 +21,7 @@ use Rattle.schema_core.specs.Faults.{IsSchema}
 use Rattle.schema_core.specs.Kinds.{attributes_in, tags_in}
 use Rattle.schema_core.specs.Schema.{SchemaData, TypeData, ActionData, is_action_named, type_at, action_at, type_below, action_below}
 use Rattle.policy_types.specs.Member.{type_of, Undeclared, IsDeclared, Member, Typed}
-use Rattle.policy_typing.specs.Conforms.{is_listed, lists_ids, lists_fields, AreTags, IsAllowedAncestor, TypedConforms, ActionConforms, ConformsAs, EntityConforms, StoreConforms}
+use Rattle.typing_spec.specs.Conforms.{is_listed, lists_ids, lists_fields, AreTags, IsAllowedAncestor, TypedConforms, ActionConforms, ConformsAs, EntityConforms, StoreConforms}
 use Rattle.conformance.specs.Misfits.{misfit, first_missing}
 use Rattle.conformance.specs.RequestRules.{unless}
 use Rattle.conformance.specs.StoreRules.{first_key, is_of, first_broken, declared_fault, attribute_fault, tag_fault, tags_fault, ancestor_fault, ancestors_fault, declared_entity_fault, typed_entity_fault, is_ancestor_if_above, has_its_ancestors, action_entity_fault, entity_fault, first_store_fault}

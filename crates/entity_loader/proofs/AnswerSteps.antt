@@ -5,8 +5,8 @@ use Rattle.std.specs.declared.vec.Vec.{Vec}
 use Rattle.std.specs.declared.alloc.Global.{Global}
 use Rattle.std.proofs.lemmas.List.{take_all}
 use Rattle.std.proofs.lemmas.List.Elements.{Contains-append_left, Contains-push, Contains-push_cases}
-use Rattle.policy_store.specs.Store.{StoredEntity, Store, entity_at}
-use Rattle.policy_reads.proofs.Cuts.{uid_at}
+use Rattle.entity_store.specs.Store.{StoredEntity, Store, entity_at}
+use Rattle.reads_spec.proofs.Cuts.{uid_at}
 use Rattle.entity_loader.specs.declared.loader.EntityRequest.{EntityRequest}
 use Rattle.entity_loader.specs.declared.loader.AncestorsRequest.{AncestorsRequest}
 use Rattle.entity_loader.specs.Answers.{Fits, IsHonest, IsHonestList, IsListed}

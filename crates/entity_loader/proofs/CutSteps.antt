@@ -18,8 +18,8 @@ use Rattle.access_tries.specs.Views.{ViewData, view_leads, LeadsTo, LeadsNowhere
 use Rattle.access_tries.specs.Edges.{Address}
 use Rattle.access_tries.specs.Table.{Table}
 use Rattle.entity_loader.specs.Asked.{asked, asked_by, asks, by_tag, some_leads, some_along, AreBelow}
-use Rattle.policy_reads.specs.Paths.{any_tag, Chain, steps_of}
-use Rattle.policy_reads.specs.Restrict.{cut, cut_fields}
+use Rattle.reads_spec.specs.Paths.{any_tag, Chain, steps_of}
+use Rattle.reads_spec.specs.Restrict.{cut, cut_fields}
 
 or_nothing : (a : Bool) → (a || false) ≡ a
 or_nothing true = refl

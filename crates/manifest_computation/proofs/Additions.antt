@@ -10,13 +10,13 @@ use Rattle.access_tries.specs.Paths.{address_of, demand_of, is_front, is_same, I
 use Rattle.access_tries.specs.Table.{Table, leads, is_marked}
 use Rattle.schema_core.specs.EnvData.{EnvData}
 use Rattle.schema_core.specs.Schema.{SchemaData}
-use Rattle.policy_typing.specs.Typing.{Typed}
+use Rattle.typing_spec.specs.Typing.{Typed}
 use Rattle.policy_set.specs.Data.{PolicyData}
-use Rattle.policy_reads.specs.PathTypes.{declared_part}
-use Rattle.policy_reads.specs.Reads.{reads_of, reads, demands, demands_of, are_declared, declared_reads, declared_demands}
-use Rattle.policy_acceptance.specs.Laws.{LeavesAll}
-use Rattle.typing_findings.specs.Check.{checked}
-use Rattle.typed_conditions.specs.Found.{condition_in, found_conditions}
+use Rattle.reads_spec.specs.PathTypes.{declared_part}
+use Rattle.reads_spec.specs.Reads.{reads_of, reads, demands, demands_of, are_declared, declared_reads, declared_demands}
+use Rattle.policy_validate.specs.AcceptanceLaws.{LeavesAll}
+use Rattle.typecheck_spec.specs.Check.{checked}
+use Rattle.policy_validate.specs.Found.{condition_in, found_conditions}
 use Rattle.manifest_computation.specs.Gathered.{goes_along, asks_along, HoldSame, IsTrieLeft}
 
 pub both_ok : {A E : Type 0} (P Q R : Type 0) → (P → Q → R) → (r : Result A E) → OnOk r P → OnOk r Q → OnOk r R

@@ -10,9 +10,9 @@ use Rattle.policy_expressions.specs.Plain.{Plain}
 use Rattle.policy_expressions.specs.Tree.{depth_of}
 use Rattle.policy_set.specs.Data.{TemplateData}
 use Rattle.policy_set.specs.Condition.{condition_of}
-use Rattle.policy_links.specs.Linked.{linked_envs}
+use Rattle.link_spec.specs.Linked.{linked_envs}
 use Rattle.findings.specs.declared.error.ValidationWarning.{ValidationWarning}
-use Rattle.typing_findings.specs.Check.{Check, Success, Irrelevant, Fail, TooDeep, checked}
+use Rattle.typecheck_spec.specs.Check.{Check, Success, Irrelevant, Fail, TooDeep, checked}
 use Rattle.policy_typecheck.specs.declared.policy_check.PolicyCheck.{PolicyCheck}
 use Rattle.policy_typecheck.specs.declared.policy_check.PolicyCheck.TheVariants as code
 use Rattle.policy_typecheck.specs.Answer.{Tells, TellsIn, errors_of, too_deep}

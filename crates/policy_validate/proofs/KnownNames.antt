@@ -9,10 +9,10 @@ use Rattle.policy_expressions.specs.declared.kinds.Loc.{Loc}
 use Rattle.policy_expressions.specs.Plain.{Plain}
 use Rattle.schema_core.specs.Kinds.{Kind, standard, enumerated}
 use Rattle.schema_core.specs.Schema.{SchemaData, TypeData, type_at}
-use Rattle.policy_typing.specs.Conforms.{is_listed, is_listed_in}
+use Rattle.typing_spec.specs.Conforms.{is_listed, is_listed_in}
 use Rattle.findings.specs.Mentioned.{Mentioned, an_id, a_type, type_of, names_in, is_known_type, is_known_action}
 use Rattle.policy_scope.specs.Names.{distinct, entity_type_cmp, action_id_cmp, enum_cmp, entity_type_finding, entity_type_findings, action_id_finding, action_id_findings, choices_in, others_listed, enum_finding, enum_findings}
-use Rattle.typing_findings.specs.Names.{is_known_name, has_known_names}
+use Rattle.typecheck_spec.specs.Names.{is_known_name, has_known_names}
 use Rattle.policy_validate.proofs.Empty.{none_grown, none_kept, kept_none, all_pass, pass_all, all_more, all_both}
 
 and_both : (a b : Bool) → (a && b) ≡ true → (a ≡ true) × (b ≡ true)

@@ -7,8 +7,8 @@ use Rattle.policy_expressions.specs.Keys.{HasKeysOnce}
 use Rattle.policy_expressions.specs.Plain.{Plain}
 use Rattle.policy_expressions.specs.Slots.{has_slot}
 use Rattle.policy_expressions.specs.declared.kinds.SlotId.TheVariants.{Principal, Resource}
-use Rattle.policy_store.specs.declared.request.Request.{Request}
-use Rattle.policy_store.specs.Store.{Store}
+use Rattle.entity_store.specs.declared.request.Request.{Request}
+use Rattle.entity_store.specs.Store.{Store}
 use Rattle.policy_core.specs.Eval.{eval}
 use Rattle.policy_set.specs.Data.{TemplateData, PolicyData, LinkData}
 use Rattle.policy_set.specs.Condition.{scope_part, action_part, condition_of, written_of, IsPolicy}
@@ -16,10 +16,10 @@ use Rattle.policy_set.specs.PolicySet.{PolicySetData, template_at, is_link, is_s
 use Rattle.schema_core.specs.Faults.{IsSchema}
 use Rattle.schema_core.specs.Schema.{SchemaData}
 use Rattle.policy_scope.specs.Scope.{is_applicable}
-use Rattle.policy_typing.specs.Conforms.{RequestConforms, StoreConforms}
-use Rattle.policy_links.specs.Accepted.{IsAcceptedTemplate, HasKnownType}
-use Rattle.policy_levels.specs.Cut.{cut}
-use Rattle.policy_levels.specs.Policies.{PassesAt, LinkLevelsAreSound, StaticLevelsAreSound}
+use Rattle.typing_spec.specs.Conforms.{RequestConforms, StoreConforms}
+use Rattle.link_spec.specs.Accepted.{IsAcceptedTemplate, HasKnownType}
+use Rattle.level_spec.specs.Cut.{cut}
+use Rattle.level_spec.specs.Policies.{PassesAt, LinkLevelsAreSound, StaticLevelsAreSound}
 use Rattle.policy_validate.specs.Accepted.{KeepsLinkRules}
 use Rattle.policy_validate.specs.Levels.{AcceptedLevelsAreSound}
 use Rattle.policy_validate.proofs.Empty.{all_both}

@@ -18,8 +18,8 @@ use Rattle.schema_core.specs.EnvData.{unlinked_envs}
 use Rattle.schema_core.specs.Faults.{IsSchema}
 use Rattle.schema_core.specs.Schema.{SchemaData}
 use Rattle.policy_scope.specs.Scope.{is_applicable}
-use Rattle.policy_links.specs.Accepted.{IsTypedIn, IsAcceptedTemplate, HasKnownType}
-use Rattle.policy_links.specs.Laws.{LinksAreTyped, StaticsAreTyped, TypedAreSound, IsConditionFor}
+use Rattle.link_spec.specs.Accepted.{IsTypedIn, IsAcceptedTemplate, HasKnownType}
+use Rattle.link_spec.specs.Laws.{LinksAreTyped, StaticsAreTyped, TypedAreSound, IsConditionFor}
 use Rattle.policy_validate.specs.Accepted.{KeepsLinkRules, IsAccepted}
 use Rattle.policy_validate.specs.Laws.{AcceptedAreTyped, AcceptedAreSound}
 use Rattle.policy_validate.proofs.Empty.{all_both}

@@ -9,14 +9,14 @@ use Rattle.schema_core.specs.EnvData.{EnvData}
 use Rattle.schema_core.specs.Schema.{SchemaData}
 use Rattle.policy_expressions.specs.Tree.{depth_of}
 use Rattle.policy_expressions.specs.Plain.{Plain}
-use Rattle.policy_typing.specs.Operands.{is_boolean}
-use Rattle.policy_typing.specs.Typing.{Typed, Typing, types}
+use Rattle.typing_spec.specs.Operands.{is_boolean}
+use Rattle.typing_spec.specs.Typing.{Typed, Typing, types}
 use Rattle.policy_set.specs.Data.{TemplateData}
 use Rattle.policy_set.specs.Condition.{condition_of}
-use Rattle.typing_findings.specs.Check.{Check, check_of, check_by, checked, condition_walked, TooDeep, CheckIsExact, TellsWhy}
-use Rattle.typing_findings.specs.Walked.{findings_of}
-use Rattle.policy_links.specs.Accepted.{IsTyped, IsTypedIn}
-use Rattle.policy_links.specs.Linked.{linked_envs}
+use Rattle.typecheck_spec.specs.Check.{Check, check_of, check_by, checked, condition_walked, TooDeep, CheckIsExact, TellsWhy}
+use Rattle.typecheck_spec.specs.Walked.{findings_of}
+use Rattle.link_spec.specs.Accepted.{IsTyped, IsTypedIn}
+use Rattle.link_spec.specs.Linked.{linked_envs}
 use Rattle.policy_typecheck.specs.Added.{all_added, same_error}
 use Rattle.policy_typecheck.specs.Answer.{errors_of, too_deep}
 use Rattle.policy_typecheck.specs.Policies.{refusals}

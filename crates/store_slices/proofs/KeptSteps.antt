@@ -13,20 +13,20 @@ use Rattle.std.proofs.lemmas.Bool.{and_parts, and_from}
 use Rattle.policy_names.specs.declared.entity_uid.EntityUID.{EntityUID}
 use Rattle.policy_names.specs.Uid.{uid_cmp, uid_eq}
 use Rattle.policy_values.specs.Value.{entity}
-use Rattle.policy_store.specs.declared.request.Request.{Request}
-use Rattle.policy_store.specs.Store.{StoredEntity, Store}
+use Rattle.entity_store.specs.declared.request.Request.{Request}
+use Rattle.entity_store.specs.Store.{StoredEntity, Store}
 use Rattle.access_tries.specs.declared.edge.Edge.TheVariants.{Root}
 use Rattle.access_tries.specs.Paths.{edge_of, address_of}
 use Rattle.access_tries.specs.Table.{Table}
 use Rattle.access_tries.specs.Views.{view_leads, view_marks, whole}
-use Rattle.policy_reads.specs.Paths.{Step, any_tag, Chain, steps_of, AccessPath, Demand, beyond}
-use Rattle.policy_reads.specs.Restrict.{part, is_id, names_id, reach, kept_steps, kept_chain, kept_tag, by_paths, kept_ancestor, needed, restrict}
-use Rattle.policy_reads.proofs.Lists.{IsIn, any_in, same_uid, uid_self}
-use Rattle.policy_reads.proofs.Words.{kept_means, any_out, id_of, same_tests}
-use Rattle.ancestor_names.specs.Names.{IsKept}
-use Rattle.entity_asking.specs.declared.place.Place.{Place}
-use Rattle.entity_asking.specs.Places.{node_of}
-use Rattle.entity_asking.specs.Wants.{wants}
+use Rattle.reads_spec.specs.Paths.{Step, any_tag, Chain, steps_of, AccessPath, Demand, beyond}
+use Rattle.reads_spec.specs.Restrict.{part, is_id, names_id, reach, kept_steps, kept_chain, kept_tag, by_paths, kept_ancestor, needed, restrict}
+use Rattle.reads_spec.proofs.Lists.{IsIn, any_in, same_uid, uid_self}
+use Rattle.reads_spec.proofs.Words.{kept_means, any_out, id_of, same_tests}
+use Rattle.trie_traversal.specs.Names.{IsKept}
+use Rattle.trie_traversal.specs.declared.place.Place.{Place}
+use Rattle.trie_traversal.specs.Places.{node_of}
+use Rattle.trie_traversal.specs.Wants.{wants}
 use Rattle.entity_loader.specs.Asked.{some_asks}
 use Rattle.store_slices.specs.Tries.{IsTrieOf}
 use Rattle.store_slices.specs.Reached.{AreReached, AreThere}

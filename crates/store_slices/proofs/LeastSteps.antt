@@ -20,13 +20,13 @@ use Rattle.access_tries.specs.Edges.{Address, rank, first_text, second_text, edg
 use Rattle.access_tries.specs.Paths.{edge_of, address_of, demand_of, has_path, asks, is_front, is_same, IsLeast}
 use Rattle.access_tries.specs.Table.{Table}
 use Rattle.access_tries.specs.EdgeLaws.{exact_edge}
-use Rattle.policy_reads.specs.Paths.{Step, along, any_tag, AccessPath, Demand, Shape, beyond, paths}
-use Rattle.policy_reads.specs.PathTypes.{is_declared_path}
-use Rattle.policy_reads.specs.Reads.{shape_of, wholly, binary_reads, reads, reads_all, reads_named, reads_of, pairs, binary_demands, demands, demands_all, demands_named, demands_of, declared_reads, declared_demands, are_declared}
-use Rattle.policy_reads.proofs.Lists.{IsIn, in_left, in_right, in_map, any_in, or_true, nil_right}
-use Rattle.policy_reads.specs.Among.{IsFrontOfRead}
-use Rattle.policy_reads.proofs.Words.{any_out}
-use Rattle.policy_reads.proofs.DeclaredPaths.{declared_read}
+use Rattle.reads_spec.specs.Paths.{Step, along, any_tag, AccessPath, Demand, Shape, beyond, paths}
+use Rattle.reads_spec.specs.PathTypes.{is_declared_path}
+use Rattle.reads_spec.specs.Reads.{shape_of, wholly, binary_reads, reads, reads_all, reads_named, reads_of, pairs, binary_demands, demands, demands_all, demands_named, demands_of, declared_reads, declared_demands, are_declared}
+use Rattle.reads_spec.proofs.Lists.{IsIn, in_left, in_right, in_map, any_in, or_true, nil_right}
+use Rattle.reads_spec.specs.Among.{IsFrontOfRead}
+use Rattle.reads_spec.proofs.Words.{any_out}
+use Rattle.reads_spec.proofs.DeclaredPaths.{declared_read}
 use Rattle.store_slices.specs.Tries.{IsTrieOf, LeastTriesFit}
 
 -- ---- addresses

@@ -5,15 +5,15 @@ use Rattle.std.proofs.lemmas.Bool.{and_parts, and_from}
 use Rattle.policy_names.specs.declared.entity_uid.EntityUID.{EntityUID}
 use Rattle.policy_names.specs.Uid.{text_cmp, uid_eq}
 use Rattle.policy_values.specs.Value.{Val, entity, rec, Fields, no_fields, field, field_at}
-use Rattle.policy_store.specs.Store.{StoredEntity}
+use Rattle.entity_store.specs.Store.{StoredEntity}
 use Rattle.access_tries.specs.declared.edge.Edge.TheVariants.{Field, AnyTag}
 use Rattle.access_tries.specs.Edges.{Address}
-use Rattle.policy_reads.specs.Restrict.{values_in}
-use Rattle.policy_reads.proofs.Lists.{or_true, or_right, same_text}
+use Rattle.reads_spec.specs.Restrict.{values_in}
+use Rattle.reads_spec.proofs.Lists.{or_true, or_right, same_text}
 use Rattle.std.specs.Prelude.{ℕ, Some, if◌then◌else◌}
 use Rattle.std.specs.Ordering.{is_eq}
-use Rattle.entity_asking.specs.Wants.{Test, points, fields_point, entity_points}
-use Rattle.entity_asking.proofs.PointSteps.{points_none, fields_point_none, any_point_none}
+use Rattle.trie_traversal.specs.Wants.{Test, points, fields_point, entity_points}
+use Rattle.trie_traversal.proofs.PointSteps.{points_none, fields_point_none, any_point_none}
 
 pub or_both : (a b c d : Bool) → (a ≡ true → c ≡ true) → (b ≡ true → d ≡ true) → (a || b) ≡ true → (c || d) ≡ true
 or_both true b c d f g h = or_true c d (f refl)

@@ -10,8 +10,8 @@ use Rattle.std.proofs.lemmas.Bool.{and_parts, and_from, or_cases}
 use Rattle.policy_names.specs.declared.entity_uid.EntityUID.{EntityUID}
 use Rattle.policy_names.specs.Uid.{uid_eq}
 use Rattle.policy_values.specs.Value.{Val, entity, rec, Fields, field_at}
-use Rattle.policy_store.specs.declared.request.Request.{Request}
-use Rattle.policy_store.specs.Store.{StoredEntity, Store, entity_at}
+use Rattle.entity_store.specs.declared.request.Request.{Request}
+use Rattle.entity_store.specs.Store.{StoredEntity, Store, entity_at}
 use Rattle.access_tries.specs.declared.edge.Edge.TheVariants.{AnyTag, Root}
 use Rattle.access_tries.specs.declared.edge.EntityRoot.{EntityRoot}
 use Rattle.access_tries.specs.declared.table.Link.{Link}
@@ -21,20 +21,20 @@ use Rattle.access_tries.specs.Table.{Table, links_at}
 use Rattle.access_tries.specs.Views.{whole}
 use Rattle.access_tries.specs.EdgeLaws.{exact_edge}
 use Rattle.policy_names.proofs.Ties.{equal_of}
-use Rattle.policy_reads.specs.Paths.{Step, along, any_tag, AccessPath, beyond}
-use Rattle.policy_reads.specs.Restrict.{root_value, values_in, step, step_in_entity, step_in_record, walk}
-use Rattle.policy_reads.proofs.Lists.{IsIn, or_true, or_right, any_in, same_uid, uid_self, in_flat_map, flat_map_out}
-use Rattle.policy_reads.proofs.Words.{any_out}
-use Rattle.policy_reads.proofs.Cuts.{walk_on}
-use Rattle.entity_asking.specs.declared.place.Place.{Place}
-use Rattle.entity_asking.specs.Answered.{answer_points}
-use Rattle.entity_asking.specs.Begun.{root_points, roots_point}
-use Rattle.entity_asking.specs.Leads.{RootLeads}
+use Rattle.reads_spec.specs.Paths.{Step, along, any_tag, AccessPath, beyond}
+use Rattle.reads_spec.specs.Restrict.{root_value, values_in, step, step_in_entity, step_in_record, walk}
+use Rattle.reads_spec.proofs.Lists.{IsIn, or_true, or_right, any_in, same_uid, uid_self, in_flat_map, flat_map_out}
+use Rattle.reads_spec.proofs.Words.{any_out}
+use Rattle.reads_spec.proofs.Cuts.{walk_on}
+use Rattle.trie_traversal.specs.declared.place.Place.{Place}
+use Rattle.trie_traversal.specs.Answered.{answer_points}
+use Rattle.trie_traversal.specs.Begun.{root_points, roots_point}
+use Rattle.trie_traversal.specs.Leads.{RootLeads}
 use Rattle.std.specs.Ordering.{is_eq}
 use Rattle.std.specs.BTreeSet.{BTreeSet, contains}
-use Rattle.entity_asking.proofs.PlaceSteps.{exact_place}
-use Rattle.entity_asking.specs.Places.{place_cmp, IsPlaced, IsBelowSome, node_of}
-use Rattle.entity_asking.specs.Wants.{Test, sees, wants, points, fields_point, entity_points, Adds}
+use Rattle.trie_traversal.proofs.PlaceSteps.{exact_place}
+use Rattle.trie_traversal.specs.Places.{place_cmp, IsPlaced, IsBelowSome, node_of}
+use Rattle.trie_traversal.specs.Wants.{Test, sees, wants, points, fields_point, entity_points, Adds}
 use Rattle.store_slices.specs.Reached.{IsReached, either_wants, IsExplored, IsAnswerLed, AreReached, AreThere}
 use Rattle.store_slices.proofs.PointSteps.{or_both, points_more, points_any, field_points, entity_points_or, entity_points_none, entity_points_when}
 

@@ -1,6 +1,6 @@
 use Rattle.std.proofs.Common.{rules, ◌≡◌, ◌<◌, ◌∙◌, ap, subst, [], length}
 use Rattle.access_tries.specs.declared.edge.Edge.TheVariants.{Field}
-use Rattle.policy_reads.specs.Restrict.{cut}
+use Rattle.reads_spec.specs.Restrict.{cut}
 use Rattle.entity_loader.specs.Asked.{some_along}
 use Rattle.entity_loader.proofs.CutSteps.{IsCutting, cut_skip, cut_more, cut_done, chosen_there, not_chosen, cut_below, none_in}
 use Rattle.entity_loader.proofs.cut.+cutting.Goals as goal
