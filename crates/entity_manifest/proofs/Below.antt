@@ -15,6 +15,7 @@ use Rattle.schema_types.specs.declared.ty.AttributeType.{AttributeType}
 use Rattle.schema_types.specs.Ty.{Ty, never, true_type, false_type, primitive, any_set, set_of, record_of, any_entity, entity, action, extension, Attrs, no_attrs, attr}
 use Rattle.policy_types.specs.declared.mode.SubtypeMode.TheVariants.{Strict}
 use Rattle.policy_types.specs.Join.{result_map, text_eq, texts_eq, bool_eq, either_open, same_keys, join_primitive, join_first, join, join_attrs}
+use Rattle.plain_lemmas.proofs.Booleans.{and_parts_of}
 
 -- neither of ids nor of records
 abbrev pub is_plain : Ty → Bool
@@ -38,10 +39,6 @@ abbrev mutual
   AttrsBelow no_attrs no_attrs = Unit {0}
   AttrsBelow (attr k t q xs) (attr l u r ys) = (k ≡ l) × Below t u × AttrsBelow xs ys
   AttrsBelow xs ys = ⊥
-
-both : (a b : Bool) → (a && b) ≡ true → (a ≡ true) × (b ≡ true)
-both true b h = (refl, h)
-both false b h = cc
 
 mutual
   pub below_self : (t : Ty) → Below t t
@@ -110,7 +107,7 @@ mutual
   attrs_trans no_attrs (attr l u r ys) zs h k = absurd h
   attrs_trans (attr k t q xs) no_attrs zs h i = absurd h
 
--- both are below the type
+-- and_parts_of are below the type
 abbrev Above : Ty → Ty → Ty → Type 0
 Above t u w = Below t w × Below u w
 
@@ -195,7 +192,7 @@ mutual
   attrs_above : (xs ys : Attrs) → same_keys xs ys ≡ true → IfOk (join_attrs xs ys) (AttrsAbove xs ys)
   attrs_above no_attrs no_attrs e = (tt, tt)
   attrs_above (attr k t q xs) (attr l u r ys) e =
-      let s = both (text_eq k l) (same_keys xs ys) e in
+      let s = and_parts_of (text_eq k l) (same_keys xs ys) e in
       above_first k l t u q r xs ys (join Strict t u) (join_attrs xs ys) (text_same k l s.0) (join_above t u) (attrs_above xs ys s.1)
   attrs_above no_attrs (attr l u r ys) e = cc
   attrs_above (attr k t q xs) no_attrs e = cc

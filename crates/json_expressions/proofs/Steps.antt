@@ -7,6 +7,7 @@ use Rattle.json_expressions.specs.Forms.{Plain, else_of}
 use Rattle.json_expressions.specs.Parts.{loc_of_items}
 use Rattle.json_expressions.specs.Reads.{Read, bounded, bounded_field}
 use Rattle.json_values.specs.Lists.{with_first}
+use Rattle.plain_lemmas.proofs.Options.{none_of_no_some}
 
 pub short_loc : (xs : List Value) → length xs < 2 → None ≡ loc_of_items (items_view xs)
 short_loc [] h = refl
@@ -51,7 +52,3 @@ module _ {A : Type 0} (f : A → A → A → A) where
       ∙ sym (else_of-last front t e a)
       ∙ sym (ap (else_of f) seam)
       ∙ all
-
-pub none_from : {X : Type 0} (o : Option X) → is_some o ≡ false → o ≡ None
-none_from None h = refl
-none_from (Some x) h = cc

@@ -8,6 +8,7 @@ use Rattle.access_tries.specs.Trees.{Branch, Branches, no_branches, leading}
 use Rattle.json_tries.specs.Places.{Place, behind, places_of, places_in}
 use Rattle.json_tries.specs.Parts.{led_places, node_places}
 use Rattle.json_tries.specs.Reading.{led_to, entries_form, joined, node_form}
+use Rattle.plain_lemmas.proofs.Lists.{empty_of_length}
 
 -- the next of two lists
 pub led_step : (es : List Edge) (ps : List (List Place)) (i : ℕ) (e : Edge) (p : List Place) (all new whole : List Place) → i < length es → i < length ps → e ≡ get_or es i e → p ≡ get_or ps i p → new ≡ all ++ map (behind e) p
@@ -76,7 +77,3 @@ node_read o m fs ts rs mark fields tags roots named whole h em ef et er en ew =
 pub none_there : {X : Type 0} (o : Option X) (P : Type 0) (Q : X → Type 0) → MatchOption o P Q → is_some o ≡ false → P
 none_there None P Q h e = h
 none_there (Some x) P Q h e = cc
-
-pub no_items_left : {X : Type 0} (xs : List X) → length xs ≡ 0 → xs ≡ []
-no_items_left [] h = refl
-no_items_left (x ∷ xs) h = absurd (omega (arith, h))

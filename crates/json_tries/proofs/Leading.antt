@@ -8,6 +8,7 @@ use Rattle.access_tries.specs.Paths.{is_front, is_same}
 use Rattle.access_tries.specs.Trees.{Branch, branch, Branches, no_branches, leading, passes, some_passes}
 use Rattle.json_tries.specs.Places.{Place, behind, places_of, places_in}
 use Rattle.json_tries.specs.Laws.{PlacesLead}
+use Rattle.plain_lemmas.proofs.Booleans.{and_exchange, or_false}
 
 -- whether the test passes for one of the places
 abbrev front_of : Address → Place → Bool
@@ -24,25 +25,16 @@ front_behind x e es ps = by (edge_eq x e) refl ps where
   by true h (q ∷ qs) = ap (λ b. (b && is_front es q.0) || list_any (front_of (e ∷ es)) (map (behind x) qs)) h ∙ ap (λ b. is_front es q.0 || b) (by true h qs)
   by false h (q ∷ qs) = ap (λ b. (b && is_front es q.0) || list_any (front_of (e ∷ es)) (map (behind x) qs)) h ∙ by false h qs
 
-and_turn : (a b c : Bool) → (a && (b && c)) ≡ (b && (a && c))
-and_turn true b c = refl
-and_turn false true c = refl
-and_turn false false c = refl
-
 same_behind : (x e : Edge) (es : Address) (ps : List Place) → list_any (same_of (e ∷ es)) (map (behind x) ps) ≡ (edge_eq x e && list_any (same_of es) ps)
 same_behind x e es ps = by (edge_eq x e) refl ps where
   by : (b : Bool) → edge_eq x e ≡ b → (qs : List Place) → list_any (same_of (e ∷ es)) (map (behind x) qs) ≡ (b && list_any (same_of es) qs)
   by true h [] = refl
   by false h [] = refl
   by true h (q ∷ qs) = ap (λ b. (q.1 && (b && is_same es q.0)) || list_any (same_of (e ∷ es)) (map (behind x) qs)) h ∙ ap (λ b. (q.1 && is_same es q.0) || b) (by true h qs)
-  by false h (q ∷ qs) = ap (λ b. b || list_any (same_of (e ∷ es)) (map (behind x) qs)) (and_turn q.1 (edge_eq x e) (is_same es q.0) ∙ ap (λ b. b && (q.1 && is_same es q.0)) h) ∙ by false h qs
+  by false h (q ∷ qs) = ap (λ b. b || list_any (same_of (e ∷ es)) (map (behind x) qs)) (and_exchange q.1 (edge_eq x e) (is_same es q.0) ∙ ap (λ b. b && (q.1 && is_same es q.0)) h) ∙ by false h qs
 
 front_start : (ps : List Place) (p : Place) → list_any (front_of []) (p ∷ ps) ≡ true
 front_start ps p = refl
-
-or_false : (a : Bool) → (a || false) ≡ a
-or_false true = refl
-or_false false = refl
 
 none_same : (x : Edge) (ps : List Place) → list_any (same_of []) (map (behind x) ps) ≡ false
 none_same x [] = refl

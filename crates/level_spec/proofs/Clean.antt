@@ -14,10 +14,7 @@ use Rattle.policy_expressions.specs.Tree.{lit, var, slot, ite, conj, disj, unary
 use Rattle.typing_spec.specs.Typing.{Typed}
 use Rattle.level_spec.specs.Levels.{is_reached, gives_entity, greater, if_level, one_more, binary_level, asks_store, level_if, is_below, literal_level, level, level_under, dereferences, dereferences_all, dereferences_named}
 use Rattle.level_spec.specs.Findings.{LevelFault, needs_level, own_fault, target_fault, binary_target, level_faults, faults_all, faults_named, target_faults, named_targets}
-
-both_empty : {X : Type 0} (xs ys : List X) → xs ++ ys ≡ [] → (xs ≡ []) × (ys ≡ [])
-both_empty [] ys h = (refl, h)
-both_empty (x ∷ xs) ys h = absurd (cc)
+use Rattle.plain_lemmas.proofs.Lists.{append_empty_parts}
 
 -- the left level is below what the greater is below
 max_left : (j k n : ℕ) → nat_lt (max j k) n ≡ true → nat_lt j n ≡ true
@@ -55,7 +52,7 @@ module _ (n : ℕ) where
   -- `.` and `has`
   access_clean : (b : Bool) (o : Option ℕ) (l : Option Loc) (os : List (Option ℕ)) (ts fs : List LevelFault) → (ts ≡ [] → Clean o os) → (fs ≡ [] → AreBelow os) → cond b (ts ++ own_fault n o l) fs ≡ [] → AreBelow (level_if b o ++ os)
   access_clean true o l os ts fs t f h =
-      let r = both_empty ts (own_fault n o l) h in
+      let r = append_empty_parts ts (own_fault n o l) h in
       let c = t r.0 in
       let below = own_below o l c.0 r.1 in
       and_from (is_below n o) (list_all (is_below n) os) below (c.1 below)
@@ -64,12 +61,12 @@ module _ (n : ℕ) where
   -- an operator of two operands
   op_clean : (b : Bool) (o : Option ℕ) (l : Option Loc) (os ps : List (Option ℕ)) (ts fs gs : List LevelFault) → (ts ≡ [] → Clean o os) → (fs ≡ [] → AreBelow os) → (gs ≡ [] → AreBelow ps) → cond b (ts ++ (gs ++ own_fault n o l)) (fs ++ gs) ≡ [] → AreBelow (level_if b o ++ (os ++ ps))
   op_clean true o l os ps ts fs gs t f g h =
-      let r = both_empty ts (gs ++ own_fault n o l) h in
-      let s = both_empty gs (own_fault n o l) r.1 in
+      let r = append_empty_parts ts (gs ++ own_fault n o l) h in
+      let s = append_empty_parts gs (own_fault n o l) r.1 in
       let c = t r.0 in
       let below = own_below o l c.0 s.1 in
       and_from (is_below n o) (list_all (is_below n) (os ++ ps)) below (more_below os ps (c.1 below) (g s.0))
-  op_clean false o l os ps ts fs gs t f g h = let r = both_empty fs gs h in more_below os ps (f r.0) (g r.1)
+  op_clean false o l os ps ts fs gs t f g h = let r = append_empty_parts fs gs h in more_below os ps (f r.0) (g r.1)
 
   -- targets
   further : (o : Option ℕ) (os ps : List (Option ℕ)) → Clean o os → AreBelow ps → Clean (one_more o) (o ∷ (os ++ ps))
@@ -85,7 +82,7 @@ module _ (n : ℕ) where
   attr_clean false o p os ts us t u h = u h
 
   binary_clean : (q : BinaryOp) (o : Option ℕ) (l : Option Loc) (os ps : List (Option ℕ)) (ts gs : List LevelFault) → (ts ≡ [] → Clean o os) → (gs ≡ [] → AreBelow ps) → binary_target q l (ts ++ gs) ≡ [] → Clean (binary_level q o) (level_if (asks_store q) o ++ (os ++ ps))
-  binary_clean GetTag o l os ps ts gs t g h = let r = both_empty ts gs h in further o os ps (t r.0) (g r.1)
+  binary_clean GetTag o l os ps ts gs t g h = let r = append_empty_parts ts gs h in further o os ps (t r.0) (g r.1)
   binary_clean q o l os ps ts gs t g h = absurd (cc)
 
   abbrev Branch : Bool → Option ℕ → List (Option ℕ) → Type 0
@@ -109,8 +106,8 @@ module _ (n : ℕ) where
 
   -- the field that is pending, among others
   field_clean : (b : Bool) (o p : Option ℕ) (os ps : List (Option ℕ)) (ts fs us gs : List LevelFault) → (ts ≡ [] → Clean o os) → (fs ≡ [] → AreBelow os) → (us ≡ [] → Clean p ps) → (gs ≡ [] → AreBelow ps) → cond b (ts ++ gs) (fs ++ us) ≡ [] → Clean (cond b o p) (os ++ ps)
-  field_clean true o p os ps ts fs us gs t f u g h = let r = both_empty ts gs h in let c = t r.0 in (c.0, λ e. more_below os ps (c.1 e) (g r.1))
-  field_clean false o p os ps ts fs us gs t f u g h = let r = both_empty fs us h in let c = u r.1 in (c.0, λ e. more_below os ps (f r.0) (c.1 e))
+  field_clean true o p os ps ts fs us gs t f u g h = let r = append_empty_parts ts gs h in let c = t r.0 in (c.0, λ e. more_below os ps (c.1 e) (g r.1))
+  field_clean false o p os ps ts fs us gs t f u g h = let r = append_empty_parts fs us h in let c = u r.1 in (c.0, λ e. more_below os ps (f r.0) (c.1 e))
 
   module _ (v : Option EntityUID) where
     mutual
@@ -119,11 +116,11 @@ module _ (n : ℕ) where
       clean (var i a) h = refl
       clean (slot i a) h = refl
       clean (ite x y z a) h =
-          let r = both_empty (level_faults v n x) (level_faults v n y ++ level_faults v n z) h in
-          let s = both_empty (level_faults v n y) (level_faults v n z) r.1 in
+          let r = append_empty_parts (level_faults v n x) (level_faults v n y ++ level_faults v n z) h in
+          let s = append_empty_parts (level_faults v n y) (level_faults v n z) r.1 in
           more_below (dereferences v x) (dereferences v y ++ dereferences v z) (clean x r.0) (more_below (dereferences v y) (dereferences v z) (clean y s.0) (clean z s.1))
-      clean (conj x y a) h = let r = both_empty (level_faults v n x) (level_faults v n y) h in more_below (dereferences v x) (dereferences v y) (clean x r.0) (clean y r.1)
-      clean (disj x y a) h = let r = both_empty (level_faults v n x) (level_faults v n y) h in more_below (dereferences v x) (dereferences v y) (clean x r.0) (clean y r.1)
+      clean (conj x y a) h = let r = append_empty_parts (level_faults v n x) (level_faults v n y) h in more_below (dereferences v x) (dereferences v y) (clean x r.0) (clean y r.1)
+      clean (disj x y a) h = let r = append_empty_parts (level_faults v n x) (level_faults v n y) h in more_below (dereferences v x) (dereferences v y) (clean x r.0) (clean y r.1)
       clean (unary o x a) h = clean x h
       clean (binary o x y a) h = op_clean (asks_store o) (level v x []) a.loc (dereferences v x) (dereferences v y) (target_faults v n x []) (level_faults v n x) (level_faults v n y) (λ i. clean_target x [] i) (λ i. clean x i) (λ i. clean y i) h
       clean (attr x k a) h = access_clean (gives_entity x) (level v x []) a.loc (dereferences v x) (target_faults v n x []) (level_faults v n x) (λ i. clean_target x [] i) (λ i. clean x i) h
@@ -136,11 +133,11 @@ module _ (n : ℕ) where
 
       clean_all : (xs : Trees (Mark (Option Ty))) → faults_all v n xs ≡ [] → AreBelow (dereferences_all v xs)
       clean_all no_trees h = refl
-      clean_all (tree x xs) h = let r = both_empty (level_faults v n x) (faults_all v n xs) h in more_below (dereferences v x) (dereferences_all v xs) (clean x r.0) (clean_all xs r.1)
+      clean_all (tree x xs) h = let r = append_empty_parts (level_faults v n x) (faults_all v n xs) h in more_below (dereferences v x) (dereferences_all v xs) (clean x r.0) (clean_all xs r.1)
 
       clean_named : (xs : Named (Mark (Option Ty))) → faults_named v n xs ≡ [] → AreBelow (dereferences_named v xs)
       clean_named no_named h = refl
-      clean_named (named k x xs) h = let r = both_empty (level_faults v n x) (faults_named v n xs) h in more_below (dereferences v x) (dereferences_named v xs) (clean x r.0) (clean_named xs r.1)
+      clean_named (named k x xs) h = let r = append_empty_parts (level_faults v n x) (faults_named v n xs) h in more_below (dereferences v x) (dereferences_named v xs) (clean x r.0) (clean_named xs r.1)
 
       clean_target : (e : Typed) (fs : List (List ℕ)) → target_faults v n e fs ≡ [] → Clean (level v e fs) (dereferences v e)
       clean_target (lit l a) fs h = target_clean (literal_level v l) a.loc h
@@ -148,8 +145,8 @@ module _ (n : ℕ) where
       clean_target (ite x y z a) fs h =
           let ys = cond (is_reached y) (target_faults v n y fs) (level_faults v n y) in
           let zs = cond (is_reached z) (target_faults v n z fs) (level_faults v n z) in
-          let r = both_empty (level_faults v n x) (ys ++ zs) h in
-          let s = both_empty ys zs r.1 in
+          let r = append_empty_parts (level_faults v n x) (ys ++ zs) h in
+          let s = append_empty_parts ys zs r.1 in
           if_clean (is_reached y) (is_reached z) (level v y fs) (level v z fs) (dereferences v x) (dereferences v y) (dereferences v z) (clean x r.0)
           (branch_clean (is_reached y) (level v y fs) (dereferences v y) (target_faults v n y fs) (level_faults v n y) (λ i. clean_target y fs i) (λ i. clean y i) s.0)
           (branch_clean (is_reached z) (level v z fs) (dereferences v z) (target_faults v n z fs) (level_faults v n z) (λ i. clean_target z fs i) (λ i. clean z i) s.1)

@@ -31,6 +31,7 @@ use Rattle.typing_spec.specs.Rules as rule
 use Rattle.typing_spec.proofs.Notes.{IsMarked, marked}
 use Rattle.typing_spec.proofs.Soundness.{typing_is_sound}
 use Rattle.level_spec.specs.Levels.{is_reached, gives_entity}
+use Rattle.plain_lemmas.proofs.Booleans.{or_false_parts}
 
 -- the outcome is no id
 abbrev pub IsNoId : Outcome → Type 0
@@ -103,10 +104,6 @@ never_false o h e = let m : false ≡ true = subst (IsOfType true_type) (is_trut
 
 never_true : (o : Outcome) → IsOfType false_type o → truth_of o ≡ Ok true → ⊥
 never_true o h e = let m : true ≡ false = subst (IsOfType false_type) (is_truth o true e) h in cc
-
-or_both : (a b : Bool) → (a || b) ≡ false → (a ≡ false) × (b ≡ false)
-or_both true b h = cc
-or_both false b h = (refl, h)
 
 all_more : (q : Request) (s : Store) (cs ds : List Capability) → AllHold q s cs → AllHold q s ds → AllHold q s (cs ++ ds)
 all_more q s [] ds h k = k
@@ -212,23 +209,23 @@ module _ (d : SchemaData) (schema : IsSchema d) (g : LinkedEnvironment) (q : Req
     fits (var v m) w c cs h = mapped (type_of_variable d (declared_action g) v) _ (Fitting (var v m)) (λ t e. refl)
     fits (slot i m) w c cs h = absurd (cc)
     fits (ite x y z m) w c cs h =
-        let r1 = or_both (has_slot x) (has_slot y || has_slot z) w in
-        let r2 = or_both (has_slot y) (has_slot z) r1.1 in
+        let r1 = or_false_parts (has_slot x) (has_slot y || has_slot z) w in
+        let r2 = or_false_parts (has_slot y) (has_slot z) r1.1 in
         chained (Good x) (g2 cs x) _ (Fitting (ite x y z m)) (good x r1.0 c.0 cs h (fits x r1.0 c.0 cs h))
         (λ r k. if_fits x y z m r k (g2 (cs ++ r.caps) y) (g2 cs z) (λ i. reached_some y (cs ++ r.caps) (fits y r2.0 c.1 (cs ++ r.caps) (all_more q s cs r.caps h i))) (reached_some z cs (fits z r2.1 c.2 cs h)))
     fits (conj x y m) w c cs h =
-        let r1 = or_both (has_slot x) (has_slot y) w in
+        let r1 = or_false_parts (has_slot x) (has_slot y) w in
         chained (Good x) (g2 cs x) _ (Fitting (conj x y m)) (good x r1.0 c.0 cs h (fits x r1.0 c.0 cs h))
         (λ r k. and_fits x y m r k (g2 (cs ++ r.caps) y) (λ i. fits y r1.1 c.1 (cs ++ r.caps) (all_more q s cs r.caps h i)))
     fits (disj x y m) w c cs h =
-        let r1 = or_both (has_slot x) (has_slot y) w in
+        let r1 = or_false_parts (has_slot x) (has_slot y) w in
         chained (Good x) (g2 cs x) _ (Fitting (disj x y m)) (good x r1.0 c.0 cs h (fits x r1.0 c.0 cs h))
         (λ r k. or_fits x y m r k (g2 cs y) (fits y r1.1 c.1 cs h))
     fits (unary o x m) w c cs h =
         chained (Fitting x) (g2 cs x) _ (Fitting (unary o x m)) (fits x w c cs h)
         (λ r k. mapped (rule.unary_type o r.type) _ (Fitting (unary o x m)) (λ t e. (refl, k)))
     fits (binary o x y m) w c cs h =
-        let r1 = or_both (has_slot x) (has_slot y) w in
+        let r1 = or_false_parts (has_slot x) (has_slot y) w in
         chained (Fitting x) (g2 cs x) _ (Fitting (binary o x y m)) (fits x r1.0 c.0 cs h)
         (λ r k. chained (Fitting y) (g2 cs y) _ (Fitting (binary o x y m)) (fits y r1.1 c.1 cs h)
         (λ u l. mapped (rule.binary_type d (declared_action g) o (has_cap cs (tag_known x y)) x y r.type u.type) _ (Fitting (binary o x y m)) (λ t e. (refl, k, l))))
@@ -259,7 +256,7 @@ module _ (d : SchemaData) (schema : IsSchema d) (g : LinkedEnvironment) (q : Req
     fit_all : (xs : Trees (Mark (Unit {0}))) → some_has_slot xs ≡ false → HaveKeysOnce xs → (cs : List Capability) → AllHold q s cs → IfSome (types_all d (declared_action g) cs xs) (λ ys. FitAll q s xs (trees_in ys))
     fit_all no_trees w c cs h = tt
     fit_all (tree x xs) w c cs h =
-        let r1 = or_both (has_slot x) (some_has_slot xs) w in
+        let r1 = or_false_parts (has_slot x) (some_has_slot xs) w in
         chained (Fitting x) (g2 cs x) _ (λ ys. FitAll q s (tree x xs) (trees_in ys)) (fits x r1.0 c.0 cs h)
         (λ r k. more_of (types_all d (declared_action g) cs xs) r k (fit_all xs r1.1 c.1 cs h))
       where
@@ -270,7 +267,7 @@ module _ (d : SchemaData) (schema : IsSchema d) (g : LinkedEnvironment) (q : Req
     fit_named : (xs : Named (Mark (Unit {0}))) → some_named_has_slot xs ≡ false → AreKeysOnce xs → (cs : List Capability) → AllHold q s cs → IfSome (types_named d (declared_action g) cs xs) (λ ys. FitNamed q s xs (named_in ys))
     fit_named no_named w c cs h = tt
     fit_named (named n x xs) w c cs h =
-        let r1 = or_both (has_slot x) (some_named_has_slot xs) w in
+        let r1 = or_false_parts (has_slot x) (some_named_has_slot xs) w in
         chained (Fitting x) (g2 cs x) _ (λ ys. FitNamed q s (named n x xs) (named_in ys)) (fits x r1.0 c.0 cs h)
         (λ r k. more_of (types_named d (declared_action g) cs xs) r k (fit_named xs r1.1 c.2 cs h))
       where

@@ -16,18 +16,10 @@ use Rattle.entity_store.specs.Store.{StoredEntity, Store, is_named, entity_at}
 use Rattle.level_spec.specs.Cut.{ids_held, ids_asked, is_among, entities_among, reach}
 use Rattle.level_spec.specs.Hops.{held_at, held_by, IsHop, IsNext, HopsReach}
 use Rattle.level_spec.proofs.Reached.{same_uid, in_front, AllAmong, held_reached}
-
-or_split : (a b : Bool) → (a || b) ≡ true → (a ≡ true) ⊎ (b ≡ true)
-or_split true b h = inl refl
-or_split false b h = inr h
-
-both_ways : (a b : Bool) → (a ≡ true → b ≡ true) → (b ≡ true → a ≡ true) → a ≡ b
-both_ways true b f g = sym (f refl)
-both_ways false true f g = g refl
-both_ways false false f g = refl
+use Rattle.plain_lemmas.proofs.Booleans.{equal_by_both_ways, or_cases}
 
 append_split : (us ws : List EntityUID) (u : EntityUID) → is_among (us ++ ws) u ≡ true → (is_among us u ≡ true) ⊎ (is_among ws u ≡ true)
-append_split us ws u h = or_split (is_among us u) (is_among ws u) (sym (list_any-append (uid_eq u) us ws) ∙ h)
+append_split us ws u h = or_cases (is_among us u) (is_among ws u) (sym (list_any-append (uid_eq u) us ws) ∙ h)
 
 append_left : (us ws : List EntityUID) (u : EntityUID) → is_among us u ≡ true → is_among (us ++ ws) u ≡ true
 append_left us ws u h = in_front us ws u h
@@ -37,7 +29,7 @@ append_right us ws u h = list_any-append (uid_eq u) us ws ∙ or_right (is_among
 
 among_all : (us ws : List EntityUID) → AllAmong us ws → (u : EntityUID) → is_among ws u ≡ true → is_among us u ≡ true
 among_all us [] h u i = absurd (cc)
-among_all us (w ∷ ws) h u i = here (or_split (uid_eq u w) (is_among ws u) i) (λ j. among_all us ws h.1 u j)
+among_all us (w ∷ ws) h u i = here (or_cases (uid_eq u w) (is_among ws u) i) (λ j. among_all us ws h.1 u j)
   where
     here : (uid_eq u w ≡ true) ⊎ (is_among ws u ≡ true) → (is_among ws u ≡ true → is_among us u ≡ true) → is_among us u ≡ true
     here (inl e) f = subst (λ x. is_among us x ≡ true) (sym (same_uid u w e)) h.0
@@ -59,7 +51,7 @@ from_held s (f ∷ fs) u h = here (append_split (held_at s f) (held_by s fs) u h
 
 into_held : (s : Store) (fs : List EntityUID) (f u : EntityUID) → is_among fs f ≡ true → is_among (held_at s f) u ≡ true → is_among (held_by s fs) u ≡ true
 into_held s [] f u h i = absurd (cc)
-into_held s (g ∷ fs) f u h i = here (or_split (uid_eq f g) (is_among fs f) h) (λ j. into_held s fs f u j i)
+into_held s (g ∷ fs) f u h i = here (or_cases (uid_eq f g) (is_among fs f) h) (λ j. into_held s fs f u j i)
   where
     here : (uid_eq f g ≡ true) ⊎ (is_among fs f ≡ true) → (is_among fs f ≡ true → is_among (held_by s fs) u ≡ true) → is_among (held_by s (g ∷ fs)) u ≡ true
     here (inl e) k = append_left (held_at s g) (held_by s fs) u (subst (λ x. is_among (held_at s x) u ≡ true) (same_uid f g e) i)
@@ -128,7 +120,7 @@ module _ (q : Request) (s : Store) (each : FindsEach s) where
         here (Some e) a j = among_all (reach (suc k) q s) (ids_held e) a u j
 
     sound : (u : EntityUID) → is_among vs u ≡ true → is_among (reach (suc k) q s) u ≡ true
-    sound u i = here (or_split (is_among us u) (is_among (held_by s fs) u) (sym (n.all u) ∙ i))
+    sound u i = here (or_cases (is_among us u) (is_among (held_by s fs) u) (sym (n.all u) ∙ i))
       where
         here : (is_among us u ≡ true) ⊎ (is_among (held_by s fs) u ≡ true) → is_among (reach (suc k) q s) u ≡ true
         here (inl j) = append_left (reach k q s) (flat_map ids_held (entities_among (reach k q s) s)) u (sym (h.all u) ∙ j)
@@ -145,7 +137,7 @@ module _ (q : Request) (s : Store) (each : FindsEach s) where
 
     next : IsHop q s (suc k) vs gs
     next = record {
-      all = λ u. both_ways (is_among vs u) (is_among (reach (suc k) q s) u) (sound u) (complete u);
+      all = λ u. equal_by_both_ways (is_among vs u) (is_among (reach (suc k) q s) u) (sound u) (complete u);
       fresh_reached = n.fresh_reached;
       old = λ x i j u l. held_reached_there x (n.newest x i j) u l;
     }

@@ -4,6 +4,7 @@ use Rattle.std.specs.Prelude.{MatchOption}
 use Rattle.std.specs.List.{list_all}
 use Rattle.level_spec.specs.Levels.{greater, least, is_below, dereferences, passes, least_level}
 use Rattle.level_spec.specs.Least.{LeastLevelIsLeast}
+use Rattle.plain_lemmas.proofs.Booleans.{and_false}
 
 -- the level is there, and no greater
 abbrev at_most : ℕ → Option ℕ → Bool
@@ -17,10 +18,6 @@ greater_at_most n k m = here (nat_lt k n) refl (nat_le m n) refl
     here true i true j = search (arith)
     here true i false j = search (arith)
     here false i c j = search (arith)
-
-and_false : (b : Bool) → (b && false) ≡ false
-and_false true = refl
-and_false false = refl
 
 all_at_most : (n : ℕ) (os : List (Option ℕ)) → list_all (is_below n) os ≡ at_most n (least os)
 all_at_most n [] = search (arith)

@@ -14,14 +14,10 @@ use Rattle.policy_values.specs.Value.{Val, rec, Fields, no_fields, field, field_
 use Rattle.entity_store.specs.declared.request.Request.{Request}
 use Rattle.entity_store.specs.Store.{StoredEntity, Store, entity_at, is_named}
 use Rattle.level_spec.specs.Cut.{ids_in, ids_in_fields, ids_held, ids_asked, is_among, entities_among, reach, cut}
-
-is_equal : (o : Ordering) → is_eq o ≡ true → o ≡ Equal
-is_equal Equal h = refl
-is_equal Less h = absurd (cc)
-is_equal Greater h = absurd (cc)
+use Rattle.policy_names.proofs.Ties.{equal_of}
 
 pub same_uid : (x y : EntityUID) → uid_eq x y ≡ true → x ≡ y
-same_uid x y h = exact_uid x y (is_equal (uid_cmp x y) h)
+same_uid x y h = exact_uid x y (equal_of (uid_cmp x y) h)
 
 uid_self : (x : EntityUID) → uid_eq x x ≡ true
 uid_self x = ap is_eq (tied_itself uid_cmp_total x)

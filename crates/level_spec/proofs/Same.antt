@@ -25,17 +25,14 @@ use Rattle.level_spec.specs.Levels.{gives_entity, asks_store, level_if, is_below
 use Rattle.level_spec.proofs.Reached.{found_cut}
 use Rattle.level_spec.proofs.Fits.{IsNoId, Fits, FitAll, FitNamed}
 use Rattle.level_spec.proofs.Levelled.{Levelled, levelled}
-
-both_true : (a b : Bool) → (a && b) ≡ true → (a ≡ true) × (b ≡ true)
-both_true true b h = (refl, h)
-both_true false b h = absurd (cc)
+use Rattle.plain_lemmas.proofs.Booleans.{and_parts_of}
 
 pub both_below : (n : ℕ) (os ps : List (Option ℕ)) → list_all (is_below n) (os ++ ps) ≡ true → (list_all (is_below n) os ≡ true) × (list_all (is_below n) ps ≡ true)
-both_below n os ps h = both_true (list_all (is_below n) os) (list_all (is_below n) ps) (sym (list_all-append (is_below n) os ps) ∙ h)
+both_below n os ps h = and_parts_of (list_all (is_below n) os) (list_all (is_below n) ps) (sym (list_all-append (is_below n) os ps) ∙ h)
 
 -- a left operand that is dereferenced
 own_below : (n : ℕ) (b : Bool) (o : Option ℕ) → list_all (is_below n) (level_if b o) ≡ true → b ≡ true → is_below n o ≡ true
-own_below n true o h e = (both_true (is_below n o) true h).0
+own_below n true o h e = (and_parts_of (is_below n o) true h).0
 own_below n false o h e = absurd (cc)
 
 choose_same : (r r2 : Result Bool EvalError) (x y x2 y2 : Outcome) → r2 ≡ r → (r ≡ Ok true → x2 ≡ x) → (r ≡ Ok false → y2 ≡ y) → choose r2 x2 y2 ≡ choose r x y

@@ -7,13 +7,10 @@ use Rattle.level_spec.specs.Findings.{LevelFault, needs_level, literal_target, I
 use Rattle.level_validate.specs.Faults.{fault_cmp}
 use Rattle.level_validate.specs.Errors.{level_error, Condition, faults_in, dereferences_in, PassesIn, IsToldOf, LevelErrorsAreExact}
 use Rattle.level_validate.proofs.Once.{all_kept, none_distinct}
+use Rattle.plain_lemmas.proofs.Lists.{append_empty_parts}
 
 abbrev Conditions : Type 0
 Conditions = List Condition
-
-first_none : {X : Type 0} (xs ys : List X) → xs ++ ys ≡ [] → (xs ≡ []) × (ys ≡ [])
-first_none [] ys h = (refl, h)
-first_none (x ∷ xs) ys h = absurd (cc)
 
 none_mapped : {X Y : Type 0} (f : X → Y) (xs : List X) → map f xs ≡ [] → xs ≡ []
 none_mapped f [] h = refl
@@ -32,7 +29,7 @@ module _ (exact : LevelFaultsAreExact) (n : ℕ) where
   all_pass : (cs : Conditions) → flat_map (faults_in n) cs ≡ [] → AllByRecursion (PassesIn n) cs
   all_pass [] h = tt
   all_pass (c ∷ cs) h =
-      let r = first_none (faults_in n c) (flat_map (faults_in n) cs) h in
+      let r = append_empty_parts (faults_in n c) (flat_map (faults_in n) cs) h in
       ((exact c.0 n c.1).0.0 r.0, all_pass cs r.1)
 
   none_found : (cs : Conditions) → AllByRecursion (PassesIn n) cs → flat_map (faults_in n) cs ≡ []

@@ -10,6 +10,8 @@ use Rattle.policy_names.specs.Uid.{uid_cmp, uid_cmp_total, uid_eq, exact_uid}
 use Rattle.level_spec.specs.Cut.{is_among}
 use Rattle.level_spec.specs.Hops.{Within}
 use Rattle.level_validate.specs.Fresh.{AreFresh}
+use Rattle.plain_lemmas.proofs.Booleans.{or_false, or_of_cond}
+use Rattle.policy_names.proofs.Ties.{equal_of}
 
 -- some of the ids are added to those that were reached before, and some are left
 pub record AreAdded (before ids left reached fresh : List EntityUID) : Type 0 where
@@ -20,22 +22,8 @@ pub record AreAdded (before ids left reached fresh : List EntityUID) : Type 0 wh
 pub none_added : (before ids : List EntityUID) → AreAdded before ids ids before []
 none_added before ids = record { all = λ u. refl; fresh_reached = λ u h. absurd (cc); newest = λ u h i. h }
 
-is_equal : (o : Ordering) → is_eq o ≡ true → o ≡ Equal
-is_equal Equal h = refl
-is_equal Less h = absurd (cc)
-is_equal Greater h = absurd (cc)
-
-or_none : (a : Bool) → (a || false) ≡ a
-or_none true = refl
-or_none false = refl
-
 pub all_added : (before ids reached fresh : List EntityUID) → AreAdded before ids [] reached fresh → AreFresh ids before reached fresh
-all_added before ids reached fresh h = record { all = λ u. sym (or_none (is_among reached u)) ∙ h.all u; fresh_reached = h.fresh_reached; newest = h.newest }
-
-new_all : (e r l : Bool) → (cond e true r || l) ≡ (r || (e || l))
-new_all true true l = refl
-new_all true false l = refl
-new_all false r l = refl
+all_added before ids reached fresh h = record { all = λ u. sym (or_false (is_among reached u)) ∙ h.all u; fresh_reached = h.fresh_reached; newest = h.newest }
 
 old_all : (e r l : Bool) → (e ≡ true → r ≡ true) → (r || l) ≡ (r || (e || l))
 old_all true true l f = refl
@@ -57,7 +45,7 @@ module _ (before ids left reached fresh : List EntityUID) (k : EntityUID) (h : A
   -- one that was not reached
   pub new_added : (reached2 fresh2 : List EntityUID) → ((u : EntityUID) → is_among reached2 u ≡ cond (is_eq (uid_cmp k u)) true (is_among reached u)) → fresh2 ≡ fresh ++ k ∷ [] → AreAdded before ids left reached2 fresh2
   new_added reached2 fresh2 updates pushed = rw pushed record {
-    all = λ u. ap (λ r. r || is_among left u) (now u) ∙ new_all (uid_eq u k) (is_among reached u) (is_among left u) ∙ h.all u;
+    all = λ u. ap (λ r. r || is_among left u) (now u) ∙ or_of_cond (uid_eq u k) (is_among reached u) (is_among left u) ∙ h.all u;
     fresh_reached = λ u i. now u ∙ new_reached (uid_eq u k) (is_among fresh u) (is_among reached u) (h.fresh_reached u) (sym (end u) ∙ i);
     newest = λ u i j. new_newest (uid_eq u k) (is_among fresh u) (is_among reached u) (is_among before u) (h.newest u) (sym (now u) ∙ i) (sym (end u) ∙ j);
   }
@@ -77,4 +65,4 @@ module _ (before ids left reached fresh : List EntityUID) (k : EntityUID) (h : A
   }
     where
       is_there : (u : EntityUID) → uid_eq u k ≡ true → is_among reached u ≡ true
-      is_there u e = subst (λ x. is_among reached x ≡ true) (sym (exact_uid u k (is_equal (uid_cmp u k) e))) there
+      is_there u e = subst (λ x. is_among reached x ≡ true) (sym (exact_uid u k (equal_of (uid_cmp u k) e))) there

@@ -25,10 +25,7 @@ use Rattle.policy_set.specs.Links.{linked, linked_of}
 use Rattle.policy_scope.specs.Scope.{type_meets, action_meets, types_meet, is_applicable}
 use Rattle.schema_core.proofs.Found.{found_here}
 use Rattle.link_spec.proofs.Parts.{same_text, IsOfEntities}
-
-pub and_both : (a b : Bool) → (a && b) ≡ true → (a ≡ true) × (b ≡ true)
-and_both true b h = (refl, h)
-and_both false b h = cc
+use Rattle.plain_lemmas.proofs.Booleans.{and_parts_of}
 
 -- one of the names passes the test
 found_name : (f : List ℕ → Bool) (ns : List (List ℕ)) → list_any f ns ≡ true → (n : List ℕ) × (f n ≡ true) × (has text_cmp ns n ≡ true)
@@ -82,7 +79,7 @@ module _ (schema : SchemaData) (ok : IsSchema schema) where
   met_declared : (c : PrincipalOrResourceConstraint) (u : EntityUID) (n : List ℕ) → asks_slot c ≡ true → IsDeclaredName n → type_meets schema (linked (Some u) c) n ≡ true → IsDeclaredName u.entity_type
   met_declared (Eq Slot) u n s d h = subst IsDeclaredName (sym (same_text u.entity_type n h)) d
   met_declared (In Slot) u n s d h = within_declared n u.entity_type d h
-  met_declared (IsIn m Slot) u n s d h = within_declared n u.entity_type d (and_both (is_eq (text_cmp m n)) (is_eq (text_cmp n u.entity_type) || type_below schema n u.entity_type) h).1
+  met_declared (IsIn m Slot) u n s d h = within_declared n u.entity_type d (and_parts_of (is_eq (text_cmp m n)) (is_eq (text_cmp n u.entity_type) || type_below schema n u.entity_type) h).1
   met_declared c u n s d h = absurd (cc)
 
   pub literal_declared : (u : EntityUID) → IsDeclaredName u.entity_type → literal_type schema u ≡ Some (entity (u.entity_type ∷ []))
@@ -109,5 +106,5 @@ module _ (schema : SchemaData) (ok : IsSchema schema) where
       let f = Any-from_list_any (λ a. action_meets schema t.action a && types_meet schema (linked_of w t) a) schema.action_ids h in
       let a = f.1 in
       let found = listed_action f.0 a f.2 f.3 in
-      let m = and_both (list_any (type_meets schema (linked w.principal t.principal)) a.principals) (list_any (type_meets schema (linked w.resource t.resource)) a.resources) (and_both (action_meets schema t.action a) (types_meet schema (linked_of w t) a) f.4).1 in
+      let m = and_parts_of (list_any (type_meets schema (linked w.principal t.principal)) a.principals) (list_any (type_meets schema (linked w.resource t.resource)) a.resources) (and_parts_of (action_meets schema t.action a) (types_meet schema (linked_of w t) a) f.4).1 in
       (side_of_entities t.principal w.principal a.principals (principal_declared a found) m.0, side_of_entities t.resource w.resource a.resources (resource_declared a found) m.1)

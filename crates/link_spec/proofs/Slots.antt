@@ -24,14 +24,7 @@ use Rattle.typing_spec.specs.Rules.{is_entity_set, id_in, in_listed, in_type, eq
 use Rattle.typing_spec.specs.Signatures.{bool_type, call_type}
 use Rattle.typing_spec.specs.Typing.{typing, at, attribute_known, tag_known, if_typing, and_typing, or_typing, binary_caps, has_caps, types_in, trees_in, record_type, named_in, types, types_all, types_named}
 use Rattle.link_spec.specs.Linked.{linked_env}
-
-or_left : (a b : Bool) → (a || b) ≡ false → a ≡ false
-or_left true b h = cc
-or_left false b h = refl
-
-or_right : (a b : Bool) → (a || b) ≡ false → b ≡ false
-or_right true b h = cc
-or_right false b h = h
+use Rattle.plain_lemmas.proofs.Booleans.{or_false_left, or_false_right}
 
 -- typing an expression without slots, with one and with another type of what stands for them
 module _ (schema : SchemaData) (a : ActionData) (e : Environment) (p r p' r' : Option (List ℕ)) where
@@ -80,14 +73,14 @@ module _ (schema : SchemaData) (a : ActionData) (e : Environment) (p r p' r' : O
     same_types cs (var v m) h = ap (option_map (λ t. typing t [] (var v (at t m)))) (same_variable v)
     same_types cs (slot j m) h = absurd (cc)
     same_types cs (ite x y z m) h =
-        let k = or_right (has_slot x) (has_slot y || has_slot z) h in
-        λ i. option_and_then (λ b. if_typing b.type b.caps b.tree m (same_types (cs ++ b.caps) y (or_left (has_slot y) (has_slot z) k) i) (same_types cs z (or_right (has_slot y) (has_slot z) k) i)) (same_types cs x (or_left (has_slot x) (has_slot y || has_slot z) h) i)
-    same_types cs (conj x y m) h = λ i. option_and_then (λ b. and_typing b.type b.caps b.tree m (same_types (cs ++ b.caps) y (or_right (has_slot x) (has_slot y) h) i)) (same_types cs x (or_left (has_slot x) (has_slot y) h) i)
-    same_types cs (disj x y m) h = λ i. option_and_then (λ b. or_typing b.type b.caps b.tree m (same_types cs y (or_right (has_slot x) (has_slot y) h) i)) (same_types cs x (or_left (has_slot x) (has_slot y) h) i)
+        let k = or_false_right (has_slot x) (has_slot y || has_slot z) h in
+        λ i. option_and_then (λ b. if_typing b.type b.caps b.tree m (same_types (cs ++ b.caps) y (or_false_left (has_slot y) (has_slot z) k) i) (same_types cs z (or_false_right (has_slot y) (has_slot z) k) i)) (same_types cs x (or_false_left (has_slot x) (has_slot y || has_slot z) h) i)
+    same_types cs (conj x y m) h = λ i. option_and_then (λ b. and_typing b.type b.caps b.tree m (same_types (cs ++ b.caps) y (or_false_right (has_slot x) (has_slot y) h) i)) (same_types cs x (or_false_left (has_slot x) (has_slot y) h) i)
+    same_types cs (disj x y m) h = λ i. option_and_then (λ b. or_typing b.type b.caps b.tree m (same_types cs y (or_false_right (has_slot x) (has_slot y) h) i)) (same_types cs x (or_false_left (has_slot x) (has_slot y) h) i)
     same_types cs (unary o x m) h = ap (option_and_then (λ b. option_map (λ t. typing t [] (unary o b.tree (at t m))) (rule.unary_type o b.type))) (same_types cs x h)
     same_types cs (binary o x y m) h =
         λ i. option_and_then (λ b. option_and_then (λ c. option_map (λ t. typing t (binary_caps o x y) (binary o b.tree c.tree (at t m)))
-        (same_binary o (has_cap cs (tag_known x y)) x y b.type c.type i)) (same_types cs y (or_right (has_slot x) (has_slot y) h) i)) (same_types cs x (or_left (has_slot x) (has_slot y) h) i)
+        (same_binary o (has_cap cs (tag_known x y)) x y b.type c.type i)) (same_types cs y (or_false_right (has_slot x) (has_slot y) h) i)) (same_types cs x (or_false_left (has_slot x) (has_slot y) h) i)
     same_types cs (attr x n m) h = ap (option_and_then (λ b. option_map (λ t. typing t [] (attr b.tree n (at t m))) (rule.attr_type schema (has_cap cs (attribute_known x n)) b.type n))) (same_types cs x h)
     same_types cs (has x n m) h =
         ap (option_and_then (λ b. option_map (λ t. typing t (has_caps (is_some (rule.attribute_of schema b.type n)) x n) (has b.tree n (at t m)))
@@ -100,8 +93,8 @@ module _ (schema : SchemaData) (a : ActionData) (e : Environment) (p r p' r' : O
 
     same_types_all : (cs : List Capability) (xs : Trees (Mark (Unit {0}))) → some_has_slot xs ≡ false → types_all schema this cs xs ≡ types_all schema other cs xs
     same_types_all cs no_trees h = refl
-    same_types_all cs (tree x xs) h = λ i. option_and_then (λ b. option_map (λ ys. b ∷ ys) (same_types_all cs xs (or_right (has_slot x) (some_has_slot xs) h) i)) (same_types cs x (or_left (has_slot x) (some_has_slot xs) h) i)
+    same_types_all cs (tree x xs) h = λ i. option_and_then (λ b. option_map (λ ys. b ∷ ys) (same_types_all cs xs (or_false_right (has_slot x) (some_has_slot xs) h) i)) (same_types cs x (or_false_left (has_slot x) (some_has_slot xs) h) i)
 
     same_types_named : (cs : List Capability) (xs : Named (Mark (Unit {0}))) → some_named_has_slot xs ≡ false → types_named schema this cs xs ≡ types_named schema other cs xs
     same_types_named cs no_named h = refl
-    same_types_named cs (named k x xs) h = λ i. option_and_then (λ b. option_map (λ ys. (k, b) ∷ ys) (same_types_named cs xs (or_right (has_slot x) (some_named_has_slot xs) h) i)) (same_types cs x (or_left (has_slot x) (some_named_has_slot xs) h) i)
+    same_types_named cs (named k x xs) h = λ i. option_and_then (λ b. option_map (λ ys. (k, b) ∷ ys) (same_types_named cs xs (or_false_right (has_slot x) (some_named_has_slot xs) h) i)) (same_types cs x (or_false_left (has_slot x) (some_named_has_slot xs) h) i)

@@ -34,7 +34,7 @@ use Rattle.policy_set.specs.Condition.{scope_part, literals, action_part, condit
 use Rattle.policy_set.specs.Links.{own_condition, linked, linked_of, HasPlainBody}
 use Rattle.link_spec.specs.Laws.{StaticsAreUnlinked, StaticsAreTyped, StaticsAreSound, TypedEverywhere, LinksAreTyped, LinksHaveKeysOnce, LinksAreSound, TypedAreSound, LinksAreWrittenOut, same, with_id, both, left, FilledKeeps}
 use Rattle.link_spec.specs.Linked.{linked_env, slot_types, linked_envs_at, linked_envs_of}
-use Rattle.link_spec.proofs.Declared.{and_both}
+use Rattle.plain_lemmas.proofs.Booleans.{and_parts_of}
 use Rattle.link_spec.proofs.Parts.{action_plain}
 use Rattle.policy_set.proofs.Linked.{condition_filled}
 use Rattle.link_spec.proofs.Links.{all_more, from_mapped, from_each, one_of}
@@ -159,10 +159,10 @@ pub keeps_filled : FilledKeeps
 keeps_filled f past x y same h = h
 keeps_filled f past x y (with_id {o = o} {x = l} {i = i} {u = u} {a = a} {b = b} {c = c} {d = d}) h = sym (past.filled_in o l i u a b c d) ∙ h
 keeps_filled f past x y (both {x = l} {y = r} {x' = l'} {y' = r'} {a = a} {b = b} p q) h =
-    let k = and_both (f l) (f r) (sym (past.both_sides l r a) ∙ h) in
+    let k = and_parts_of (f l) (f r) (sym (past.both_sides l r a) ∙ h) in
     past.both_sides l' r' b ∙ (λ i. keeps_filled f past l l' p k.0 i && keeps_filled f past r r' q k.1 i)
 keeps_filled f past x y (left {x = l} {y = r} {x' = l'} {a = a} {b = b} p) h =
-    let k = and_both (f l) (f r) (sym (past.both_sides l r a) ∙ h) in
+    let k = and_parts_of (f l) (f r) (sym (past.both_sides l r a) ∙ h) in
     past.both_sides l' unreached b ∙ (λ i. keeps_filled f past l l' p k.0 i && past.nothing i)
 
 -- what is found for an id has the id

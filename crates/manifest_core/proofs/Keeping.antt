@@ -16,6 +16,7 @@ use Rattle.access_tries.specs.EdgeLaws.{exact_edge}
 use Rattle.access_tries.proofs.Unions.{IsUniting}
 use Rattle.access_tries.proofs.Merging.{IsMerging, merging_step, before_own}
 use Rattle.access_tries.proofs.Making.{any_more, here_at_end, below_at_end}
+use Rattle.plain_lemmas.proofs.Booleans.{and_false, or_false}
 
 -- what the links lead to, and what is left of the others, is what all lead to, as far as the test passes
 pub record IsKept (f : Option NodeData → Bool) (d : Address → Bool) (ns : Table) (links : List Link) (x : Table) (left xs : List Link) : Type 0 where
@@ -23,10 +24,6 @@ pub record IsKept (f : Option NodeData → Bool) (d : Address → Bool) (ns : Ta
 
 same_edge : (a b : Edge) → edge_eq a b ≡ true → a ≡ b
 same_edge a b h = exact_edge a b (equal_of (edge_cmp a b) h)
-
-and_false : (a : Bool) → (a && false) ≡ false
-and_false true = refl
-and_false false = refl
 
 -- the first of what is left
 pub next_is : (xs : List Link) (p : ℕ) (l : Link) → p < length xs → l ≡ get_or xs p l → drop p xs ≡ l ∷ drop (p + 1) xs
@@ -67,10 +64,6 @@ module _ (f : Option NodeData → Bool) (d : Address → Bool) (x : Table) (xs :
         ∙ sym (ap (λ ls. any_link f ns e es links || (any_link f x e es ls && d (e ∷ es))) (next_is xs p l lt is))
         ∙ k.all e es;
   }
-
-or_false : (a : Bool) → (a || false) ≡ a
-or_false true = refl
-or_false false = refl
 
 -- the node in its place, once no link is left
 pub kept_in_place : (f : Option NodeData → Bool) (d : Address → Bool) (at : ℕ) (old ns x : Table) (node : NodeData) (i : ℕ) (xs left : List Link) →

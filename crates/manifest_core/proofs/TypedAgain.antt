@@ -19,6 +19,7 @@ use Rattle.manifest_core.specs.Manifest.{Manifest}
 use Rattle.manifest_core.specs.Mismatches.{edge_fault, type_behind, first_fault, first_among, trie_fault, is_declared_address, IsTyped, first_mismatch, AreTyped}
 use Rattle.manifest_core.proofs.Keeping.{is_there}
 use Rattle.manifest_core.specs.Laws.{AreTables, AreSame, TypedStays}
+use Rattle.plain_lemmas.proofs.Booleans.{or_true}
 
 -- neither of two is there
 first_none : {A : Type 0} (o p : Option A) → option_or o p ≡ None → o ≡ None
@@ -32,10 +33,6 @@ second_none (Some x) p h = cc
 both_none : {A : Type 0} (o p : Option A) → o ≡ None → p ≡ None → option_or o p ≡ None
 both_none None p h k = k
 both_none (Some x) p h k = cc
-
-or_true : (a : Bool) → (a || true) ≡ true
-or_true true = refl
-or_true false = refl
 
 abbrev any : Bool → Bool
 any m = true

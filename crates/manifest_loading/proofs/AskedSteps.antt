@@ -15,14 +15,14 @@ use Rattle.entity_store.specs.declared.request.Request.{Request}
 use Rattle.entity_store.specs.Store.{Store}
 use Rattle.access_tries.specs.Paths.{address_of}
 use Rattle.access_tries.specs.Table.{Table}
-use Rattle.reads_spec.proofs.Lists.{same_uid, uid_self, or_true, or_right}
+use Rattle.reads_spec.proofs.Lists.{same_uid, uid_self}
+use Rattle.plain_lemmas.proofs.Booleans.{or_false, or_left_true, or_right_true}
 use Rattle.trie_traversal.specs.Names.{IsNamed}
 use Rattle.trie_traversal.specs.declared.place.Place.{Place}
 use Rattle.entity_loader.specs.declared.loader.AncestorsRequest.{AncestorsRequest}
 use Rattle.manifest_loading.specs.declared.lent.Lent.{Lent}
 use Rattle.manifest_loading.specs.Lending.{view_in, lent_sees, AreLent}
 use Rattle.manifest_loading.specs.Joining.{lists, asks, IsAskedFor}
-use Rattle.manifest_loading.proofs.LendSteps.{or_false}
 
 module _ (ns : Table) (q : Request) (t : Store) where
   -- a trie that is lent for the entity names the ancestor
@@ -100,8 +100,8 @@ module _ (ns : Table) (q : Request) (t : Store) where
         here same h = λ i. (subst (λ z. uid_eq e.0 z ≡ true) same (uid_self e.0)) i && h i
 
         back : (asks rs x y ≡ true) ⊎ AreNaming (e ∷ more) x y → (asks now x y ≡ true) ⊎ AreNaming more x y
-        back (inl i) = inl (is_asks ∙ or_true (asks rs x y) (uid_eq e.0 x && lists ids y) i)
-        back (inr (inl i)) = inl (is_asks ∙ or_right (asks rs x y) (uid_eq e.0 x && lists ids y) (here i.0 ((named y).1 i.1)))
+        back (inl i) = inl (is_asks ∙ or_left_true (asks rs x y) (uid_eq e.0 x && lists ids y) i)
+        back (inr (inl i)) = inl (is_asks ∙ or_right_true (asks rs x y) (uid_eq e.0 x && lists ids y) (here i.0 ((named y).1 i.1)))
         back (inr (inr i)) = inr i
 
         from : IsAskedFor ns q ps t x y → (asks now x y ≡ true) ⊎ AreNaming more x y

@@ -22,9 +22,10 @@ use Rattle.access_tries.specs.Views.{whole}
 use Rattle.reads_spec.specs.Paths.{Step, any_tag, Chain, steps_of, Demand, beyond}
 use Rattle.reads_spec.specs.Restrict.{Keep, cut, cut_fields, cut_entity, part, is_id, names_id, reach, kept_steps, kept_chain, kept_tag, by_paths, kept_ancestor, needed}
 use Rattle.reads_spec.proofs.Cuts.{entity_at-part, above-part}
-use Rattle.reads_spec.proofs.Lists.{IsIn, any_in, or_true, or_right, uid_self}
+use Rattle.reads_spec.proofs.Lists.{IsIn, any_in, uid_self}
+use Rattle.plain_lemmas.proofs.Booleans.{equal_by_both_ways, or_left_true, or_right_true}
 use Rattle.reads_spec.proofs.Order.{cases, part_twice}
-use Rattle.reads_spec.proofs.Words.{any_out, id_of, kept_means, same_tests}
+use Rattle.reads_spec.proofs.Words.{any_out, id_of, kept_means}
 use Rattle.store_slices.specs.Tries.{IsTrieOf}
 use Rattle.trie_traversal.specs.Wants.{sees, wants}
 use Rattle.trie_traversal.specs.declared.place.Place.{Place}
@@ -154,7 +155,7 @@ module _ (exact : Bool) (ns : Table) (q : Request) (s : Store) (asked : List Pla
   from_reached x cs r = (kept_means reads q s x cs).1 (record { path = r.path; reached = r.reached; read = (fit.paths (beyond r.path cs)).0 (ap (sees false (whole ns)) (behind_path r.path cs) ∙ r.passes) })
 
   wanted_reached : (b : Bool) (x : EntityUID) (a : Address) → wants b ns asked x a ≡ true → IsReached b ns q s x a
-  wanted_reached b x a h = st.sound.reached b x a (or_true (wants b ns asked x a) (wants b ns [] x a) h)
+  wanted_reached b x a h = st.sound.reached b x a (or_left_true (wants b ns asked x a) (wants b ns [] x a) h)
 
   chains : (x : EntityUID) (c : Chain) → kept_chain reads q s x c ≡ true → k.chains x c ≡ true
   chains x c h = st.part.chains x c (asked_reached ns q s asked st.complete false x (along c) (to_reached x (steps_of c) h))
@@ -232,13 +233,13 @@ module _ (exact : Bool) (ns : Table) (q : Request) (s : Store) (asked : List Pla
   found_part = record { chains = k.chains; ancestors = λ x y. above (new x) y || n.ancestors x y; tags = λ x. with_key (k.tags x) }
 
   new_above : (x y : EntityUID) → k.chains x [] ≡ true → above (new x) y ≡ above (entity_at (part found_part s) x) y
-  new_above x y h = same_tests (above (new x) y) (above (entity_at (part found_part s) x) y) to from ∙ refl
+  new_above x y h = equal_by_both_ways (above (new x) y) (above (entity_at (part found_part s) x) y) to from ∙ refl
     where
       is_above : above (entity_at (part found_part s) x) y ≡ ((k.chains x [] && (above (new x) y || n.ancestors x y)) && above (entity_at s x) y)
       is_above = above-part found_part s x y
 
       to : above (new x) y ≡ true → above (entity_at (part found_part s) x) y ≡ true
-      to i = is_above ∙ and_from (k.chains x [] && (above (new x) y || n.ancestors x y)) (above (entity_at s x) y) (and_from (k.chains x []) (above (new x) y || n.ancestors x y) h (or_true (above (new x) y) (n.ancestors x y) i)) (above_given x y i)
+      to i = is_above ∙ and_from (k.chains x [] && (above (new x) y || n.ancestors x y)) (above (entity_at s x) y) (and_from (k.chains x []) (above (new x) y || n.ancestors x y) h (or_left_true (above (new x) y) (n.ancestors x y) i)) (above_given x y i)
 
       from : above (entity_at (part found_part s) x) y ≡ true → above (new x) y ≡ true
       from i =
@@ -280,21 +281,21 @@ module _ (exact : Bool) (ns : Table) (q : Request) (s : Store) (asked : List Pla
 
     same_tags : exact ≡ true → (x : EntityUID) (c : Chain) → found_part.tags x c ≡ n.tags x c
     same_tags e x [] = refl
-    same_tags e x (m ∷ c) = same_tests (k.tags x (m ∷ c)) (kept_tag reads q s x (m ∷ c)) (only_tags e x m c) (tags x m c)
+    same_tags e x (m ∷ c) = equal_by_both_ways (k.tags x (m ∷ c)) (kept_tag reads q s x (m ∷ c)) (only_tags e x m c) (tags x m c)
 
     same_ancestors : exact ≡ true → (x y : EntityUID) → found_part.ancestors x y ≡ n.ancestors x y
-    same_ancestors e x y = same_tests (above (new x) y || n.ancestors x y) (n.ancestors x y) (λ h. elim (or_cases (above (new x) y) (n.ancestors x y) h) [ inl i ↦ above_only e x y i | inr i ↦ i ]) (or_right (above (new x) y) (n.ancestors x y))
+    same_ancestors e x y = equal_by_both_ways (above (new x) y || n.ancestors x y) (n.ancestors x y) (λ h. elim (or_cases (above (new x) y) (n.ancestors x y) h) [ inl i ↦ above_only e x y i | inr i ↦ i ]) (or_right_true (above (new x) y) (n.ancestors x y))
 
     same_keep : exact ≡ true → found_part ≡ n
     same_keep e i = record {
-      chains = λ x c. same_tests (k.chains x c) (kept_chain reads q s x c) (only_chains e x c) (chains x c) i;
+      chains = λ x c. equal_by_both_ways (k.chains x c) (kept_chain reads q s x c) (only_chains e x c) (chains x c) i;
       ancestors = λ x y. same_ancestors e x y i;
       tags = λ x c. same_tags e x c i;
     }
 
     pub loaded_between : IsBetween exact reads demands q s found
     loaded_between = record {
-      enough = (n, sym (part_twice n found_part s chains (λ x y. or_right (above (new x) y) (n.ancestors x y)) less_tags) ∙ ap (part n) (sym is_part));
+      enough = (n, sym (part_twice n found_part s chains (λ x y. or_right_true (above (new x) y) (n.ancestors x y)) less_tags) ∙ ap (part n) (sym is_part));
       part = (found_part, is_part);
       exactly = λ e. is_part ∙ ap (λ z. part z s) (same_keep e);
     }

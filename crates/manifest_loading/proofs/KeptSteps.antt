@@ -15,11 +15,13 @@ use Rattle.reads_spec.specs.Merge.{merge_entities, IsEntityOrdered}
 use Rattle.reads_spec.specs.Paths.{Chain}
 use Rattle.reads_spec.specs.Restrict.{Keep, cut, cut_fields, cut_entity}
 use Rattle.reads_spec.proofs.Cuts.{uid_at}
-use Rattle.reads_spec.proofs.Lists.{IsIn, or_true, or_right, any_in}
+use Rattle.reads_spec.proofs.Lists.{IsIn, any_in}
+use Rattle.plain_lemmas.proofs.Booleans.{false_of_not_true, or_false, or_left_true, or_right_true}
 use Rattle.reads_spec.proofs.Words.{any_out}
 use Rattle.trie_traversal.specs.Places.{node_of}
 use Rattle.manifest_loading.specs.Ordered.{HasOrder}
-use Rattle.manifest_loading.proofs.ReachSteps.{any_more, front_leads}
+use Rattle.manifest_loading.proofs.ReachSteps.{front_leads}
+use Rattle.plain_lemmas.proofs.Lists.{any_weaker, is_some_within}
 use Rattle.reads_spec.proofs.Merging.{merge_entities-cut}
 use Rattle.reads_spec.proofs.Order.{IsClosed, cases, cut_fields-same, either_keep, IsWellFormed}
 use Rattle.trie_traversal.specs.Wants.{sees, wants}
@@ -133,20 +135,12 @@ same_cut k l d f g h = λ i. record {
   tags = cut_fields-same d.tags (k.tags d.uid) (l.tags d.uid) h i;
 }
 
-or_false : (a : Bool) → (a || false) ≡ a
-or_false true = refl
-or_false false = refl
-
-none_true : (b : Bool) → (b ≡ true → ⊥) → b ≡ false
-none_true true h = absurd (h refl)
-none_true false h = refl
-
 -- ---- an answer that is merged with what is kept
 
 module _ (x : EntityUID) (k p j : Keep) (w : IsWellFormed k) (wp : IsWellFormed p) (full : p.chains x [] ≡ true)
     (jc : (c : Chain) → j.chains x c ≡ (k.chains x c || p.chains x c)) (ja : (y : EntityUID) → j.ancestors x y ≡ (k.ancestors x y || p.ancestors x y)) (jt : (c : Chain) → j.tags x c ≡ (k.tags x c || p.tags x c)) where
   j_full : j.chains x [] ≡ true
-  j_full = jc [] ∙ or_right (k.chains x []) (p.chains x []) full
+  j_full = jc [] ∙ or_right_true (k.chains x []) (p.chains x []) full
 
   both_cut : (d : StoredEntity) → d.uid ≡ x → cut_entity (either_keep k p) d ≡ cut_entity j d
   both_cut d is = same_cut (either_keep k p) j d
@@ -156,9 +150,9 @@ module _ (x : EntityUID) (k p j : Keep) (w : IsWellFormed k) (wp : IsWellFormed 
 
   alone_cut : k.chains x [] ≡ false → (d : StoredEntity) → d.uid ≡ x → cut_entity p d ≡ cut_entity j d
   alone_cut gone d is = same_cut p j d
-      (λ c. subst (λ z. p.chains z c ≡ j.chains z c) (sym is) (sym (jc c ∙ ap (λ b. b || p.chains x c) (none_true (k.chains x c) (λ h. false≢true (sym gone ∙ w.of_chains x c h))))))
-      (λ y. subst (λ z. p.ancestors z y ≡ j.ancestors z y) (sym is) (sym (ja y ∙ ap (λ b. b || p.ancestors x y) (none_true (k.ancestors x y) (λ h. false≢true (sym gone ∙ w.of_ancestors x y h))))))
-      (λ c. subst (λ z. p.tags z c ≡ j.tags z c) (sym is) (sym (jt c ∙ ap (λ b. b || p.tags x c) (none_true (k.tags x c) (λ h. false≢true (sym gone ∙ w.of_tags x c h))))))
+      (λ c. subst (λ z. p.chains z c ≡ j.chains z c) (sym is) (sym (jc c ∙ ap (λ b. b || p.chains x c) (false_of_not_true (k.chains x c) (λ h. false≢true (sym gone ∙ w.of_chains x c h))))))
+      (λ y. subst (λ z. p.ancestors z y ≡ j.ancestors z y) (sym is) (sym (ja y ∙ ap (λ b. b || p.ancestors x y) (false_of_not_true (k.ancestors x y) (λ h. false≢true (sym gone ∙ w.of_ancestors x y h))))))
+      (λ c. subst (λ z. p.tags z c ≡ j.tags z c) (sym is) (sym (jt c ∙ ap (λ b. b || p.tags x c) (false_of_not_true (k.tags x c) (λ h. false≢true (sym gone ∙ w.of_tags x c h))))))
 
   pub merged_at : (o : Option StoredEntity) → ((d : StoredEntity) → o ≡ Some d → (d.uid ≡ x) × IsEntityOrdered d) → kept_and (left k x o) (option_map (cut_entity p) o) ≡ left j x o
   merged_at None f = by (cases (k.chains x []))
@@ -184,28 +178,23 @@ abbrev nothing : Extra
 nothing = record { chains = λ c. false; tags = λ c. false; ancestors = λ y. false }
 
 any_asked : (ns : Table) (ps : List Place) (x : EntityUID) (a : Address) → wants false ns ps x a ≡ true → list_any (λ p. uid_eq p.uid x) ps ≡ true
-any_asked ns ps x a h = any_more (λ p. uid_eq p.uid x && sees false (node_of ns p) a) (λ p. uid_eq p.uid x) ps (λ p g. (and_parts (uid_eq p.uid x) (sees false (node_of ns p) a) g).0) h
+any_asked ns ps x a h = any_weaker (λ p. uid_eq p.uid x && sees false (node_of ns p) a) (λ p. uid_eq p.uid x) ps (λ p g. (and_parts (uid_eq p.uid x) (sees false (node_of ns p) a) g).0) h
 
 -- a front of what is asked for is asked for
 wants_front : (ns : Table) (ps : List Place) (x : EntityUID) (es a : Address) → wants false ns ps x (es ++ a) ≡ true → wants false ns ps x es ≡ true
 wants_front ns ps x es a h =
-    any_more (λ p. uid_eq p.uid x && sees false (node_of ns p) (es ++ a)) (λ p. uid_eq p.uid x && sees false (node_of ns p) es) ps
+    any_weaker (λ p. uid_eq p.uid x && sees false (node_of ns p) (es ++ a)) (λ p. uid_eq p.uid x && sees false (node_of ns p) es) ps
     (λ p g. let b = and_parts (uid_eq p.uid x) (sees false (node_of ns p) (es ++ a)) g in and_from (uid_eq p.uid x) (sees false (node_of ns p) es) b.0 (front_leads false ns p.number es a b.1)) h
 
 along_append : (c rest : Chain) → along (c ++ rest) ≡ along c ++ along rest
 along_append [] rest = refl
 along_append (n ∷ c) rest = ap (λ es. Field n ∷ es) (along_append c rest)
 
-inside : {X : Type 0} (xs : List X) (i : ℕ) → i < length xs → is_some (slice_get xs i) ≡ true
-inside [] i h = absurd (omega (arith, h))
-inside (x ∷ xs) zero h = refl
-inside (x ∷ xs) (suc i) h = inside xs i (omega (arith, h))
-
 -- a place that is there asks for the entity itself
 asked_itself : (ns : Table) (ps : List Place) (x : EntityUID) → ((q : Place) → IsIn q ps → q.number < length ns) → list_any (λ p. uid_eq p.uid x) ps ≡ true → wants false ns ps x [] ≡ true
 asked_itself ns ps x there h =
     let r = any_out (λ p. uid_eq p.uid x) ps h in
-    any_in (λ p. uid_eq p.uid x && sees false (node_of ns p) []) r.0 ps r.1 (and_from (uid_eq r.0.uid x) (sees false (node_of ns r.0) []) r.2 (inside ns r.0.number (there r.0 r.1)))
+    any_in (λ p. uid_eq p.uid x && sees false (node_of ns p) []) r.0 ps r.1 (and_from (uid_eq r.0.uid x) (sees false (node_of ns r.0) []) r.2 (is_some_within ns r.0.number (there r.0 r.1)))
 
 -- an entity of the store has the id by which it is found, and is in order
 entity_known : (s : Store) → HasOrder s → (x : EntityUID) (d : StoredEntity) → entity_at s x ≡ Some d → (d.uid ≡ x) × IsEntityOrdered d
@@ -337,13 +326,13 @@ module _ (exact : Bool) (s : Store) (ns : Table) (ps : List Place) (found : Foun
     is_asked x = list_any (λ p. uid_eq p.uid x) ps
 
     joined_full : (x : EntityUID) → is_asked x ≡ true → joined.chains x [] ≡ true
-    joined_full x h = or_right (k.choice.chains x []) ((extra x).chains []) (full_at x (is_asked x) refl h)
+    joined_full x h = or_right_true (k.choice.chains x []) ((extra x).chains []) (full_at x (is_asked x) refl h)
 
     either_closed : (f g : Chain → Bool) → IsClosed f → IsClosed g → IsClosed (λ c. f c || g c)
     either_closed f g a b = record {
       first = λ m c rest h. elim (or_cases (f (m ∷ (c ++ rest))) (g (m ∷ (c ++ rest))) h) [
-        | inl i ↦ or_true (f (m ∷ c)) (g (m ∷ c)) (a.first m c rest i)
-        | inr i ↦ or_right (f (m ∷ c)) (g (m ∷ c)) (b.first m c rest i)
+        | inl i ↦ or_left_true (f (m ∷ c)) (g (m ∷ c)) (a.first m c rest i)
+        | inr i ↦ or_right_true (f (m ∷ c)) (g (m ∷ c)) (b.first m c rest i)
       ];
     }
 
@@ -352,15 +341,15 @@ module _ (exact : Bool) (s : Store) (ns : Table) (ps : List Place) (found : Foun
       chains = λ x. either_closed (k.choice.chains x) (extra x).chains (k.formed.chains x) (closed_chains x (is_asked x) refl);
       tags = λ x. either_closed (k.choice.tags x) (extra x).tags (k.formed.tags x) (closed_tags x (is_asked x) refl);
       of_chains = λ x c h. elim (or_cases (k.choice.chains x c) ((extra x).chains c) h) [
-        | inl i ↦ or_true (k.choice.chains x []) ((extra x).chains []) (k.formed.of_chains x c i)
+        | inl i ↦ or_left_true (k.choice.chains x []) ((extra x).chains []) (k.formed.of_chains x c i)
         | inr i ↦ joined_full x (chosen_chain x (is_asked x) refl c i)
       ];
       of_tags = λ x c h. elim (or_cases (k.choice.tags x c) ((extra x).tags c) h) [
-        | inl i ↦ or_true (k.choice.chains x []) ((extra x).chains []) (k.formed.of_tags x c i)
+        | inl i ↦ or_left_true (k.choice.chains x []) ((extra x).chains []) (k.formed.of_tags x c i)
         | inr i ↦ joined_full x (chosen_tag x (is_asked x) refl c i)
       ];
       of_ancestors = λ x y h. elim (or_cases (k.choice.ancestors x y) ((extra x).ancestors y) h) [
-        | inl i ↦ or_true (k.choice.chains x []) ((extra x).chains []) (k.formed.of_ancestors x y i)
+        | inl i ↦ or_left_true (k.choice.chains x []) ((extra x).chains []) (k.formed.of_ancestors x y i)
         | inr i ↦ joined_full x (chosen_ancestor x (is_asked x) refl y i)
       ];
     }
@@ -401,20 +390,20 @@ module _ (exact : Bool) (s : Store) (ns : Table) (ps : List Place) (found : Foun
       formed = joined_formed;
       is = λ x. kept x ∙ joined_is x;
       chains = λ x c h. elim (or_cases (wants false ns before x (along c)) (wants false ns ps x (along c)) (sym (noted false x (along c)) ∙ h)) [
-        | inl i ↦ or_true (k.choice.chains x c) ((extra x).chains c) (k.chains x c i)
-        | inr i ↦ or_right (k.choice.chains x c) ((extra x).chains c) (enough_chains x (is_asked x) refl (any_asked ns ps x (along c) i) c i)
+        | inl i ↦ or_left_true (k.choice.chains x c) ((extra x).chains c) (k.chains x c i)
+        | inr i ↦ or_right_true (k.choice.chains x c) ((extra x).chains c) (enough_chains x (is_asked x) refl (any_asked ns ps x (along c) i) c i)
       ];
       tags = λ x n c h. elim (or_cases (wants false ns before x (AnyTag ∷ along c)) (wants false ns ps x (AnyTag ∷ along c)) (sym (noted false x (AnyTag ∷ along c)) ∙ h)) [
-        | inl i ↦ or_true (k.choice.tags x (n ∷ c)) ((extra x).tags (n ∷ c)) (k.tags x n c i)
-        | inr i ↦ or_right (k.choice.tags x (n ∷ c)) ((extra x).tags (n ∷ c)) (enough_tags x (is_asked x) refl (any_asked ns ps x (AnyTag ∷ along c) i) n c i)
+        | inl i ↦ or_left_true (k.choice.tags x (n ∷ c)) ((extra x).tags (n ∷ c)) (k.tags x n c i)
+        | inr i ↦ or_right_true (k.choice.tags x (n ∷ c)) ((extra x).tags (n ∷ c)) (enough_tags x (is_asked x) refl (any_asked ns ps x (AnyTag ∷ along c) i) n c i)
       ];
       only_chains = λ f x c h. noted false x (along c) ∙ elim (or_cases (k.choice.chains x c) ((extra x).chains c) h) [
-        | inl i ↦ or_true (wants false ns before x (along c)) (wants false ns ps x (along c)) (k.only_chains f x c i)
-        | inr i ↦ or_right (wants false ns before x (along c)) (wants false ns ps x (along c)) (only_chains_at f x (is_asked x) refl c i)
+        | inl i ↦ or_left_true (wants false ns before x (along c)) (wants false ns ps x (along c)) (k.only_chains f x c i)
+        | inr i ↦ or_right_true (wants false ns before x (along c)) (wants false ns ps x (along c)) (only_chains_at f x (is_asked x) refl c i)
       ];
       only_tags = λ f x n c h. noted false x (AnyTag ∷ along c) ∙ elim (or_cases (k.choice.tags x (n ∷ c)) ((extra x).tags (n ∷ c)) h) [
-        | inl i ↦ or_true (wants false ns before x (AnyTag ∷ along c)) (wants false ns ps x (AnyTag ∷ along c)) (k.only_tags f x n c i)
-        | inr i ↦ or_right (wants false ns before x (AnyTag ∷ along c)) (wants false ns ps x (AnyTag ∷ along c)) (only_tags_at f x (is_asked x) refl n c i)
+        | inl i ↦ or_left_true (wants false ns before x (AnyTag ∷ along c)) (wants false ns ps x (AnyTag ∷ along c)) (k.only_tags f x n c i)
+        | inr i ↦ or_right_true (wants false ns before x (AnyTag ∷ along c)) (wants false ns ps x (AnyTag ∷ along c)) (only_tags_at f x (is_asked x) refl n c i)
       ];
       bare = λ f x y. (λ i. k.bare f x y i || bare_at f x (is_asked x) refl y i);
     }

@@ -9,7 +9,8 @@ use Rattle.policy_names.specs.Uid.{uid_cmp, uid_eq}
 use Rattle.access_tries.specs.Edges.{Address}
 use Rattle.access_tries.specs.Table.{Table}
 use Rattle.access_tries.specs.Views.{ViewData, whole, IsWith}
-use Rattle.reads_spec.proofs.Lists.{same_uid, or_right}
+use Rattle.reads_spec.proofs.Lists.{same_uid}
+use Rattle.plain_lemmas.proofs.Booleans.{or_assoc, or_false, or_right_true}
 use Rattle.trie_traversal.specs.declared.place.Place.{Place}
 use Rattle.trie_traversal.specs.Places.{node_of}
 use Rattle.trie_traversal.specs.Wants.{sees, wants}
@@ -17,14 +18,6 @@ use Rattle.entity_loader.specs.declared.loader.EntityRequest.{EntityRequest}
 use Rattle.manifest_loading.specs.declared.lent.Lent.{Lent}
 use Rattle.manifest_loading.specs.declared.lent.Lent.TheVariants.{One, Many}
 use Rattle.manifest_loading.specs.Lending.{lent_sees, AreLent, Lends, IsUnited, request_of}
-
-pub or_false : (a : Bool) → (a || false) ≡ a
-or_false true = refl
-or_false false = refl
-
-pub or_assoc : (a b c : Bool) → ((a || b) || c) ≡ (a || (b || c))
-or_assoc true b c = refl
-or_assoc false b c = refl
 
 -- ---- one place more
 
@@ -42,7 +35,7 @@ module _ (ns : Table) (p : Place) (old mid new : BTreeMap EntityUID Lent) (known
       one b x a false is = ap (λ o. lent_sees b ns o a) (now x false is) ∙ sym (or_false (lent_sees b ns (get uid_cmp old x) a))
 
       there : (x : EntityUID) (e : Bool) → uid_eq p.uid x ≡ e → is_some (get uid_cmp new x) ≡ (is_some (get uid_cmp old x) || e)
-      there x true is = ap is_some (now x true is) ∙ sym (or_right (is_some (get uid_cmp old x)) true refl)
+      there x true is = ap is_some (now x true is) ∙ sym (or_right_true (is_some (get uid_cmp old x)) true refl)
       there x false is = ap is_some (now x false is) ∙ sym (or_false (is_some (get uid_cmp old x)))
 
 -- ---- all places

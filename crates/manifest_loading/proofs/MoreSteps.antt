@@ -16,13 +16,13 @@ use Rattle.policy_names.specs.declared.entity_uid.EntityUID.{EntityUID}
 use Rattle.policy_names.specs.Uid.{uid_cmp, uid_eq, uid_cmp_total}
 use Rattle.policy_core.specs.Operators.{above}
 use Rattle.entity_store.specs.Store.{StoredEntity, Store}
-use Rattle.reads_spec.proofs.Lists.{same_uid, or_true, or_right}
+use Rattle.reads_spec.proofs.Lists.{same_uid}
+use Rattle.plain_lemmas.proofs.Booleans.{or_false, or_left_true, or_of_cond, or_right_true}
 use Rattle.entity_loader.specs.Answers.{HasAncestor, IsHonestList}
 use Rattle.entity_loader.specs.declared.loader.AncestorsRequest.{AncestorsRequest}
 use Rattle.manifest_loading.specs.Joining.{lists, asks, brings, AreAscending, HasMore, IsJoined}
 use Rattle.manifest_loading.specs.KeptPart.{bare, AreAlike}
 use Rattle.manifest_loading.specs.Keeping.{Found}
-use Rattle.manifest_loading.proofs.LendSteps.{or_false}
 use Rattle.manifest_loading.proofs.StoreSteps.{turned}
 
 nothing_more : (a b : Bool) → (a || (b && false)) ≡ a
@@ -67,15 +67,10 @@ more_none old u ids none = record { each = λ x y. by x y (uid_eq u x) refl; asc
 
 -- ---- ids one after another
 
-placed : (b c m : Bool) → (cond b true c || m) ≡ (c || (b || m))
-placed true true m = refl
-placed true false m = refl
-placed false c m = refl
-
 module _ (ids : BTreeSet EntityUID) (rest : List EntityUID) (P : EntityUID → Bool) (t : (y : EntityUID) → (contains uid_cmp ids y || lists rest y) ≡ P y) where
   pub tests_next : (new : BTreeSet EntityUID) (id : EntityUID) (more : List EntityUID) → rest ≡ id ∷ more → ((q : EntityUID) → contains uid_cmp new q ≡ cond (uid_eq id q) true (contains uid_cmp ids q)) → (y : EntityUID) → (contains uid_cmp new y || lists more y) ≡ P y
   tests_next new id more s put y =
-      ap (λ b. b || lists more y) (put y ∙ ap (λ b. cond b true (contains uid_cmp ids y)) (turned id y)) ∙ placed (uid_eq y id) (contains uid_cmp ids y) (lists more y)
+      ap (λ b. b || lists more y) (put y ∙ ap (λ b. cond b true (contains uid_cmp ids y)) (turned id y)) ∙ or_of_cond (uid_eq y id) (contains uid_cmp ids y) (lists more y)
       ∙ sym (ap (λ xs. contains uid_cmp ids y || lists xs y) s) ∙ t y
 
   pub tests_done : rest ≡ [] → (y : EntityUID) → contains uid_cmp ids y ≡ P y
@@ -140,9 +135,9 @@ module _ (exact : Bool) (s : Store) where
   brought_enough (r ∷ rs) (l ∷ ls) x y a has h = elim (or_cases (uid_eq r.entity_id x && lists r.ancestors.items y) (asks rs x y) h) [
     | inl i ↦
         let p = and_parts (uid_eq r.entity_id x) (lists r.ancestors.items y) i in
-        or_true (uid_eq r.entity_id x && lists l.items y) (brings rs ls x y)
+        or_left_true (uid_eq r.entity_id x && lists l.items y) (brings rs ls x y)
         (and_from (uid_eq r.entity_id x) (lists l.items y) p.0 (from_has l.items y (a.0.enough y (has_from r.ancestors.items y p.1) (subst (λ z. HasAncestor s z y) (sym (same_uid r.entity_id x p.0)) has))))
-    | inr i ↦ or_right (uid_eq r.entity_id x && lists l.items y) (brings rs ls x y) (brought_enough rs ls x y a.1 has i)
+    | inr i ↦ or_right_true (uid_eq r.entity_id x && lists l.items y) (brings rs ls x y) (brought_enough rs ls x y a.1 has i)
   ]
 
   brought_only : exact ≡ true → (rs : List AncestorsRequest) (ls : List (Vec EntityUID Global)) (x y : EntityUID) → AllZip (IsHonestList exact s) rs ls → brings rs ls x y ≡ true → asks rs x y ≡ true
@@ -151,14 +146,14 @@ module _ (exact : Bool) (s : Store) where
   brought_only e (r ∷ rs) (l ∷ ls) x y a h = elim (or_cases (uid_eq r.entity_id x && lists l.items y) (brings rs ls x y) h) [
     | inl i ↦
         let p = and_parts (uid_eq r.entity_id x) (lists l.items y) i in
-        or_true (uid_eq r.entity_id x && lists r.ancestors.items y) (asks rs x y) (and_from (uid_eq r.entity_id x) (lists r.ancestors.items y) p.0 (from_has r.ancestors.items y (a.0.exactly e y (has_from l.items y p.1))))
-    | inr i ↦ or_right (uid_eq r.entity_id x && lists r.ancestors.items y) (asks rs x y) (brought_only e rs ls x y a.1 i)
+        or_left_true (uid_eq r.entity_id x && lists r.ancestors.items y) (asks rs x y) (and_from (uid_eq r.entity_id x) (lists r.ancestors.items y) p.0 (from_has r.ancestors.items y (a.0.exactly e y (has_from l.items y p.1))))
+    | inr i ↦ or_right_true (uid_eq r.entity_id x && lists r.ancestors.items y) (asks rs x y) (brought_only e rs ls x y a.1 i)
   ]
 
   module _ (P : EntityUID → EntityUID → Type 0) (rs : List AncestorsRequest) (asked : (x y : EntityUID) → (asks rs x y ≡ true) ↔ P x y) (old : Found) where
     pub joined : (ls : List (Vec EntityUID Global)) (new : Found) → AllZip (IsHonestList exact s) rs ls → HasMore (brings rs ls) old new → IsJoined exact s P old new
     joined ls new a m = record {
-      enough = λ x y there p has. m.each x y ∙ or_right (above (old x) y) (is_some (old x) && brings rs ls x y) (and_from (is_some (old x)) (brings rs ls x y) there (brought_enough rs ls x y a has ((asked x y).1 p)));
+      enough = λ x y there p has. m.each x y ∙ or_right_true (above (old x) y) (is_some (old x) && brings rs ls x y) (and_from (is_some (old x)) (brings rs ls x y) there (brought_enough rs ls x y a has ((asked x y).1 p)));
       given = λ x y h. elim (or_cases (above (old x) y) (is_some (old x) && brings rs ls x y) (sym (m.each x y) ∙ h)) [
         | inl i ↦ inl i
         | inr i ↦ inr (brought_given rs ls x y a (and_parts (is_some (old x)) (brings rs ls x y) i).1)

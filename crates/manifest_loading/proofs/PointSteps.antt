@@ -13,32 +13,18 @@ use Rattle.access_tries.specs.Edges.{Address}
 use Rattle.access_tries.specs.Paths.{edge_of}
 use Rattle.reads_spec.specs.Paths.{Chain, steps_of}
 use Rattle.reads_spec.specs.Restrict.{cut, cut_fields, values_in}
-use Rattle.reads_spec.proofs.Lists.{or_true, or_right, same_text}
+use Rattle.reads_spec.proofs.Lists.{same_text}
+use Rattle.plain_lemmas.proofs.Booleans.{and_over_or, or_exchange, or_left_true, or_right_true, or_weaker}
 use Rattle.reads_spec.proofs.Order.{cases}
 use Rattle.trie_traversal.proofs.PointSteps.{fields_point_none, any_point_none}
 use Rattle.trie_traversal.specs.Wants.{Test, points, fields_point, entity_points}
-
-and_or : (c a b : Bool) → (c && (a || b)) ≡ ((c && a) || (c && b))
-and_or true a b = refl
-and_or false a b = refl
-
-or_four : (a b c d : Bool) → ((a || b) || (c || d)) ≡ ((a || c) || (b || d))
-or_four true b true d = refl
-or_four true b false d = refl
-or_four false true true d = refl
-or_four false true false d = refl
-or_four false false c d = refl
-
-or_both : (a b c d : Bool) → (a ≡ true → c ≡ true) → (b ≡ true → d ≡ true) → (a || b) ≡ true → (c || d) ≡ true
-or_both true b c d f g h = or_true c d (f refl)
-or_both false b c d f g h = or_right c d (g h)
 
 -- ---- either test
 
 module _ (x : EntityUID) (a : Address) where
   mutual
     pub points_or : (v : Val) (t u : Test) → points v (λ b. t b || u b) x a ≡ (points v t x a || points v u x a)
-    points_or (entity y) t u = and_or (uid_eq y x) (t a) (u a)
+    points_or (entity y) t u = and_over_or (uid_eq y x) (t a) (u a)
     points_or (rec fs) t u = fields_or fs t u
     points_or (truth b) t u = refl
     points_or (long b) t u = refl
@@ -53,17 +39,17 @@ module _ (x : EntityUID) (a : Address) where
     fields_or no_fields t u = refl
     fields_or (field n v fs) t u =
         (λ i. points_or v (λ b. t (Field n ∷ b)) (λ b. u (Field n ∷ b)) i || fields_or fs t u i)
-        ∙ or_four (points v (λ b. t (Field n ∷ b)) x a) (points v (λ b. u (Field n ∷ b)) x a) (fields_point fs t x a) (fields_point fs u x a)
+        ∙ or_exchange (points v (λ b. t (Field n ∷ b)) x a) (points v (λ b. u (Field n ∷ b)) x a) (fields_point fs t x a) (fields_point fs u x a)
 
   any_or : (vs : List Val) (t u : Test) → list_any (λ v. points v (λ b. t b || u b) x a) vs ≡ (list_any (λ v. points v t x a) vs || list_any (λ v. points v u x a) vs)
   any_or [] t u = refl
   any_or (v ∷ vs) t u =
-      (λ i. points_or v t u i || any_or vs t u i) ∙ or_four (points v t x a) (points v u x a) (list_any (λ w. points w t x a) vs) (list_any (λ w. points w u x a) vs)
+      (λ i. points_or v t u i || any_or vs t u i) ∙ or_exchange (points v t x a) (points v u x a) (list_any (λ w. points w t x a) vs) (list_any (λ w. points w u x a) vs)
 
   pub entity_or : (e : StoredEntity) (t u : Test) → entity_points e (λ b. t b || u b) x a ≡ (entity_points e t x a || entity_points e u x a)
   entity_or e t u =
       (λ i. fields_or e.attrs t u i || any_or (values_in e.tags) (λ b. t (AnyTag ∷ b)) (λ b. u (AnyTag ∷ b)) i)
-      ∙ or_four (fields_point e.attrs t x a) (fields_point e.attrs u x a) (list_any (λ v. points v (λ b. t (AnyTag ∷ b)) x a) (values_in e.tags)) (list_any (λ v. points v (λ b. u (AnyTag ∷ b)) x a) (values_in e.tags))
+      ∙ or_exchange (fields_point e.attrs t x a) (fields_point e.attrs u x a) (list_any (λ v. points v (λ b. t (AnyTag ∷ b)) x a) (values_in e.tags)) (list_any (λ v. points v (λ b. u (AnyTag ∷ b)) x a) (values_in e.tags))
 
   entity_none : (e : StoredEntity) → entity_points e (λ b. false) x a ≡ false
   entity_none e = (λ i. fields_point_none e.attrs x a i || any_point_none (values_in e.tags) x a i)
@@ -97,7 +83,7 @@ module _ (x : EntityUID) (a : Address) where
     pub fields_more : (fs : Fields) (t u : Test) → ((b : Address) → t b ≡ true → u b ≡ true) → fields_point fs t x a ≡ true → fields_point fs u x a ≡ true
     fields_more no_fields t u f h = h
     fields_more (field n v fs) t u f h =
-        or_both (points v (λ b. t (Field n ∷ b)) x a) (fields_point fs t x a) (points v (λ b. u (Field n ∷ b)) x a) (fields_point fs u x a)
+        or_weaker (points v (λ b. t (Field n ∷ b)) x a) (fields_point fs t x a) (points v (λ b. u (Field n ∷ b)) x a) (fields_point fs u x a)
         (points_more v (λ b. t (Field n ∷ b)) (λ b. u (Field n ∷ b)) (λ b. f (Field n ∷ b))) (fields_more fs t u f) h
 
   -- a value leads on only where some address passes
@@ -148,8 +134,8 @@ module _ (x : EntityUID) (a : Address) where
         by : (k (n ∷ []) ≡ true) ⊎ (k (n ∷ []) ≡ false) → (points v (λ b. t (Field n ∷ b)) x a ≡ true) ⊎ (fields_point fs t x a ≡ true)
             → (points v (λ b. t (Field n ∷ b)) x a ≡ true → points (cut v (λ c. k (n ∷ c))) (λ b. t (Field n ∷ b)) x a ≡ true) → (fields_point fs t x a ≡ true → fields_point (cut_fields fs k) t x a ≡ true)
             → fields_point (cut_fields (field n v fs) k) t x a ≡ true
-        by (inl i) (inl j) f g = rw i (or_true (points (cut v (λ c. k (n ∷ c))) (λ b. t (Field n ∷ b)) x a) (fields_point (cut_fields fs k) t x a) (f j))
-        by (inl i) (inr j) f g = rw i (or_right (points (cut v (λ c. k (n ∷ c))) (λ b. t (Field n ∷ b)) x a) (fields_point (cut_fields fs k) t x a) (g j))
+        by (inl i) (inl j) f g = rw i (or_left_true (points (cut v (λ c. k (n ∷ c))) (λ b. t (Field n ∷ b)) x a) (fields_point (cut_fields fs k) t x a) (f j))
+        by (inl i) (inr j) f g = rw i (or_right_true (points (cut v (λ c. k (n ∷ c))) (λ b. t (Field n ∷ b)) x a) (fields_point (cut_fields fs k) t x a) (g j))
         by (inr i) (inl j) f g = let r = points_some v (λ b. t (Field n ∷ b)) j in absurd (false≢true (sym i ∙ e n [] r.0 r.1))
         by (inr i) (inr j) f g = rw i (g j)
 
@@ -162,8 +148,8 @@ module _ (x : EntityUID) (a : Address) where
       by : (k (n ∷ []) ≡ true) ⊎ (k (n ∷ []) ≡ false) → (points v t x a ≡ true) ⊎ (list_any (λ w. points w t x a) (values_in fs) ≡ true)
           → (points v t x a ≡ true → points (cut v (λ c. k (n ∷ c))) t x a ≡ true) → (list_any (λ w. points w t x a) (values_in fs) ≡ true → list_any (λ w. points w t x a) (values_in (cut_fields fs k)) ≡ true)
           → list_any (λ w. points w t x a) (values_in (cut_fields (field n v fs) k)) ≡ true
-      by (inl i) (inl j) f g = rw i (or_true (points (cut v (λ c. k (n ∷ c))) t x a) (list_any (λ w. points w t x a) (values_in (cut_fields fs k))) (f j))
-      by (inl i) (inr j) f g = rw i (or_right (points (cut v (λ c. k (n ∷ c))) t x a) (list_any (λ w. points w t x a) (values_in (cut_fields fs k))) (g j))
+      by (inl i) (inl j) f g = rw i (or_left_true (points (cut v (λ c. k (n ∷ c))) t x a) (list_any (λ w. points w t x a) (values_in (cut_fields fs k))) (f j))
+      by (inl i) (inr j) f g = rw i (or_right_true (points (cut v (λ c. k (n ∷ c))) t x a) (list_any (λ w. points w t x a) (values_in (cut_fields fs k))) (g j))
       by (inr i) (inl j) f g = let r = points_some v t j in absurd (false≢true (sym i ∙ e n [] r.0 r.1))
       by (inr i) (inr j) f g = rw i (g j)
 
@@ -188,8 +174,8 @@ module _ (x : EntityUID) (a : Address) where
         by : (b : Bool) → fields_point (if b then field n (cut v (λ c. k (n ∷ c))) (cut_fields fs k) else cut_fields fs k) t x a ≡ true
             → (points (cut v (λ c. k (n ∷ c))) (λ b. t (Field n ∷ b)) x a ≡ true → points v (λ b. t (Field n ∷ b)) x a ≡ true) → (fields_point (cut_fields fs k) t x a ≡ true → fields_point fs t x a ≡ true)
             → (points v (λ b. t (Field n ∷ b)) x a || fields_point fs t x a) ≡ true
-        by true g p q = or_both (points (cut v (λ c. k (n ∷ c))) (λ b. t (Field n ∷ b)) x a) (fields_point (cut_fields fs k) t x a) (points v (λ b. t (Field n ∷ b)) x a) (fields_point fs t x a) p q g
-        by false g p q = or_right (points v (λ b. t (Field n ∷ b)) x a) (fields_point fs t x a) (q g)
+        by true g p q = or_weaker (points (cut v (λ c. k (n ∷ c))) (λ b. t (Field n ∷ b)) x a) (fields_point (cut_fields fs k) t x a) (points v (λ b. t (Field n ∷ b)) x a) (fields_point fs t x a) p q g
+        by false g p q = or_right_true (points v (λ b. t (Field n ∷ b)) x a) (fields_point fs t x a) (q g)
 
   pub tags_cut : (fs : Fields) (k : Chain → Bool) (t : Test) → list_any (λ v. points v t x a) (values_in (cut_fields fs k)) ≡ true → list_any (λ v. points v t x a) (values_in fs) ≡ true
   tags_cut no_fields k t h = h
@@ -198,8 +184,8 @@ module _ (x : EntityUID) (a : Address) where
       by : (b : Bool) → list_any (λ w. points w t x a) (values_in (if b then field n (cut v (λ c. k (n ∷ c))) (cut_fields fs k) else cut_fields fs k)) ≡ true
           → (points (cut v (λ c. k (n ∷ c))) t x a ≡ true → points v t x a ≡ true) → (list_any (λ w. points w t x a) (values_in (cut_fields fs k)) ≡ true → list_any (λ w. points w t x a) (values_in fs) ≡ true)
           → (points v t x a || list_any (λ w. points w t x a) (values_in fs)) ≡ true
-      by true g p q = or_both (points (cut v (λ c. k (n ∷ c))) t x a) (list_any (λ w. points w t x a) (values_in (cut_fields fs k))) (points v t x a) (list_any (λ w. points w t x a) (values_in fs)) p q g
-      by false g p q = or_right (points v t x a) (list_any (λ w. points w t x a) (values_in fs)) (q g)
+      by true g p q = or_weaker (points (cut v (λ c. k (n ∷ c))) t x a) (list_any (λ w. points w t x a) (values_in (cut_fields fs k))) (points v t x a) (list_any (λ w. points w t x a) (values_in fs)) p q g
+      by false g p q = or_right_true (points v t x a) (list_any (λ w. points w t x a) (values_in fs)) (q g)
 
   -- from a field that is there
   pub in_fields : (fs : Fields) (t : Test) (n : List ℕ) (v : Val) → field_at fs n ≡ Some v → points v (λ b. t (Field n ∷ b)) x a ≡ true → fields_point fs t x a ≡ true
@@ -207,5 +193,5 @@ module _ (x : EntityUID) (a : Address) where
   in_fields (field m w fs) t n v e h = by (is_eq (text_cmp n m)) refl e (in_fields fs t n v)
     where
       by : (b : Bool) → is_eq (text_cmp n m) ≡ b → (if b then Some w else field_at fs n) ≡ Some v → (field_at fs n ≡ Some v → points v (λ b. t (Field n ∷ b)) x a ≡ true → fields_point fs t x a ≡ true) → fields_point (field m w fs) t x a ≡ true
-      by true f g ih = let same : w ≡ v = cc in or_true (points w (λ b. t (Field m ∷ b)) x a) (fields_point fs t x a) (rw (same, ← same_text n m f) h)
-      by false f g ih = or_right (points w (λ b. t (Field m ∷ b)) x a) (fields_point fs t x a) (ih g h)
+      by true f g ih = let same : w ≡ v = cc in or_left_true (points w (λ b. t (Field m ∷ b)) x a) (fields_point fs t x a) (rw (same, ← same_text n m f) h)
+      by false f g ih = or_right_true (points w (λ b. t (Field m ∷ b)) x a) (fields_point fs t x a) (ih g h)

@@ -27,7 +27,8 @@ use Rattle.reads_spec.specs.Merge.{IsBelowAll, IsOrdered, AreOrdered, IsEntityOr
 use Rattle.reads_spec.specs.Paths.{Step, along, any_tag}
 use Rattle.reads_spec.specs.Restrict.{values_in, root_value, step, walk}
 use Rattle.reads_spec.proofs.Cuts.{walk_on}
-use Rattle.reads_spec.proofs.Lists.{IsIn, or_true, or_right, any_in, in_flat_map, flat_map_out, same_uid, uid_self, text_self, same_text}
+use Rattle.reads_spec.proofs.Lists.{IsIn, any_in, in_flat_map, flat_map_out, same_uid, uid_self, text_self, same_text}
+use Rattle.plain_lemmas.proofs.Booleans.{or_left_true, or_right_true}
 use Rattle.reads_spec.proofs.Words.{any_out}
 use Rattle.trie_traversal.specs.Begun.{root_points, roots_point}
 use Rattle.trie_traversal.specs.Wants.{Test, sees, wants, points, fields_point, entity_points}
@@ -35,6 +36,7 @@ use Rattle.trie_traversal.specs.declared.place.Place.{Place}
 use Rattle.store_slices.specs.Reached.{IsReached}
 use Rattle.store_slices.proofs.Fronts.{front_leads as front_there}
 use Rattle.manifest_loading.proofs.PointSteps.{points_more, in_fields}
+use Rattle.plain_lemmas.proofs.Lists.{any_weaker}
 
 -- ---- addresses
 
@@ -43,9 +45,6 @@ edge_self e = rw (tied_itself nat_cmp_total (rank e), tied_itself nat_list_cmp_t
 
 pub same_edge : (a b : Edge) → edge_eq a b ≡ true → a ≡ b
 same_edge a b h = exact_edge a b (equal_of (edge_cmp a b) h)
-
-pub any_more : {X : Type 0} (g h : X → Bool) (ls : List X) → ((l : X) → g l ≡ true → h l ≡ true) → list_any g ls ≡ true → list_any h ls ≡ true
-any_more g h ls f p = let r = any_out g ls p in any_in h r.0 ls r.1 (f r.0 r.2)
 
 -- a front of what is seen leads somewhere
 pub front_leads : (b : Bool) (ns : Table) (i : ℕ) (es a : Address) → sees b (record { nodes = ns; number = i }) (es ++ a) ≡ true → sees false (record { nodes = ns; number = i }) es ≡ true
@@ -210,10 +209,10 @@ module _ (b : Bool) (ns : Table) (q : Request) (s : Store) (asked : List Place)
       in_entity y u f any_tag w None e k z c g = absurd (rw e at k)
       in_entity y u f (along m) w (Some d) e k z c g =
           let there = listed (field_at d.attrs m) w (rw e at k) in
-          followed y d e z c (or_true (fields_point d.attrs (wants b ns asked y) z c) (list_any (λ j. points j (λ l. wants b ns asked y (AnyTag ∷ l)) z c) (values_in d.tags))
+          followed y d e z c (or_left_true (fields_point d.attrs (wants b ns asked y) z c) (list_any (λ j. points j (λ l. wants b ns asked y (AnyTag ∷ l)) z c) (values_in d.tags))
           (in_fields z c d.attrs (wants b ns asked y) m w there (points_more z c w (λ l. u (Field m ∷ l)) (λ l. wants b ns asked y (Field m ∷ l)) (λ l. f (Field m ∷ l)) g)))
       in_entity y u f any_tag w (Some d) e k z c g =
-          followed y d e z c (or_right (fields_point d.attrs (wants b ns asked y) z c) (list_any (λ j. points j (λ l. wants b ns asked y (AnyTag ∷ l)) z c) (values_in d.tags))
+          followed y d e z c (or_right_true (fields_point d.attrs (wants b ns asked y) z c) (list_any (λ j. points j (λ l. wants b ns asked y (AnyTag ∷ l)) z c) (values_in d.tags))
           (any_in (λ j. points j (λ l. wants b ns asked y (AnyTag ∷ l)) z c) w (values_in d.tags) (rw e at k) (points_more z c w (λ l. u (AnyTag ∷ l)) (λ l. wants b ns asked y (AnyTag ∷ l)) (λ l. f (AnyTag ∷ l)) g)))
 
       next : (u : Val) (p : Test) → ((z : EntityUID) (c : Address) → points u p z c ≡ true → wants b ns asked z c ≡ true) → (k : Step) (w : Val) → IsIn w (step s u k) → (z : EntityUID) (c : Address) → points w (λ d. p (edge_of k ∷ d)) z c ≡ true → wants b ns asked z c ≡ true

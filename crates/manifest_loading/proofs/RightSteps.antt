@@ -7,7 +7,8 @@ use Rattle.entity_store.specs.Store.{StoredEntity, Store, entity_at}
 use Rattle.policy_values.specs.Value.{Val}
 use Rattle.access_tries.specs.Table.{Table}
 use Rattle.reads_spec.specs.Merge.{merge_entities}
-use Rattle.reads_spec.proofs.Lists.{IsIn, or_right, any_in, uid_self}
+use Rattle.reads_spec.proofs.Lists.{IsIn, any_in, uid_self}
+use Rattle.plain_lemmas.proofs.Booleans.{or_right_true}
 use Rattle.std.proofs.lemmas.Bool.{and_from}
 use Rattle.trie_traversal.specs.Answered.{AnswerSticks, SomeAnswerSticks}
 use Rattle.trie_traversal.specs.Places.{node_of}
@@ -75,7 +76,7 @@ module _ (exact : Bool) (ns : Table) (q : Request) (s : Store) (asked ps : List 
         at = ap (entity_at s) (sym asks.id) ∙ g.at;
         keep = g.keep;
         below = λ b. sees b (node_of ns h.place);
-        reached = λ b c j. t.sound.reached b h.place.uid c (or_right (wants b ns asked h.place.uid c) (wants b ns ps h.place.uid c)
+        reached = λ b c j. t.sound.reached b h.place.uid c (or_right_true (wants b ns asked h.place.uid c) (wants b ns ps h.place.uid c)
             (any_in (λ p. uid_eq p.uid h.place.uid && sees b (node_of ns p) c) h.place ps h.among (and_from (uid_eq h.place.uid h.place.uid) (sees b (node_of ns h.place) c) (uid_self h.place.uid) j)));
         sticks = subst (λ z. EntitySticks z (tests_of (node_of ns h.place)) v) g.is k;
       }

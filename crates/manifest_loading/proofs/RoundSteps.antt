@@ -24,6 +24,7 @@ use Rattle.manifest_loading.specs.Keeping.{Found, AreNotTaken}
 use Rattle.manifest_loading.specs.Rounds.{Sticks}
 use Rattle.manifest_loading.specs.declared.error.EntitySliceError.{EntitySliceError}
 use Rattle.manifest_loading.specs.declared.error.EntitySliceError.TheVariants as error
+use Rattle.plain_lemmas.proofs.Lists.{is_some_within, zip_length}
 
 -- all places are at nodes that are there, and none of them before this one; this many steps stand above each
 pub record AreDeep (ns : Table) (round : ℕ) (ps : List Place) : Type 0 where
@@ -118,12 +119,6 @@ stray_right P rs os old new f (error.WrongNumberOfEntities e) h = absurd h
 stray_right P rs os old new f (error.WrongNumberOfAncestors n m) h = absurd h
 stray_right P rs os old new f error.LoaderFault h = absurd h
 
-pub zip_length : {X Y : Type 0} (R : X → Y → Type 0) (xs : List X) (ys : List Y) → AllZip R xs ys → length xs ≡ length ys
-zip_length R [] [] all = refl
-zip_length R [] (y ∷ ys) all = absurd all
-zip_length R (x ∷ xs) [] all = absurd all
-zip_length R (x ∷ xs) (y ∷ ys) all = ap suc (zip_length R xs ys all.1)
-
 pub other_number : (rs : List EntityRequest) (os : List (Option StoredEntity)) (old new : LoaderState) → AllZip Fits rs os ⊎ Rose old.strays new.strays → (length rs ≡ length os → ⊥) → Rose old.strays new.strays
 other_number rs os old new (inl f) h = absurd (h (zip_length Fits rs os f))
 other_number rs os old new (inr r) h = r
@@ -144,16 +139,11 @@ pub one_of : (ps : List Place) → (ps ≡ [] → ⊥) → (q : Place) × IsIn q
 one_of [] h = absurd (h refl)
 one_of (q ∷ ps) h = (q, inl refl)
 
-inside : {X : Type 0} (xs : List X) (i : ℕ) → i < length xs → is_some (slice_get xs i) ≡ true
-inside [] i h = absurd (omega (arith, h))
-inside (x ∷ xs) zero h = refl
-inside (x ∷ xs) (suc i) h = inside xs i (omega (arith, h))
-
 -- while something is pending, some path is as long as there were rounds
 pub longest : (ns : Table) (round : ℕ) (ps : List Place) → AreDeep ns round ps → (ps ≡ [] → ⊥) → (n : ℕ) → PathsWithin ns n → round + 1 ≤ n + 1
 longest ns round ps d some n w =
     let q = one_of ps some in
-    let short = d.allows q.0 q.1 n w [] (inside ns q.0.number (d.there q.0 q.1)) in
+    let short = d.allows q.0 q.1 n w [] (is_some_within ns q.0.number (d.there q.0 q.1)) in
     omega (arith, short)
 
 pub round_within : (ns : Table) (round : ℕ) (ps : List Place) → AreDeep ns round ps → (ps ≡ [] → ⊥) → round < length ns

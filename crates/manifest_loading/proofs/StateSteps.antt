@@ -14,7 +14,8 @@ use Rattle.access_tries.specs.Table.{Table}
 use Rattle.reads_spec.specs.Merge.{IsOrdered}
 use Rattle.reads_spec.specs.Paths.{steps_of}
 use Rattle.reads_spec.specs.Restrict.{values_in, root_value}
-use Rattle.reads_spec.proofs.Lists.{IsIn, or_true, or_right, any_in, same_uid, uid_self}
+use Rattle.reads_spec.proofs.Lists.{IsIn, any_in, same_uid, uid_self}
+use Rattle.plain_lemmas.proofs.Booleans.{or_left_true, or_right_true, or_weaker}
 use Rattle.reads_spec.proofs.Words.{any_out}
 use Rattle.trie_traversal.specs.Answered.{answer_points, answers_point}
 use Rattle.trie_traversal.specs.Begun.{roots_point}
@@ -32,9 +33,6 @@ use Rattle.manifest_loading.specs.KeptPart.{IsState, IsBegun, IsLoaded, AreAlike
 use Rattle.manifest_loading.proofs.KeptSteps.{kept_more, kept_start}
 use Rattle.manifest_loading.proofs.PointSteps.{entity_or, entity_any, fields_kept, tags_kept, fields_cut, tags_cut}
 use Rattle.manifest_loading.proofs.ReachSteps.{front_leads, start_reached, entity_leads, further_reached, reached_asked}
-
-or_both : (a b c d : Bool) → (a ≡ true → c ≡ true) → (b ≡ true → d ≡ true) → (a || b) ≡ true → (c || d) ≡ true
-or_both a b c d f g h = elim (or_cases a b h) [ inl i ↦ or_true c d (f i) | inr i ↦ or_right c d (g i) ]
 
 module _ (exact : Bool) (s : Store) (ns : Table) (ps : List Place) (found : Found) (t : AreAnswers exact s ns ps found) where
   -- a place whose entity leads there
@@ -64,7 +62,7 @@ module _ (exact : Bool) (s : Store) (ns : Table) (ps : List Place) (found : Foun
       let stored : Some g.stored ≡ Some e = sym (ap (entity_at s) (sym asks.id) ∙ g.at) ∙ at_e in
       let same : g.stored ≡ e = cc in
       subst (λ z. entity_points z (sees b (node_of ns p)) x a ≡ true) (sym g.is)
-      (or_both (fields_point g.stored.attrs (sees b (node_of ns p)) x a) (list_any (λ v. points v (λ c. sees b (node_of ns p) (AnyTag ∷ c)) x a) (values_in g.stored.tags)) _ _
+      (or_weaker (fields_point g.stored.attrs (sees b (node_of ns p)) x a) (list_any (λ v. points v (λ c. sees b (node_of ns p) (AnyTag ∷ c)) x a) (values_in g.stored.tags)) _ _
       (fields_kept x a g.stored.attrs (g.keep.chains g.stored.uid) (sees b (node_of ns p))
       (λ n c k j. g.chains (n ∷ c) (asks.each false (map edge_of (steps_of (n ∷ c))) ∙ wanted false p i (map edge_of (steps_of (n ∷ c))) (front_leads b ns p.number (map edge_of (steps_of (n ∷ c))) k j))))
       (tags_kept x a g.stored.tags (g.keep.tags g.stored.uid) (λ c. sees b (node_of ns p) (AnyTag ∷ c))
@@ -78,7 +76,7 @@ module _ (exact : Bool) (s : Store) (ns : Table) (ps : List Place) (found : Foun
   given_led b p x a r asks (Some d) g h = (
     g.stored,
     ap (entity_at s) (sym asks.id) ∙ g.at,
-    or_both _ _ (fields_point g.stored.attrs (sees b (node_of ns p)) x a) (list_any (λ v. points v (λ c. sees b (node_of ns p) (AnyTag ∷ c)) x a) (values_in g.stored.tags))
+    or_weaker _ _ (fields_point g.stored.attrs (sees b (node_of ns p)) x a) (list_any (λ v. points v (λ c. sees b (node_of ns p) (AnyTag ∷ c)) x a) (values_in g.stored.tags))
         (fields_cut x a g.stored.attrs (g.keep.chains g.stored.uid) (sees b (node_of ns p)))
         (tags_cut x a g.stored.tags (g.keep.tags g.stored.uid) (λ c. sees b (node_of ns p) (AnyTag ∷ c)))
         (subst (λ z. entity_points z (sees b (node_of ns p)) x a ≡ true) g.is h),
@@ -94,10 +92,10 @@ module _ (exact : Bool) (s : Store) (ns : Table) (ps : List Place) (found : Foun
   module _ (next asked after : List Place) (q : Request) (adds : Adds ns (answers_point ns found ps) [] next) (noted : (b : Bool) (x : EntityUID) (a : Address) → wants b ns after x a ≡ (wants b ns asked x a || wants b ns ps x a)) where
     pub complete_next : IsComplete ns q s asked ps → IsComplete ns q s after next
     complete_next c = record {
-      begun = λ b x a h. or_true (wants b ns after x a) (wants b ns next x a) (noted b x a ∙ c.begun b x a h);
+      begun = λ b x a h. or_left_true (wants b ns after x a) (wants b ns next x a) (noted b x a ∙ c.begun b x a h);
       followed = λ b y e at_e x a h. elim (or_cases (entity_points e (wants b ns asked y) x a) (entity_points e (wants b ns ps y) x a) (sym (split b y e x a) ∙ h)) [
-        | inl i ↦ or_true (wants b ns after x a) (wants b ns next x a) (noted b x a ∙ c.followed b y e at_e x a i)
-        | inr i ↦ or_right (wants b ns after x a) (wants b ns next x a) (adds.each b x a ∙ answers_lead b y e at_e x a i)
+        | inl i ↦ or_left_true (wants b ns after x a) (wants b ns next x a) (noted b x a ∙ c.followed b y e at_e x a i)
+        | inr i ↦ or_right_true (wants b ns after x a) (wants b ns next x a) (adds.each b x a ∙ answers_lead b y e at_e x a i)
       ];
     }
       where
@@ -118,7 +116,7 @@ module _ (exact : Bool) (s : Store) (ns : Table) (ps : List Place) (found : Foun
             let g = t.each r.0.uid (asked_for r.0 r.1) in
             let e = given_led b r.0 x a g.0 g.1 (found r.0.uid) g.2 r.2 in
             further_reached b ns q s r.0.uid x (sees b (node_of ns r.0)) a (entity_leads s r.0.uid e.0 (sees b (node_of ns r.0)) x a e.1 (order.each r.0.uid e.0 e.1) e.2)
-            (λ c j. k.reached b r.0.uid c (or_right (wants b ns asked r.0.uid c) (wants b ns ps r.0.uid c) (wanted b r.0 r.1 c j)))
+            (λ c j. k.reached b r.0.uid c (or_right_true (wants b ns asked r.0.uid c) (wants b ns ps r.0.uid c) (wanted b r.0 r.1 c j)))
 
 -- before the first round
 module _ (ns : Table) (q : Request) (s : Store) (start : List Place) (adds : Adds ns (roots_point ns q) [] start) where
@@ -164,6 +162,6 @@ loaded exact ns q s found asked kept t alike = record {
   is = λ x. alike x ∙ ap (option_map bare) (t.part.is x);
   chains = λ x c r. t.part.chains x c (asked_reached ns q s asked t.complete false x (along c) r);
   tags = λ x n c r. t.part.tags x n c (asked_reached ns q s asked t.complete false x (AnyTag ∷ along c) r);
-  only_chains = λ e x c h. t.sound.reached false x (along c) (or_true (wants false ns asked x (along c)) (wants false ns [] x (along c)) (t.part.only_chains e x c h));
-  only_tags = λ e x n c h. t.sound.reached false x (AnyTag ∷ along c) (or_true (wants false ns asked x (AnyTag ∷ along c)) (wants false ns [] x (AnyTag ∷ along c)) (t.part.only_tags e x n c h));
+  only_chains = λ e x c h. t.sound.reached false x (along c) (or_left_true (wants false ns asked x (along c)) (wants false ns [] x (along c)) (t.part.only_chains e x c h));
+  only_tags = λ e x n c h. t.sound.reached false x (AnyTag ∷ along c) (or_left_true (wants false ns asked x (AnyTag ∷ along c)) (wants false ns [] x (AnyTag ∷ along c)) (t.part.only_tags e x n c h));
 }

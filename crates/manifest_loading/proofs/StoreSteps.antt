@@ -11,7 +11,7 @@ use Rattle.policy_names.specs.Uid.{uid_cmp, uid_eq, uid_cmp_total}
 use Rattle.entity_store.specs.Ascending.{IsAbove}
 use Rattle.entity_store.specs.Store.{StoredEntity, Store, entity_at}
 use Rattle.reads_spec.proofs.Lists.{same_uid, uid_self}
-use Rattle.reads_spec.proofs.Words.{same_tests}
+use Rattle.plain_lemmas.proofs.Booleans.{equal_by_both_ways}
 use Rattle.manifest_loading.specs.Answering.{AreUnderIds}
 
 abbrev or_else : Option StoredEntity → Option StoredEntity → Option StoredEntity
@@ -35,7 +35,7 @@ found_pushed (d ∷ store) e x = by (uid_eq x d.uid) (found_pushed store e x)
     by false ih = ih
 
 pub turned : (x y : EntityUID) → uid_eq x y ≡ uid_eq y x
-turned x y = same_tests (uid_eq x y) (uid_eq y x) (λ h. subst (λ z. uid_eq z x ≡ true) (same_uid x y h) (uid_self x)) (λ h. subst (λ z. uid_eq z y ≡ true) (same_uid y x h) (uid_self y))
+turned x y = equal_by_both_ways (uid_eq x y) (uid_eq y x) (λ h. subst (λ z. uid_eq z x ≡ true) (same_uid x y h) (uid_self x)) (λ h. subst (λ z. uid_eq z y ≡ true) (same_uid y x h) (uid_self y))
 
 -- the store has what is kept no more, and all its ids come before those that are kept
 pub record IsFilling (all kept : BTreeMap EntityUID StoredEntity) (store : Store) : Type 0 where

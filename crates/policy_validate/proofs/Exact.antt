@@ -30,18 +30,7 @@ use Rattle.policy_validate.specs.ConditionLaws.{FoundAreTyped}
 use Rattle.policy_validate.specs.AcceptanceLaws.{LeavesAll, AcceptedByRules}
 use Rattle.policy_validate.specs.Rules.{is_none, is_ready, keeps_rules, link_keeps_rules, keep_rules}
 use Rattle.policy_validate.proofs.Left.{PassesIn, each_passes, all_leave, typed_passes}
-
-and_both : (a b : Bool) → (a && b) ≡ true → (a ≡ true) × (b ≡ true)
-and_both true b h = (refl, h)
-and_both false b h = absurd (cc h)
-
-or_none : (a b : Bool) → (a || b) ≡ false → (a ≡ false) × (b ≡ false)
-or_none true b h = absurd (cc h)
-or_none false b h = (refl, h)
-
-not_false : (b : Bool) → not b ≡ true → b ≡ false
-not_false true h = absurd (cc h)
-not_false false h = refl
+use Rattle.plain_lemmas.proofs.Booleans.{and_parts_of, false_of_not, or_false_parts}
 
 none_in : {X : Type 0} (xs : List X) → is_none xs ≡ true → xs ≡ []
 none_in [] h = refl
@@ -92,9 +81,9 @@ module _ (schema : SchemaData) where
   -- typing finds nothing where it accepts
   nothing_typed : (t : TemplateData) → is_accepted schema t ≡ true → typing_errors schema t ≡ []
   nothing_typed t h =
-      let k = and_both (not (is_too_deep schema t)) (list_all passes (checks_of schema t)) h in
+      let k = and_parts_of (not (is_too_deep schema t)) (list_all passes (checks_of schema t)) h in
       ap (all_added same_error [])
-      (ap (λ b. if b then too_deep t.id ∷ [] else flat_map (errors_of t.id) (checks_of schema t)) (not_false (is_too_deep schema t) k.0)
+      (ap (λ b. if b then too_deep t.id ∷ [] else flat_map (errors_of t.id) (checks_of schema t)) (false_of_not (is_too_deep schema t) k.0)
       ∙ each_none (errors_of t.id) (checks_of schema t) (all_more (λ c. passes c ≡ true) (λ c. errors_of t.id c ≡ []) (none_told t) (checks_of schema t) (all_pass passes (checks_of schema t) k.1)))
 
   ready_accepted : StaticsAreUnlinked → (t : TemplateData) → (has_scope_slot t ≡ false → PassesUnlinked t) → is_ready schema t ≡ true → is_accepted schema t ≡ true
@@ -103,7 +92,7 @@ module _ (schema : SchemaData) where
       by : (b : Bool) → has_scope_slot t ≡ b → (if b then is_accepted schema t else not (is_too_deep schema t)) ≡ true → is_accepted schema t ≡ true
       by true e k = k
       by false e k =
-          let no = or_none (asks_slot t.principal) (asks_slot t.resource) e in
+          let no = or_false_parts (asks_slot t.principal) (asks_slot t.resource) e in
           λ i. k i && (ap (λ envs. list_all passes (map (λ env. checked schema env (condition_of t)) envs)) (unlinked schema t no.0 no.1) ∙ passing e) i
 
   accepted_is_ready : (t : TemplateData) → is_accepted schema t ≡ true → is_ready schema t ≡ true
@@ -111,14 +100,14 @@ module _ (schema : SchemaData) where
     where
       by : (b : Bool) → (if b then is_accepted schema t else not (is_too_deep schema t)) ≡ true
       by true = h
-      by false = (and_both (not (is_too_deep schema t)) (list_all passes (checks_of schema t)) h).0
+      by false = (and_parts_of (not (is_too_deep schema t)) (list_all passes (checks_of schema t)) h).0
 
   nothing_written : StaticsAreUnlinked → (t : TemplateData) → (has_scope_slot t ≡ false → PassesUnlinked t) → keeps_rules schema t ≡ true → errors_of_written schema t ≡ []
   nothing_written unlinked t passing h =
-      let types = and_both (is_none (entity_type_findings schema t.id (condition_of t))) _ h in
-      let ids = and_both (is_none (enum_findings schema t.id (condition_of t))) _ types.1 in
-      let actions = and_both (is_none (action_id_findings schema t.id (condition_of t))) _ ids.1 in
-      let scope = and_both (is_none (application_findings schema t)) (is_ready schema t) actions.1 in
+      let types = and_parts_of (is_none (entity_type_findings schema t.id (condition_of t))) _ h in
+      let ids = and_parts_of (is_none (enum_findings schema t.id (condition_of t))) _ types.1 in
+      let actions = and_parts_of (is_none (action_id_findings schema t.id (condition_of t))) _ ids.1 in
+      let scope = and_parts_of (is_none (application_findings schema t)) (is_ready schema t) actions.1 in
       empty_parts _ _ (ap (map UnrecognizedEntityType) (none_in _ types.0))
       (empty_parts _ _ (ap (map InvalidEnumEntity) (none_in _ ids.0))
       (empty_parts _ _ (ap (map UnrecognizedActionId) (none_in _ actions.0))
@@ -140,7 +129,7 @@ module _ (schema : SchemaData) where
 
   nothing_linked : (p : PolicyData) → link_keeps_rules schema p ≡ true → errors_of_link schema p ≡ []
   nothing_linked p h =
-      let k = and_both (is_none (slot_type_findings schema p)) _ h in
+      let k = and_parts_of (is_none (slot_type_findings schema p)) _ h in
       empty_parts _ _ (ap (map UnrecognizedEntityType) (none_in _ k.0)) (ap (map InvalidActionApplication) (none_in _ k.1))
 
   link_rules_kept : (p : PolicyData) → errors_of_link schema p ≡ [] → link_keeps_rules schema p ≡ true
@@ -153,7 +142,7 @@ by_rules exact unlinked no_errors typed found schema ok s set = (accepted, kept)
   where
     accepted : (keep_rules schema s ≡ true) × AllByRecursion (LeavesAll schema s.policies) (unlinked_envs schema) → IsAccepted schema s
     accepted h =
-        let rules = and_both (list_all (keeps_rules schema) (written s)) (list_all (link_keeps_rules schema) (links s)) h.0 in
+        let rules = and_parts_of (list_all (keeps_rules schema) (written s)) (list_all (link_keeps_rules schema) (links s)) h.0 in
         (no_errors schema s).0
         (empty_parts _ _
         (each_none (errors_of_written schema) (written s)

@@ -13,7 +13,8 @@ use Rattle.entity_store.specs.Store.{StoredEntity, Store, entity_at}
 use Rattle.policy_core.specs.Operators.{above}
 use Rattle.reads_spec.specs.Paths.{Step, Chain, AccessPath, beyond}
 use Rattle.reads_spec.specs.Restrict.{Keep, cut, cut_fields, cut_entity, part, is_id, is_prefix, root_value, values_in, step, walk, reach, keeps, kept_steps}
-use Rattle.reads_spec.proofs.Lists.{same_text, same_uid, uid_self, IsIn, or_true, or_right, any_in, is_prefix-append, flat_map_out, in_flat_map}
+use Rattle.reads_spec.proofs.Lists.{same_text, same_uid, uid_self, IsIn, any_in, is_prefix-append, flat_map_out, in_flat_map}
+use Rattle.plain_lemmas.proofs.Booleans.{or_left_true, or_right_true}
 
 -- a chosen field of a cut record
 pub field_at-cut : (fs : Fields) (k : Chain → Bool) (n : List ℕ) → k (n ∷ []) ≡ true → field_at (cut_fields fs k) n ≡ option_map (λ w. cut w (λ c. k (n ∷ c))) (field_at fs n)
@@ -103,7 +104,7 @@ walk_on s v w u (n ∷ ns) ms h k =
 -- a path that goes on below an entity keeps the steps there
 keeps_first : (s : Store) (x : EntityUID) (cs l : List Step) (v : Val) → (is_id x v && is_prefix cs l) ≡ true → keeps s x cs l v ≡ true
 keeps_first s x cs [] v h = h
-keeps_first s x cs (n ∷ ns) v h = or_true (is_id x v && is_prefix cs (n ∷ ns)) (list_any (keeps s x cs ns) (step s v n)) h
+keeps_first s x cs (n ∷ ns) v h = or_left_true (is_id x v && is_prefix cs (n ∷ ns)) (list_any (keeps s x cs ns) (step s v n)) h
 
 pub keeps_here : (s : Store) (x : EntityUID) (cs rest ns : List Step) (v : Val) → IsIn (entity x) (walk s v ns) → keeps s x cs (ns ++ (cs ++ rest)) v ≡ true
 keeps_here s x cs rest [] v (inl e) =
@@ -111,7 +112,7 @@ keeps_here s x cs rest [] v (inl e) =
 keeps_here s x cs rest [] v (inr h) = absurd h
 keeps_here s x cs rest (n ∷ ns) v h =
     let r = flat_map_out (λ w. walk s w ns) (entity x) (step s v n) h in
-    or_right (is_id x v && is_prefix cs (n ∷ (ns ++ (cs ++ rest)))) (list_any (keeps s x cs (ns ++ (cs ++ rest))) (step s v n))
+    or_right_true (is_id x v && is_prefix cs (n ∷ (ns ++ (cs ++ rest)))) (list_any (keeps s x cs (ns ++ (cs ++ rest))) (step s v n))
     (any_in (keeps s x cs (ns ++ (cs ++ rest))) r.from (step s v n) r.among (keeps_here s x cs rest ns r.from r.gives))
 
 pub steps_kept : (s : Store) (q : Request) (ps : List AccessPath) (p : AccessPath) (x : EntityUID) (cs rest : List Step) → IsIn (entity x) (reach s q p) → IsIn (beyond p (cs ++ rest)) ps → kept_steps ps q s x cs ≡ true

@@ -22,10 +22,7 @@ use Rattle.reads_spec.specs.Cover.{KeepsTypes}
 use Rattle.reads_spec.proofs.Lists.{IsIn, flat_map_out}
 use Rattle.reads_spec.proofs.Fitting.{Fits, FitFields, FitAll, EntityFits, step_fits, step_undeclared, all_fit, root_fits}
 use Rattle.reads_spec.proofs.Words.{step_same, id_of, any_out}
-
-or_false : (a : Bool) → (a || false) ≡ a
-or_false true = refl
-or_false false = refl
+use Rattle.plain_lemmas.proofs.Booleans.{or_false}
 
 any_alike : {X : Type 0} (f g : X → Bool) (xs : List X) → ((x : X) → IsIn x xs → f x ≡ g x) → list_any f xs ≡ list_any g xs
 any_alike f g [] h = refl

@@ -12,22 +12,19 @@ use Rattle.policy_names.specs.declared.entity_uid.EntityUID.{EntityUID}
 use Rattle.policy_names.specs.Uid.{text_cmp, uid_cmp, uid_cmp_total, exact_uid, uid_eq}
 use Rattle.reads_spec.specs.Paths.{Step, along, any_tag}
 use Rattle.reads_spec.specs.Restrict.{same_step, is_prefix}
+use Rattle.plain_lemmas.proofs.Lists.{append_empty}
+use Rattle.plain_lemmas.proofs.Booleans.{or_left_true, or_right_true}
+use Rattle.policy_names.proofs.Ties.{equal_of}
 pub use Rattle.reads_spec.specs.Among.{IsIn}
 
--- names that compare equal are equal
-is_equal : (o : Ordering) → is_eq o ≡ true → o ≡ Equal
-is_equal Equal h = refl
-is_equal Less h = absurd (cc)
-is_equal Greater h = absurd (cc)
-
 pub same_text : (a b : List ℕ) → is_eq (text_cmp a b) ≡ true → a ≡ b
-same_text a b h = exact_bytes a b (is_equal (text_cmp a b) h)
+same_text a b h = exact_bytes a b (equal_of (text_cmp a b) h)
 
 pub text_self : (a : List ℕ) → is_eq (text_cmp a a) ≡ true
 text_self a = ap is_eq (tied_itself nat_list_cmp_total a)
 
 pub same_uid : (x y : EntityUID) → uid_eq x y ≡ true → x ≡ y
-same_uid x y h = exact_uid x y (is_equal (uid_cmp x y) h)
+same_uid x y h = exact_uid x y (equal_of (uid_cmp x y) h)
 
 pub uid_self : (x : EntityUID) → uid_eq x x ≡ true
 uid_self x = ap is_eq (tied_itself uid_cmp_total x)
@@ -66,18 +63,10 @@ in_flat_map f x y [] h k = absurd h
 in_flat_map f x y (z ∷ xs) (inl e) k = in_left y (f z) (flat_map f xs) (rw e k)
 in_flat_map f x y (z ∷ xs) (inr h) k = in_right y (f z) (flat_map f xs) (in_flat_map f x y xs h k)
 
-pub or_true : (a b : Bool) → a ≡ true → (a || b) ≡ true
-or_true true b h = refl
-or_true false b h = absurd (grind arith)
-
-pub or_right : (a b : Bool) → b ≡ true → (a || b) ≡ true
-or_right true b h = refl
-or_right false b h = h
-
 pub any_in : {A : Type 0} (f : A → Bool) (x : A) (xs : List A) → IsIn x xs → f x ≡ true → list_any f xs ≡ true
 any_in f x [] h k = absurd h
-any_in f x (z ∷ xs) (inl e) k = or_true (f z) (list_any f xs) (rw e k)
-any_in f x (z ∷ xs) (inr h) k = or_right (f z) (list_any f xs) (any_in f x xs h k)
+any_in f x (z ∷ xs) (inl e) k = or_left_true (f z) (list_any f xs) (rw e k)
+any_in f x (z ∷ xs) (inr h) k = or_right_true (f z) (list_any f xs) (any_in f x xs h k)
 
 same_step-self : (c : Step) → same_step c c ≡ true
 same_step-self (along n) = text_self n
@@ -109,7 +98,3 @@ flat_map_out f y (x ∷ xs) h = at_part (in_append_out y (f x) (flat_map f xs) h
     at_part : IsIn y (f x) ⊎ IsIn y (flat_map f xs) → (IsIn y (flat_map f xs) → Through f y xs) → Through f y (x ∷ xs)
     at_part (inl i) g = record { from = x; among = inl refl; gives = i }
     at_part (inr i) g = let r = g i in record { from = r.from; among = inr r.among; gives = r.gives }
-
-pub nil_right : {A : Type 0} (ns : List A) → ns ++ [] ≡ ns
-nil_right [] = refl
-nil_right (n ∷ ns) = ap (λ ms. n ∷ ms) (nil_right ns)

@@ -16,6 +16,7 @@ use Rattle.reads_spec.specs.Paths.{Chain}
 use Rattle.reads_spec.specs.Restrict.{Keep, cut, cut_fields, cut_entity}
 use Rattle.reads_spec.specs.Merge.{with_first, equal_or_none, merge, merge_fields, united, merge_entities, IsBelowAll, IsOrdered, AreOrdered, IsEntityOrdered}
 use Rattle.reads_spec.proofs.Order.{Chains, either, IsClosed, or_none, cases, cut-same, closed_below, either_keep, IsWellFormed}
+use Rattle.plain_lemmas.proofs.Booleans.{or_comm}
 
 below_cut : (m : List ℕ) (fs : Fields) (k : Chains) → IsBelowAll m fs → IsBelowAll m (cut_fields fs k)
 below_cut m no_fields k h = tt
@@ -48,12 +49,6 @@ both_sides m v w x ps qs rs e f = rw (tied_itself nat_list_cmp_total m) (λ i. w
 
 none_below : (k : Chains) (m : List ℕ) → IsClosed k → k (m ∷ []) ≡ false → (c : Chain) → k (m ∷ c) ≡ true → ⊥
 none_below k m h f c i = let t = h.first m [] c i in grind arith
-
-or_comm : (a b : Bool) → (a || b) ≡ (b || a)
-or_comm true true = refl
-or_comm true false = refl
-or_comm false true = refl
-or_comm false false = refl
 
 field_merge : (m : List ℕ) (v : Val) (fs : Fields) (k l : Chains) → IsClosed k → IsClosed l → IsBelowAll m fs → merge (cut v (λ c. k (m ∷ c))) (cut v (λ c. l (m ∷ c))) ≡ Some (cut v (λ c. k (m ∷ c) || l (m ∷ c))) → merge_fields (cut_fields fs k) (cut_fields fs l) ≡ Some (cut_fields fs (either k l)) → (k (m ∷ []) ≡ true) ⊎ (k (m ∷ []) ≡ false) → (l (m ∷ []) ≡ true) ⊎ (l (m ∷ []) ≡ false) → merge_fields (cut_fields (field m v fs) k) (cut_fields (field m v fs) l) ≡ Some (cut_fields (field m v fs) (either k l))
 field_merge m v fs k l hk hl h e f (inl a) (inl b) =

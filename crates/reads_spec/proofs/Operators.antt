@@ -18,7 +18,8 @@ use Rattle.policy_core.specs.Operators.{unary_value, contains_value, contains_al
 use Rattle.reads_spec.specs.Paths.{Step, along, any_tag, Chain, steps_of, AccessPath, beyond, Shape, no_shape, at_path, set_shape, record_shape, one_of, FieldShapes, no_field_shapes, field_shape, paths, field_paths, shape_at, extended, has_step}
 use Rattle.reads_spec.specs.PathTypes.{chains}
 use Rattle.reads_spec.specs.Restrict.{cut_fields}
-use Rattle.reads_spec.proofs.Lists.{IsIn, in_left, in_right, nil_right}
+use Rattle.reads_spec.proofs.Lists.{IsIn, in_left, in_right}
+use Rattle.plain_lemmas.proofs.Lists.{append_empty}
 use Rattle.reads_spec.proofs.Fitting.{cut_whole}
 use Rattle.reads_spec.proofs.Relation.{Setting, there, type_at_path, AtPath, IsPlain, EachRelated, Rel, RelFields, Agree, StepsTo, EntityStep, TagStep, entity_step, tag_step, record_step}
 use Rattle.reads_spec.proofs.Tops.{top, IsPlainOutcome, agree_equal}
@@ -51,7 +52,7 @@ mutual
   pub whole_equal : (a : Shape) (c : Setting) (v w : Val) → Rel a c v w → WholeIn c (paths a) → v ≡ w
   whole_equal no_shape c v w h k = h.0
   whole_equal (at_path p) c v w h k =
-      let all : (cs : Chain) → IsIn cs (option_map_or chains (type_at_path c p) []) → h.mask cs ≡ true = λ cs i. h.covered cs [] (subst (λ ns. IsIn (beyond p ns) c.read) (sym (nil_right (steps_of cs))) (k.below p (inl refl) cs i)) in
+      let all : (cs : Chain) → IsIn cs (option_map_or chains (type_at_path c p) []) → h.mask cs ≡ true = λ cs i. h.covered cs [] (subst (λ ns. IsIn (beyond p ns) c.read) (sym (append_empty (steps_of cs))) (k.below p (inl refl) cs i)) in
       sym (h.cut_is ∙ cut_whole c.schema (type_at_path c p) v h.mask h.fits all)
   whole_equal (set_shape a) c v w h k =
       let e : h.0 ≡ h.1 = each_equal (Rel a c) h.0 h.1 h.4 (λ x y r. whole_equal a c x y r k) in

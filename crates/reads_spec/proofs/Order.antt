@@ -14,8 +14,10 @@ use Rattle.reads_spec.specs.Paths.{Step, along, any_tag, Chain, steps_of, Access
 use Rattle.reads_spec.specs.Restrict.{Keep, cut, cut_fields, cut_entity, part, same_step, is_prefix, is_id, root_value, step, keeps, kept_steps, kept_chain, kept_tag, kept_ancestor, needed}
 use Rattle.reads_spec.specs.Cover.{IsPartOf}
 pub use Rattle.reads_spec.specs.Among.{IsClosed, IsWellFormed}
-use Rattle.reads_spec.proofs.Lists.{same_text, text_self, same_uid, uid_self, IsIn, in_filter, or_true, or_right}
+use Rattle.reads_spec.proofs.Lists.{same_text, text_self, same_uid, uid_self, IsIn, in_filter}
+use Rattle.plain_lemmas.proofs.Booleans.{or_left_true, or_right_true, or_weaker}
 use Rattle.reads_spec.proofs.Cuts.{field_at-cut, entity_at-part, cut_fields_all}
+use Rattle.plain_lemmas.proofs.Lists.{any_weaker}
 
 abbrev pub Chains : Type 0
 Chains = Chain → Bool
@@ -261,9 +263,9 @@ between n whole s h low high =
     let q : part n whole ≡ part low.0 (part k whole) = low.1 ∙ ap (part low.0) high.1 in
     record {
       keep = either_keep k n;
-      chains = λ x c i. or_right (k.chains x c) (n.chains x c) i;
-      ancestors = λ x y i. or_right (k.ancestors x y) (n.ancestors x y) i;
-      tags = λ x c i. or_right (k.tags x c) (n.tags x c) i;
+      chains = λ x c i. or_right_true (k.chains x c) (n.chains x c) i;
+      ancestors = λ x y i. or_right_true (k.ancestors x y) (n.ancestors x y) i;
+      tags = λ x c i. or_right_true (k.tags x c) (n.tags x c) i;
       is = high.1 ∙ sym (order-part whole k n low.0 h q);
     }
 
@@ -277,20 +279,16 @@ prefix_shorter (c ∷ cs) rest (n ∷ ns) h =
 
 and_keep : (a b c : Bool) → (b ≡ true → c ≡ true) → (a && b) ≡ true → (a && c) ≡ true
 and_keep true b c f h = f h
-and_keep false b c f h = h
-
-or_both : (a b c d : Bool) → (a ≡ true → c ≡ true) → (b ≡ true → d ≡ true) → (a || b) ≡ true → (c || d) ≡ true
-or_both true b c d f g h = or_true c d (f refl)
-or_both false b c d f g h = or_right c d (g h)
-
+or_weaker : (a b c d : Bool) → (a ≡ true → c ≡ true) → (b ≡ true → d ≡ true) → (a || b) ≡ true → (c || d) ≡ true
+or_weaker true b c d f g h = or_left_true c d (f refl)
 any_weaker : {A : Type 0} (f g : A → Bool) (xs : List A) → ((x : A) → f x ≡ true → g x ≡ true) → list_any f xs ≡ true → list_any g xs ≡ true
 any_weaker f g [] h k = k
-any_weaker f g (x ∷ xs) h k = or_both (f x) (list_any f xs) (g x) (list_any g xs) (h x) (any_weaker f g xs h) k
+any_weaker f g (x ∷ xs) h k = or_weaker (f x) (list_any f xs) (g x) (list_any g xs) (h x) (any_weaker f g xs h) k
 
 keeps_shorter : (s : Store) (x : EntityUID) (cs rest ns : List Step) (v : Val) → keeps s x (cs ++ rest) ns v ≡ true → keeps s x cs ns v ≡ true
 keeps_shorter s x cs rest [] v h = and_keep (is_id x v) (is_prefix (cs ++ rest) []) (is_prefix cs []) (prefix_shorter cs rest []) h
 keeps_shorter s x cs rest (n ∷ ns) v h =
-    or_both (is_id x v && is_prefix (cs ++ rest) (n ∷ ns)) (list_any (keeps s x (cs ++ rest) ns) (step s v n)) (is_id x v && is_prefix cs (n ∷ ns)) (list_any (keeps s x cs ns) (step s v n))
+    or_weaker (is_id x v && is_prefix (cs ++ rest) (n ∷ ns)) (list_any (keeps s x (cs ++ rest) ns) (step s v n)) (is_id x v && is_prefix cs (n ∷ ns)) (list_any (keeps s x cs ns) (step s v n))
     (and_keep (is_id x v) (is_prefix (cs ++ rest) (n ∷ ns)) (is_prefix cs (n ∷ ns)) (prefix_shorter cs rest (n ∷ ns)))
     (any_weaker (keeps s x (cs ++ rest) ns) (keeps s x cs ns) (step s v n) (λ w. keeps_shorter s x cs rest ns w)) h
 

@@ -27,6 +27,7 @@ use Rattle.typing_spec.specs.Environment.{type_of_literal, type_of_variable}
 use Rattle.typing_spec.specs.Signatures.{call_type}
 use Rattle.typing_spec.specs.Rules as rule
 use Rattle.reads_spec.specs.Cover.{Prunes, PrunesAll, PrunesNamed}
+use Rattle.plain_lemmas.proofs.Booleans.{or_false_parts}
 
 -- what holds of a value where there is one
 mapped : {X Y : Type 0} (o : Option X) (f : X → Y) (Q : Y → Type 0) → ((x : X) → o ≡ Some x → Q (f x)) → IfSome (option_map f o) Q
@@ -61,10 +62,6 @@ never_false o h e = let m : false ≡ true = subst (IsOfType true_type) (is_trut
 
 never_true : (o : Outcome) → IsOfType false_type o → truth_of o ≡ Ok true → ⊥
 never_true o h e = let m : true ≡ false = subst (IsOfType false_type) (is_truth o true e) h in cc
-
-or_both : (a b : Bool) → (a || b) ≡ false → (a ≡ false) × (b ≡ false)
-or_both true b h = cc
-or_both false b h = (refl, h)
 
 all_more : (q : Request) (s : Store) (cs ds : List Capability) → AllHold q s cs → AllHold q s ds → AllHold q s (cs ++ ds)
 all_more q s [] ds h k = k
@@ -131,23 +128,23 @@ module _ (sound : TypingIsSound) (d : SchemaData) (schema : IsSchema d) (g : Lin
     prunes (var v m) w c cs h = mapped (type_of_variable d (declared_action g) v) _ (λ r. Prunes q s (var v m) r.tree) (λ t e. refl)
     prunes (slot i m) w c cs h = absurd (cc)
     prunes (ite x y z m) w c cs h =
-        let r1 = or_both (has_slot x) (has_slot y || has_slot z) w in
-        let r2 = or_both (has_slot y) (has_slot z) r1.1 in
+        let r1 = or_false_parts (has_slot x) (has_slot y || has_slot z) w in
+        let r2 = or_false_parts (has_slot y) (has_slot z) r1.1 in
         chained (Good x) (types d (declared_action g) cs x) _ (λ r. Prunes q s (ite x y z m) r.tree) (good x r1.0 c.0 cs h (prunes x r1.0 c.0 cs h))
         (λ r k. if_prunes x y z m cs r h k (types d (declared_action g) (cs ++ r.caps) y) (types d (declared_action g) cs z) (λ i. prunes y r2.0 c.1 (cs ++ r.caps) (all_more q s cs r.caps h i)) (prunes z r2.1 c.2 cs h))
     prunes (conj x y m) w c cs h =
-        let r1 = or_both (has_slot x) (has_slot y) w in
+        let r1 = or_false_parts (has_slot x) (has_slot y) w in
         chained (Good x) (types d (declared_action g) cs x) _ (λ r. Prunes q s (conj x y m) r.tree) (good x r1.0 c.0 cs h (prunes x r1.0 c.0 cs h))
         (λ r k. and_prunes x y m r k (types d (declared_action g) (cs ++ r.caps) y) (λ i. prunes y r1.1 c.1 (cs ++ r.caps) (all_more q s cs r.caps h i)))
     prunes (disj x y m) w c cs h =
-        let r1 = or_both (has_slot x) (has_slot y) w in
+        let r1 = or_false_parts (has_slot x) (has_slot y) w in
         chained (Good x) (types d (declared_action g) cs x) _ (λ r. Prunes q s (disj x y m) r.tree) (good x r1.0 c.0 cs h (prunes x r1.0 c.0 cs h))
         (λ r k. or_prunes x y m r k (types d (declared_action g) cs y) (prunes y r1.1 c.1 cs h))
     prunes (unary o x m) w c cs h =
         chained (λ r. Prunes q s x r.tree) (types d (declared_action g) cs x) _ (λ r. Prunes q s (unary o x m) r.tree) (prunes x w c cs h)
         (λ r k. mapped (rule.unary_type o r.type) _ (λ r. Prunes q s (unary o x m) r.tree) (λ t e. (refl, k)))
     prunes (binary o x y m) w c cs h =
-        let r1 = or_both (has_slot x) (has_slot y) w in
+        let r1 = or_false_parts (has_slot x) (has_slot y) w in
         chained (λ r. Prunes q s x r.tree) (types d (declared_action g) cs x) _ (λ r. Prunes q s (binary o x y m) r.tree) (prunes x r1.0 c.0 cs h)
         (λ r k. chained (λ r. Prunes q s y r.tree) (types d (declared_action g) cs y) _ (λ r. Prunes q s (binary o x y m) r.tree) (prunes y r1.1 c.1 cs h)
         (λ u l. mapped (rule.binary_type d (declared_action g) o (has_cap cs (tag_known x y)) x y r.type u.type) _ (λ r. Prunes q s (binary o x y m) r.tree) (λ t e. (refl, k, l))))
@@ -178,7 +175,7 @@ module _ (sound : TypingIsSound) (d : SchemaData) (schema : IsSchema d) (g : Lin
     prunes_all : (xs : Trees (Mark (Unit {0}))) → some_has_slot xs ≡ false → HaveKeysOnce xs → (cs : List Capability) → AllHold q s cs → IfSome (types_all d (declared_action g) cs xs) (λ ys. PrunesAll q s xs (trees_in ys))
     prunes_all no_trees w c cs h = tt
     prunes_all (tree x xs) w c cs h =
-        let r1 = or_both (has_slot x) (some_has_slot xs) w in
+        let r1 = or_false_parts (has_slot x) (some_has_slot xs) w in
         chained (λ r. Prunes q s x r.tree) (types d (declared_action g) cs x) _ (λ ys. PrunesAll q s (tree x xs) (trees_in ys)) (prunes x r1.0 c.0 cs h)
         (λ r k. more_of (types_all d (declared_action g) cs xs) r k (prunes_all xs r1.1 c.1 cs h))
       where
@@ -189,7 +186,7 @@ module _ (sound : TypingIsSound) (d : SchemaData) (schema : IsSchema d) (g : Lin
     prunes_named : (xs : Named (Mark (Unit {0}))) → some_named_has_slot xs ≡ false → AreKeysOnce xs → (cs : List Capability) → AllHold q s cs → IfSome (types_named d (declared_action g) cs xs) (λ ys. PrunesNamed q s xs (named_in ys))
     prunes_named no_named w c cs h = tt
     prunes_named (named n x xs) w c cs h =
-        let r1 = or_both (has_slot x) (some_named_has_slot xs) w in
+        let r1 = or_false_parts (has_slot x) (some_named_has_slot xs) w in
         chained (λ r. Prunes q s x r.tree) (types d (declared_action g) cs x) _ (λ ys. PrunesNamed q s (named n x xs) (named_in ys)) (prunes x r1.0 c.0 cs h)
         (λ r k. more_of (types_named d (declared_action g) cs xs) r k (prunes_named xs r1.1 c.2 cs h))
       where

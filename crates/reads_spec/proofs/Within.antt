@@ -17,7 +17,9 @@ use Rattle.policy_core.specs.Operators.{within, or_within, within_any, in_value}
 use Rattle.reads_spec.specs.Paths.{Root, Step, along, any_tag, Chain, AccessPath, Demand, at_root, beyond, Shape, no_shape, at_path, set_shape, record_shape, one_of, paths, has_step}
 use Rattle.reads_spec.specs.Reads.{pairs}
 use Rattle.reads_spec.specs.Restrict.{cut, cut_fields, part, is_id, lists_id, names_id, root_value, step_in_entity, step, walk, reach, kept_chain, by_paths, kept_ancestor}
-use Rattle.reads_spec.proofs.Lists.{IsIn, in_left, in_right, in_map, in_flat_map, flat_map_out, any_in, or_true, or_right, same_uid, uid_self, nil_right}
+use Rattle.reads_spec.proofs.Lists.{IsIn, in_left, in_right, in_map, in_flat_map, flat_map_out, any_in, same_uid, uid_self}
+use Rattle.plain_lemmas.proofs.Booleans.{or_left_true, or_right_true, or_weaker_right}
+use Rattle.plain_lemmas.proofs.Lists.{append_empty}
 use Rattle.reads_spec.proofs.Cuts.{above-part, steps_kept}
 use Rattle.reads_spec.proofs.Relation.{Setting, there, AtPath, IsPlain, EachRelated, Rel, Agree, StepsTo, EntityStep, TagStep, entity_step, tag_step, record_step, beyond_twice, root_at}
 use Rattle.reads_spec.proofs.Tops.{IsPlainOutcome, agree_equal}
@@ -69,7 +71,7 @@ reach_there : (c : Setting) (r : Root) (ns : List Step) (u : Val) → (has_step 
 reach_there c r [] u k (inl e) = let a = root_at c r in record { mask = a.mask; is = inl (a.cut_is ∙ ap (λ x. cut x a.mask) e) }
 reach_there c r [] u k (inr i) = absurd i
 reach_there c r (n ∷ ns) u k e =
-    walk_there c (at_root r) (n ∷ ns) [] (root_value c.request r) (root_value c.request r) u (root_at c r) (subst (λ ms. IsIn (record { root = r; steps = ms }) c.read) (sym (nil_right (n ∷ ns))) (k refl)) e
+    walk_there c (at_root r) (n ∷ ns) [] (root_value c.request r) (root_value c.request r) u (root_at c r) (subst (λ ms. IsIn (record { root = r; steps = ms }) c.read) (sym (append_empty (n ∷ ns))) (k refl)) e
 
 named_cut : (u : Val) (m : Chain → Bool) (y : EntityUID) → names_id y (cut u m) ≡ names_id y u
 named_cut (rec fs) m y = refl
@@ -126,12 +128,9 @@ record PathNames (c : Setting) (ps : List AccessPath) (y : EntityUID) : Type 0 w
   named : names_id y value ≡ true
 
 id_of : (v : Val) (y : EntityUID) → is_id y v ≡ true → v ≡ entity y
-id_of (entity x) y h = ap entity (sym (same_uid y x h))
-id_of v y h = absurd (cc)
-
-or_keep : (a b c : Bool) → (b ≡ true → c ≡ true) → (a || b) ≡ true → (a || c) ≡ true
-or_keep true b c f h = refl
-or_keep false b c f h = f h
+or_weaker_right : (a b c : Bool) → (b ≡ true → c ≡ true) → (a || b) ≡ true → (a || c) ≡ true
+or_weaker_right true b c f h = refl
+or_weaker_right false b c f h = f h
 
 -- a set lists what the list had of which it was made
 insert_lists : (y : EntityUID) (v : Val) (ws : Vals) → lists_id y (insert_val v ws) ≡ true → (is_id y v || lists_id y ws) ≡ true
@@ -144,12 +143,12 @@ insert_lists y v (val w ws) h = here (val_cmp v w) h (insert_lists y v ws)
 
     here : (o : Ordering) → lists_id y (match_ordering o (val v (val w ws)) (val w ws) (val w (insert_val v ws))) ≡ true → (lists_id y (insert_val v ws) ≡ true → (is_id y v || lists_id y ws) ≡ true) → (is_id y v || (is_id y w || lists_id y ws)) ≡ true
     here Less h f = h
-    here Equal h f = or_right (is_id y v) (is_id y w || lists_id y ws) h
-    here Greater h f = swapped (is_id y v) (is_id y w) (lists_id y ws) (or_keep (is_id y w) (lists_id y (insert_val v ws)) (is_id y v || lists_id y ws) f h)
+    here Equal h f = or_right_true (is_id y v) (is_id y w || lists_id y ws) h
+    here Greater h f = swapped (is_id y v) (is_id y w) (lists_id y ws) (or_weaker_right (is_id y w) (lists_id y (insert_val v ws)) (is_id y v || lists_id y ws) f h)
 
 set_lists : (y : EntityUID) (vs : List Val) → lists_id y (set_of vs) ≡ true → list_any (is_id y) vs ≡ true
 set_lists y [] h = h
-set_lists y (v ∷ vs) h = or_keep (is_id y v) (lists_id y (set_of vs)) (list_any (is_id y) vs) (set_lists y vs) (insert_lists y v (set_of vs) h)
+set_lists y (v ∷ vs) h = or_weaker_right (is_id y v) (lists_id y (set_of vs)) (list_any (is_id y) vs) (set_lists y vs) (insert_lists y v (set_of vs) h)
 
 each_names : (a : Shape) (c : Setting) (vs ws : List Val) (y : EntityUID) → EachRelated (Rel a c) vs ws → list_any (is_id y) vs ≡ true → PathTo c (paths a) y
 each_names a c [] ws y r h = absurd (grind arith)
@@ -200,8 +199,8 @@ within_same c x y h k = ap (λ b. uid_eq x y || b) (sym (above-part c.keep c.who
 any_same : (c : Setting) (x : EntityUID) (ys : Vals) → ((y : EntityUID) → lists_id y ys ≡ true → within x y c.whole ≡ within x y (there c)) → within_any x ys c.whole ≡ within_any x ys (there c)
 any_same c x no_vals f = refl
 any_same c x (val (entity y) ys) f =
-    let h = f y (or_true (uid_eq y y) (lists_id y ys) (uid_self y)) in
-    let t = any_same c x ys (λ z k. f z (or_right (uid_eq z y) (lists_id z ys) k)) in
+    let h = f y (or_left_true (uid_eq y y) (lists_id y ys) (uid_self y)) in
+    let t = any_same c x ys (λ z k. f z (or_right_true (uid_eq z y) (lists_id z ys) k)) in
     λ i. or_within (h i) (t i)
 any_same c x (val v ys) f = refl
 
@@ -241,7 +240,7 @@ ids_same : (a b : Shape) (c : Setting) (ds : List Demand) → Kept c ds → (v w
 ids_same a b c ds kept v w v2 w2 h k i x y e n =
     let l = path_to a c v v2 x h e in
     let r = path_names b c w w2 y k n in
-    let here : IsIn (beyond l.path ([] ++ [])) c.read = subst (λ ms. IsIn (record { root = l.path.root; steps = ms }) c.read) (sym (nil_right l.path.steps)) (i.left l.path l.among) in
+    let here : IsIn (beyond l.path ([] ++ [])) c.read = subst (λ ms. IsIn (record { root = l.path.root; steps = ms }) c.read) (sym (append_empty l.path.steps)) (i.left l.path l.among) in
     let stays = steps_kept c.whole c.request c.read l.path x [] [] l.reached here in
     within_same c x y
     (c.enough x [] stays)

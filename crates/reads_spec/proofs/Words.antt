@@ -12,6 +12,7 @@ use Rattle.reads_spec.specs.Restrict.{Keep, part, same_step, is_prefix, is_id, n
 use Rattle.reads_spec.specs.Among.{IsFrontOfRead}
 use Rattle.reads_spec.proofs.Lists.{IsIn, any_in, in_flat_map, same_text, same_uid}
 use Rattle.reads_spec.proofs.Cuts.{steps_kept}
+use Rattle.plain_lemmas.proofs.Booleans.{equal_by_both_ways}
 
 -- some path that reaches x goes on with the steps
 pub record IsReadAt (ps : List AccessPath) (q : Request) (s : Store) (x : EntityUID) (cs : List Step) : Type 0 where
@@ -28,11 +29,6 @@ step_same any_tag (along n) h = absurd (cc)
 pub id_of : (v : Val) (y : EntityUID) → is_id y v ≡ true → v ≡ entity y
 id_of (entity x) y h = ap entity (sym (same_uid y x h))
 id_of v y h = absurd (cc)
-
-pub same_tests : (a b : Bool) → (a ≡ true → b ≡ true) → (b ≡ true → a ≡ true) → a ≡ b
-same_tests true b f g = sym (f refl)
-same_tests false true f g = g refl
-same_tests false false f g = refl
 
 -- the rest of a list after a prefix
 prefix_rest : (cs ns : List Step) → is_prefix cs ns ≡ true → (rest : List Step) × (ns ≡ cs ++ rest)
@@ -93,7 +89,7 @@ kept_means ps q s x cs = (
 -- what is kept is decided by the set of the paths that are read
 pub same_kept : (ps rs : List AccessPath) (q : Request) (s : Store) (x : EntityUID) (cs : List Step) → ((p : AccessPath) → IsFrontOfRead ps p ↔ IsFrontOfRead rs p) → kept_steps ps q s x cs ≡ kept_steps rs q s x cs
 same_kept ps rs q s x cs h =
-    same_tests (kept_steps ps q s x cs) (kept_steps rs q s x cs)
+    equal_by_both_ways (kept_steps ps q s x cs) (kept_steps rs q s x cs)
     (λ k. let r = (kept_means ps q s x cs).0 k in (kept_means rs q s x cs).1 (record { path = r.path; reached = r.reached; read = (h (beyond r.path cs)).0 r.read }))
     (λ k. let r = (kept_means rs q s x cs).0 k in (kept_means ps q s x cs).1 (record { path = r.path; reached = r.reached; read = (h (beyond r.path cs)).1 r.read }))
 
@@ -111,7 +107,7 @@ module _ (ps rs : List AccessPath) (q : Request) (s : Store) (reads : (p : Acces
 
   module _ (ds es : List Demand) (demands : (e : Demand) → IsIn e ds ↔ IsIn e es) where
     ancestor_same : (x y : EntityUID) → kept_ancestor ps ds q s x y ≡ kept_ancestor rs es q s x y
-    ancestor_same x y = ap (λ k. list_any (asks k) ds) paths_same ∙ same_tests (list_any (asks (by_paths rs q s)) ds) (list_any (asks (by_paths rs q s)) es)
+    ancestor_same x y = ap (λ k. list_any (asks k) ds) paths_same ∙ equal_by_both_ways (list_any (asks (by_paths rs q s)) ds) (list_any (asks (by_paths rs q s)) es)
         (λ h. let a = any_out (asks (by_paths rs q s)) ds h in any_in (asks (by_paths rs q s)) a.0 es ((demands a.0).0 a.1) a.2)
         (λ h. let a = any_out (asks (by_paths rs q s)) es h in any_in (asks (by_paths rs q s)) a.0 ds ((demands a.0).1 a.1) a.2)
       where

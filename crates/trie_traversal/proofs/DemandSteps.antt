@@ -16,6 +16,7 @@ use Rattle.access_tries.specs.Table.{Table, NodeData, at_path, has_mark, links_a
 use Rattle.std.specs.declared.option.Option.{Option}
 use Rattle.reads_spec.specs.Paths.{Step, along, any_tag}
 use Rattle.trie_traversal.specs.Stuck.{tests_of, is_step, GoesOn, MarksSome, Demands}
+use Rattle.plain_lemmas.proofs.Lists.{is_some_within}
 
 pub edge_self : (e : Edge) → edge_eq e e ≡ true
 edge_self e = rw (tied_itself nat_cmp_total (rank e), tied_itself nat_list_cmp_total (first_text e), tied_itself nat_list_cmp_total (second_text e)) refl
@@ -24,11 +25,6 @@ all_at : {X : Type 0} (P : X → Type 0) (xs : List X) (i : ℕ) (d : X) → i <
 all_at P [] i d h a = absurd (omega (arith, h))
 all_at P (x ∷ xs) zero d h a = a.0
 all_at P (x ∷ xs) (suc i) d h a = all_at P xs i d (omega (arith, h)) a.1
-
-pub inside : {X : Type 0} (xs : List X) (i : ℕ) → i < length xs → is_some (slice_get xs i) ≡ true
-inside [] i h = absurd (omega (arith, h))
-inside (x ∷ xs) zero h = refl
-inside (x ∷ xs) (suc i) h = inside xs i (omega (arith, h))
 
 step_of : (e : Edge) → is_step e ≡ true → (n : Step) × (edge_of n ≡ e)
 step_of (Field n) h = (along n, refl)
@@ -51,7 +47,7 @@ module _ (ns : Table) (i k : ℕ) (l : Link) (t : IsTable ns) (links : List Link
       (ap (λ m. edge_eq m.edge l.edge && at_path f ns m.number es) (sym is) ∙ and_from (edge_eq l.edge l.edge) (at_path f ns l.number es) (edge_self l.edge) p)
 
   pub link_goes_on : is_step l.edge ≡ true → GoesOn (tests_of (record { nodes = ns; number = i }))
-  link_goes_on s = let n = step_of l.edge s in (n.0, ap (λ e. at_path is_some ns i (e ∷ [])) n.1 ∙ link_leads is_some [] (inside ns l.number number_in.1))
+  link_goes_on s = let n = step_of l.edge s in (n.0, ap (λ e. at_path is_some ns i (e ∷ [])) n.1 ∙ link_leads is_some [] (is_some_within ns l.number number_in.1))
 
   pub link_marks : is_step l.edge ≡ true → MarksSome (tests_of (record { nodes = ns; number = l.number })) → MarksSome (tests_of (record { nodes = ns; number = i }))
   link_marks s m = let n = step_of l.edge s in (n.0 ∷ m.0, ap (λ e. at_path has_mark ns i (e ∷ map edge_of m.0)) n.1 ∙ link_leads has_mark (map edge_of m.0) m.1)

@@ -18,16 +18,10 @@ use Rattle.trie_traversal.specs.Places.{IsPlaced, IsAtOrBelow, IsBelow}
 use Rattle.trie_traversal.specs.Wants.{Test, sees, wants, points, Adds}
 use Rattle.trie_traversal.specs.Stuck.{tests_of, behind, RefusedBy}
 use Rattle.trie_traversal.proofs.PointSteps.{points_none, any_point_none, no_mark}
+use Rattle.plain_lemmas.proofs.Lists.{within_of_is_some}
+use Rattle.plain_lemmas.proofs.Booleans.{or_assoc, or_false}
 
 -- ---- what is asked
-
-pub or_false : (a : Bool) → (a || false) ≡ a
-or_false true = refl
-or_false false = refl
-
-or_assoc : (a b c : Bool) → ((a || b) || c) ≡ (a || (b || c))
-or_assoc true b c = refl
-or_assoc false b c = refl
 
 module _ (ns : Table) where
   pub adds_nothing : (more : Bool → EntityUID → Test) (ps : List Place) → ((b : Bool) (x : EntityUID) (a : Address) → more b x a ≡ false) → Adds ns more ps ps
@@ -98,13 +92,8 @@ module _ (e : Edge) (v : ViewData) (l : LeadsNowhere e v) where
 
 -- ---- places
 
-some_within : {X : Type 0} (xs : List X) (i : ℕ) → is_some (slice_get xs i) ≡ true → i < length xs
-some_within [] i h = cc
-some_within (x ∷ xs) zero h = omega arith
-some_within (x ∷ xs) (suc i) h = omega (arith, some_within xs i h)
-
 pub at_itself : (v : ViewData) (p : Place) → p.number ≡ v.number → view_leads v [] ≡ true → IsAtOrBelow v p
-at_itself v p e h = rw e (record { late = omega arith; there = some_within v.nodes v.number h; allows = λ n m a. a })
+at_itself v p e h = rw e (record { late = omega arith; there = within_of_is_some v.nodes v.number h; allows = λ n m a. a })
 
 pub at_or_below : (v : ViewData) (p : Place) → IsBelow v p → IsAtOrBelow v p
 at_or_below v p b = record { late = omega (arith, b.later); there = b.there; allows = λ n m a ns h. omega (arith, b.allows n m a ns h) }

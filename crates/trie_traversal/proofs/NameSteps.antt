@@ -23,9 +23,11 @@ use Rattle.access_tries.specs.Views.{ViewData, view_marks, view_leads, LeadsTo, 
 use Rattle.access_tries.specs.EdgeLaws.{exact_edge}
 use Rattle.reads_spec.specs.Paths.{Step, along, any_tag}
 use Rattle.reads_spec.specs.Restrict.{names_id, lists_id, is_id, values_in, root_value, step, walk, reach}
-use Rattle.reads_spec.proofs.Lists.{IsIn, in_flat_map, flat_map_out, any_in, same_uid, uid_self, or_true, or_right}
+use Rattle.reads_spec.proofs.Lists.{IsIn, in_flat_map, flat_map_out, any_in, same_uid, uid_self}
+use Rattle.plain_lemmas.proofs.Booleans.{or_left_true, or_right_true}
 use Rattle.reads_spec.proofs.Words.{any_out}
 use Rattle.trie_traversal.specs.Names.{IsNamed, Names, SomeNames, Adds}
+use Rattle.plain_lemmas.proofs.Lists.{within_of_is_some}
 
 -- ---- sets that grow
 
@@ -118,7 +120,7 @@ inserted x old new put = record { each = λ y. one y (uid_eq x y) refl (put y) }
     one y false e h = (λ i. inl (sym h ∙ i), λ i. elim i [ inl j ↦ h ∙ j | inr j ↦ absurd (false≢true (sym e ∙ subst (λ z. uid_eq x z ≡ true) (sym (same_uid y x j)) (uid_self x))) ])
 
 pub or_iff : (a b : Bool) → ((a || b) ≡ true) ↔ ((a ≡ true) ⊎ (b ≡ true))
-or_iff a b = (or_cases a b, λ e. elim e [ inl i ↦ or_true a b i | inr i ↦ or_right a b i ])
+or_iff a b = (or_cases a b, λ e. elim e [ inl i ↦ or_left_true a b i | inr i ↦ or_right_true a b i ])
 
 pub both_known : (P : EntityUID → Type 0) (Q : Type 0) → Q → (y : EntityUID) → P y ↔ (Q × P y)
 both_known P Q q y = (λ p. (q, p), λ r. r.1)
@@ -437,15 +439,13 @@ root_first_names q s r w rs y = (λ n. by n.root n.below n.among n.names, back)
 pub no_root_names : (q : Request) (s : Store) (y : EntityUID) → RootNames q s [] y → ⊥
 no_root_names q s y n = n.among
 
--- ---- later nodes
-
-some_within : {X : Type 0} (xs : List X) (i : ℕ) → is_some (slice_get xs i) ≡ true → i < length xs
-some_within [] i h = cc
-some_within (x ∷ xs) zero h = omega arith
-some_within (x ∷ xs) (suc i) h = omega (arith, some_within xs i h)
+within_of_is_some : {X : Type 0} (xs : List X) (i : ℕ) → is_some (slice_get xs i) ≡ true → i < length xs
+within_of_is_some [] i h = cc
+within_of_is_some (x ∷ xs) zero h = omega arith
+within_of_is_some (x ∷ xs) (suc i) h = omega (arith, within_of_is_some xs i h)
 
 pub fewer_below : (e : Edge) (v w : ViewData) → LeadsTo e v w → length w.nodes - w.number < length v.nodes - v.number
-fewer_below e v w l = let h = some_within w.nodes w.number l.there in let k = l.later in let same = ap length l.table in omega (arith, h, k, same)
+fewer_below e v w l = let h = within_of_is_some w.nodes w.number l.there in let k = l.later in let same = ap length l.table in omega (arith, h, k, same)
 
 -- ---- from nothing
 

@@ -11,35 +11,21 @@ use Rattle.policy_names.proofs.Ties.{then_equal}
 use Rattle.reads_spec.proofs.Lists.{IsIn}
 use Rattle.trie_traversal.specs.declared.place.Place.{Place}
 use Rattle.trie_traversal.specs.Places.{place_cmp, IsPlaced}
+use Rattle.plain_lemmas.proofs.Booleans.{or_again, or_assoc_left, or_comm}
 
 pub exact_place : (p q : Place) → place_cmp p q ≡ Equal → p ≡ q
 exact_place p q h =
     let e = then_equal (uid_cmp p.uid q.uid) (nat_cmp p.number q.number) h in
     λ i. record { uid = exact_uid p.uid q.uid e.0 i; number = exact_unsigned p.number q.number e.1 i }
 
-or_swap : (a b : Bool) → (a || b) ≡ (b || a)
-or_swap true true = refl
-or_swap true false = refl
-or_swap false true = refl
-or_swap false false = refl
-
-or_later : (a b c : Bool) → (a || (b || c)) ≡ ((a || b) || c)
-or_later true b c = refl
-or_later false b c = refl
-
-or_again : (a b : Bool) → (a || b) ≡ ((a || b) || a)
-or_again true b = refl
-or_again false true = refl
-or_again false false = refl
-
 any_put : (f : Place → Bool) (ps : List Place) (p : Place) → list_any f (insert_key place_cmp ps p) ≡ (list_any f ps || f p)
-any_put f [] p = or_swap (f p) false
+any_put f [] p = or_comm (f p) false
 any_put f (q ∷ ps) p = by (place_cmp p q) refl (any_put f ps p) where
   by : (o : Ordering) → place_cmp p q ≡ o → list_any f (insert_key place_cmp ps p) ≡ (list_any f ps || f p)
       → list_any f (match_ordering o (p ∷ q ∷ ps) (q ∷ ps) (q ∷ insert_key place_cmp ps p)) ≡ ((f q || list_any f ps) || f p)
-  by Less is later = or_swap (f p) (f q || list_any f ps)
+  by Less is later = or_comm (f p) (f q || list_any f ps)
   by Equal is later = rw (exact_place p q is) (or_again (f q) (list_any f ps))
-  by Greater is later = ap (λ b. f q || b) later ∙ or_later (f q) (list_any f ps) (f p)
+  by Greater is later = ap (λ b. f q || b) later ∙ or_assoc_left (f q) (list_any f ps) (f p)
 
 in_put : (ps : List Place) (p q : Place) → IsIn q (insert_key place_cmp ps p) → IsIn q ps ⊎ (q ≡ p)
 in_put [] p q (inl e) = inr (sym e)

@@ -7,21 +7,17 @@ use Rattle.std.proofs.lemmas.Bool.{and_parts, and_from}
 use Rattle.access_tries.specs.Edges.{edge_eq}
 use Rattle.access_tries.specs.Table.{Table, NodeData, at_path, has_mark, links_at}
 use Rattle.reads_spec.specs.Restrict.{values_in}
-use Rattle.reads_spec.proofs.Lists.{or_true, or_right}
+use Rattle.plain_lemmas.proofs.Booleans.{and_false, false_by_weaker, or_left_true, or_right_true, or_weaker}
 use Rattle.policy_names.specs.declared.entity_uid.EntityUID.{EntityUID}
 use Rattle.policy_names.specs.Uid.{uid_eq}
 use Rattle.policy_values.specs.Value.{Val, entity, rec, Fields, no_fields, field, fields_of}
 use Rattle.access_tries.specs.Edges.{Address}
 use Rattle.trie_traversal.specs.Wants.{points, fields_point}
-
-none_right : (a : Bool) → (a && false) ≡ false
-none_right true = refl
-none_right false = refl
-
+use Rattle.plain_lemmas.proofs.Lists.{any_weaker}
 -- nowhere, where no address passes
 mutual
   pub points_none : (v : Val) (x : EntityUID) (a : Address) → points v (λ b. false) x a ≡ false
-  points_none (entity y) x a = none_right (uid_eq y x)
+  points_none (entity y) x a = and_false (uid_eq y x)
   points_none (rec fs) x a = fields_point_none fs x a
   points_none v x a = refl
 
@@ -37,15 +33,6 @@ any_point_none (v ∷ vs) x a = ap (λ c. c || list_any (λ w. points w (λ b. f
 pub values_are : (es : List (List ℕ × Val)) → values_of es ≡ values_in (fields_of es)
 values_are [] = refl
 values_are (e ∷ es) = ap (λ l. e.1 ∷ l) (values_are es)
-
-or_both : (a b c d : Bool) → (a ≡ true → c ≡ true) → (b ≡ true → d ≡ true) → (a || b) ≡ true → (c || d) ≡ true
-or_both true b c d f g h = or_true c d (f refl)
-or_both false b c d f g h = or_right c d (g h)
-
-any_more : {X : Type 0} (g h : X → Bool) (ls : List X) → ((l : X) → g l ≡ true → h l ≡ true) → list_any g ls ≡ true → list_any h ls ≡ true
-any_more g h [] f p = p
-any_more g h (l ∷ ls) f p = or_both (g l) (list_any g ls) (h l) (list_any h ls) (f l) (any_more g h ls f) p
-
 end_there : (o : Option NodeData) → has_mark o ≡ true → is_some o ≡ true
 end_there None h = cc
 end_there (Some n) h = refl
@@ -54,12 +41,7 @@ end_there (Some n) h = refl
 pub marks_lead : (ns : Table) (i : ℕ) (a : Address) → at_path has_mark ns i a ≡ true → at_path is_some ns i a ≡ true
 marks_lead ns i [] h = end_there (slice_get ns i) h
 marks_lead ns i (e ∷ es) h =
-    any_more (λ l. edge_eq l.edge e && at_path has_mark ns l.number es) (λ l. edge_eq l.edge e && at_path is_some ns l.number es) (links_at ns i)
+    any_weaker (λ l. edge_eq l.edge e && at_path has_mark ns l.number es) (λ l. edge_eq l.edge e && at_path is_some ns l.number es) (links_at ns i)
     (λ l p. let b = and_parts (edge_eq l.edge e) (at_path has_mark ns l.number es) p in and_from (edge_eq l.edge e) (at_path is_some ns l.number es) b.0 (marks_lead ns l.number es b.1)) h
-
-unmarked : (m l : Bool) → (m ≡ true → l ≡ true) → l ≡ false → m ≡ false
-unmarked true l f h = sym (f refl) ∙ h
-unmarked false l f h = refl
-
 pub no_mark : (ns : Table) (i : ℕ) (a : Address) → at_path is_some ns i a ≡ false → at_path has_mark ns i a ≡ false
-no_mark ns i a h = unmarked (at_path has_mark ns i a) (at_path is_some ns i a) (marks_lead ns i a) h
+no_mark ns i a h = false_by_weaker (at_path has_mark ns i a) (at_path is_some ns i a) (marks_lead ns i a) h

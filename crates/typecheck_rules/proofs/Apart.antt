@@ -13,6 +13,7 @@ use Rattle.schema_types.specs.Ty.{Ty}
 use Rattle.policy_types.specs.Attributes.{names_of, AreApartIfKnown, AreDisjoint}
 use Rattle.policy_types.specs.Join.{text_eq}
 use Rattle.typing_spec.specs.Rules.{are_apart, are_disjoint}
+use Rattle.plain_lemmas.proofs.Booleans.{and_parts_of, equal_by_both_ways, false_of_not}
 
 text_itself : (k : List ℕ) → text_eq k k ≡ true
 text_itself k = ap is_eq (tied_itself nat_list_cmp_total k)
@@ -20,19 +21,11 @@ text_itself k = ap is_eq (tied_itself nat_list_cmp_total k)
 same_text : (k l : List ℕ) → text_eq k l ≡ true → k ≡ l
 same_text k l h = exact_bytes k l (equal_of (text_cmp k l) h)
 
-negated : (b : Bool) → not b ≡ true → b ≡ false
-negated true h = cc
-negated false h = refl
-
-and_both : (a b : Bool) → (a && b) ≡ true → (a ≡ true) × (b ≡ true)
-and_both true b h = (refl, h)
-and_both false b h = cc
-
 apart_names : (ms ns : List (List ℕ)) (k : List ℕ) → list_all (λ n. not (has_name ns n)) ms ≡ true → has_name ms k ≡ true → has_name ns k ≡ false
 apart_names [] ns k h i = cc
 apart_names (m ∷ ms) ns k h i =
-    let r = and_both (not (has_name ns m)) (list_all (λ n. not (has_name ns n)) ms) h in
-    by (text_eq k m) refl (apart_names ms ns k r.1) i (negated (has_name ns m) r.0)
+    let r = and_parts_of (not (has_name ns m)) (list_all (λ n. not (has_name ns n)) ms) h in
+    by (text_eq k m) refl (apart_names ms ns k r.1) i (false_of_not (has_name ns m) r.0)
   where
     by : (b : Bool) → text_eq k m ≡ b → (has_name ms k ≡ true → has_name ns k ≡ false) → (b || has_name ms k) ≡ true → has_name ns m ≡ false → has_name ns k ≡ false
     by true e rest j f = subst (λ l. has_name ns l ≡ false) (sym (same_text k m e)) f
@@ -66,10 +59,5 @@ is_one (Some ms) (Some ns) h = all_apart ms ns h
 is_one None b h = absurd h
 is_one (Some ms) None h = absurd h
 
-same_truth : (b c : Bool) → (b ≡ true → c ≡ true) → (c ≡ true → b ≡ true) → b ≡ c
-same_truth true c f g = sym (f refl)
-same_truth false true f g = g refl
-same_truth false false f g = refl
-
 pub disjoint_test : (b : Bool) (t u : Ty) → IsTrue b ↔ AreDisjoint t u → b ≡ are_disjoint t u
-disjoint_test b t u h = same_truth b (are_disjoint t u) (λ e. is_one (names_of t) (names_of u) (h.0 e)) (λ e. h.1 (one_of (names_of t) (names_of u) e))
+disjoint_test b t u h = equal_by_both_ways b (are_disjoint t u) (λ e. is_one (names_of t) (names_of u) (h.0 e)) (λ e. h.1 (one_of (names_of t) (names_of u) e))

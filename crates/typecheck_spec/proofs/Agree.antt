@@ -22,7 +22,7 @@ use Rattle.typecheck_spec.specs.Faults.{at_typed, at_both, and_faults, or_faults
 use Rattle.typecheck_spec.specs.Laws.{WalkIsExact, TypedHasNoFaults}
 use Rattle.typecheck_spec.proofs.Parts.{Sub, sub_self, sub_left, sub_both, sub_none}
 use Rattle.typecheck_spec.proofs.Steps.{ended_tells, expect_tells, expect_fails, one_tells, two_tells, step_told, steps_told}
-use Rattle.typecheck_spec.proofs.Sides.{and_false}
+use Rattle.plain_lemmas.proofs.Booleans.{and_false}
 use Rattle.typecheck_spec.proofs.Told.{and_told, or_told, if_told}
 use Rattle.typecheck_spec.proofs.Lists.{all_told, all_tells, call_told}
 use Rattle.typecheck_spec.proofs.Exact.{exact, exact_all}

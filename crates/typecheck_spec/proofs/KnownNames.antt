@@ -15,6 +15,7 @@ use Rattle.findings.specs.Mentioned.{Mentioned, a_type, names_in, names_in_all, 
 use Rattle.typing_spec.specs.Conforms.{is_listed}
 use Rattle.typing_spec.specs.Environment.{type_of_literal}
 use Rattle.typecheck_spec.specs.Names.{is_known_id, is_known_name}
+use Rattle.plain_lemmas.proofs.Booleans.{and_parts_of}
 
 -- all literals have types
 module _ (schema : SchemaData) {A : Type 0} where
@@ -44,10 +45,6 @@ module _ (schema : SchemaData) {A : Type 0} where
     FieldsHaveKnownNames no_named = ⊤
     FieldsHaveKnownNames (named k x xs) = HasKnownNames x × FieldsHaveKnownNames xs
 
-both_true : (a b : Bool) → (a && b) ≡ true → (a ≡ true) × (b ≡ true)
-both_true true b h = (refl, h)
-both_true false b h = absurd (true≢false (sym h))
-
 id_known : (u : EntityUID) (a : Option ActionData) (t : Option TypeData) (b : Bool) → (is_some t || b) ≡ true → (not b || is_some a) ≡ true → IsSome (id_type u a t)
 id_known u (Some a) t b h k = refl
 id_known u None (Some t) b h k = refl
@@ -56,7 +53,7 @@ id_known u None None false h k = absurd (true≢false (sym h))
 
 module _ (schema : SchemaData) where
   split : (xs ys : List (Mentioned × Option Loc)) → list_all (λ m. is_known_name schema m.0) (xs ++ ys) ≡ true → (list_all (λ m. is_known_name schema m.0) xs ≡ true) × (list_all (λ m. is_known_name schema m.0) ys ≡ true)
-  split xs ys h = both_true (list_all (λ m. is_known_name schema m.0) xs) (list_all (λ m. is_known_name schema m.0) ys) (sym (list_all-append (λ m. is_known_name schema m.0) xs ys) ∙ h)
+  split xs ys h = and_parts_of (list_all (λ m. is_known_name schema m.0) xs) (list_all (λ m. is_known_name schema m.0) ys) (sym (list_all-append (λ m. is_known_name schema m.0) xs ys) ∙ h)
 
   front : (xs ys : List (Mentioned × Option Loc)) → list_all (λ m. is_known_name schema m.0) (xs ++ ys) ≡ true → list_all (λ m. is_known_name schema m.0) xs ≡ true
   front xs ys h = (split xs ys h).0
@@ -66,13 +63,13 @@ module _ (schema : SchemaData) where
 
   id_declared : (uid : EntityUID) → is_known_id schema uid ≡ true → IsSome (id_type uid (action_at schema uid) (type_at schema uid.entity_type))
   id_declared uid h =
-      let k = both_true (is_known_type schema uid.entity_type) (is_known_action schema uid && is_listed schema uid) h in
-      id_known uid (action_at schema uid) (type_at schema uid.entity_type) (is_action_type uid.entity_type) k.0 (both_true (is_known_action schema uid) (is_listed schema uid) k.1).0
+      let k = and_parts_of (is_known_type schema uid.entity_type) (is_known_action schema uid && is_listed schema uid) h in
+      id_known uid (action_at schema uid) (type_at schema uid.entity_type) (is_action_type uid.entity_type) k.0 (and_parts_of (is_known_action schema uid) (is_listed schema uid) k.1).0
 
   module _ {T : Type 0} where
     mutual
       pub names_known : (e : Tree (Mark T)) → list_all (λ m. is_known_name schema m.0) (names_in e) ≡ true → HasKnownNames schema e
-      names_known (lit (literal.EntityUID uid) a) h = id_declared uid (both_true (is_known_id schema uid) true h).0
+      names_known (lit (literal.EntityUID uid) a) h = id_declared uid (and_parts_of (is_known_id schema uid) true h).0
       names_known (lit (literal.Bool b) a) h = refl
       names_known (lit (literal.Long n) a) h = refl
       names_known (lit (literal.String s) a) h = refl

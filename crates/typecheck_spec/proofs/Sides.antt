@@ -15,6 +15,7 @@ use Rattle.typecheck_spec.specs.Walked.{Walked, Success, Fail, typing_of, has_ty
 use Rattle.typecheck_spec.specs.Operators.{unless_false, unless_true, and_walked, or_walked}
 use Rattle.typecheck_spec.proofs.Steps.{ended_typing, IfFalse, expect_exact}
 use Rattle.typecheck_spec.proofs.Refusals.{and_refuses, or_refuses}
+use Rattle.plain_lemmas.proofs.Booleans.{and_false}
 
 abbrev Marked : Type 0
 Marked = Mark (Unit {0})
@@ -27,10 +28,6 @@ no_end false t fs = refl
 none_after : {A B : Type 0} (k : A → Option B) → ((x : A) → k x ≡ None) → (o : Option A) → option_and_then k o ≡ None
 none_after k h None = refl
 none_after k h (Some x) = h x
-
-pub and_false : (b : Bool) → (b && false) ≡ false
-and_false true = refl
-and_false false = refl
 
 -- the rule of the right side, where it is reached
 abbrev and_rule : Ty → List Capability → Typed → Marked → Typing → Option Typing

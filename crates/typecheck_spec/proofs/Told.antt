@@ -13,10 +13,7 @@ use Rattle.typecheck_spec.specs.Operators.{type_lent, skipped, reached_after, re
 use Rattle.typecheck_spec.specs.Faults.{at_typed, at_both, side_found, and_faults, or_faults, if_faults}
 use Rattle.typecheck_spec.proofs.Parts.{Sub, sub_self, sub_left, sub_right, sub_both, sub_none}
 use Rattle.typecheck_spec.proofs.Steps.{ended_tells, IfFalse, of_false, expect_tells, expect_fails, step_told}
-use Rattle.typecheck_spec.proofs.Sides.{and_false}
-
-false_and : (b c : Bool) → b ≡ false → (b && c) ≡ false
-false_and b c e = ap (λ d. d && c) e
+use Rattle.plain_lemmas.proofs.Booleans.{and_false, and_false_left}
 
 -- behind a first operand that failed
 behind_failed : (v : Walked) (after : List Capability → Walked) (before : Walked) → IfFalse (has_typing v) (reached_after v after before ≡ before)
@@ -34,14 +31,14 @@ side_told r w fs h = step_told (λ v. expect a_boolean r v) w fs (λ v e. expect
 module _ (m : Mark (Unit {0})) where
   -- both sides of `&&` are told, unless there is a typing
   and_left_tells : (v w : Walked) → has_typing v ≡ false → Sub (findings_of v ++ findings_of w) (findings_of (and_sides m v w))
-  and_left_tells v w e = ended_tells (has_typing v && has_typing w) _ _ (findings_of v ++ findings_of w) (findings_of v ++ findings_of w) (false_and (has_typing v) (has_typing w) e) (sub_self (findings_of v ++ findings_of w))
+  and_left_tells v w e = ended_tells (has_typing v && has_typing w) _ _ (findings_of v ++ findings_of w) (findings_of v ++ findings_of w) (and_false_left (has_typing v) (has_typing w) e) (sub_self (findings_of v ++ findings_of w))
 
   and_right_tells : (v w : Walked) → Sub (findings_of w) (findings_of (and_sides m v w))
   and_right_tells v (Success b) = sub_none (findings_of (and_sides m v (Success b)))
   and_right_tells v (Fail u gs) = ended_tells (has_typing v && false) _ _ (findings_of v ++ gs) gs (and_false (has_typing v)) (sub_right gs (findings_of v) gs (sub_self gs))
 
   or_left_tells : (v w : Walked) → has_typing v ≡ false → Sub (findings_of v ++ findings_of w) (findings_of (or_sides m v w))
-  or_left_tells v w e = ended_tells (has_typing v && has_typing w) _ _ (findings_of v ++ findings_of w) (findings_of v ++ findings_of w) (false_and (has_typing v) (has_typing w) e) (sub_self (findings_of v ++ findings_of w))
+  or_left_tells v w e = ended_tells (has_typing v && has_typing w) _ _ (findings_of v ++ findings_of w) (findings_of v ++ findings_of w) (and_false_left (has_typing v) (has_typing w) e) (sub_self (findings_of v ++ findings_of w))
 
   or_right_tells : (v w : Walked) → Sub (findings_of w) (findings_of (or_sides m v w))
   or_right_tells v (Success b) = sub_none (findings_of (or_sides m v (Success b)))
@@ -112,7 +109,7 @@ module _ (m : Mark (Unit {0})) where
   if_failed u after before w fs gs hs e h k i =
       subst (λ v. Sub (fs ++ (gs ++ hs)) (findings_of (if_parts m u v (reached_besides u w)))) (sym (of_false (has_typing u) e (behind_failed u after before)))
       (subst (λ x. Sub (fs ++ (gs ++ hs)) (findings_of (if_parts m u before x))) (sym (of_false (has_typing u) e (beside_failed u w)))
-      (λ f j. parts_tell u before w (false_and (has_typing u) (has_typing before && has_typing w) e) f
+      (λ f j. parts_tell u before w (and_false_left (has_typing u) (has_typing before && has_typing w) e) f
       (sub_both fs (gs ++ hs) (findings_of u) (findings_of before ++ findings_of w) h (sub_both gs hs (findings_of before) (findings_of w) k i) f j)))
 
   -- one branch alone, and both

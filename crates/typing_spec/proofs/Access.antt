@@ -33,7 +33,8 @@ use Rattle.typing_spec.proofs.Basics.{any_some}
 use Rattle.typing_spec.proofs.Fields.{FitsAttribute, declared_fits, undeclared_absent}
 use Rattle.typing_spec.proofs.Ids.{only_one_name}
 use Rattle.typing_spec.proofs.Kept.{IsKept}
-use Rattle.typing_spec.proofs.Operators.{two, two_of, string_member, id_member, and_both}
+use Rattle.typing_spec.proofs.Operators.{two, two_of, string_member, id_member}
+use Rattle.plain_lemmas.proofs.Booleans.{and_parts_of}
 use Rattle.typing_spec.proofs.Stored.{FoundAt, found_at, typed_found, action_found, untagged_found}
 
 true_of : (b : Bool) → Value (truth b) ≡ Value (truth true) → b ≡ true
@@ -196,7 +197,7 @@ module _ (schema : SchemaData) (ok : IsSchema schema) (s : Store) (stored : Stor
       by : (b : Bool) → (is_entity t && is_string u) ≡ b → IfSome (if b then Some (possible (may_have_tags schema t)) else None) (λ w. IsOfType w (two o p (λ v w. has_tag_value v w s)))
       by false e = tt
       by true e =
-          let r = and_both (is_entity t) (is_string u) e in
+          let r = and_parts_of (is_entity t) (is_string u) e in
           two_of t u (possible (may_have_tags schema t)) o p (λ v w. has_tag_value v w s) h i (λ v w m n.
           let c = id_member t v r.0 m in
           let d = string_in u w r.1 n in
@@ -248,8 +249,8 @@ module _ (schema : SchemaData) (ok : IsSchema schema) (s : Store) (stored : Stor
       by : (b : Bool) → ((is_entity t && is_string u) && known) ≡ b → IfSome (if b then tag_type schema t else None) (λ w. IsOfType w (two o p (λ v w. get_tag_value v w s)))
       by false e = tt
       by true e =
-          let r = and_both (is_entity t && is_string u) known e in
-          let z = and_both (is_entity t) (is_string u) r.0 in
+          let r = and_parts_of (is_entity t && is_string u) known e in
+          let z = and_parts_of (is_entity t) (is_string u) r.0 in
           at o p z.0 z.1 h i (k r.1)
 
 -- what a true test of `has` or `hasTag` makes known

@@ -33,7 +33,8 @@ use Rattle.typing_spec.specs.Signatures.{bool_type, long_type, string_type, deci
 use Rattle.typing_spec.specs.Sound.{IsOfType}
 use Rattle.typing_spec.proofs.Lists.{AreMembers, AreOf}
 use Rattle.typing_spec.proofs.Basics.{any_some}
-use Rattle.typing_spec.proofs.Operators.{decimal_member, ip_member, datetime_member, duration_member, same_types_are_one, and_both}
+use Rattle.typing_spec.proofs.Operators.{decimal_member, ip_member, datetime_member, duration_member, same_types_are_one}
+use Rattle.plain_lemmas.proofs.Booleans.{and_parts_of}
 
 fits : (t : Ty) (make : ℤ → Val) (x : Option ℤ) → ((n : ℤ) → Member t (make n)) → IsOfType t (fitting make x)
 fits t make (Some n) h = h n
@@ -117,7 +118,7 @@ binary_of binary.DurationSince v w m = since_of v w m.0 m.1.0
 same_all : (ts us : List Ty) → same_types ts us ≡ true → ts ≡ us
 same_all [] [] e = refl
 same_all (t ∷ ts) (u ∷ us) e =
-    let r = and_both (same_type t u) (same_types ts us) e in
+    let r = and_parts_of (same_type t u) (same_types ts us) e in
     λ i. same_types_are_one t u r.0 i ∷ same_all ts us r.1 i
 same_all [] (u ∷ us) e = absurd (cc)
 same_all (t ∷ ts) [] e = absurd (cc)
@@ -205,7 +206,7 @@ module _ (q : Request) (s : Store) where
 
   texts_of : (f : ExtensionFunction) (xs : Trees (Mark (Unit {0}))) (v : Val) → (count_of xs == 1) ≡ true → are_literals xs ≡ true → has_readable f xs ≡ true → eval_all xs q s ≡ Ok (v ∷ []) → TextOf f v
   texts_of f no_trees v c h i e = absurd (cc)
-  texts_of f (tree x no_trees) v c h i e = one_literal f x v (and_both (is_literal x) true h).0 i e
+  texts_of f (tree x no_trees) v c h i e = one_literal f x v (and_parts_of (is_literal x) true h).0 i e
   texts_of f (tree x (tree y ys)) v c h i e = absurd (omega (arith, eqb-true (count_of ys + 1 + 1) 1 c))
 
   -- a constructor's text can be read; the other functions read none
@@ -249,9 +250,9 @@ module _ (q : Request) (s : Store) where
       by : (b : Bool) → ((has_count f xs && (has_literals f xs && has_readable f xs)) && same_types ts (signature_of f).arguments) ≡ b → IfSome (if b then Some (signature_of f).result else None) (λ w. IsOfType w (called (Some f) vs))
       by false h = tt
       by true h =
-          let r = and_both (has_count f xs && (has_literals f xs && has_readable f xs)) (same_types ts (signature_of f).arguments) h in
-          let c = and_both (has_count f xs) (has_literals f xs && has_readable f xs) r.0 in
-          let d = and_both (has_literals f xs) (has_readable f xs) c.1 in
+          let r = and_parts_of (has_count f xs && (has_literals f xs && has_readable f xs)) (same_types ts (signature_of f).arguments) h in
+          let c = and_parts_of (has_count f xs) (has_literals f xs && has_readable f xs) r.0 in
+          let d = and_parts_of (has_literals f xs) (has_readable f xs) c.1 in
           called_of f xs vs c.0 d.0 d.1 e (subst (λ us. AreMembers us vs) (same_all ts (signature_of f).arguments r.1) m)
 
   pub call_of_type : (name : List ℕ) (xs : Trees (Mark (Unit {0}))) (ts : List Ty) → AreOf ts (eval_all xs q s) → IfSome (call_type (function_of name) xs ts) (λ w. IsOfType w (call_outcome name (eval_all xs q s)))

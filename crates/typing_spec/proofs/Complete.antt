@@ -3,10 +3,7 @@ use Rattle.std.proofs.Common.{◌≡◌, Bool, true, false, ◌||◌, refl}
 use Rattle.policy_expressions.specs.Slots.{has_slot, some_has_slot, some_named_has_slot}
 use Rattle.policy_expressions.specs.Tree.{Tree, lit, var, slot, ite, conj, disj, unary, binary, attr, has, like, is_type, call, set, rec, Trees, no_trees, tree, Named, no_named, named}
 use Rattle.policy_expressions.specs.Keys.{IsFresh, HasKeysOnce, HaveKeysOnce, AreKeysOnce}
-
-or_both : (a b : Bool) → (a || b) ≡ false → (a ≡ false) × (b ≡ false)
-or_both true b h = cc
-or_both false b h = (refl, h)
+use Rattle.plain_lemmas.proofs.Booleans.{or_false_parts}
 
 module _ {A : Type 0} where
   abbrev mutual
@@ -41,13 +38,13 @@ module _ {A : Type 0} where
     complete (var v a) h k = tt
     complete (slot i a) h k = absurd (cc)
     complete (ite x y z a) h k =
-        let r = or_both (has_slot x) (has_slot y || has_slot z) h in
-        let t = or_both (has_slot y) (has_slot z) r.1 in
+        let r = or_false_parts (has_slot x) (has_slot y || has_slot z) h in
+        let t = or_false_parts (has_slot y) (has_slot z) r.1 in
         (complete x r.0 k.0, complete y t.0 k.1, complete z t.1 k.2)
-    complete (conj x y a) h k = let r = or_both (has_slot x) (has_slot y) h in (complete x r.0 k.0, complete y r.1 k.1)
-    complete (disj x y a) h k = let r = or_both (has_slot x) (has_slot y) h in (complete x r.0 k.0, complete y r.1 k.1)
+    complete (conj x y a) h k = let r = or_false_parts (has_slot x) (has_slot y) h in (complete x r.0 k.0, complete y r.1 k.1)
+    complete (disj x y a) h k = let r = or_false_parts (has_slot x) (has_slot y) h in (complete x r.0 k.0, complete y r.1 k.1)
     complete (unary o x a) h k = complete x h k
-    complete (binary o x y a) h k = let r = or_both (has_slot x) (has_slot y) h in (complete x r.0 k.0, complete y r.1 k.1)
+    complete (binary o x y a) h k = let r = or_false_parts (has_slot x) (has_slot y) h in (complete x r.0 k.0, complete y r.1 k.1)
     complete (attr x n a) h k = complete x h k
     complete (has x n a) h k = complete x h k
     complete (like x p a) h k = complete x h k
@@ -58,8 +55,8 @@ module _ {A : Type 0} where
 
     all_complete : (xs : Trees A) → some_has_slot xs ≡ false → HaveKeysOnce xs → AreComplete xs
     all_complete no_trees h k = tt
-    all_complete (tree x xs) h k = let r = or_both (has_slot x) (some_has_slot xs) h in (complete x r.0 k.0, all_complete xs r.1 k.1)
+    all_complete (tree x xs) h k = let r = or_false_parts (has_slot x) (some_has_slot xs) h in (complete x r.0 k.0, all_complete xs r.1 k.1)
 
     named_complete : (xs : Named A) → some_named_has_slot xs ≡ false → AreKeysOnce xs → AreCompleteNamed xs
     named_complete no_named h k = tt
-    named_complete (named l x xs) h k = let r = or_both (has_slot x) (some_named_has_slot xs) h in (complete x r.0 k.0, k.1, named_complete xs r.1 k.2)
+    named_complete (named l x xs) h k = let r = or_false_parts (has_slot x) (some_named_has_slot xs) h in (complete x r.0 k.0, k.1, named_complete xs r.1 k.2)

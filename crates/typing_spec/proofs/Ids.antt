@@ -24,24 +24,14 @@ use Rattle.typing_spec.specs.Environment.{truth_type}
 use Rattle.typing_spec.specs.Rules.{bool_if, strict_join, are_disjoint, are_one, equal_type, is_one_of, is_type}
 use Rattle.typing_spec.specs.Sound.{IsOfType}
 use Rattle.typing_spec.proofs.Kept.{same_text}
-use Rattle.typing_spec.proofs.Operators.{then_of, two, two_of, id_member, bool_when, and_both}
+use Rattle.typing_spec.proofs.Operators.{then_of, two, two_of, id_member, bool_when}
+use Rattle.plain_lemmas.proofs.Booleans.{and_parts_of, false_of_not, false_of_not_true, not_both}
 
 pub text_itself : (k : List ℕ) → text_eq k k ≡ true
 text_itself k = ap is_eq (tied_itself nat_list_cmp_total k)
 
 pub same_uid : (x y : EntityUID) → uid_eq x y ≡ true → x ≡ y
 same_uid x y h = exact_uid x y (equal_of (uid_cmp x y) h)
-
-clash : (b : Bool) → b ≡ true → b ≡ false → ⊥
-clash b h i = let f : true ≡ false = sym h ∙ i in cc
-
-pub not_true : (b : Bool) → (b ≡ true → ⊥) → b ≡ false
-not_true true h = absurd (h refl)
-not_true false h = refl
-
-negated : (b : Bool) → not b ≡ true → b ≡ false
-negated true h = cc
-negated false h = refl
 
 pub one_name : (n k : List ℕ) → k ≡ n → has_name (n ∷ []) k ≡ true
 one_name n k e = subst (λ m. has_name (n ∷ []) m ≡ true) (sym e) (ap (λ b. b || false) (text_itself n))
@@ -56,8 +46,8 @@ only_one_name n k h = same_text k n (first (text_eq k n) h)
 pub apart_names : (ms ns : List (List ℕ)) (k : List ℕ) → list_all (λ n. not (has_name ns n)) ms ≡ true → has_name ms k ≡ true → has_name ns k ≡ false
 apart_names [] ns k h i = cc
 apart_names (m ∷ ms) ns k h i =
-    let r = and_both (not (has_name ns m)) (list_all (λ n. not (has_name ns n)) ms) h in
-    by (text_eq k m) refl (apart_names ms ns k r.1) i (negated (has_name ns m) r.0)
+    let r = and_parts_of (not (has_name ns m)) (list_all (λ n. not (has_name ns n)) ms) h in
+    by (text_eq k m) refl (apart_names ms ns k r.1) i (false_of_not (has_name ns m) r.0)
   where
     by : (b : Bool) → text_eq k m ≡ b → (has_name ms k ≡ true → has_name ns k ≡ false) → (b || has_name ms k) ≡ true → has_name ns m ≡ false → has_name ns k ≡ false
     by true e rest j f = subst (λ l. has_name ns l ≡ false) (sym (same_text k m e)) f
@@ -65,8 +55,8 @@ apart_names (m ∷ ms) ns k h i =
 
 apart_ids : (ms ns : List (List ℕ)) (x y : EntityUID) → list_all (λ n. not (has_name ns n)) ms ≡ true → has_name ms x.entity_type ≡ true → has_name ns y.entity_type ≡ true → uid_eq x y ≡ false
 apart_ids ms ns x y h i j =
-    not_true (uid_eq x y) (λ e.
-    clash (has_name ns x.entity_type) (subst (λ u. has_name ns u.entity_type ≡ true) (sym (same_uid x y e)) j) (apart_names ms ns x.entity_type h i))
+    false_of_not_true (uid_eq x y) (λ e.
+    not_both (has_name ns x.entity_type) (subst (λ u. has_name ns u.entity_type ≡ true) (sym (same_uid x y e)) j) (apart_names ms ns x.entity_type h i))
 
 disjoint_ids : (t u : Ty) (x y : EntityUID) → are_disjoint t u ≡ true → Member t (id x) → Member u (id y) → uid_eq x y ≡ false
 disjoint_ids (entity ms) (entity ns) x y e h i = apart_ids ms ns x y e h i
@@ -121,7 +111,7 @@ equal_of_type x y t u o p h i a b = by (are_disjoint t u) refl
 all_name : (ns : List (List ℕ)) (n k : List ℕ) → list_all (text_eq n) ns ≡ true → has_name ns k ≡ true → k ≡ n
 all_name [] n k h i = cc
 all_name (m ∷ ms) n k h i =
-    let r = and_both (text_eq n m) (list_all (text_eq n) ms) h in
+    let r = and_parts_of (text_eq n m) (list_all (text_eq n) ms) h in
     by (text_eq k m) refl (all_name ms n k r.1) i (same_text n m r.0)
   where
     by : (b : Bool) → text_eq k m ≡ b → (has_name ms k ≡ true → k ≡ n) → (b || has_name ms k) ≡ true → n ≡ m → k ≡ n
@@ -132,7 +122,7 @@ one_of : (ns : List (List ℕ)) (n k : List ℕ) → has_name ns k ≡ true → 
 one_of ns n k h = by (has_name ns n) refl (list_all (text_eq n) ns) refl
   where
     by : (b : Bool) → has_name ns n ≡ b → (c : Bool) → list_all (text_eq n) ns ≡ c → Member (if not b then false_type else (if c then true_type else bool_type)) (truth (text_eq k n))
-    by false e c f = not_true (text_eq k n) (λ g. clash (has_name ns n) (subst (λ m. has_name ns m ≡ true) (same_text k n g) h) e)
+    by false e c f = false_of_not_true (text_eq k n) (λ g. not_both (has_name ns n) (subst (λ m. has_name ns m ≡ true) (same_text k n g) h) e)
     by true e true f = subst (λ m. text_eq m n ≡ true) (sym (all_name ns n k f h)) (text_itself n)
     by true e false f = tt
 

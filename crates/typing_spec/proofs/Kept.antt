@@ -22,6 +22,7 @@ use Rattle.policy_types.proofs.SubtypeLaws.{subtype_refl, subtype_trans}
 use Rattle.policy_types.proofs.MemberLaws.{member_sub}
 use Rattle.typing_spec.specs.Rules.{strict_join, set_type}
 use Rattle.typing_spec.proofs.Booleans.{IsAbove}
+use Rattle.plain_lemmas.proofs.Booleans.{and_parts_of}
 
 -- values; of entities one type, of actions a type of actions and no attributes
 abbrev mutual
@@ -37,7 +38,7 @@ abbrev mutual
   AreKept no_attrs = Unit {0}
   AreKept (attr k t q xs) = IsKept t × AreKept xs
 
--- both are below the type
+-- and_parts_of are below the type
 abbrev Above : Ty → Ty → Ty → Type 0
 Above t u w = Subtype Strict t w × Subtype Strict u w × IsKept w
 
@@ -57,10 +58,6 @@ same_bool true true h = refl
 same_bool false false h = refl
 same_bool true false h = cc
 same_bool false true h = cc
-
-both : (a b : Bool) → (a && b) ≡ true → (a ≡ true) × (b ≡ true)
-both true b h = (refl, h)
-both false b h = cc
 
 left_open : (o p : OpenTag) → SubOpen o (either_open o p)
 left_open ClosedAttributes ClosedAttributes = tt
@@ -135,7 +132,7 @@ mutual
   attrs_above : (xs ys : Attrs) → AreKept xs → AreKept ys → same_keys xs ys ≡ true → IfOk (join_attrs xs ys) (AttrsAbove xs ys)
   attrs_above no_attrs no_attrs a b e = (tt, tt, tt)
   attrs_above (attr k t q xs) (attr l u r ys) a b e =
-      let s = both (text_eq k l) (same_keys xs ys) e in
+      let s = and_parts_of (text_eq k l) (same_keys xs ys) e in
       above_first k l t u q r xs ys (join Strict t u) (join_attrs xs ys) (same_text k l s.0) (strict_above t u a.0 b.0) (attrs_above xs ys a.1 b.1 s.1)
   attrs_above no_attrs (attr l u r ys) a b e = cc
   attrs_above (attr k t q xs) no_attrs a b e = cc

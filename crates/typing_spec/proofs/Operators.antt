@@ -21,6 +21,7 @@ use Rattle.typing_spec.specs.Signatures.{bool_type, long_type, string_type, deci
 use Rattle.typing_spec.specs.Rules.{bool_if, is_set, strict_join, unary_type, order_type, sum_type, contains_type, contains_sets_type, like_type}
 use Rattle.typing_spec.specs.Sound.{IsOfType}
 use Rattle.typing_spec.proofs.Booleans.{by_truth}
+use Rattle.plain_lemmas.proofs.Booleans.{and_parts_of, or_cases}
 
 -- a first step that gives a value of its type, and then what follows
 pub then_of : (t w : Ty) (o : Outcome) (k : Val → Outcome) → IsOfType t o → ((v : Val) → Member t v → IsOfType w (k v)) → IsOfType w (with_value o k)
@@ -124,14 +125,6 @@ sum_of f t u o p h i = tt
 pub same_types_are_one : (t u : Ty) → same_type t u ≡ true → t ≡ u
 same_types_are_one t u e = exact_ty t u (equal_of (ty_cmp t u) e)
 
-pub and_both : (a b : Bool) → (a && b) ≡ true → (a ≡ true) × (b ≡ true)
-and_both true b h = (refl, h)
-and_both false b h = cc
-
-pub or_either : (a b : Bool) → (a || b) ≡ true → (a ≡ true) ⊎ (b ≡ true)
-or_either true b h = inl refl
-or_either false b h = inr h
-
 compared_of : (test : ℤ → ℤ → Bool) (t : Ty) (o p : Outcome) (make : ℤ → Val) → ((v : Val) → Member t v → (n : ℤ) × (v ≡ make n)) → ((m n : ℤ) → IsOfType bool_type (compared test (make m) (make n))) → IsOfType t o → IsOfType t p → IsOfType bool_type (two o p (compared test))
 compared_of test t o p make f g h i =
     two_of t t bool_type o p (compared test) h i (λ v w m n.
@@ -145,9 +138,9 @@ order_as test t o p (inr (inl e)) h i = compared_of test datetime_type o p datet
 order_as test t o p (inr (inr e)) h i = compared_of test duration_type o p duration duration_member (λ m n. tt) (subst (λ u. IsOfType u o) e h) (subst (λ u. IsOfType u p) e i)
 
 comparable : (t : Ty) → (same_type t long_type || (same_type t datetime_type || same_type t duration_type)) ≡ true → (t ≡ long_type) ⊎ ((t ≡ datetime_type) ⊎ (t ≡ duration_type))
-comparable t e = elim (or_either (same_type t long_type) (same_type t datetime_type || same_type t duration_type) e) [
+comparable t e = elim (or_cases (same_type t long_type) (same_type t datetime_type || same_type t duration_type) e) [
   | inl a ↦ inl (same_types_are_one t long_type a)
-  | inr a ↦ elim (or_either (same_type t datetime_type) (same_type t duration_type) a) [
+  | inr a ↦ elim (or_cases (same_type t datetime_type) (same_type t duration_type) a) [
     | inl b ↦ inr (inl (same_types_are_one t datetime_type b))
     | inr b ↦ inr (inr (same_types_are_one t duration_type b))
   ]
@@ -156,7 +149,7 @@ comparable t e = elim (or_either (same_type t long_type) (same_type t datetime_t
 pub order_of : (test : ℤ → ℤ → Bool) (t u : Ty) (o p : Outcome) → IsOfType t o → IsOfType u p → IfSome (order_type t u) (λ w. IsOfType w (two o p (compared test)))
 order_of test t u o p h i =
     bool_when (same_type t u && (same_type t long_type || (same_type t datetime_type || same_type t duration_type))) (λ w. IsOfType w (two o p (compared test))) (λ e.
-    let r = and_both (same_type t u) (same_type t long_type || (same_type t datetime_type || same_type t duration_type)) e in
+    let r = and_parts_of (same_type t u) (same_type t long_type || (same_type t datetime_type || same_type t duration_type)) e in
     order_as test t o p (comparable t r.1) h (subst (λ v. IsOfType v p) (sym (same_types_are_one t u r.0)) i))
 
 -- `contains`, `containsAll` and `containsAny`
@@ -169,8 +162,8 @@ contains_of t u o p h i = tt
 sets_of : (t u : Ty) (o p : Outcome) (k : Val → Val → Outcome) → ((vs ws : Vals) → IsOfType bool_type (k (set vs) (set ws))) → IsOfType t o → IsOfType u p → IfSome (contains_sets_type t u) (λ w. IsOfType w (two o p k))
 sets_of t u o p k f h i =
     bool_when ((is_set t && is_set u) && is_some (strict_join t u)) (λ w. IsOfType w (two o p k)) (λ e.
-    let r = and_both (is_set t && is_set u) (is_some (strict_join t u)) e in
-    let s = and_both (is_set t) (is_set u) r.0 in
+    let r = and_parts_of (is_set t && is_set u) (is_some (strict_join t u)) e in
+    let s = and_parts_of (is_set t) (is_set u) r.0 in
     two_of t u bool_type o p k h i (λ v w m n.
     let a = set_member t v s.0 m in
     let b = set_member u w s.1 n in

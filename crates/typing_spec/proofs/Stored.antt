@@ -15,7 +15,7 @@ use Rattle.schema_core.specs.Schema.{TypeData, ActionData, SchemaData, type_at, 
 use Rattle.typing_spec.specs.Conforms.{AreTags, TypedConforms, ActionConforms, ConformsAs, EntityConforms, StoreConforms}
 use Rattle.typing_spec.specs.Environment.{declared_attributes, declared_tags}
 use Rattle.typing_spec.proofs.Kept.{IsKept, AreKept}
-use Rattle.typing_spec.proofs.Operators.{and_both}
+use Rattle.plain_lemmas.proofs.Booleans.{and_parts_of}
 use Rattle.typing_spec.proofs.Ids.{same_uid}
 
 -- the types that a schema holds are types that expressions have
@@ -36,16 +36,16 @@ mutual
 
   pub held_all : (xs : Attrs) → IsTrue (are_held xs) → AreKept xs
   held_all no_attrs h = tt
-  held_all (attr k t q xs) h = let r = and_both (is_held t) (are_held xs) h in (held_kept t r.0, held_all xs r.1)
+  held_all (attr k t q xs) h = let r = and_parts_of (is_held t) (are_held xs) h in (held_kept t r.0, held_all xs r.1)
 
 attributes_kept : (k : Kind) → IsTrue (is_held_kind k) → AreKept (attributes_in k)
 attributes_kept (standard xs None) h = held_all xs h
-attributes_kept (standard xs (Some t)) h = held_all xs (and_both (are_held xs) (is_held t) h).0
+attributes_kept (standard xs (Some t)) h = held_all xs (and_parts_of (are_held xs) (is_held t) h).0
 attributes_kept (enumerated ids) h = tt
 
 tags_kept : (k : Kind) → IsTrue (is_held_kind k) → IfSome (tags_in k) IsKept
 tags_kept (standard xs None) h = tt
-tags_kept (standard xs (Some t)) h = held_kept t (and_both (are_held xs) (is_held t) h).1
+tags_kept (standard xs (Some t)) h = held_kept t (and_parts_of (are_held xs) (is_held t) h).1
 tags_kept (enumerated ids) h = tt
 
 module _ (schema : SchemaData) (ok : IsSchema schema) where

@@ -34,20 +34,17 @@ use Rattle.typing_spec.specs.Rules.{possible, is_entity_set, type_in, action_amo
 use Rattle.typing_spec.specs.Signatures.{bool_type}
 use Rattle.typing_spec.specs.Sound.{IsOfType}
 use Rattle.typing_spec.proofs.Access.{possible_truth}
-use Rattle.typing_spec.proofs.Ids.{IsKnownAs, same_uid, text_itself, not_true}
+use Rattle.typing_spec.proofs.Ids.{IsKnownAs, same_uid, text_itself}
+use Rattle.plain_lemmas.proofs.Booleans.{and_parts_of, false_of_not_true, or_false_left, or_false_right}
 use Rattle.typing_spec.proofs.Kept.{same_text}
 use Rattle.typing_spec.proofs.Basics.{mapped}
 use Rattle.typing_spec.proofs.Lists.{EachIs, AllIs, ordered_all}
-use Rattle.typing_spec.proofs.Operators.{two, id_member, and_both}
-use Rattle.typing_spec.proofs.Stored.{FoundAt, found_at, typed_found, action_found, declared_is_no_action, action_is_one, undeclared_found}
-
-or_left : (a b : Bool) → (a || b) ≡ false → a ≡ false
-or_left true b h = cc
-or_left false b h = refl
-
-or_right : (a b : Bool) → (a || b) ≡ false → b ≡ false
-or_right true b h = cc
-or_right false b h = h
+use Rattle.typing_spec.proofs.Operators.{two, id_member}
+or_false_left : (a b : Bool) → (a || b) ≡ false → a ≡ false
+or_false_left true b h = cc
+or_false_right : (a b : Bool) → (a || b) ≡ false → b ≡ false
+or_false_right true b h = cc
+or_false_right false b h = h
 
 and_not : (a b : Bool) → (a && b) ≡ false → a ≡ true → b ≡ false
 and_not true b h e = h
@@ -56,7 +53,7 @@ and_not false b h e = cc
 -- what is true of some
 none_of : {X : Type 0} (f : X → Bool) (P : X → Type 0) (xs : List X) → ((x : X) → f x ≡ false → P x) → list_any f xs ≡ false → AllByRecursion P xs
 none_of f P [] h e = tt
-none_of f P (x ∷ xs) h e = (h x (or_left (f x) (list_any f xs) e), none_of f P xs h (or_right (f x) (list_any f xs) e))
+none_of f P (x ∷ xs) h e = (h x (or_false_left (f x) (list_any f xs) e), none_of f P xs h (or_false_right (f x) (list_any f xs) e))
 
 -- an ancestor is one of those that are allowed
 allowed : (schema : SchemaData) (e : StoredEntity) (u : EntityUID) (us : List EntityUID) → AllByRecursion (IsAllowedAncestor schema e) us → list_any (uid_eq u) us ≡ true → type_below schema e.uid.entity_type u.entity_type ≡ true
@@ -79,17 +76,17 @@ module _ (schema : SchemaData) (ok : IsSchema schema) (s : Store) (stored : Stor
       both b c e f = λ i. e i || f i
 
       itself : uid_eq x u ≡ false
-      itself = not_true (uid_eq x u) (λ e. clash (text_eq x.entity_type u.entity_type) (ap (λ z. text_eq x.entity_type z.entity_type) (sym (same_uid x u e)) ∙ text_itself x.entity_type) (or_left (text_eq x.entity_type u.entity_type) (type_below schema x.entity_type u.entity_type) h))
+      itself = false_of_not_true (uid_eq x u) (λ e. clash (text_eq x.entity_type u.entity_type) (ap (λ z. text_eq x.entity_type z.entity_type) (sym (same_uid x u e)) ∙ text_itself x.entity_type) (or_false_left (text_eq x.entity_type u.entity_type) (type_below schema x.entity_type u.entity_type) h))
 
       by : (r : Option StoredEntity) → IfSome r (FoundAt schema ok x) → above r u ≡ false
       by None f = refl
-      by (Some e) f = not_true (list_any (uid_eq u) e.ancestors) (λ i. found (type_at schema x.entity_type) refl i)
+      by (Some e) f = false_of_not_true (list_any (uid_eq u) e.ancestors) (λ i. found (type_at schema x.entity_type) refl i)
         where
           found : (o : Option TypeData) → type_at schema x.entity_type ≡ o → list_any (uid_eq u) e.ancestors ≡ true → ⊥
           found (Some t) p i =
               let c = typed_found schema ok x e t f p in
               let b : type_below schema x.entity_type u.entity_type ≡ true = subst (λ y. type_below schema y.entity_type u.entity_type ≡ true) (sym f.uid) (allowed schema e u e.ancestors c.ancestors i) in
-              clash (type_below schema x.entity_type u.entity_type) b (or_right (text_eq x.entity_type u.entity_type) (type_below schema x.entity_type u.entity_type) h)
+              clash (type_below schema x.entity_type u.entity_type) b (or_false_right (text_eq x.entity_type u.entity_type) (type_below schema x.entity_type u.entity_type) h)
           found None p i = undeclared_found schema ok x e f a p
 
   -- the action is not in what it can't be in
@@ -117,14 +114,14 @@ module _ (schema : SchemaData) (ok : IsSchema schema) (s : Store) (stored : Stor
 
   -- ids of two types, of which one is of actions, differ
   kinds_differ : (x u : EntityUID) (b : Bool) → is_action_type x.entity_type ≡ b → is_action_type u.entity_type ≡ not b → uid_eq x u ≡ false
-  kinds_differ x u b e f = not_true (uid_eq x u) (λ g. differ b (sym e ∙ ap (λ z. is_action_type z.entity_type) (same_uid x u g) ∙ f))
+  kinds_differ x u b e f = false_of_not_true (uid_eq x u) (λ g. differ b (sym e ∙ ap (λ z. is_action_type z.entity_type) (same_uid x u g) ∙ f))
     where
       differ : (b : Bool) → b ≡ not b → ⊥
       differ true h = cc
       differ false h = cc
 
   types_differ : (x u : EntityUID) → is_action_type x.entity_type ≡ false → is_action_type u.entity_type ≡ true → text_eq x.entity_type u.entity_type ≡ false
-  types_differ x u a b = not_true (text_eq x.entity_type u.entity_type) (λ e. clash (is_action_type u.entity_type) b (ap is_action_type (sym (same_text x.entity_type u.entity_type e)) ∙ a))
+  types_differ x u a b = false_of_not_true (text_eq x.entity_type u.entity_type) (λ e. clash (is_action_type u.entity_type) b (ap is_action_type (sym (same_text x.entity_type u.entity_type e)) ∙ a))
 
   -- the id is in none of them
   abbrev IsOut : EntityUID → List EntityUID → Type 0
@@ -139,7 +136,7 @@ module _ (schema : SchemaData) (ok : IsSchema schema) (s : Store) (stored : Stor
   out_of_actions x us a h = none_of (λ u. is_action_type u.entity_type && is_action_within schema x u) (λ u. within x u s ≡ false) us (λ u f. by u (is_action_type u.entity_type) refl f) h
     where
       by : (u : EntityUID) (b : Bool) → is_action_type u.entity_type ≡ b → (b && is_action_within schema x u) ≡ false → within x u s ≡ false
-      by u true e f = out_by_id x u a (or_left (uid_eq x u) (action_below schema x u) f) (or_right (uid_eq x u) (action_below schema x u) f)
+      by u true e f = out_by_id x u a (or_false_left (uid_eq x u) (action_below schema x u) f) (or_false_right (uid_eq x u) (action_below schema x u) f)
       by u false e f = out_by_id x u a (kinds_differ x u true a e) (no_action_above x u e)
 
   out_of_entities : (x : EntityUID) (us : List EntityUID) → is_action_type x.entity_type ≡ false → entity_among schema x us ≡ false → IsOut x us
@@ -297,4 +294,4 @@ module _ (schema : SchemaData) (ok : IsSchema schema) (s : Store) (stored : Stor
 
         by : (b : Bool) → (is_entity t && (is_entity u || is_entity_set u)) ≡ b → IfSome (if b then Some (option_map_or (in_listed schema (declared_action env) x) (listed_ids (declared_action env) y) bool_type) else None) (λ w. IsOfType w (two (eval x q s) (eval y q s) (λ v w. in_value v w s)))
         by false e = tt
-        by true e = let r = and_both (is_entity t) (is_entity u || is_entity_set u) e in at r.0 r.1 (eval x q s) (eval y q s) refl refl h i
+        by true e = let r = and_parts_of (is_entity t) (is_entity u || is_entity_set u) e in at r.0 r.1 (eval x q s) (eval y q s) refl refl h i

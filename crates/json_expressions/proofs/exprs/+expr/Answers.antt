@@ -11,7 +11,8 @@ use Rattle.json_expressions.specs.Reads.{bounded, bounded_field, listed_read, on
 use Rattle.json_expressions.specs.Exprs.{expr_of, expr_of_members, exprs_of, named_exprs_of, named_tree, operands_behind, operands_first, placed_tree}
 use Rattle.json_values.proofs.Ascending.{next_key, keys_more}
 use Rattle.json_expressions.proofs.Bounds.{call_reads, get_reads, has_reads, listed_reads}
-use Rattle.json_expressions.proofs.Steps.{item_more, field_read, none_from}
+use Rattle.json_expressions.proofs.Steps.{item_more, field_read}
+use Rattle.plain_lemmas.proofs.Options.{none_of_no_some}
 use Rattle.json_expressions.proofs.exprs.+expr.Goals as goal
 
 pub read_items-loop-item-preserved : goal.read_items-loop-item-preserved
@@ -86,7 +87,7 @@ read_members-returns t c =
     let place = view c.in-Some.value.now in
     let inner = expr_of (view c.in-Some-next.inner.now) in
     let no : is_some c.next-3.result ≡ false = sym c.is_some.ensures ∙ c.if-is_some.false in
-    let left = rw (none_from c.next-3.result no) at c.next-3.ensures.steps in
+    let left = rw (none_of_no_some c.next-3.result no) at c.next-3.ensures.steps in
     let two : c.args.members.now.entries ≡ (c.in-Some.key.now, c.in-Some.value.now) ∷ (c.in-Some-next.second.now, c.in-Some-next.inner.now) ∷ [] =
     cc (c.iter-rest.ensures.rest, c.in-Some.ensures.steps, c.in-Some-next.ensures.steps, left.0) in
     subst (λ o. IfOk c.read_placed.result (λ r. r ≡ o))

@@ -8,7 +8,8 @@ use Rattle.json_tries.specs.declared.keys.Listing.TheVariants.{Fields}
 use Rattle.json_tries.specs.Places.{places_of}
 use Rattle.json_tries.specs.Parts.{node_places}
 use Rattle.json_tries.specs.Reading.{are_names, branch_of, node_of, listed_in, tags_of, trie_of, second_in}
-use Rattle.json_tries.proofs.Forms.{node_read, no_items_left}
+use Rattle.json_tries.proofs.Forms.{node_read}
+use Rattle.plain_lemmas.proofs.Lists.{empty_of_length}
 use Rattle.json_tries.proofs.read.+trie.Goals as goal
 
 pub read_members-returns-in_default-next-3 : goal.read_members-returns-in_default-next-3
@@ -37,7 +38,7 @@ read_members-returns t c =
 
 pub read_second_in-returns : goal.read_second_in-returns
 read_second_in-returns t c =
-    let all = sym c.deref.ensures.value ∙ sym c.iter-rest.ensures.rest ∙ c.in-Some.ensures.steps ∙ ap (λ vs. c.in-Some._key.now ∷ vs) (c.in-Some-next.ensures.steps ∙ ap (λ vs. c.in-Some-next.node.now ∷ vs) (no_items_left c.next-2.new.self.rest.now c.in-None.ensures.steps.0)) in
+    let all = sym c.deref.ensures.value ∙ sym c.iter-rest.ensures.rest ∙ c.in-Some.ensures.steps ∙ ap (λ vs. c.in-Some._key.now ∷ vs) (c.in-Some-next.ensures.steps ∙ ap (λ vs. c.in-Some-next.node.now ∷ vs) (empty_of_length c.next-2.new.self.rest.now c.in-None.ensures.steps.0)) in
     IfOk-weaker c.read_node.result (λ o. option_map (λ v. v.items) o ≡ option_map places_of (branch_of (view c.in-Some-next.node.now))) (λ o. option_map (λ v. v.items) o ≡ option_map places_of (second_in (items_view c.args.items.now.items)))
     (λ o h. h ∙ sym (ap (λ vs. option_map places_of (second_in (items_view vs))) all))
     c.read_node.ensures

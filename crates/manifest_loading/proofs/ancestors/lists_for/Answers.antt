@@ -1,6 +1,6 @@
 use Rattle.std.proofs.Common.{◌≡◌, length, arith, ◌∙◌}
 use Rattle.entity_loader.specs.Answers.{IsHonestList}
-use Rattle.manifest_loading.proofs.RoundSteps.{zip_length}
+use Rattle.plain_lemmas.proofs.Lists.{zip_length}
 use Rattle.manifest_loading.proofs.ancestors.lists_for.Goals as goal
 
 pub returns-then-expected-got-clause-right : goal.returns-then-expected-got-clause-right

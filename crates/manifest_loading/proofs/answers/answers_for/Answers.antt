@@ -4,7 +4,8 @@ use Rattle.std.specs.BTreeMap.{get}
 use Rattle.policy_names.specs.Uid.{uid_cmp}
 use Rattle.entity_loader.specs.Answers.{Fits}
 use Rattle.manifest_loading.proofs.AnswerSteps.{honest_all}
-use Rattle.manifest_loading.proofs.RoundSteps.{zip_length, honest_zip, other_number, stray_cause, stray_right}
+use Rattle.manifest_loading.proofs.RoundSteps.{honest_zip, other_number, stray_cause, stray_right}
+use Rattle.plain_lemmas.proofs.Lists.{zip_length}
 use Rattle.manifest_loading.proofs.answers.answers_for.Goals as goal
 
 pub returns-then-expected-got-clause-cause : goal.returns-then-expected-got-clause-cause

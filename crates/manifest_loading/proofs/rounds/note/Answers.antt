@@ -1,6 +1,6 @@
 use Rattle.std.proofs.Common.{◌||◌, sym, ap, ◌∙◌}
 use Rattle.std.specs.List.{list_any}
-use Rattle.manifest_loading.proofs.LendSteps.{or_assoc}
+use Rattle.plain_lemmas.proofs.Booleans.{or_assoc}
 use Rattle.manifest_loading.proofs.rounds.note.Goals as goal
 
 pub loop-place-preserved : goal.loop-place-preserved

@@ -9,7 +9,8 @@ use Rattle.trie_traversal.specs.Begun.{root_points}
 use Rattle.trie_traversal.specs.Leads.{RootLeads, IsEdgeLed}
 use Rattle.trie_traversal.specs.Places.{IsAtOrBelow}
 use Rattle.trie_traversal.specs.Wants.{Adds}
-use Rattle.trie_traversal.proofs.DemandSteps.{link_leads, number_in, inside}
+use Rattle.trie_traversal.proofs.DemandSteps.{link_leads, number_in}
+use Rattle.plain_lemmas.proofs.Lists.{is_some_within}
 use Rattle.trie_traversal.proofs.BeginSteps.{first_at}
 use Rattle.trie_traversal.proofs.FollowSteps.{following_same, following_more, or_weaker}
 use Rattle.trie_traversal.proofs.LedSteps.{led_root}
@@ -33,7 +34,7 @@ ask_edge-requires-clause-there c =
     let items = c.links_of-link-items.result.now in
     let all : items ≡ links_at ns 0 = c.links_of-link-items.ensures ∙ ap (λ m. links_at m 0) c.nodes-nodes.ensures.nodes in
     let same = c.new-below.ensures ∙ (λ j. record { nodes = c.nodes-nodes.ensures.nodes j; number = l.number }) in
-    subst (λ v. view_leads v [] ≡ true) (sym same) (inside ns l.number (number_in ns 0 c.loop-link.link-index l c.nodes-nodes.ensures.table items all c.loop-link-test.true c.link-item.is).1)
+    subst (λ v. view_leads v [] ≡ true) (sym same) (is_some_within ns l.number (number_in ns 0 c.loop-link.link-index l c.nodes-nodes.ensures.table items all c.loop-link-test.true c.link-item.is).1)
 
 pub loop-link-preserved : goal.loop-link-preserved
 loop-link-preserved c =

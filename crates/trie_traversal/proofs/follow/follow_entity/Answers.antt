@@ -7,7 +7,8 @@ use Rattle.reads_spec.specs.Restrict.{values_in}
 use Rattle.policy_values.specs.Value.{fields_of}
 use Rattle.trie_traversal.specs.Leads.{FieldsLead, SomeLeads, IsLed}
 use Rattle.trie_traversal.specs.Wants.{sees, points, fields_point, entity_points, Adds}
-use Rattle.trie_traversal.proofs.FollowSteps.{adds_also, adds_same, any_behind, any_nothing, below_step, or_then, or_false}
+use Rattle.trie_traversal.proofs.FollowSteps.{adds_also, adds_same, any_behind, any_nothing, below_step, or_then}
+use Rattle.plain_lemmas.proofs.Booleans.{or_false}
 use Rattle.trie_traversal.proofs.LedSteps.{some_point, led_with_tags, led_without_tags}
 use Rattle.trie_traversal.proofs.follow.follow_entity.Goals as goal
 
