@@ -42,8 +42,12 @@ def load(word, given, made):
     if source is None:
         return None, None
     made.sources[word] = source
-    source.finder = json_text.find
-    return json_text.load(source, made.report), Place(source)
+    return json_value(source, made), Place(source)
+
+
+def json_value(source, made):
+    source.finder, source.is_json = json_text.find, True
+    return json_text.load(source, made.report)
 
 
 def read_schema(given, made):
@@ -53,8 +57,7 @@ def read_schema(given, made):
         return schema
     made.sources["schema"] = source
     if is_json(source.text):
-        source.finder = json_text.find
-        value = json_text.load(source, made.report)
+        value = json_value(source, made)
     else:
         value = schema_text.read(source, made.report)
     if value is not None:
@@ -68,8 +71,7 @@ def read_policies(given, made):
     if source is not None:
         made.sources["policies"] = source
         if is_json(source.text):
-            source.finder = json_text.find
-            value = json_text.load(source, made.report)
+            value = json_value(source, made)
             if value is not None:
                 static, links = policy_json.read(value, Place(source), made.report)
         else:

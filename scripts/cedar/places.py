@@ -10,9 +10,10 @@ TOLD = 100  # so many refusals are told one by one
 class Source:
     """A file that was read: its name, its text, and where its lines and the steps of its paths stand."""
 
-    def __init__(self, name, text, finder=None):
+    def __init__(self, name, text):
         self.name, self.text = name, text
-        self.finder = finder  # of a path's offset: of JSON, or of a schema's text
+        self.finder = None  # of a path's offset: of JSON, or of a schema's text
+        self.is_json = False
         self.lines = self.line_bytes = None
 
     def index_lines(self):
@@ -80,7 +81,8 @@ class Place:
         return ":".join([self.source.name, *map(str, self.source.line_column(self.offset()))])
 
     def __str__(self):
-        return f"{self.short()}: {spelled(self.path())}".rstrip(": ")
+        path = spelled(self.path()) if self.source.is_json else ""
+        return f"{self.short()}: {path}" if path else self.short()
 
 
 def spelled(path):

@@ -1,0 +1,20 @@
+@id("view")
+permit (principal, action == Action::"viewReservation", resource)
+when {
+  resource in principal.viewPermissions.hotelReservations ||
+  resource in principal.viewPermissions.propertyReservations
+};
+
+@id("member")
+permit (principal, action in [Action::"updateReservation", Action::"createReservation"], resource)
+when {
+  resource in principal.memberPermissions.hotelReservations ||
+  resource in principal.memberPermissions.propertyReservations
+};
+
+@id("admin of hotels")
+permit (principal, action, resource)
+when { resource in principal.hotelAdminPermissions };
+
+@id("who may see it (template)")
+permit (principal == ?principal, action == Action::"viewProperty", resource in ?resource);
