@@ -86,7 +86,9 @@ def read_policies(given, made):
 def read_entities(given, made, schema):
     value, top = load("entities", given, made)
     found = entities.store(value, top, schema, made.report) if value is not None else []
-    return entities.with_actions(found, schema, Place(made.sources["schema"]), made.report) if "schema" in made.sources else found
+    if not {"entities", "request", "principal"} & set(given) or "schema" not in made.sources:
+        return found
+    return entities.with_actions(found, schema, Place(made.sources["schema"]), made.report)
 
 
 def read_request(given, made, schema):

@@ -94,6 +94,6 @@ def extension_call(call, place, report):
     argument = call.get("arg")
     if set(call) == {"fn", "args"} and isinstance(call["args"], list) and len(call["args"]) == 1:
         argument = call["args"][0]
-    if len(call) != 2 or call["fn"] not in extensions.TYPES or not isinstance(argument, str):
+    if len(call) != 2 or not isinstance(call["fn"], str) or call["fn"] not in extensions.TYPES or not isinstance(argument, str):
         return report.no(place, f"the call {shown(call)} is no value here: `ip`, `decimal`, `datetime` or `duration` of one text is due")
     return call["fn"], argument
