@@ -46,7 +46,19 @@ def load(source, report):
         return report.no(Place(source, fault.pos), f"no JSON: {fault.msg}")
     except RecursionError:
         return report.no(top, f"JSON that nests deeper than {DEEPEST}")
-    return value if tested(value, top, report) else None
+    return value if sound(value, "\\u" in source.text) or tested(value, top, report) else None
+
+
+def sound(value, escaped):
+    """Whether `tested` has nothing to say, found out without places; halves of characters stand only where there are escapes."""
+    left, depth = [value], 0
+    while left:
+        depth += 1
+        if escaped or depth > DEEPEST or any(isinstance(x, dict) and x.repeated for x in left):
+            return False
+        parts = (y for x in left if isinstance(x, (dict, list)) for y in (x.values() if isinstance(x, dict) else x))
+        left = [y for y in parts if isinstance(y, (dict, list))]
+    return True
 
 
 def tested(value, top, report):

@@ -14,6 +14,7 @@ class Source:
         self.name, self.text = name, text
         self.finder = None  # of a path's offset: of JSON, or of a schema's text
         self.is_json = False
+        self.is_ascii = text.isascii()
         self.lines = self.line_bytes = None
 
     def index_lines(self):
@@ -36,11 +37,15 @@ class Source:
 
     def byte(self, offset):
         """How many bytes stand before a character."""
+        if self.is_ascii:
+            return offset
         line = self.line_of(offset)
         return self.line_bytes[line] + len(self.text[self.lines[line]:offset].encode())
 
     def offset(self, byte):
         """The character at which a byte stands, or the text's end."""
+        if self.is_ascii:
+            return min(byte, len(self.text))
         if self.lines is None:
             self.index_lines()
         line = bisect.bisect_right(self.line_bytes, byte) - 1

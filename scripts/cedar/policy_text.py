@@ -187,6 +187,8 @@ class PolicyReader(Reader):
             return [self.unescaped(self.take())]
         names = [self.attribute()]
         while self.took("."):
+            if len(names) == DEEPEST:
+                raise Stop(self.next, f"more than {DEEPEST} names behind `has`")
             names.append(self.attribute())
         return names
 

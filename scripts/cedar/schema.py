@@ -6,6 +6,7 @@ from cedar.objects import is_list, is_name, is_text, members, shown
 PRIMITIVE = {"String": "String", "Long": "Long", "Bool": "Bool", "Boolean": "Bool"}
 RESERVED_TYPES = frozenset(("Bool", "Boolean", "Entity", "Extension", "Long", "Record", "Set", "String"))
 KINDS = {"Set": "element", "Entity": "name", "Extension": "name", "EntityOrCommon": "name"}
+NESTED = 127  # so deep may JSON nest
 DEEPEST = 60  # so deep may common types stand one in another
 MOST = 1000000  # so many parts may a schema have, common types written out
 
@@ -14,13 +15,14 @@ def qualified(name, space):
     return f"{space}::{name}" if space else name
 
 
-def cost(value, known):
-    """How many parts JSON has; a part that is shared is counted at each place, and looked at once."""
+def measured(value, known):
+    """How many parts JSON has and how deep it nests; a part that is shared is counted at each place, and looked at once."""
     if not isinstance(value, (dict, list)):
-        return 1
+        return 1, 0
     if id(value) not in known:
-        known[id(value)] = 1 + sum(cost(x, known) for x in (value.values() if isinstance(value, dict) else value))
-    return known[id(value)]
+        inner = [measured(x, known) for x in (value.values() if isinstance(value, dict) else value)]
+        known[id(value)] = 1 + sum(parts for parts, _ in inner), 1 + max([height for _, height in inner], default=0), value
+    return known[id(value)][:2]
 
 
 def candidates(name, space):
@@ -37,6 +39,7 @@ class Schema:
         self.entities, self.action_ids, self.annotated = {}, {}, {}
         self.types, self.actions = {}, []
         self.attributes, self.tags, self.contexts = {}, {}, {}
+        self.measures = {}
 
     def no(self, place, why):
         return self.report.no(place, why)
@@ -59,7 +62,7 @@ class Schema:
                 self.entity(qualified(name, space), e, space, place["entityTypes"][name])
             for name, a in part.get("actions", {}).items():
                 self.action(name, a, space, place["actions"][name])
-        if cost({"types": self.types, "actions": self.actions}, {}) > MOST:
+        if measured([self.types, self.actions], self.measures)[0] > MOST:
             self.no(top, f"with its common types written out the schema has more than {MOST} parts")
         if self.annotated:
             self.report.dropped(next(iter(self.annotated.values())), "annotations of the schema: " + " ".join(f"@{name}" for name in self.annotated))
@@ -148,7 +151,10 @@ class Schema:
         if full not in self.resolved:
             body, home, at = self.commons[full]
             self.open.append(full)
-            self.resolved[full] = self.type(body, home, at) if len(self.open) <= DEEPEST else self.no(at, "common types that nest too deep")
+            found = self.type(body, home, at) if len(self.open) <= DEEPEST else None
+            if len(self.open) > DEEPEST or measured(found, self.measures)[1] > NESTED:
+                found = self.no(at, "common types that nest too deep")
+            self.resolved[full] = found
             self.open.pop()
         return self.resolved[full]
 

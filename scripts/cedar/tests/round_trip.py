@@ -5,7 +5,7 @@ from cedar import to_command
 from cedar.tests.random_documents import document
 from cedar.tests.shared import COMMANDS, make, plain, run, text_of, without_places
 
-DOCUMENTS, ANSWERED = 120, 25
+DOCUMENTS, ANSWERED = 80, 16
 
 
 def to_cedar(d, as_json):
