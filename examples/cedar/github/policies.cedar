@@ -1,3 +1,5 @@
+// Repositories with five roles, each a group of users; issues belong to repositories.
+
 @id("readers pull and fork")
 permit (principal, action in [GitHub::Action::"pull", GitHub::Action::"fork"], resource)
 when { principal in resource.readers };
@@ -16,7 +18,11 @@ when { principal in resource.repo.triagers };
 
 @id("writers")
 permit (principal, action in [GitHub::Action::"push", GitHub::Action::"edit_issue"], resource)
-when { if resource is GitHub::Issue then principal in resource.repo.writers else principal in resource.writers };
+when {
+    if resource is GitHub::Issue
+    then principal in resource.repo.writers
+    else principal in resource.writers
+};
 
 @id("admins")
 permit (principal, action == GitHub::Action::"add_reader", resource)

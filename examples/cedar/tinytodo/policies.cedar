@@ -1,8 +1,10 @@
+// TinyTodo: users keep lists of tasks, and share them with teams.
+
 @id("any user may make and list lists")
 permit (
-  principal,
-  action in [Action::"CreateList", Action::"GetLists"],
-  resource == Application::"TinyTodo"
+    principal,
+    action in [Action::"CreateList", Action::"GetLists"],
+    resource == Application::"TinyTodo"
 );
 
 @id("owner")
@@ -15,9 +17,14 @@ when { principal in resource.readers || principal in resource.editors };
 
 @id("editors")
 permit (
-  principal,
-  action in [Action::"UpdateList", Action::"CreateTask", Action::"UpdateTask", Action::"DeleteTask"],
-  resource
+    principal,
+    action in [
+        Action::"UpdateList",
+        Action::"CreateTask",
+        Action::"UpdateTask",
+        Action::"DeleteTask",
+    ],
+    resource,
 )
 when { principal in resource.editors };
 
@@ -25,8 +32,9 @@ when { principal in resource.editors };
 permit (principal in Team::"Admin", action, resource);
 
 @id("interns make no lists")
+@reason("they may not")
 forbid (
-  principal in Team::"interns",
-  action == Action::"CreateList",
-  resource == Application::"TinyTodo"
+    principal in Team::"interns",
+    action == Action::"CreateList",
+    resource == Application::"TinyTodo"
 );
