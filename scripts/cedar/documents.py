@@ -81,29 +81,30 @@ def policy(p, report):
     return report.no(p.place, f"policy `{p.name}` has an expression whose JSON nests deeper than {NESTED}, which is not read: operators other than `&&` and `||` nest one in another")
 
 
-def link(l):
-    return {"id": l.name, "link": l.template, **l.values}
-
-
 def policies(static, links, report):
     """The document's policies: static ones and templates, then links; each id once, each slot of a template once."""
     made, known = [], {}
+
+    def note(one):
+        if one.name in known:
+            report.no(one.place, f"two policies have the id `{one.name}`; the other stands at {known[one.name].place.short()}")
+        known.setdefault(one.name, one)
+
     for p in static:
-        if p.name in known:
-            report.no(p.place, f"two policies have the id `{p.name}`; the other stands at {known[p.name].place.short()}")
-        known.setdefault(p.name, p)
+        note(p)
         made.append(policy(p, report))
+    templates = {p.name: p for p in static if p.slots()}
+    templates.update({p.key: p for p in static if p.slots()})  # in a policy set links go by keys
     for l in links:
-        template = known.get(l.template)
-        if l.name in known:
-            report.no(l.place, f"two policies have the id `{l.name}`; the other stands at {known[l.name].place.short()}")
-        elif not hasattr(template, "slots") or not template.slots():
+        note(l)
+        template = templates.get(l.template)
+        if template is None:
             report.no(l.place, f"there is no template with the id `{l.template}`")
-        elif template.slots() != set(l.values):
+            continue
+        if template.slots() != set(l.values):
             due = ", ".join(f"`?{s}`" for s in sorted(template.slots()))
             report.no(l.place, f"values for {due} are due, the slots of the template `{l.template}`")
-        known.setdefault(l.name, l)
-        made.append(link(l))
+        made.append({"id": l.name, "link": template.name, **l.values})
     return made
 
 

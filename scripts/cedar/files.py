@@ -78,7 +78,7 @@ def read_policies(given, made):
             static = policy_text.read(source, made.report)
     value, top = load("links", given, made)
     if value is not None:
-        links = links + policy_json.links(value, top, made.report, {})
+        links = links + policy_json.links(value, top, made.report)
     made.policies = static + links
     return documents.policies(static, links, made.report)
 

@@ -4,7 +4,7 @@ VARIABLES = ("principal", "action", "resource", "context")
 CONSTRUCTORS = ("ip", "decimal", "datetime", "duration")
 METHODS = frozenset("""lessThan lessThanOrEqual greaterThan greaterThanOrEqual isIpv4 isIpv6 isLoopback isMulticast isInRange
 offset durationSince toDate toTime toMilliseconds toSeconds toMinutes toHours toDays""".split())
-SET_METHODS = {"contains": 1, "containsAll": 1, "containsAny": 1, "isEmpty": 0, "getTag": 1, "hasTag": 1}
+OPERATOR_METHODS = {"contains": 1, "containsAll": 1, "containsAny": 1, "isEmpty": 0, "getTag": 1, "hasTag": 1}  # with their arguments
 NEGATED = {"!=": "==", ">": "<=", ">=": "<"}  # as Cedar reads them: a > b is !(a <= b)
 LONG = 1 << 63
 
@@ -22,17 +22,18 @@ class Node:
 
 
 class Policy:
-    """A static policy or a template: its scope's parts stand as in the document, absent ones are not there."""
+    """A static policy or a template: its scope's parts stand as in the document, absent ones are not there. `key` is its key in a policy set."""
 
-    def __init__(self, name, effect, scope, clauses, place):
+    def __init__(self, name, effect, scope, clauses, place, key=None):
         self.name, self.effect, self.scope, self.clauses, self.place = name, effect, scope, clauses, place
+        self.key = name if key is None else key
 
     def slots(self):
         return {part for part, scope in self.scope.items() if "?" in scope.values()}
 
 
 class Link:
-    """What a template makes: the template's name, and an id for each slot."""
+    """What a template makes: the template's key or name, and an id for each slot."""
 
     def __init__(self, name, template, values, place):
         self.name, self.template, self.values, self.place = name, template, values, place

@@ -11,39 +11,34 @@ SET_PARTS = ("staticPolicies", "templates", "templateLinks")
 
 def read(value, top, report):
     """Static policies and templates, and links."""
+    if isinstance(value, dict) and "effect" in value:
+        return [p for p in [PolicyReader(report).policy("policy0", value, top)] if p], []
     if not isinstance(value, dict):
         report.no(top, "policies as JSON are an object: a policy set, or one policy")
         return [], []
-    if "effect" in value:
-        value, place = {"staticPolicies": {"policy0": value}}, {"policy0": top}
-    elif members(value, top, report, (), SET_PARTS):
-        place = None
-    else:
-        return [], []
+    members(value, top, report, (), SET_PARTS)
     found = []
     for part in SET_PARTS[:2]:
         here = value.get(part, {})
         if not isinstance(here, dict):
             report.no(top[part], "an object is due: policies by their ids")
             continue
-        for key, p in here.items():
-            found.append((key, PolicyReader(report).policy(key, p, place[key] if place else top[part][key])))
-    names = {key: p.name for key, p in found if p}
-    return [p for _, p in found if p], links(value.get("templateLinks", []), top["templateLinks"], report, names)
+        found += [PolicyReader(report).policy(key, p, top[part][key]) for key, p in here.items()]
+    return [p for p in found if p], links(value.get("templateLinks", []), top["templateLinks"], report)
 
 
-def links(value, top, report, names):
-    """Links as a policy set has them, and as `cedar link` writes them; a template may be named by its key in the set."""
+def links(value, top, report):
+    """Links as a policy set has them, and as `cedar link` writes them."""
     if isinstance(value, dict) and set(value) == {"templateLinks"}:
         value, top = value["templateLinks"], top["templateLinks"]
     if not isinstance(value, list):
         report.no(top, "a list of links is due")
         return []
-    made = [one_link(v, top[i], report, names) for i, v in enumerate(value)]
+    made = [one_link(v, top[i], report) for i, v in enumerate(value)]
     return [l for l in made if l]
 
 
-def one_link(value, place, report, names):
+def one_link(value, place, report):
     of_command = isinstance(value, dict) and "template_id" in value
     template, name, values = ("template_id", "link_id", "args") if of_command else ("templateId", "newId", "values")
     if not members(value, place, report, (template, name, values)) or not is_text(value, place, report, template, name):
@@ -55,7 +50,7 @@ def one_link(value, place, report, names):
         if slot not in ("?principal", "?resource"):
             report.no(place[values][slot], "a slot is `?principal` or `?resource`")
         made[slot[1:]] = uid(u, place[values][slot], report, text=of_command)
-    return nodes.Link(value[name], names.get(value[template], value[template]), made, place)
+    return nodes.Link(value[name], value[template], made, place)
 
 
 class PolicyReader:
@@ -77,7 +72,7 @@ class PolicyReader:
             if part:
                 scope[own] = part
         clauses = self.clauses(p.get("conditions", []), place["conditions"])
-        return nodes.Policy(self.named(key, p.get("annotations", {}), place), p["effect"], scope, clauses, place)
+        return nodes.Policy(self.named(key, p.get("annotations", {}), place), p["effect"], scope, clauses, place, key)
 
     def named(self, key, annotations, place):
         if not isinstance(annotations, dict):

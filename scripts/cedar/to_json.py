@@ -99,8 +99,11 @@ def values_of_link(p):
 
 
 def policy_set(policies):
-    made = {"staticPolicies": {}, "templates": {}, "templateLinks": []}
+    made, known = {"staticPolicies": {}, "templates": {}, "templateLinks": []}, set()
     for p in policies:
+        if p["id"] in known:
+            raise Unsayable(f"two policies have the id `{p['id']}`")
+        known.add(p["id"])
         if "link" in p:
             made["templateLinks"].append({"templateId": p["link"], "newId": p["id"],
                                           "values": {slot: {"__entity": uid(u)} for slot, u in values_of_link(p).items()}})

@@ -123,7 +123,7 @@ def call(form, x):
     function, arguments = (x[0], x[1:]) if form == "call" else (form, x)
     if form == "call" and function in nodes.CONSTRUCTORS:
         return f"{function}({comma(arguments)})"
-    if form == "call" and function not in nodes.METHODS or form != "call" and form not in nodes.SET_METHODS:
+    if form == "call" and function not in nodes.METHODS or form != "call" and form not in nodes.OPERATOR_METHODS:
         raise Unsayable(f"Cedar has no `{function}`")
     if not arguments:
         raise Unsayable(f"a call of `{function}` without an argument")
