@@ -99,11 +99,11 @@ def read_request(given, made, schema):
     found = {}
     for part in entities.PARTS:
         found[part] = uid_of_text(given[part], Place(Source(f"--{part}", given[part]), 0), made.report)
-    value, top = load("context", given, made)
-    if value is None:
+    if "context" not in given:
         made.report.added(Place(Source("--context", ""), 0), "an empty context")
-        found["context"] = {}
-    else:
+        return {**found, "context": {}}
+    value, top = load("context", given, made)
+    if value is not None:
         found["context"] = entities.context(value, found["action"], top, schema, made.report)
     return found
 

@@ -3,7 +3,7 @@ import json
 import re
 
 from cedar import extensions
-from cedar.json_text import Number
+from cedar.json_text import SURROGATE, Number
 from cedar.places import Report, Source
 from cedar.tokens import RESERVED, Reader, Stop
 
@@ -72,6 +72,8 @@ def uid_of_text(text, place, report):
     """An entity's id in Cedar's text, as User::"alice"; a fault inside is told at the place of the whole."""
     inner = Report()
     reader = Reader(Source("", text), inner)
+    if SURROGATE.search(text):
+        return report.no(place, "no UTF-8")
     try:
         kind, quoted = reader.path("an entity")
         if quoted is not None and reader.next.kind == "end":

@@ -24,7 +24,7 @@ class Source:
             self.lines.append(start)
             self.line_bytes.append(bytes_before)
             start += len(line) + 1
-            bytes_before += len(line.encode()) + 1
+            bytes_before += len(line.encode("utf-8", "surrogatepass")) + 1
 
     def line_of(self, offset):
         if self.lines is None:

@@ -223,7 +223,8 @@ class Schema:
                     made["context"] = self.contexts[tuple(made["id"])]
         above = a.get("memberOf")
         if above and is_list(above, place["memberOf"], self.report, "actions"):
-            made["memberOf"] = [self.above(m, space, place["memberOf"][i]) for i, m in enumerate(above)]
+            found = [self.above(m, space, place["memberOf"][i]) for i, m in enumerate(above)]
+            made["memberOf"] = [uid for i, uid in enumerate(found) if uid not in found[:i]]
         self.actions.append(made)
 
     def above(self, m, space, place):
