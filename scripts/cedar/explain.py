@@ -3,6 +3,7 @@ import re
 import subprocess
 import sys
 
+from cedar.nodes import printed
 from cedar.places import Place
 
 FINDING = re.compile(r"(error|warning) (\w+)(?: at (\d+)\.\.(\d+))?: (.*)")
@@ -19,21 +20,31 @@ def carets(source, start, end):
     return [margin + text, " " * 5 + " | " + under + "^" * width]
 
 
-def explained(line, made):
-    """The lines for one line of the findings."""
+def explained(line, made, policies):
+    """The lines for one line of the findings; the policies stand under their ids."""
     found = FINDING.fullmatch(line)
     if not found:
         return [line]
     severity, kind, start, end, text = found.groups()
-    source = made.sources.get("policies")
+    source, policy = made.sources.get("policies"), POLICY.search(text)
+    known = policies.get(policy[1]) if policy else None
     if start is not None and source is not None:
-        start, end = source.offset(int(start)), source.offset(int(end))
-        return [f"{Place(source, start).short()}: {severity} {kind}: {text}"] + carets(source, start, end)
-    policy = POLICY.search(text)
-    known = {p.name: p for p in made.policies}
-    if policy and policy[1] in known:
-        return [f"{known[policy[1]].place}: {severity} {kind}: {text}"]
-    return [line]
+        span = source.offset(int(start)), source.offset(int(end))
+    elif known is not None:
+        span = in_scope(known, text)
+    else:
+        return [line]
+    if span is None:
+        return [f"{known.place}: {severity} {kind}: {text}"]
+    return [f"{Place(source, span[0]).short()}: {severity} {kind}: {text}"] + carets(source, *span)
+
+
+def in_scope(policy, text):
+    """The span of what a finding without a place is about: a type or an id in the scope, else the policy's head; None of JSON."""
+    for name, span in policy.named_in_scope if policy.head else ():
+        if f"`{name}`" in text[text.index(policy.name) + len(policy.name):]:
+            return span
+    return policy.head
 
 
 def placed(line, made):
@@ -50,18 +61,10 @@ def placed(line, made):
     source = made.sources.get("entities")
     if stored and source:
         for index, entity in enumerate(made.document.get("entities", [])):
-            kind, eid = entity["id"]
-            if stored[1].startswith(f"{kind}::{quoted(eid)}: "):
+            if stored[1].startswith(printed(entity["id"]) + ": "):
                 return f"{Place(source)[index].short()}: {line}"
     source = made.sources.get("request")
     return f"{Place(source).short()}: {line}" if source and line.startswith("request: ") else line
-
-
-ESCAPES = {"\\": "\\\\", '"': '\\"', "\n": "\\n", "\r": "\\r", "\t": "\\t", "\0": "\\0"}
-
-
-def quoted(eid):
-    return '"' + "".join(ESCAPES.get(c, c) for c in eid) + '"'
 
 
 def run(program, command, text, made):
@@ -78,8 +81,8 @@ def run(program, command, text, made):
 
 def shown(answer, command, status, made):
     if status == 1 or command[:1] in (["check"], ["level"]) and status == 0:
-        lines = answer.split("\n")
-        return "\n".join(shown for line in lines for shown in explained(line, made))
+        policies = {p.name: p for p in made.policies}
+        return "\n".join(told for line in answer.split("\n") for told in explained(line, made, policies))
     if status in (3, 4, 5):
         first, newline, rest = answer.partition("\n")
         return placed(first, made) + newline + rest

@@ -22,7 +22,12 @@ class Node:
 
 
 class Policy:
-    """A static policy or a template: its scope's parts stand as in the document, absent ones are not there. `key` is its key in a policy set."""
+    """A static policy or a template: its scope's parts stand as in the document, absent ones are not there.
+
+    `key` is its key in a policy set; of text `head` is the span from its effect to its scope's end, and `named_in_scope` has the
+    spans of types and ids in the scope, by what the program prints of them."""
+
+    head, named_in_scope = None, ()
 
     def __init__(self, name, effect, scope, clauses, place, key=None):
         self.name, self.effect, self.scope, self.clauses, self.place = name, effect, scope, clauses, place
@@ -34,6 +39,8 @@ class Policy:
 
 class Link:
     """What a template makes: the template's key or name, and an id for each slot."""
+
+    head = None
 
     def __init__(self, name, template, values, place):
         self.name, self.template, self.values, self.place = name, template, values, place
@@ -59,6 +66,15 @@ def has_path(left, names, span=None):
 def is_in(left, kind, above, span=None):
     """`e is T in x`: `e is T && e in x`."""
     return Node("all", (Node("is", (left, kind), span), Node("in", (left, above), span)), span)
+
+
+ESCAPES = {"\\": "\\\\", '"': '\\"', "\n": "\\n", "\r": "\\r", "\t": "\\t", "\0": "\\0"}
+
+
+def printed(uid):
+    """An id as the program prints it."""
+    kind, eid = uid
+    return f'{kind}::"' + "".join(ESCAPES.get(c, c) for c in eid) + '"'
 
 
 def is_action_type(name):

@@ -32,7 +32,7 @@ class PolicyReader(ExpressionReader):
         if not self.took("permit", "forbid"):
             self.due("`permit` or `forbid`")
         self.expect("(")
-        scope = {}
+        scope, self.named_in_scope = {}, []
         for own in ("principal", "action", "resource"):
             part = self.scope(own)
             if part:
@@ -41,9 +41,12 @@ class PolicyReader(ExpressionReader):
                 self.expect(",")
         self.took(",")
         self.expect(")")
+        head = (effect.start, self.last_end)
         clauses = self.clauses()
         self.expect(";")
-        return nodes.Policy(self.named(name, annotations, start), effect.text, scope, clauses, self.place(start))
+        made = nodes.Policy(self.named(name, annotations, start), effect.text, scope, clauses, self.place(start))
+        made.head, made.named_in_scope = head, self.named_in_scope
+        return made
 
     def named(self, name, annotations, start):
         text, token = annotations.pop("id", (None, None))
@@ -78,7 +81,9 @@ class PolicyReader(ExpressionReader):
         if self.took("in"):
             return {"in": self.reference(own)}
         if self.took("is"):
+            token = self.next
             made = {"is": self.type_name()}
+            self.named_in_scope.append((made["is"], (token.start, self.last_end)))
             if self.took("in"):
                 made["in"] = self.reference(own)
             return made
@@ -111,7 +116,9 @@ class PolicyReader(ExpressionReader):
         kind, text = self.path("an entity")
         if text is None:
             raise Stop(token, f"an entity as Type::\"id\" is due, not `{kind}`")
-        return [kind, self.unescaped(text)]
+        uid = [kind, self.unescaped(text)]
+        self.named_in_scope += [(printed, (token.start, self.last_end)) for printed in (kind, nodes.printed(uid))]
+        return uid
 
 
 def read(source, report):

@@ -59,9 +59,10 @@ def test(program):
         if status != 1 or (place, snippet) not in found:
             wrong.append(f"{text}: {place} {snippet} is due: {lines}")
     others = (
-        (["check"], {"policies": SCOPES, "links": LINKS}, 1, "policies:2:1: error UnrecognizedEntityType: for policy `policy1`"),
+        (["check"], {"policies": SCOPES, "links": LINKS}, 1, "policies:2:22: error UnrecognizedEntityType: for policy `policy1`"),
+        (["check"], {"policies": SCOPES, "links": LINKS}, 1, "policies:2:1: error InvalidActionApplication: for policy `policy1`"),
         (["check"], {"policies": SCOPES, "links": LINKS}, 1, "links:1:2: [0]: error UnrecognizedEntityType: for policy `l`"),
-        (["level", "0"], {"policies": SCOPES, "links": LINKS}, 1, "policies:2:1: error UnrecognizedEntityType: for policy `policy1`"),
+        (["level", "0"], {"policies": SCOPES, "links": LINKS}, 1, "policies:2:22: error UnrecognizedEntityType: for policy `policy1`"),
         (["request"], {"entities": ENTITIES}, 5, "entities:2:2: entity: Group::\"q\\\"\\n\": attribute `x` is not declared"),
         (["request"], {"request": REQUEST}, 4, "request:1:1: request: principal type `Group` is not valid"),
         (["nothing"], {}, 2, "usage: "),
