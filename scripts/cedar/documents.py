@@ -78,7 +78,8 @@ def policy(p, report):
         if mode == PLAIN and any(node.span for _, node in p.clauses):
             report.dropped(p.place, f"the places of policy `{p.name}`: with them its JSON would nest deeper than {NESTED}")
         return {"id": p.name, "effect": p.effect, **p.scope, **({"body": body} if body else {})}
-    return report.no(p.place, f"policy `{p.name}` has an expression whose JSON nests deeper than {NESTED}, which is not read: operators other than `&&` and `||` nest one in another")
+    return report.no(p.place, f"policy `{p.name}` has an expression whose JSON would nest deeper than {NESTED}, which is not read "
+                     "(chains of `&&`, of `||`, of `.` and of `if` nest no deeper than one of them)")
 
 
 def policies(static, links, report):

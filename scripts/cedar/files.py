@@ -6,8 +6,6 @@ from cedar.objects import uid_of_text
 from cedar.places import Place, Report, Source
 from cedar.schema import Schema
 
-MOST = 16777216
-
 
 class Made:
     """The document that is made, the sources that it is made of, and the policies with their places."""

@@ -93,7 +93,8 @@ class PolicyReader:
             if members(c, place[i], self.report, ("kind", "body")):
                 if c["kind"] not in ("when", "unless"):
                     self.no(place[i]["kind"], "`when` or `unless` is due")
-                found.append((c["kind"], self.expr(c["body"], place[i]["body"])))
+                body = self.expr(c["body"], place[i]["body"])
+                found.append(("unless" if c["kind"] == "unless" else "when", body))
         return found
 
     # The scope.

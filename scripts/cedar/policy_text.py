@@ -9,7 +9,7 @@ class PolicyReader(ExpressionReader):
         """All policies of the text; of one with a fault the rest is passed over, up to its `;`."""
         found = []
         while self.next.kind != "end":
-            start = self.index
+            start, self.depth = self.index, 0
             try:
                 found.append(self.policy(f"policy{len(found)}"))
             except Stop as stop:

@@ -34,11 +34,16 @@ class SchemaReader(Reader):
             path = path[:-1]
         return self.places.get(path, 0)
 
-    def skip(self, start):
-        """To behind the next `;`, or to where a namespace ends or begins."""
+    def skip(self, start, inside=False):
+        """From a fault to behind the declaration's `;`, to the brace that closes the namespace inside of which it is, or to the next namespace."""
         self.index = max(self.index, start + 1)
-        while self.next.kind != "end" and not self.at("namespace") and self.take().text != ";":
-            pass
+        marks = [t.text for t in self.tokens[start:self.index] if t.kind == "mark"]
+        depth = marks.count("{") - marks.count("}")
+        while self.next.kind != "end" and not self.at("namespace") and not (inside and depth <= 0 and self.at("}")):
+            token = self.take()
+            depth += {"{": 1, "}": -1}.get(token.text, 0)
+            if token.text == ";":
+                return
 
     def namespace(self, annotations):
         self.take()
@@ -59,7 +64,7 @@ class SchemaReader(Reader):
                 if self.next.kind == "end":
                     raise
                 self.no(*stop.args)
-                self.skip(start)
+                self.skip(start, inside=True)
         self.expect("}")
 
     def part(self, space, token, annotations=None):
@@ -74,7 +79,7 @@ class SchemaReader(Reader):
         token = self.next
         if not self.took(*PARTS):
             self.due("`entity`, `type`, `action`" + ("" if space else " or `namespace`"))
-        member = PARTS[token.text]
+        member, self.depth = PARTS[token.text], 0
         if token.text == "type":
             names = [(self.next, self.name("a type's name"))]
         else:
@@ -84,7 +89,7 @@ class SchemaReader(Reader):
         for at, name in names:
             if name in known:
                 self.no(at, f"`{name}` is declared twice")
-            known[name] = {}
+            known[name] = {"type": "Record"} if token.text == "type" else {}  # what stands where the rest has a fault
             paths.append((space, member, name))
             self.mark(paths[-1], at)
         made = getattr(self, token.text)(paths)

@@ -22,9 +22,11 @@ UNSAYABLE = (
     ("policies", {"policies": [{"id": "p", "effect": "permit", "body": [{"when": {"call": ["foo", 1]}}]}]}, "policies[0]: Cedar has no `foo`"),
     ("policies", {"policies": [{"id": "p", "effect": "permit", "principal": {"==": ["if", "a"]}}]}, "`if` is no name of Cedar"),
     ("policies", {"policies": [{"id": "p", "effect": "permit"}, {"id": "q"}]}, "policies[1]: not of the document's form"),
-    ("schema", {"schema": {"actions": [{"id": ["Deed", "a"]}]}}, "Deed"), ("schema", {"schema": {"entityTypes": {"in": {}}}}, "`in` is no name of Cedar"),
+    ("schema", {"schema": {"actions": [{"id": ["Deed", "a"]}]}}, "Deed"),
+    ("schema", {"schema": {"entityTypes": {"in": {}}}}, "`in` is no name of Cedar"),
     ("entities", {"entities": [{"id": ["U", "a"], "attrs": {"t": {"datetime": 253402300800000}}}]}, "entities[0]: a datetime outside the years"),
-    ("entities", {"entities": [{"id": ["U", "a"], "attrs": {"t": {"record": {"__expr": 1}}}}]}, "means something else"), ("request", {}, "request: an unknown principal"),
+    ("entities", {"entities": [{"id": ["U", "a"], "attrs": {"t": {"record": {"__expr": 1}}}}]}, "means something else"),
+    ("request", {}, "request: an unknown principal"),
 )
 INSTANTS = (0, -1, 1, 86399999, -62167219200000, -62135596800001, -62135596800000, 253402300799999, 951782400000)
 
