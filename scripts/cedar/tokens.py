@@ -131,7 +131,10 @@ class Reader:
             elif pattern and piece == "\\*":
                 parts[-1] += "*"
             else:
-                parts[-1] += self.character(piece, place)
+                made = self.character(piece, place)
+                if pattern and made == "*":
+                    self.bad_escape(place, "a star in a pattern is `*`, the wildcard, or `\\*`, the character")
+                parts[-1] += made
             place += len(piece)
         return [part for part in parts if part != ""] if pattern else parts[0]
 

@@ -46,6 +46,7 @@ CONDITIONS = (
     ("\"\\u{d800}\" == \"\"", 2, "no escape"),
     ("\"\\u{1234567}\" == \"\"", 2, "no escape"),
     ("\"\\x80\" == \"\"", 2, "no escape"),
+    ("\"a\" like \"b\\x2a\"", 12, "a star in a pattern"),
     ("principal is \"User\"", 14, "a type is due"),
     ("principal is User::\"a\"", 14, "not an entity"),
     ("true && if true then true else true", 9, "parentheses are due"),
