@@ -39,7 +39,21 @@ def bytes_of(name):
         return None, f"{name or 'standard input'} can't be read: {fault.strerror}"
 
 
-def chosen_program():
-    """The program that scripts/palvumiose chooses, or None, where that script has said why there is none."""
+def taken_out(words, option="--program"):
+    """What stands behind an option, or None, and the other words."""
+    if option not in words[:-1]:
+        return None, words
+    i = words.index(option)
+    return words[i + 1], words[:i] + words[i + 2:]
+
+
+def program_at(name):
+    """The program with this name, or without a name the one that scripts/palvumiose chooses; None where there is none, which is then said."""
+    if name:
+        path = pathlib.Path(name).resolve()
+        if path.is_file() and os.access(path, os.X_OK):
+            return str(path)
+        complain(f"{name} is no program", 125)
+        return None
     ran = subprocess.run([str(TOP / "scripts/palvumiose"), "--path"], stdout=subprocess.PIPE)
     return ran.stdout.decode().strip() if ran.returncode == 0 else None
