@@ -8,14 +8,7 @@ use Rattle.access_tries.specs.Edges.{Address}
 use Rattle.access_tries.specs.Table.{Table, leads, is_marked}
 use Rattle.access_tries.specs.Paths.{is_front, is_same, IsUnion, IsLeastOf}
 use Rattle.access_tries.specs.Walks.{IsOf, addresses_in}
-
-pub or_false : (a : Bool) → (a || false) ≡ a
-or_false true = refl
-or_false false = refl
-
-or_assoc : (a b c : Bool) → (a || (b || c)) ≡ ((a || b) || c)
-or_assoc true b c = refl
-or_assoc false b c = refl
+use Rattle.plain_lemmas.proofs.Booleans.{or_assoc_left, or_false}
 
 both : {X : Type 0} (n : ℕ) (xs : List X) → take n xs ++ drop n xs ≡ xs
 both zero xs = refl
@@ -24,7 +17,7 @@ both (suc n) (x ∷ xs) = ap (λ ys. x ∷ ys) (both n xs)
 
 parts : (f : Address → Bool) (vs ws : List (Vec Edge Global)) → list_any f (addresses_in (vs ++ ws)) ≡ (list_any f (addresses_in vs) || list_any f (addresses_in ws))
 parts f [] ws = refl
-parts f (v ∷ vs) ws = ap (λ b. f v.items || b) (parts f vs ws) ∙ or_assoc (f v.items) (list_any f (addresses_in vs)) (list_any f (addresses_in ws))
+parts f (v ∷ vs) ws = ap (λ b. f v.items || b) (parts f vs ws) ∙ or_assoc_left (f v.items) (list_any f (addresses_in vs)) (list_any f (addresses_in ws))
 
 -- what holds of one of the first or of one of the others holds of one of all
 halves : (f : Address → Bool) (n : ℕ) (vs : List (Vec Edge Global)) → (list_any f (addresses_in (take n vs)) || list_any f (addresses_in (drop n vs))) ≡ list_any f (addresses_in vs)

@@ -9,10 +9,7 @@ use Rattle.access_tries.specs.Trees.{Branch, branch, branches_by, branch_at}
 use Rattle.access_tries.specs.Same.{same_branch, same_branches}
 use Rattle.access_tries.proofs.Branching.{branch_is}
 use Rattle.access_tries.proofs.Merging.{head_is}
-
-and_false : (a : Bool) → (a && false) ≡ false
-and_false true = refl
-and_false false = refl
+use Rattle.plain_lemmas.proofs.Booleans.{and_false, and_false_left}
 
 regroup : (e m s r : Bool) → ((e && (m && s)) && r) ≡ (((e && m) && s) && r)
 regroup true true s r = refl
@@ -48,10 +45,6 @@ module _ (a b : Table) (ca : IsClosed 0 a) (cb : IsClosed 0 b) where
   pub step : (xs ys : List Link) (k : ℕ) (x y : Link) → k < length xs → k < length ys → x ≡ slice_index_or xs k x → y ≡ slice_index_or ys k y → alike a b (drop k xs) (drop k ys) ≡ ((looks a b x y && alike a b (links_at a x.number) (links_at b y.number)) && alike a b (drop (k + 1) xs) (drop (k + 1) ys))
   step xs ys k x y i j is was =
       ap (λ l. alike a b l (drop k ys)) (head_is xs k x i is) ∙ ap (alike a b (x ∷ drop (k + 1) xs)) (head_is ys k y j was) ∙ link_alike x y (drop (k + 1) xs) (drop (k + 1) ys)
-
-pub one_differs : (s t : Bool) → s ≡ false → (s && t) ≡ false
-one_differs true t h = cc
-one_differs false t h = refl
 
 pub other_differs : (s t : Bool) → t ≡ false → (s && t) ≡ false
 other_differs true t h = h

@@ -13,7 +13,8 @@ use Rattle.access_tries.specs.Table.{Table, NodeData, at_path, has_mark, links_a
 use Rattle.access_tries.specs.Views.{LeadsNowhere, LeadsTo, number_at}
 use Rattle.access_tries.specs.Walks.{any_link}
 use Rattle.access_tries.specs.EdgeLaws.{edge_total, exact_edge}
-use Rattle.access_tries.proofs.Unions.{within}
+use Rattle.plain_lemmas.proofs.Lists.{is_some_within}
+use Rattle.plain_lemmas.proofs.Booleans.{or_false}
 
 -- behind an edge there is no other link with it
 other : (e : Edge) (l m : Link) → edge_eq l.edge e ≡ true → IsBefore l m → edge_eq m.edge e ≡ false
@@ -25,10 +26,6 @@ pub none_behind : (f : Option NodeData → Bool) (ns : Table) (e : Edge) (es : A
 none_behind f ns e es l [] same all = refl
 none_behind f ns e es l (m ∷ ms) same all =
     ap (λ b. (b && at_path f ns m.number es) || any_link f ns e es ms) (other e l m same all.0) ∙ none_behind f ns e es l ms same all.1
-
-or_false : (a : Bool) → (a || false) ≡ a
-or_false true = refl
-or_false false = refl
 
 pub by_number : (f : Option NodeData → Bool) (ns : Table) (e : Edge) (es : Address) (ls : List Link) → Ascend ls → any_link f ns e es ls ≡ option_map_or (λ n. at_path f ns n es) (number_at e ls) false
 by_number f ns e es [] up = refl
@@ -52,7 +49,7 @@ number_within ns i e n table is = number_of (λ m. (i < m) × (m < length ns)) e
 
 pub found : (ns : Table) (i : ℕ) (e : Edge) (n : ℕ) → IsTable ns → number_at e (links_at ns i) ≡ Some n → LeadsTo e (record { nodes = ns; number = i }) (record { nodes = ns; number = n })
 found ns i e n table is = record {
-  there = within ns n (number_within ns i e n table is).1;
+  there = is_some_within ns n (number_within ns i e n table is).1;
   table = refl;
   later = (number_within ns i e n table is).0;
   paths = λ es. by_number is_some ns e es (links_at ns i) (table.ordered.each i (omega arith)) ∙ ap (λ o. option_map_or (λ n. at_path is_some ns n es) o false) is;

@@ -11,20 +11,7 @@ use Rattle.access_tries.specs.Edges.{Address, edge_eq}
 use Rattle.access_tries.specs.Table.{Table, NodeData, links_at, has_mark, at_path, IsClosed, IsOrdered, Ascend}
 use Rattle.access_tries.specs.Walks.{any_link, Keeps, IsChain}
 use Rattle.access_tries.specs.Paths.{is_front, is_same}
-
-or_false : (a : Bool) → (a || false) ≡ a
-or_false true = refl
-or_false false = refl
-
-and_false : (a : Bool) → (a && false) ≡ false
-and_false true = refl
-and_false false = refl
-
-and_turn : (a b c : Bool) → (a && (b && c)) ≡ (b && (a && c))
-and_turn true true c = refl
-and_turn true false c = refl
-and_turn false true c = refl
-and_turn false false c = refl
+use Rattle.plain_lemmas.proofs.Booleans.{and_exchange, and_false, or_false}
 
 pub chain_present : (es : Address) (ns : Table) (k : ℕ) (mark : Bool) → IsChain ns k es mark → (a : Address) → at_path is_some ns k a ≡ is_front a es
 chain_present [] ns k mark (p, l, m) [] = p
@@ -40,7 +27,7 @@ chain_marked [] ns k mark (p, l, m) (x ∷ a) = ap (any_link has_mark ns x a) l 
 chain_marked (e ∷ es) ns k mark (p, l, m, rest) [] = m ∙ sym (and_false mark)
 chain_marked (e ∷ es) ns k mark (p, l, m, rest) (x ∷ a) =
     ap (any_link has_mark ns x a) l ∙ or_false (edge_eq e x && at_path has_mark ns (k + 1) a)
-    ∙ ap (λ b. edge_eq e x && b) (chain_marked es ns (k + 1) mark rest a) ∙ and_turn (edge_eq e x) mark (is_same a es)
+    ∙ ap (λ b. edge_eq e x && b) (chain_marked es ns (k + 1) mark rest a) ∙ and_exchange (edge_eq e x) mark (is_same a es)
 
 slot_before : (old : Table) (n : NodeData) (k : ℕ) → k < length old → slice_get (old ++ n ∷ []) k ≡ slice_get old k
 slot_before [] n k h = absurd (omega (arith, h))

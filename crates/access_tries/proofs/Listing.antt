@@ -16,10 +16,7 @@ use Rattle.access_tries.specs.Table.{Table, IsTable, IsBefore, Ascend, links_at}
 use Rattle.access_tries.specs.Views.{ViewData, LeadsTo, number_at, with_child, with_root, children_in, roots_in, children_of, roots_of, AreChildren, AreRoots}
 use Rattle.access_tries.proofs.Behind.{found}
 use Rattle.access_tries.specs.EdgeLaws.{edge_total, then_end}
-
-each_so : {X : Type 0} {P Q : X → Type 0} → ((x : X) → P x → Q x) → (xs : List X) → AllByRecursion P xs → AllByRecursion Q xs
-each_so f [] h = tt
-each_so f (x ∷ xs) h = (f x h.0, each_so f xs h.1)
+use Rattle.plain_lemmas.proofs.Lists.{all_weaker}
 
 -- each link is the one that is found by its edge
 pub all_found : (ls : List Link) → Ascend ls → AllByRecursion (λ m. number_at m.edge ls ≡ Some m.number) ls
@@ -34,7 +31,7 @@ all_found (l ∷ ls) up = (
     behind (m ∷ ms) ns before h = (ap (λ b. option_map (λ m. m.number) (cond b (Some l) (find (λ k. edge_eq k.edge m.edge) ns))) (ap is_eq before.0) ∙ h.0, behind ms ns before.1 h.1)
 
 each_leads : (v : ViewData) → IsTable v.nodes → AllByRecursion (λ l. LeadsTo l.edge v (record { nodes = v.nodes; number = l.number })) (links_at v.nodes v.number)
-each_leads v t = each_so (λ l h. found v.nodes v.number l.edge l.number t h) (links_at v.nodes v.number) (all_found (links_at v.nodes v.number) (t.ordered.each v.number (omega arith)))
+each_leads v t = all_weaker (λ l h. found v.nodes v.number l.edge l.number t h) (links_at v.nodes v.number) (all_found (links_at v.nodes v.number) (t.ordered.each v.number (omega arith)))
 
 one_child : (v : ViewData) (e : Edge) (w : ViewData) (cs : List (List ℕ × ViewData)) → LeadsTo e v w → AreChildren v cs → AreChildren v (with_child e w cs)
 one_child v (Field n) w cs h all = (h, all)

@@ -9,10 +9,7 @@ use Rattle.access_tries.specs.Edges.{Address, edge_eq}
 use Rattle.access_tries.specs.Table.{Table, NodeData, at_path}
 use Rattle.access_tries.specs.Walks.{any_link, Keeps}
 use Rattle.access_tries.proofs.Unions.{IsUniting, any_same, same_walk, set_here, set_above}
-
-or_false : (a : Bool) → (a || false) ≡ a
-or_false true = refl
-or_false false = refl
+use Rattle.plain_lemmas.proofs.Booleans.{or_false}
 
 -- one more link: where it leads besides
 pub any_more : (f : Option NodeData → Bool) (at : ℕ) (old ns ms : Table) (links : List Link) (edge : Edge) (n : ℕ) → IsUniting at old ns links → Keeps (length ns) ns ms → (e : Edge) (es : Address) →

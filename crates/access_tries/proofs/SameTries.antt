@@ -17,7 +17,8 @@ use Rattle.access_tries.specs.EdgeLaws.{edge_total, exact_edge}
 use Rattle.access_tries.proofs.Behind.{none_behind}
 use Rattle.access_tries.proofs.Branching.{branch_is, deep_enough}
 use Rattle.access_tries.proofs.Merging.{all_behind, other_way}
-use Rattle.access_tries.proofs.Unions.{within}
+use Rattle.plain_lemmas.proofs.Lists.{is_some_within}
+use Rattle.plain_lemmas.proofs.Booleans.{or_false}
 
 -- the nodes lead the same ways, to marked ones alike
 record Match (a b : Table) (i j : ℕ) : Type 0 where
@@ -45,11 +46,7 @@ not_before f a e es (x ∷ xs) h =
 there : (a : Table) (x : Link) (xs : List Link) → x.number < length a → any_link is_some a x.edge [] (x ∷ xs) ≡ true
 there a x xs h =
     ap (λ t. (t && is_some (slice_get a x.number)) || any_link is_some a x.edge [] xs) (own x.edge)
-    ∙ ap (λ t. t || any_link is_some a x.edge [] xs) (within a x.number h)
-
-or_false : (a : Bool) → (a || false) ≡ a
-or_false true = refl
-or_false false = refl
+    ∙ ap (λ t. t || any_link is_some a x.edge [] xs) (is_some_within a x.number h)
 
 -- along its edge only the first link leads
 only_first : (f : Option NodeData → Bool) (a : Table) (x : Link) (xs : List Link) (es : Address) → AllByRecursion (IsBefore x) xs → any_link f a x.edge es (x ∷ xs) ≡ at_path f a x.number es

@@ -2,16 +2,7 @@
 use Rattle.std.proofs.Common.{◌≡◌, Bool, true, false, ◌||◌, refl, sym, ap, ◌∙◌}
 use Rattle.access_tries.specs.Laws.{UnionsAgree}
 use Rattle.access_tries.specs.Table.{leads, is_marked}
-
-or_turn : (a b : Bool) → (a || b) ≡ (b || a)
-or_turn true true = refl
-or_turn true false = refl
-or_turn false true = refl
-or_turn false false = refl
-
-or_assoc : (a b c : Bool) → ((a || b) || c) ≡ (a || (b || c))
-or_assoc true b c = refl
-or_assoc false b c = refl
+use Rattle.plain_lemmas.proofs.Booleans.{or_assoc, or_comm}
 
 or_twice : (a : Bool) → (a || a) ≡ a
 or_twice true = refl
@@ -20,8 +11,8 @@ or_twice false = refl
 pub unions_agree : UnionsAgree
 unions_agree = record {
   commute = λ a b t u h k. record {
-    paths = λ es. h.paths es ∙ or_turn (leads a es) (leads b es) ∙ sym (k.paths es);
-    marks = λ es. h.marks es ∙ or_turn (is_marked a es) (is_marked b es) ∙ sym (k.marks es);
+    paths = λ es. h.paths es ∙ or_comm (leads a es) (leads b es) ∙ sym (k.paths es);
+    marks = λ es. h.marks es ∙ or_comm (is_marked a es) (is_marked b es) ∙ sym (k.marks es);
   };
   associate = λ a b c ab bc t u h k l m. record {
     paths = λ es. k.paths es ∙ ap (λ x. x || leads c es) (h.paths es) ∙ or_assoc (leads a es) (leads b es) (leads c es) ∙ sym (m.paths es ∙ ap (λ x. leads a es || x) (l.paths es));

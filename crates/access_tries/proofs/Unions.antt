@@ -10,6 +10,8 @@ use Rattle.access_tries.specs.declared.table.Link.{Link}
 use Rattle.access_tries.specs.Edges.{Address, edge_eq}
 use Rattle.access_tries.specs.Table.{Table, NodeData, links_at, at_path, IsClosed, IsOrdered, Ascend}
 use Rattle.access_tries.specs.Walks.{any_link, Keeps, Takes}
+use Rattle.plain_lemmas.proofs.Booleans.{and_false, or_false, or_true}
+use Rattle.plain_lemmas.proofs.Lists.{all_push, is_some_within}
 
 -- what the numbers of links are: above this one and below that one
 abbrev pub IsBetween : ℕ → ℕ → Link → Type 0
@@ -57,10 +59,6 @@ pub at_end : (f : Option NodeData → Bool) (ns : Table) (i : ℕ) (a : Address)
 at_end f ns i [] h = ap f (no_node ns i h)
 at_end f ns i (e ∷ es) h = ap (λ o. any_link f ns e es (option_map_or (λ n. n.links) o [])) (no_node ns i h)
 
-and_false : (a : Bool) → (a && false) ≡ false
-and_false true = refl
-and_false false = refl
-
 -- what a turn takes of a list
 taken : (f : Option NodeData → Bool) (ns : Table) (ls : List Link) (p : ℕ) (edge : Edge) (number next : ℕ) → f None ≡ false → Takes ls p (length ns) edge number next → (e : Edge) (es : Address) → any_link f ns e es (drop p ls) ≡ ((edge_eq edge e && at_path f ns number es) || any_link f ns e es (drop next ls))
 taken f ns ls p edge number next h (inl (same, none)) e es =
@@ -102,10 +100,6 @@ lt_or_ge (suc a) (suc b) = shifted (lt_or_ge a b)
     shifted (inl h) = inl (omega (arith, h))
     shifted (inr h) = inr (omega (arith, h))
 
-all_append : {X : Type 0} (P : X → Type 0) (xs : List X) (y : X) → AllByRecursion P xs → P y → AllByRecursion P (xs ++ y ∷ [])
-all_append P [] y a h = (h, tt)
-all_append P (x ∷ xs) y (a, more) h = (a, all_append P xs y more h)
-
 links_same : (ns ms : Table) (i : ℕ) → slice_get ms i ≡ slice_get ns i → links_at ms i ≡ links_at ns i
 links_same ns ms i h = ap (λ o. option_map_or (λ n. n.links) o []) h
 
@@ -118,7 +112,7 @@ nodes_step at old ns ms links edge n h u e lt k c o = record {
   kept = λ i j. k i (omega (arith, h, j)) ∙ u.kept i j;
   closed = record { each = λ i j. closed_here i j (lt_or_ge i (length ns)) };
   ordered = record { each = λ i j. ordered_here i j (lt_or_ge i (length ns)) };
-  down = all_append (IsBetween at (length ms)) links _ (wider at (length ns) (length ms) (omega (arith, e, lt)) links u.down) (omega (arith, h, e), lt);
+  down = all_push (IsBetween at (length ms)) links _ (wider at (length ns) (length ms) (omega (arith, e, lt)) links u.down) (omega (arith, h, e), lt);
 }
   where
     closed_here : (i : ℕ) → at ≤ i → (i < length ns) ⊎ (length ns ≤ i) → AllByRecursion (IsBetween i (length ms)) (links_at ms i)
@@ -179,10 +173,6 @@ dropped [] (suc p) h = refl
 dropped (l ∷ ls) zero h = absurd (omega (arith, h))
 dropped (l ∷ ls) (suc p) h = dropped ls p (omega (arith, h))
 
-or_false : (a : Bool) → (a || false) ≡ a
-or_false true = refl
-or_false false = refl
-
 pub paths_at_end : (f : Option NodeData → Bool) (at : ℕ) (old ns x y : Table) (node : NodeData) (i j : ℕ) (xs ys : List Link) (p q : ℕ) →
     at < length ns → IsUniting at old ns node.links → xs ≡ links_at x i → ys ≡ links_at y j → length xs ≤ p → length ys ≤ q →
     IsSplit f ns node.links x (drop p xs) xs y (drop q ys) ys →
@@ -199,18 +189,9 @@ paths_at_end f at old ns x y node i j xs ys p q h u ex ey px qy s m (e ∷ es) =
     ∙ ap (λ ls. any_link f x e es ls || any_link f y e es ys) ex
     ∙ ap (λ ls. any_link f x e es (links_at x i) || any_link f y e es ls) ey
 
-pub within : {X : Type 0} (xs : List X) (i : ℕ) → i < length xs → is_some (slice_get xs i) ≡ true
-within [] i h = absurd (omega (arith, h))
-within (x ∷ xs) zero h = refl
-within (x ∷ xs) (suc i) h = within xs i (omega (arith, h))
-
-or_true : (a : Bool) → (a || true) ≡ true
-or_true true = refl
-or_true false = refl
-
 pub one_present : (x y : Table) (i j : ℕ) → i + j < length x + length y → j ≤ length y → true ≡ (is_some (slice_get x i) || is_some (slice_get y j))
 one_present x y i j h k = here (lt_or_ge i (length x))
   where
     here : (i < length x) ⊎ (length x ≤ i) → true ≡ (is_some (slice_get x i) || is_some (slice_get y j))
-    here (inl lt) = sym (ap (λ b. b || is_some (slice_get y j)) (within x i lt))
-    here (inr ge) = sym (ap (λ b. is_some (slice_get x i) || b) (within y j (omega (arith, h, ge))) ∙ or_true (is_some (slice_get x i)))
+    here (inl lt) = sym (ap (λ b. b || is_some (slice_get y j)) (is_some_within x i lt))
+    here (inr ge) = sym (ap (λ b. is_some (slice_get x i) || b) (is_some_within y j (omega (arith, h, ge))) ∙ or_true (is_some (slice_get x i)))

@@ -1,7 +1,7 @@
 -- Capabilities that are alike hold alike.
 use Rattle.std.proofs.Common.{List, [], ◌∷◌, inl, inr, subst}
-use Rattle.policy_store.specs.declared.request.Request.{Request}
-use Rattle.policy_store.specs.Store.{Store}
+use Rattle.entity_store.specs.declared.request.Request.{Request}
+use Rattle.entity_store.specs.Store.{Store}
 use Rattle.policy_core.specs.declared.outcome.Outcome.{Outcome}
 use Rattle.policy_core.specs.Eval.{eval}
 use Rattle.capabilities.specs.Capability.{Access, Attribute, Tag, Capability, SameAccess, AreAlike, IsKnown}

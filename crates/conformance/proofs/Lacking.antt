@@ -18,8 +18,8 @@ use Rattle.hierarchy.proofs.Least.{IsRest, least_here, rest_more, none_left, IsL
 use Rattle.policy_names.specs.declared.entity_uid.EntityUID.{EntityUID}
 use Rattle.policy_names.specs.Uid.{uid_cmp, uid_cmp_total, exact_uid}
 use Rattle.policy_names.specs.Basename.{is_action_type}
-use Rattle.policy_store.specs.Store.{StoredEntity, Store, is_named, entity_at}
-use Rattle.policy_store.specs.FromParents.{ids_of}
+use Rattle.entity_store.specs.Store.{StoredEntity, Store, is_named, entity_at}
+use Rattle.entity_store.specs.FromParents.{ids_of}
 use Rattle.hierarchy.proofs.Keyed.{value_named}
 use Rattle.schema_core.specs.Schema.{SchemaData, ActionData, action_at, action_below}
 use Rattle.conformance_errors.specs.declared.store_rule.StoreRule.{StoreRule}

@@ -7,11 +7,12 @@ use Rattle.policy_names.specs.Uid.{text_cmp}
 use Rattle.policy_values.specs.Value.{Val, truth, long, string, entity, set, rec, decimal, ip, datetime, duration, Vals, no_vals, val, Fields, no_fields, field}
 use Rattle.schema_core.specs.Kinds.{Kind, standard, enumerated}
 use Rattle.schema_core.specs.Schema.{SchemaData, TypeData, type_at}
-use Rattle.policy_typing.specs.Conforms.{is_listed, is_listed_in, lists_ids, lists_all, lists_fields}
+use Rattle.typing_spec.specs.Conforms.{is_listed, is_listed_in, lists_ids, lists_all, lists_fields}
 use Rattle.policy_scope.specs.Names.{choices_in, others_listed}
 use Rattle.conformance.specs.Ids.{unlisted_in, unlisted_in_all, unlisted_in_fields}
 use Rattle.conformance.specs.RequestRules.{listed_fault}
-use Rattle.conformance.proofs.Options.{none_first, none_rest, neither, both_true, same_answers}
+use Rattle.conformance.proofs.Options.{none_first, none_rest, neither}
+use Rattle.plain_lemmas.proofs.Booleans.{and_parts_of, equal_by_both_ways}
 
 module _ (u : EntityUID) {X : Type 0} (f : List (List ℕ) → X) where
   pub kind_lists : (k : Kind) → option_map f (option_and_then (others_listed u) (choices_in k)) ≡ None → is_listed_in k u.eid ≡ true
@@ -70,11 +71,11 @@ module _ (schema : SchemaData) where
 
     none_unlisted_all : (vs : Vals) → lists_all schema vs ≡ true → unlisted_in_all schema vs ≡ None
     none_unlisted_all no_vals h = refl
-    none_unlisted_all (val v vs) h = let b = both_true (lists_ids schema v) (lists_all schema vs) h in neither _ _ (none_unlisted v b.0) (none_unlisted_all vs b.1)
+    none_unlisted_all (val v vs) h = let b = and_parts_of (lists_ids schema v) (lists_all schema vs) h in neither _ _ (none_unlisted v b.0) (none_unlisted_all vs b.1)
 
     pub none_unlisted_fields : (fs : Fields) → lists_fields schema fs ≡ true → unlisted_in_fields schema fs ≡ None
     none_unlisted_fields no_fields h = refl
-    none_unlisted_fields (field k v fs) h = let b = both_true (lists_ids schema v) (lists_fields schema fs) h in neither _ _ (none_unlisted v b.0) (none_unlisted_fields fs b.1)
+    none_unlisted_fields (field k v fs) h = let b = and_parts_of (lists_ids schema v) (lists_fields schema fs) h in neither _ _ (none_unlisted v b.0) (none_unlisted_fields fs b.1)
 
   -- what is found as unlisted is not listed, so that it is a fault
   abbrev IsUnlisted : Option EntityUID → Type 0
@@ -120,4 +121,4 @@ module _ (schema : SchemaData) where
 
   -- a value holds listed ids alone exactly where none is found that is not
   pub none_unlisted_is : (v : Val) → is_none (unlisted_in schema v) ≡ lists_ids schema v
-  none_unlisted_is v = same_answers (is_none (unlisted_in schema v)) (lists_ids schema v) (λ h. ids_listed v (nothing (unlisted_in schema v) h)) (λ h. ap is_none (none_unlisted v h))
+  none_unlisted_is v = equal_by_both_ways (is_none (unlisted_in schema v)) (lists_ids schema v) (λ h. ids_listed v (nothing (unlisted_in schema v) h)) (λ h. ap is_none (none_unlisted v h))

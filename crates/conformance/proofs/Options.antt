@@ -3,6 +3,7 @@ use Rattle.std.proofs.Common.{◌≡◌, Bool, true, false, ◌&&◌, ◌||◌, 
 use Rattle.std.specs.Option.{option_or, option_map}
 use Rattle.std.specs.List.{AllByRecursion, list_all}
 use Rattle.conformance.specs.RequestRules.{unless}
+use Rattle.plain_lemmas.proofs.Booleans.{and_parts_of, equal_by_both_ways}
 
 module _ {X : Type 0} where
   pub none_first : (a b : Option X) → option_or a b ≡ None → a ≡ None
@@ -31,15 +32,6 @@ pub none_inside : {X Y : Type 0} (f : X → Y) (o : Option X) → option_map f o
 none_inside f None h = refl
 none_inside f (Some x) h = absurd (cc h)
 
-pub both_true : (a b : Bool) → (a && b) ≡ true → (a ≡ true) × (b ≡ true)
-both_true true b h = (refl, h)
-both_true false b h = absurd (cc h)
-
-pub same_answers : (a b : Bool) → (a ≡ true → b ≡ true) → (b ≡ true → a ≡ true) → a ≡ b
-same_answers true b f g = sym (f refl)
-same_answers false true f g = g refl
-same_answers false false f g = refl
-
 module _ {X : Type 0} where
   pub all_more : (P Q : X → Type 0) → ((x : X) → P x → Q x) → (xs : List X) → AllByRecursion P xs → AllByRecursion Q xs
   all_more P Q f [] h = tt
@@ -47,7 +39,7 @@ module _ {X : Type 0} where
 
   pub all_pass : (p : X → Bool) (xs : List X) → list_all p xs ≡ true → AllByRecursion (λ x. p x ≡ true) xs
   all_pass p [] h = tt
-  all_pass p (x ∷ xs) h = let b = both_true (p x) (list_all p xs) h in (b.0, all_pass p xs b.1)
+  all_pass p (x ∷ xs) h = let b = and_parts_of (p x) (list_all p xs) h in (b.0, all_pass p xs b.1)
 
   pub pass_all : (p : X → Bool) (xs : List X) → AllByRecursion (λ x. p x ≡ true) xs → list_all p xs ≡ true
   pass_all p [] h = refl

@@ -5,14 +5,14 @@ use Rattle.hierarchy.specs.Reaches.{has}
 use Rattle.policy_names.specs.declared.entity_uid.EntityUID.{EntityUID}
 use Rattle.policy_names.specs.Uid.{text_cmp}
 use Rattle.policy_values.specs.Value.{Fields, rec}
-use Rattle.policy_store.specs.declared.request.Request.{Request}
-use Rattle.policy_store.specs.Request.{IsWhole, known, principal_of, action_of, resource_of}
+use Rattle.entity_store.specs.declared.request.Request.{Request}
+use Rattle.entity_store.specs.Request.{IsWhole, known, principal_of, action_of, resource_of}
 use Rattle.policy_core.specs.Eval.{known_fields}
 use Rattle.schema_types.specs.declared.kinds.OpenTag.TheVariants.{ClosedAttributes}
 use Rattle.schema_types.specs.Ty.{record_of}
 use Rattle.schema_core.specs.Schema.{SchemaData, TypeData, ActionData, type_at, action_at}
 use Rattle.policy_scope.specs.Names.{choices_in, others_listed}
-use Rattle.policy_typing.specs.Conforms.{is_listed_in, lists_fields, HasAttributes, IdConforms, Applies, RequestConforms}
+use Rattle.typing_spec.specs.Conforms.{is_listed_in, lists_fields, HasAttributes, IdConforms, Applies, RequestConforms}
 use Rattle.conformance.specs.Misfits.{misfit}
 use Rattle.conformance.specs.RequestRules.{unless, context_error, listed_fault, principal_fault, resource_fault, principal_type_fault, resource_type_fault, context_fault, applied_fault, action_fault, first_request_fault}
 use Rattle.conformance_errors.specs.declared.request_error.RequestValidationError.{RequestValidationError}

@@ -12,7 +12,7 @@ use Rattle.policy_names.specs.declared.entity_uid.EntityUID.{EntityUID}
 use Rattle.policy_names.specs.Basename.{is_action_type}
 use Rattle.policy_names.specs.Uid.{text_cmp, uid_cmp, uid_cmp_total, exact_uid}
 use Rattle.policy_values.specs.Value.{Val, Fields, no_fields, field}
-use Rattle.policy_store.specs.Store.{StoredEntity, Store}
+use Rattle.entity_store.specs.Store.{StoredEntity, Store}
 use Rattle.schema_types.specs.declared.kinds.OpenTag.TheVariants.{ClosedAttributes}
 use Rattle.schema_types.specs.declared.ty.AttributeType.{AttributeType}
 use Rattle.schema_types.specs.Attrs.{attr_at}
@@ -21,14 +21,15 @@ use Rattle.schema_core.specs.Faults.{IsSchema}
 use Rattle.schema_core.specs.Kinds.{attributes_in, tags_in}
 use Rattle.schema_core.specs.Schema.{SchemaData, TypeData, ActionData, is_action_named, type_at, action_at, type_below, action_below}
 use Rattle.policy_types.specs.Member.{type_of, Undeclared, IsDeclared, Member, Typed}
-use Rattle.policy_typing.specs.Conforms.{is_listed, lists_ids, lists_fields, AreTags, IsAllowedAncestor, TypedConforms, ActionConforms, ConformsAs, EntityConforms, StoreConforms}
+use Rattle.typing_spec.specs.Conforms.{is_listed, lists_ids, lists_fields, AreTags, IsAllowedAncestor, TypedConforms, ActionConforms, ConformsAs, EntityConforms, StoreConforms}
 use Rattle.conformance.specs.Misfits.{misfit, first_missing}
 use Rattle.conformance.specs.RequestRules.{unless}
 use Rattle.conformance.specs.StoreRules.{first_key, is_of, first_broken, declared_fault, attribute_fault, tag_fault, tags_fault, ancestor_fault, ancestors_fault, declared_entity_fault, typed_entity_fault, is_ancestor_if_above, has_its_ancestors, action_entity_fault, entity_fault, first_store_fault}
 use Rattle.conformance_errors.specs.declared.store_rule.StoreRule.{StoreRule}
 use Rattle.conformance_errors.specs.declared.store_rule.StoreRule.TheVariants.{TypeNotDeclared, IdNotListed, AttributeNotDeclared, AttributeOfAnotherType, AttributeHoldsUnlistedId, RequiredAttributeMissing, TagsNotAllowed, TagOfAnotherType, TagHoldsUnlistedId, AncestorNotAllowed, AncestorNotListed, ActionNotDeclared, ActionHasAttributes, ActionHasTags, ActionAncestorsDiffer}
 use Rattle.conformance.specs.Laws.{StoreRulesAreExact}
-use Rattle.conformance.proofs.Options.{none_first, none_rest, neither, kept, keeps, no_fault, none_inside, both_true, same_answers, all_more, all_pass, pass_all}
+use Rattle.conformance.proofs.Options.{none_first, none_rest, neither, kept, keeps, no_fault, none_inside, all_more, all_pass, pass_all}
+use Rattle.plain_lemmas.proofs.Booleans.{and_parts_of, equal_by_both_ways}
 use Rattle.conformance.proofs.Members.{all_there, all_required, required_all, member_of, of_member}
 
 -- the value is of the type exactly where it is a member
@@ -76,7 +77,7 @@ module _ (schema : SchemaData) where
   typed_all : (xs : Attrs) (fs : Fields) → Typed ClosedAttributes xs fs → lists_fields schema fs ≡ true → first_broken (attribute_fault schema xs) fs ≡ None
   typed_all xs no_fields h ids = refl
   typed_all xs (field k v fs) h ids =
-      let b = both_true (lists_ids schema v) (lists_fields schema fs) ids in
+      let b = and_parts_of (lists_ids schema v) (lists_fields schema fs) ids in
       neither _ _ (field_typed xs k v (h.0, b.0)) (typed_all xs fs h.1 b.1)
 
   -- tags
@@ -91,7 +92,7 @@ module _ (schema : SchemaData) where
   tagged_all : (t : Ty) (fs : Fields) → AreTags (Some t) fs → lists_fields schema fs ≡ true → first_broken (tag_fault schema t) fs ≡ None
   tagged_all t no_fields h ids = refl
   tagged_all t (field k v fs) h ids =
-      let b = both_true (lists_ids schema v) (lists_fields schema fs) ids in
+      let b = and_parts_of (lists_ids schema v) (lists_fields schema fs) ids in
       neither _ _ (neither _ _ (keeps (is_of t v) (TagOfAnotherType k) (type_has t v h.0)) (keeps (lists_ids schema v) (TagHoldsUnlistedId k) b.0)) (tagged_all t fs h.1 b.1)
 
   tags_typed : (o : Option Ty) (fs : Fields) → tags_fault schema o fs ≡ None → AreTags o fs × (lists_fields schema fs ≡ true)
@@ -149,10 +150,10 @@ module _ (schema : SchemaData) where
 -- what a list has passes what all of it passes
 has_passed : (p : EntityUID → Bool) (us : List EntityUID) → list_all p us ≡ true → (u : EntityUID) → has uid_cmp us u ≡ true → p u ≡ true
 has_passed p [] h u k = absurd (cc k)
-has_passed p (x ∷ us) h u k = by (is_eq (uid_cmp u x)) refl (has_passed p us (both_true (p x) (list_all p us) h).1 u) k
+has_passed p (x ∷ us) h u k = by (is_eq (uid_cmp u x)) refl (has_passed p us (and_parts_of (p x) (list_all p us) h).1 u) k
   where
     by : (b : Bool) → is_eq (uid_cmp u x) ≡ b → (has uid_cmp us u ≡ true → p u ≡ true) → (b || has uid_cmp us u) ≡ true → p u ≡ true
-    by true e rest j = ap p (tells_apart exact_uid u x e) ∙ (both_true (p x) (list_all p us) h).0
+    by true e rest j = ap p (tells_apart exact_uid u x e) ∙ (and_parts_of (p x) (list_all p us) h).0
     by false e rest j = rest j
 
 or_right : (a b : Bool) → b ≡ true → (a || b) ≡ true
@@ -206,10 +207,10 @@ module _ (schema : SchemaData) (ok : IsSchema schema) (e : StoredEntity) where
   if_above a h k = sym (ap (λ b. not b || has uid_cmp e.ancestors a.name) k) ∙ h
 
   ancestors_are : has_its_ancestors schema e ≡ true → (u : EntityUID) → has uid_cmp e.ancestors u ≡ action_below schema e.uid u
-  ancestors_are h u = same_answers (has uid_cmp e.ancestors u) (action_below schema e.uid u) (has_passed (action_below schema e.uid) e.ancestors parts.0 u) (λ k. of_action (action_at schema u) refl k)
+  ancestors_are h u = equal_by_both_ways (has uid_cmp e.ancestors u) (action_below schema e.uid u) (has_passed (action_below schema e.uid) e.ancestors parts.0 u) (λ k. of_action (action_at schema u) refl k)
     where
       parts : (list_all (action_below schema e.uid) e.ancestors ≡ true) × (list_all (is_ancestor_if_above e) schema.action_ids ≡ true)
-      parts = both_true (list_all (action_below schema e.uid) e.ancestors) (list_all (is_ancestor_if_above e) schema.action_ids) h
+      parts = and_parts_of (list_all (action_below schema e.uid) e.ancestors) (list_all (is_ancestor_if_above e) schema.action_ids) h
 
       of_action : (o : Option ActionData) → action_at schema u ≡ o → option_map_or (λ a. has uid_cmp a.descendants e.uid) o false ≡ true → has uid_cmp e.ancestors u ≡ true
       of_action None is k = absurd (cc k)

@@ -4,7 +4,7 @@ use Rattle.std.specs.Option.{option_or}
 use Rattle.policy_names.specs.declared.entity_uid.EntityUID.{EntityUID}
 use Rattle.policy_values.specs.Value.{Val, entity, set, rec, Vals, no_vals, val, Fields, no_fields, field}
 use Rattle.schema_core.specs.Schema.{SchemaData}
-use Rattle.policy_typing.specs.Conforms.{is_listed}
+use Rattle.typing_spec.specs.Conforms.{is_listed}
 
 module _ (schema : SchemaData) where
   -- the first id in a value that its type does not list, in the order of elements and keys

@@ -1,14 +1,14 @@
 -- No rule is broken exactly where the request, the store conforms.
 use Rattle.std.specs.Prelude.{◌≡◌, ◌↔◌, ℕ, true, List, None, option_map}
-use Rattle.policy_store.specs.declared.request.Request.{Request}
-use Rattle.policy_store.specs.Request.{IsWhole}
-use Rattle.policy_store.specs.Store.{Store}
+use Rattle.entity_store.specs.declared.request.Request.{Request}
+use Rattle.entity_store.specs.Request.{IsWhole}
+use Rattle.entity_store.specs.Store.{Store}
 use Rattle.policy_values.specs.Value.{Val}
 use Rattle.schema_core.specs.Faults.{IsSchema}
 use Rattle.schema_core.specs.Schema.{SchemaData}
 use Rattle.schema_types.specs.Ty.{Ty}
 use Rattle.policy_types.specs.Member.{Member}
-use Rattle.policy_typing.specs.Conforms.{RequestConforms, StoreConforms}
+use Rattle.typing_spec.specs.Conforms.{RequestConforms, StoreConforms}
 use Rattle.policy_expressions.specs.Functions.{function_of}
 use Rattle.extension_types.specs.Table.{function_at, typed}
 use Rattle.extension_types.specs.Types.{Extensions}

@@ -5,7 +5,7 @@ use Rattle.hierarchy.specs.Reaches.{has}
 use Rattle.policy_names.specs.declared.entity_uid.EntityUID.{EntityUID}
 use Rattle.policy_names.specs.Uid.{text_cmp}
 use Rattle.policy_values.specs.Value.{Fields, rec}
-use Rattle.policy_store.specs.declared.request.Request.{Request}
+use Rattle.entity_store.specs.declared.request.Request.{Request}
 use Rattle.schema_types.specs.declared.kinds.OpenTag.TheVariants.{ClosedAttributes}
 use Rattle.schema_types.specs.Ty.{record_of}
 use Rattle.schema_core.specs.Schema.{SchemaData, ActionData, type_at, action_at}

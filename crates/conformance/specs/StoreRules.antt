@@ -7,13 +7,13 @@ use Rattle.policy_names.specs.declared.entity_uid.EntityUID.{EntityUID}
 use Rattle.policy_names.specs.Uid.{text_cmp, uid_cmp}
 use Rattle.policy_names.specs.Basename.{is_action_type}
 use Rattle.policy_values.specs.Value.{Val, Fields, no_fields, field}
-use Rattle.policy_store.specs.Store.{StoredEntity, Store, entity_at}
+use Rattle.entity_store.specs.Store.{StoredEntity, Store, entity_at}
 use Rattle.schema_types.specs.declared.ty.AttributeType.{AttributeType}
 use Rattle.schema_types.specs.Attrs.{attr_at}
 use Rattle.schema_types.specs.Ty.{Ty, Attrs}
 use Rattle.schema_core.specs.Kinds.{attributes_in, tags_in}
 use Rattle.schema_core.specs.Schema.{SchemaData, TypeData, ActionData, type_at, action_at, type_below, action_below}
-use Rattle.policy_typing.specs.Conforms.{is_listed, lists_ids}
+use Rattle.typing_spec.specs.Conforms.{is_listed, lists_ids}
 use Rattle.conformance.specs.Misfits.{misfit, first_missing}
 use Rattle.conformance.specs.RequestRules.{unless}
 use Rattle.conformance_errors.specs.declared.store_rule.ConformanceError.{ConformanceError}

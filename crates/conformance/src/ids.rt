@@ -7,7 +7,7 @@ ghost use Rattle.policy_names.specs.Uid.{text_cmp};
 ghost use Rattle.policy_values.specs.Value.{vals_of, fields_of};
 ghost use Rattle.schema_types.specs.Names.{has_name};
 ghost use Rattle.schema_core.specs.KindView.{kind_of};
-ghost use Rattle.policy_typing.specs.Conforms.{is_listed, is_listed_in, lists_ids};
+ghost use Rattle.typing_spec.specs.Conforms.{is_listed, is_listed_in, lists_ids};
 ghost use Rattle.policy_scope.specs.Names.{choices_without, choices_in, others_listed};
 ghost use Rattle.conformance.specs.Ids.{unlisted_in, unlisted_in_all, unlisted_in_fields};
 

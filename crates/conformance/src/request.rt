@@ -18,7 +18,7 @@ use crate::{
 };
 use extension_types::ExtensionSchemas;
 use policy_names::{EntityType, EntityUID, Text};
-use policy_store::{Context, Request};
+use entity_store::{Context, Request};
 use policy_values::try_clone_fields;
 use schema_core::{OpenTag, ValidatorActionId, ValidatorSchema};
 use std::alloc::{AllocError, Global};

@@ -17,7 +17,7 @@ use crate::misfits::first_missing;
 use crate::{ConformanceError, EntityDoesNotConform, StoreRule};
 use hierarchy::lower;
 use policy_names::{EntityType, EntityUID, Text};
-use policy_store::{Entities, Entity};
+use entity_store::{Entities, Entity};
 use policy_types::has_value;
 use policy_values::Value;
 use schema_core::{ValidatorActionId, ValidatorEntityType, ValidatorSchema};

@@ -4,7 +4,7 @@ use Rattle.policy_names.specs.declared.entity_uid.EntityUID.{EntityUID}
 use Rattle.policy_names.specs.Show.{uid_text}
 use Rattle.policy_values.specs.Value.{rec}
 use Rattle.findings.specs.Texts.{enum_entity_text, enum_help}
-use Rattle.finding_texts.specs.Written.{help_line}
+use Rattle.finding_messages.specs.Written.{help_line}
 use Rattle.conformance_errors.specs.ValueText.{value_text}
 use Rattle.conformance_errors.specs.RuleText.{rule_text}
 use Rattle.conformance_errors.specs.declared.store_rule.EntityDoesNotConform.{EntityDoesNotConform}

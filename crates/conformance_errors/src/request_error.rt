@@ -2,7 +2,7 @@
 
 use findings::InvalidEnumEntityError;
 use policy_names::{EntityType, EntityUID, Text};
-use policy_store::Context;
+use entity_store::Context;
 use std::alloc::AllocError;
 use std::marker::Model;
 use thiserror::Error;

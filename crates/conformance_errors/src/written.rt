@@ -7,7 +7,7 @@ ghost use Rattle.conformance_errors.specs.Written.{id_text, request_message, req
 
 use crate::value_text::write_record;
 use crate::{EntityDoesNotConform, InvalidContextError, RequestValidationError};
-use finding_texts::{Diagnostic, add_help};
+use finding_messages::{Diagnostic, add_help};
 use policy_expressions::Loc;
 use policy_names::{EntityType, EntityUID, Text};
 use std::alloc::{AllocError, Global};

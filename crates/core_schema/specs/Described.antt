@@ -3,7 +3,7 @@ use Rattle.std.specs.Prelude.{ℕ, List, Option, Some, None, map, refl}
 use Rattle.std.specs.List.{filter}
 use Rattle.std.specs.Coded.{Coded, coded×, coded_ℕ, coded_list, coded_option, code_by}
 use Rattle.policy_names.specs.declared.entity_uid.EntityUID.{EntityUID}
-use Rattle.policy_store.specs.Store.{StoredEntity}
+use Rattle.entity_store.specs.Store.{StoredEntity}
 use Rattle.schema_types.specs.declared.kinds.OpenTag.TheVariants.{ClosedAttributes}
 use Rattle.schema_types.specs.Ty.{Ty, Attrs, record_of}
 use Rattle.schema_types.specs.TyCode.{coded_ty, coded_attrs}

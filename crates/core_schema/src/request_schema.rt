@@ -6,7 +6,7 @@ ghost use Rattle.schema_core.specs.Schema.{SchemaData};
 
 use crate::{CoreSchema, RequestValidationError};
 use extension_types::ExtensionSchemas;
-use policy_store::Request;
+use entity_store::Request;
 use schema_core::ValidatorSchema;
 use std::alloc::Global;
 

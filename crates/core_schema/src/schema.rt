@@ -8,7 +8,7 @@ use crate::EntityTypeDescription;
 use crate::actions::action_entity;
 use crate::basenames::basename_of;
 use policy_names::{EntityType, EntityUID};
-use policy_store::Entity;
+use entity_store::Entity;
 use schema_core::ValidatorSchema;
 use schema_types::core_schema::Schema;
 use std::alloc::{AllocError, Global};

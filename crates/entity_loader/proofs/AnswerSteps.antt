@@ -5,13 +5,14 @@ use Rattle.std.specs.declared.vec.Vec.{Vec}
 use Rattle.std.specs.declared.alloc.Global.{Global}
 use Rattle.std.proofs.lemmas.List.{take_all}
 use Rattle.std.proofs.lemmas.List.Elements.{Contains-append_left, Contains-push, Contains-push_cases}
-use Rattle.policy_store.specs.Store.{StoredEntity, Store, entity_at}
-use Rattle.policy_reads.proofs.Cuts.{uid_at}
+use Rattle.entity_store.specs.Store.{StoredEntity, Store, entity_at}
+use Rattle.reads_spec.proofs.Cuts.{uid_at}
 use Rattle.entity_loader.specs.declared.loader.EntityRequest.{EntityRequest}
 use Rattle.entity_loader.specs.declared.loader.AncestorsRequest.{AncestorsRequest}
 use Rattle.entity_loader.specs.Answers.{Fits, IsHonest, IsHonestList, IsListed}
 use Rattle.std.specs.List.{AllZip}
 use Rattle.policy_names.specs.declared.entity_uid.EntityUID.{EntityUID}
+use Rattle.plain_lemmas.proofs.Lists.{zip_length}
 
 -- one more of each
 pub zip_more : {X Y : Type 0} (R : X → Y → Type 0) (xs : List X) (ys : List Y) (i : ℕ) (x : X) (y : Y) → i < length xs → x ≡ get_or xs i x → AllZip R (take i xs) ys → R x y → AllZip R (take (suc i) xs) (ys ++ y ∷ [])
@@ -27,12 +28,6 @@ none_left (x ∷ xs) = none_left xs
 
 pub zip_all : {X Y : Type 0} (R : X → Y → Type 0) (xs : List X) (ys : List Y) (i : ℕ) → length xs ≤ i → AllZip R (take i xs) ys → AllZip R xs ys
 zip_all R xs ys i h all = subst (λ l. AllZip R l ys) (take_all i xs h) all
-
-pub zip_length : {X Y : Type 0} (R : X → Y → Type 0) (xs : List X) (ys : List Y) → AllZip R xs ys → length xs ≡ length ys
-zip_length R [] [] all = refl
-zip_length R [] (y ∷ ys) all = absurd all
-zip_length R (x ∷ xs) [] all = absurd all
-zip_length R (x ∷ xs) (y ∷ ys) all = ap suc (zip_length R xs ys all.1)
 
 pub zip_weaker : {X Y : Type 0} (R S : X → Y → Type 0) → ((x : X) (y : Y) → R x y → S x y) → (xs : List X) (ys : List Y) → AllZip R xs ys → AllZip S xs ys
 zip_weaker R S f [] [] all = tt

@@ -18,12 +18,10 @@ use Rattle.access_tries.specs.Views.{ViewData, view_leads, LeadsTo, LeadsNowhere
 use Rattle.access_tries.specs.Edges.{Address}
 use Rattle.access_tries.specs.Table.{Table}
 use Rattle.entity_loader.specs.Asked.{asked, asked_by, asks, by_tag, some_leads, some_along, AreBelow}
-use Rattle.policy_reads.specs.Paths.{any_tag, Chain, steps_of}
-use Rattle.policy_reads.specs.Restrict.{cut, cut_fields}
-
-or_nothing : (a : Bool) → (a || false) ≡ a
-or_nothing true = refl
-or_nothing false = refl
+use Rattle.reads_spec.specs.Paths.{any_tag, Chain, steps_of}
+use Rattle.reads_spec.specs.Restrict.{cut, cut_fields}
+use Rattle.plain_lemmas.proofs.Lists.{all_push, empty_of_length}
+use Rattle.plain_lemmas.proofs.Booleans.{or_false}
 
 abbrev Entries : Type 0
 Entries = List (List ℕ × Val)
@@ -118,10 +116,6 @@ cut_no_field (e ∷ es) k none = rw (none e.0) (cut_no_field es k none)
 or_with : (a b c d : Bool) → a ≡ c → b ≡ d → (a || (b || false)) ≡ (c || (d || false))
 or_with a b c d f g = rw (f, g) refl
 
-all_push : {X : Type 0} (P : X → Type 0) (xs : List X) (x : X) → AllByRecursion P xs → P x → AllByRecursion P (xs ++ x ∷ [])
-all_push P [] x h p = (p, tt)
-all_push P (y ∷ xs) x h p = (h.0, all_push P xs x h.1 p)
-
 pub below_none : (e : Edge) (ns : Table) → AreBelow e ns [] []
 below_none e ns = record { leads = λ es. refl; there = tt }
 
@@ -138,7 +132,7 @@ module _ (e : Edge) (ns : Table) (is js : List ℕ) (i : ℕ) (b : AreBelow e ns
 
   pub below_skip : LeadsNowhere e (record { nodes = ns; number = i }) → AreBelow e ns (is ++ i ∷ []) js
   below_skip n = record {
-    leads = λ es. b.leads es ∙ sym (list_any-append (λ j. view_leads (record { nodes = ns; number = j }) (e ∷ es)) is (i ∷ []) ∙ ap (λ c. some_leads ns is (e ∷ es) || (c || false)) (n es) ∙ or_nothing (some_leads ns is (e ∷ es)));
+    leads = λ es. b.leads es ∙ sym (list_any-append (λ j. view_leads (record { nodes = ns; number = j }) (e ∷ es)) is (i ∷ []) ∙ ap (λ c. some_leads ns is (e ∷ es) || (c || false)) (n es) ∙ or_false (some_leads ns is (e ∷ es)));
     there = b.there;
   }
 
@@ -162,13 +156,9 @@ module _ (e : Edge) (ns : Table) (is js : List ℕ) (b : AreBelow e ns is js) wh
   pub fields_below : (fs : Fields) → cut_fields fs (by_tag (some_along ns js)) ≡ cut_fields fs (by_tag (λ c. some_leads ns is (e ∷ map edge_of (steps_of c))))
   fields_below fs = ap (λ k. cut_fields fs (by_tag k)) (λ i c. b.leads (map edge_of (steps_of c)) i)
 
-pub none_in : {X : Type 0} (xs : List X) → length xs ≡ 0 → xs ≡ []
-none_in [] h = refl
-none_in (x ∷ xs) h = absurd (omega (arith, h))
-
 -- one node alone
 pub asked_alone : (t : ViewData) → asked_by t.nodes (t.number ∷ []) ≡ asked t
-asked_alone t = λ i. record { chains = λ x c. or_nothing (asks t (steps_of c)) i; ancestors = λ x y. false; tags = λ x. by_tag (λ c. or_nothing (asks t (any_tag ∷ steps_of c)) i) }
+asked_alone t = λ i. record { chains = λ x c. or_false (asks t (steps_of c)) i; ancestors = λ x y. false; tags = λ x. by_tag (λ c. or_false (asks t (any_tag ∷ steps_of c)) i) }
 
 -- what stands there does not depend on what would stand elsewhere
 pub got_same : {X : Type 0} (xs : List X) (i : ℕ) (d e : X) → i < length xs → get_or xs i d ≡ get_or xs i e

@@ -1,2 +1,3 @@
 pub mod CutSteps
 mod AnswerSteps
+pub mod Steps

@@ -3,9 +3,9 @@ use Rattle.std.specs.Prelude.{◌≡◌, true, Bool, List, Contains, Option, Som
 use Rattle.std.specs.declared.vec.Vec.{Vec}
 use Rattle.std.specs.declared.alloc.Global.{Global}
 use Rattle.policy_names.specs.declared.entity_uid.EntityUID.{EntityUID}
-use Rattle.policy_store.specs.Store.{StoredEntity, Store, entity_at}
-use Rattle.policy_reads.specs.Paths.{Chain}
-use Rattle.policy_reads.specs.Restrict.{Keep, cut_entity}
+use Rattle.entity_store.specs.Store.{StoredEntity, Store, entity_at}
+use Rattle.reads_spec.specs.Paths.{Chain}
+use Rattle.reads_spec.specs.Restrict.{Keep, cut_entity}
 use Rattle.entity_loader.specs.declared.loader.EntityRequest.{EntityRequest}
 use Rattle.entity_loader.specs.declared.loader.AncestorsRequest.{AncestorsRequest}
 use Rattle.entity_loader.specs.Asked.{asked}

@@ -6,8 +6,8 @@ use Rattle.access_tries.specs.Edges.{Address}
 use Rattle.access_tries.specs.Paths.{edge_of}
 use Rattle.access_tries.specs.Table.{Table}
 use Rattle.access_tries.specs.Views.{ViewData, view_leads}
-use Rattle.policy_reads.specs.Paths.{Step, any_tag, Chain, steps_of}
-use Rattle.policy_reads.specs.Restrict.{Keep}
+use Rattle.reads_spec.specs.Paths.{Step, any_tag, Chain, steps_of}
+use Rattle.reads_spec.specs.Restrict.{Keep}
 
 -- whether the trie goes on with the steps
 abbrev pub asks : ViewData → List Step → Bool

@@ -1,6 +1,6 @@
 -- What contracts see of a loader.
 use Rattle.std.specs.Prelude.{◌≡◌, ◌⊎◌, ℕ, ◌+◌, ◌≤◌, ◌^◌, Bool, Option, Some}
-use Rattle.policy_store.specs.Store.{Store}
+use Rattle.entity_store.specs.Store.{Store}
 
 pub record LoaderState : Type 0 where
   -- the store that the loader stands for, where it tells it

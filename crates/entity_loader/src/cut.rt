@@ -3,14 +3,14 @@
 ghost use Rattle.std.specs.Prelude.{◌≡◌, ◌∷◌, [], true, IfOk};
 ghost use Rattle.access_tries.specs.Table.{IsTable};
 ghost use Rattle.access_tries.specs.declared.edge.Edge.TheVariants.{Field, AnyTag};
-ghost use Rattle.policy_reads.specs.Paths.{any_tag, steps_of};
+ghost use Rattle.reads_spec.specs.Paths.{any_tag, steps_of};
 ghost use Rattle.policy_values.specs.Value.{fields_of};
-ghost use Rattle.policy_reads.specs.Restrict.{cut, cut_fields, cut_entity};
+ghost use Rattle.reads_spec.specs.Restrict.{cut, cut_fields, cut_entity};
 ghost use Rattle.entity_loader.specs.Asked.{asked, asked_by, by_tag, some_leads, some_asks, some_along, AreBelow};
 
 use access_tries::{Node, TrieRef};
 use policy_names::{EntityUID, Text};
-use policy_store::Entity;
+use entity_store::Entity;
 use policy_values::{Value, ValueKind, push_entry};
 use std::alloc::{AllocError, Global};
 use std::collections::{BTreeMap, BTreeSet};

@@ -3,15 +3,15 @@
 ghost use Rattle.std.specs.Prelude.{◌≡◌, ◌⊎◌, map, length, Some, Err, IfOk};
 ghost use Rattle.std.specs.List.{AllZip};
 ghost use Rattle.std.specs.List.Sorted.{IsStrictlySortedBy};
-ghost use Rattle.outside.specs.Steps.{Rose};
+ghost use Rattle.byte_streams.specs.Steps.{Rose};
 ghost use Rattle.policy_names.specs.Uid.{uid_cmp};
-ghost use Rattle.policy_store.specs.Store.{Store};
+ghost use Rattle.entity_store.specs.Store.{Store};
 ghost use Rattle.entity_loader.specs.Answers.{Fits, IsHonest, IsHonestList};
 ghost use Rattle.entity_loader.specs.State.{LoaderState, Continues, Ticks};
 
 use access_tries::TrieRef;
 use policy_names::EntityUID;
-use policy_store::Entity;
+use entity_store::Entity;
 use std::alloc::Global;
 
 /// Why nothing was loaded.

@@ -1,8 +1,8 @@
-pub mod Entries
-mod Filling
-pub mod Floats
-mod Items
-mod Keeping
-mod Saying
-mod TagSteps
-mod TypedAgain
+mod Below
+mod Shapes
+mod Conditions
+mod Having
+mod Sticking
+mod Conforming
+mod Manifests
+mod Loading

@@ -1,8 +1,3 @@
-pub mod Laws
-pub mod Manifest
-pub mod ManifestJson
-pub mod Mismatches
-pub mod Placed
-pub mod Reading
-pub mod Refusals
-pub mod Said
+pub mod Declared
+pub mod Sticking
+pub mod Computed

@@ -1,9 +1,36 @@
-//! Laws of manifests.
+//! Laws of loading by computed manifests.
 
-ghost use Rattle.entity_manifest.specs.Laws.{TypedStays};
+ghost use Rattle.entity_manifest.specs.Computed.{ComputedTriesAreDeclared, ComputedManifestsFit, ComputedSlicesFit, HonestLoadingSucceeds};
+ghost use Rattle.entity_manifest.specs.Sticking.{NothingIsBlocked, NothingSticks};
 
-/// What `to_typed` answers is typed: typing it again by the same schema is not refused, and gives the same paths and marks.
-#[tactic(auto, using(crate::proofs::TypedAgain::typed_stays))]
-pub fn typed_stays()
-    ensures { TypedStays }
+/// A trie of declared paths that asks only ids for ancestors fits what it reaches: where request and store conform to the
+/// schema, no path of it comes to a value from which it cannot go on.
+pub fn nothing_sticks()
+    ensures { NothingSticks }
+{}
+
+/// Nor does a path of it come to such a value in the whole store.
+pub fn nothing_is_blocked()
+    ensures { NothingIsBlocked }
+{}
+
+/// The tries of a computed manifest are such tries.
+pub fn computed_tries_are_declared()
+    ensures { ComputedTriesAreDeclared }
+{}
+
+/// A computed manifest fits each request and store that conform to the schema.
+pub fn computed_manifests_fit()
+    ensures { ComputedManifestsFit }
+{}
+
+/// With a computed manifest, and a request and a store that conform to the schema, loading from an honest loader whose count
+/// of faults does not rise succeeds, or ends for want of memory.
+pub fn honest_loading_succeeds()
+    ensures { HonestLoadingSucceeds }
+{}
+
+/// With them no path of the manifest's trie is blocked in the store, and slicing along it does not refuse the trie.
+pub fn computed_slices_fit()
+    ensures { ComputedSlicesFit }
 {}

@@ -2,10 +2,10 @@
 #![tactic(auto)]
 
 ghost use Rattle.std.specs.Prelude.{◌≡◌, ◌∷◌, [], IfOk, codes, map, string_bytes};
-ghost use Rattle.policy_documents.specs.declared.document.Document.{Document};
+ghost use Rattle.json_document.specs.declared.document.Document.{Document};
 ghost use Rattle.policy_gate.specs.Headline.{IsDocumentOf, KeepsRules, IsSliced};
 
-use outside::{MemorySink, SliceSource};
+use byte_streams::{MemorySink, SliceSource};
 use policy_gate::{Status, run};
 use std::alloc::{AllocError, Global};
 

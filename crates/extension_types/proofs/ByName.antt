@@ -19,6 +19,7 @@ use Rattle.schema_types.specs.Names.{union}
 use Rattle.extension_types.specs.Types.{FunctionType, Extension}
 use Rattle.extension_types.specs.Table.{functions_in, overloading_in, function_at, names_of, AreOnce, IsFirstRepeated}
 use Rattle.extension_types.specs.ByName.{AreByName, pointed}
+use Rattle.plain_lemmas.proofs.Options.{none_of_no_some}
 
 -- the functions are under their names, and no name stands twice
 pub record AreGathered (fs : List FunctionType) (entries : BTreeMap (List ℕ) (Bor FunctionType)) : Type 0 where
@@ -106,15 +107,11 @@ repeated_at fs i x entries name next g same again =
     subst (λ l. IsFirstRepeated (names_of l) name) (sym split) (subst (λ n. IsFirstRepeated (names_of (pointed (take i fs) ++ x.now ∷ pointed rest)) n) (sym same)
     (gathered_again (pointed (take i fs)) (pointed rest) entries x.now g (subst (λ n. is_some (get text_cmp entries n) ≡ true) same again)))
 
-none_from : {X : Type 0} (o : Option X) → is_some o ≡ false → o ≡ None
-none_from None h = refl
-none_from (Some x) h = cc
-
 pub gathered_at : (fs : List (Bor FunctionType)) (i : ℕ) (x : Bor FunctionType) (entries entries' : BTreeMap (List ℕ) (Bor FunctionType)) (name : List ℕ) → take (i + 1) fs ≡ take i fs ++ x ∷ []
     → AreGathered (pointed (take i fs)) entries → name ≡ x.now.name → is_some (get text_cmp entries name) ≡ false
     → ((q : List ℕ) → get text_cmp entries' q ≡ cond (is_eq (text_cmp name q)) (Some x) (get text_cmp entries q))
     → AreGathered (pointed (take (i + 1) fs)) entries'
 gathered_at fs i x entries entries' name next g same new update =
     subst (λ l. AreGathered l entries') (sym (ap pointed next ∙ map-append (λ (f : Bor FunctionType). f.now) (take i fs) (x ∷ [])))
-    (gathered_more (pointed (take i fs)) entries entries' x g (none_from (get text_cmp entries x.now.name) (subst (λ n. is_some (get text_cmp entries n) ≡ false) same new))
+    (gathered_more (pointed (take i fs)) entries entries' x g (none_of_no_some (get text_cmp entries x.now.name) (subst (λ n. is_some (get text_cmp entries n) ≡ false) same new))
     (λ q. subst (λ n. get text_cmp entries' q ≡ cond (is_eq (text_cmp n q)) (Some x) (get text_cmp entries q)) same (update q)))

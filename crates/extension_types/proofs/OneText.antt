@@ -2,7 +2,7 @@
 use Rattle.std.proofs.Common.{◌≡◌, List, [], ◌∷◌, ◌<◌, ◌≤◌, length, None, refl, arith}
 use Rattle.policy_expressions.specs.Tree.{Tree, lit, var, slot, ite, conj, disj, unary, binary, attr, has, like, is_type, call, set, rec, Trees, tree, trees_of}
 use Rattle.policy_expressions.specs.declared.kinds.Literal.TheVariants as literal
-use Rattle.policy_typing.specs.Signatures.{only_text}
+use Rattle.typing_spec.specs.Signatures.{only_text}
 
 module _ {A : Type 0} where
   several : (x y : Tree A) (ys : Trees A) → only_text (tree x (tree y ys)) ≡ None

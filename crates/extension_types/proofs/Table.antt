@@ -18,6 +18,7 @@ use Rattle.policy_expressions.specs.declared.functions.UnaryFunction.TheVariants
 use Rattle.policy_expressions.specs.declared.functions.ExtensionFunction.{ExtensionFunction}
 use Rattle.policy_expressions.specs.declared.functions.ExtensionFunction.TheVariants.{Unary}
 use Rattle.extension_types.specs.Table.{typed, decimals, ranges, times, all_typed, all_extensions, functions_in, function_at, names_of, AreOnce, IsFirstRepeated}
+use Rattle.plain_lemmas.proofs.Booleans.{false_of_not}
 
 -- an entry whose name is new among those in front may stand in front of them
 pick : (q : List ℕ) (e : List ℕ × ExtensionFunction) (front rest : Functions) → list_all (λ f. not (bytes_eq e.0 f.0)) front ≡ true
@@ -91,13 +92,9 @@ is_once : List (List ℕ) → Bool
 is_once [] = true
 is_once (n ∷ ns) = list_all (λ m. not (is_eq (text_cmp n m))) ns && is_once ns
 
-flipped : (b : Bool) → not b ≡ true → b ≡ false
-flipped true h = absurd (false≢true h)
-flipped false h = refl
-
 apart : (n : List ℕ) (ns : List (List ℕ)) → list_all (λ m. not (is_eq (text_cmp n m))) ns ≡ true → AllByRecursion (λ m. is_eq (text_cmp n m) ≡ false) ns
 apart n [] e = tt
-apart n (m ∷ ms) e = let p = and_parts (not (is_eq (text_cmp n m))) _ e in (flipped (is_eq (text_cmp n m)) p.0, apart n ms p.1)
+apart n (m ∷ ms) e = let p = and_parts (not (is_eq (text_cmp n m))) _ e in (false_of_not (is_eq (text_cmp n m)) p.0, apart n ms p.1)
 
 once_by_test : (ns : List (List ℕ)) → is_once ns ≡ true → AreOnce ns
 unfolding is_once IsDistinct

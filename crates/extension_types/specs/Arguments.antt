@@ -6,7 +6,7 @@ use Rattle.policy_expressions.specs.Tree.{Trees}
 use Rattle.policy_expressions.specs.declared.functions.UnaryFunction.TheVariants as unary
 use Rattle.policy_expressions.specs.declared.functions.ExtensionFunction.{ExtensionFunction}
 use Rattle.policy_expressions.specs.declared.functions.ExtensionFunction.TheVariants.{Unary}
-use Rattle.policy_typing.specs.Signatures.{is_readable, only_text}
+use Rattle.typing_spec.specs.Signatures.{is_readable, only_text}
 use Rattle.extension_types.specs.declared.argument_check.ArgumentCheck.{ArgumentCheck}
 use Rattle.extension_types.specs.declared.argument_check.ArgumentCheck.TheVariants.{Decimal, Ip, Datetime, Duration}
 

@@ -9,7 +9,7 @@ use Rattle.policy_expressions.specs.declared.functions.UnaryFunction.TheVariants
 use Rattle.policy_expressions.specs.declared.functions.BinaryFunction.TheVariants as binary
 use Rattle.policy_expressions.specs.declared.functions.ExtensionFunction.{ExtensionFunction}
 use Rattle.policy_expressions.specs.declared.functions.ExtensionFunction.TheVariants.{Unary, Binary}
-use Rattle.policy_typing.specs.Signatures.{signature_of}
+use Rattle.typing_spec.specs.Signatures.{signature_of}
 use Rattle.extension_types.specs.Types.{FunctionType, Extension}
 use Rattle.extension_types.specs.declared.argument_check.ArgumentCheck.{ArgumentCheck}
 use Rattle.extension_types.specs.declared.argument_check.ArgumentCheck.TheVariants.{Decimal, Ip, Datetime, Duration}

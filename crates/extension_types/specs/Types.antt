@@ -3,7 +3,7 @@ use Rattle.std.specs.Prelude.{ℕ, List, ◌++◌, Option, None, codes, refl}
 use Rattle.std.specs.Coded.{Coded, coded×, coded_ℕ, coded_list, coded_option, code_by}
 use Rattle.schema_types.specs.Ty.{Ty}
 use Rattle.schema_types.specs.TyCode.{coded_ty}
-use Rattle.policy_typing.specs.Signatures.{Signature}
+use Rattle.typing_spec.specs.Signatures.{Signature}
 use Rattle.extension_types.specs.declared.argument_check.ArgumentCheck.{ArgumentCheck}
 use Rattle.extension_types.specs.contracts.argument_check.ArgumentCheck.{the_row as check_row}
 

@@ -1,7 +1,7 @@
 //! Checks of the texts that extension values are made of.
 
 ghost use Rattle.std.specs.Prelude.{◌≡◌, IfOk};
-ghost use Rattle.policy_typing.specs.Signatures.{is_readable};
+ghost use Rattle.typing_spec.specs.Signatures.{is_readable};
 ghost use Rattle.extension_types.specs.Arguments.{constructor_of, value_text, message};
 
 use policy_names::{Quoted, Text};

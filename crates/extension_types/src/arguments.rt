@@ -3,7 +3,7 @@ ghost use Rattle.std.specs.Prelude.{◌≡◌, IfOk};
 ghost use Rattle.std.specs.Option.{option_copied, option_and_then};
 ghost use Rattle.std.specs.Result.{result_err};
 ghost use Rattle.policy_expressions.specs.Tree.{trees_of};
-ghost use Rattle.policy_typing.specs.Signatures.{only_text};
+ghost use Rattle.typing_spec.specs.Signatures.{only_text};
 ghost use Rattle.extension_types.specs.Arguments.{unreadable};
 
 use crate::ArgumentCheck;

@@ -1,7 +1,7 @@
 //! The extension of points in time and of durations.
 
 ghost use Rattle.std.specs.Prelude.{◌≡◌, [], ◌∷◌, ◌++◌, IfOk, OnOk, IsTrue, codes, take, drop};
-ghost use Rattle.policy_typing.specs.Signatures.{datetime_type, duration_type, long_type};
+ghost use Rattle.typing_spec.specs.Signatures.{datetime_type, duration_type, long_type};
 ghost use Rattle.extension_types.specs.Types.{unchecked};
 ghost use Rattle.extension_types.specs.Words.{is_word};
 ghost use Rattle.extension_types.specs.Table.{times, all_typed, datetime_extension};

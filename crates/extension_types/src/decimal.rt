@@ -1,7 +1,7 @@
 //! The extension of decimals.
 
 ghost use Rattle.std.specs.Prelude.{◌≡◌, [], ◌∷◌, ◌++◌, IfOk, OnOk, IsTrue};
-ghost use Rattle.policy_typing.specs.Signatures.{decimal_type, bool_type};
+ghost use Rattle.typing_spec.specs.Signatures.{decimal_type, bool_type};
 ghost use Rattle.extension_types.specs.Types.{unchecked};
 ghost use Rattle.extension_types.specs.Words.{is_word};
 ghost use Rattle.extension_types.specs.Table.{decimals, all_typed, decimal_extension};

@@ -1,7 +1,7 @@
 //! The extension of ranges of IP addresses.
 
 ghost use Rattle.std.specs.Prelude.{◌≡◌, [], ◌∷◌, ◌++◌, IfOk, OnOk, IsTrue, codes};
-ghost use Rattle.policy_typing.specs.Signatures.{ip_type, bool_type};
+ghost use Rattle.typing_spec.specs.Signatures.{ip_type, bool_type};
 ghost use Rattle.extension_types.specs.Types.{unchecked};
 ghost use Rattle.extension_types.specs.Words.{is_word};
 ghost use Rattle.extension_types.specs.Table.{ranges, all_typed, ip_extension};

@@ -2,7 +2,7 @@
 ghost use Rattle.std.specs.Prelude.{◌≡◌, [], ◌∷◌, IfOk, IsTrue, Some};
 ghost use Rattle.policy_names.specs.Name.{IsName};
 ghost use Rattle.schema_types.specs.Ty.{extension};
-ghost use Rattle.policy_typing.specs.Signatures.{string_type};
+ghost use Rattle.typing_spec.specs.Signatures.{string_type};
 ghost use Rattle.extension_types.specs.Types.{unchecked};
 ghost use Rattle.extension_types.specs.Words.{is_word};
 

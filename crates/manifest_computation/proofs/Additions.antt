@@ -10,36 +10,19 @@ use Rattle.access_tries.specs.Paths.{address_of, demand_of, is_front, is_same, I
 use Rattle.access_tries.specs.Table.{Table, leads, is_marked}
 use Rattle.schema_core.specs.EnvData.{EnvData}
 use Rattle.schema_core.specs.Schema.{SchemaData}
-use Rattle.policy_typing.specs.Typing.{Typed}
+use Rattle.typing_spec.specs.Typing.{Typed}
 use Rattle.policy_set.specs.Data.{PolicyData}
-use Rattle.policy_reads.specs.PathTypes.{declared_part}
-use Rattle.policy_reads.specs.Reads.{reads_of, reads, demands, demands_of, are_declared, declared_reads, declared_demands}
-use Rattle.policy_acceptance.specs.Laws.{LeavesAll}
-use Rattle.typing_findings.specs.Check.{checked}
-use Rattle.typed_conditions.specs.Found.{condition_in, found_conditions}
+use Rattle.reads_spec.specs.PathTypes.{declared_part}
+use Rattle.reads_spec.specs.Reads.{reads_of, reads, demands, demands_of, are_declared, declared_reads, declared_demands}
+use Rattle.policy_validate.specs.AcceptanceLaws.{LeavesAll}
+use Rattle.typecheck_spec.specs.Check.{checked}
+use Rattle.policy_validate.specs.Found.{condition_in, found_conditions}
 use Rattle.manifest_computation.specs.Gathered.{goes_along, asks_along, HoldSame, IsTrieLeft}
+use Rattle.plain_lemmas.proofs.Booleans.{or_assoc, or_exchange, or_false}
 
 pub both_ok : {A E : Type 0} (P Q R : Type 0) → (P → Q → R) → (r : Result A E) → OnOk r P → OnOk r Q → OnOk r R
 both_ok P Q R f (Ok a) p q = f p q
 both_ok P Q R f (Err e) p q = tt
-
-or_assoc : (a b c : Bool) → ((a || b) || c) ≡ (a || (b || c))
-or_assoc true b c = refl
-or_assoc false b c = refl
-
-or_false : (a : Bool) → (a || false) ≡ a
-or_false true = refl
-or_false false = refl
-
--- what holds of the first two and of the last two, in another order
-or_pairs : (a b c d : Bool) → ((a || b) || (c || d)) ≡ ((a || c) || (b || d))
-or_pairs true b c d = refl
-or_pairs false b true d = or_true b
-  where
-    or_true : (b : Bool) → (b || true) ≡ true
-    or_true true = refl
-    or_true false = refl
-or_pairs false b false d = refl
 
 empty_leads : (es : Address) → leads [] es ≡ false
 empty_leads [] = refl
@@ -77,7 +60,7 @@ module _ (schema : SchemaData) (env : EnvData) where
   goes_append : (es : Address) (ts us : List Typed) → goes_along schema env (ts ++ us) es ≡ (goes_along schema env ts es || goes_along schema env us es)
   goes_append es ts us =
       (λ i. any_read (is_front es) ts us i || any_demand (is_front es) ts us i)
-      ∙ or_pairs (list_any (is_front es) (map address_of (declared_reads schema env ts))) (list_any (is_front es) (map address_of (declared_reads schema env us)))
+      ∙ or_exchange (list_any (is_front es) (map address_of (declared_reads schema env ts))) (list_any (is_front es) (map address_of (declared_reads schema env us)))
       (list_any (is_front es) (map demand_of (declared_demands schema env ts))) (list_any (is_front es) (map demand_of (declared_demands schema env us)))
 
   -- conditions whose trie is united with another may be let go of

@@ -10,22 +10,23 @@ use Rattle.std.proofs.lemmas.List.{map-append, take-append-drop, at_drop_more}
 use Rattle.std.proofs.Math.Seq.{take-suc}
 use Rattle.policy_names.specs.Uid.{uid_cmp_total}
 use Rattle.access_tries.specs.Table.{Table}
-use Rattle.policy_store.specs.Request.{request_type_cmp}
-use Rattle.policy_store.specs.declared.request.RequestType.{RequestType}
+use Rattle.entity_store.specs.Request.{request_type_cmp}
+use Rattle.entity_store.specs.declared.request.RequestType.{RequestType}
 use Rattle.schema_core.specs.EnvData.{EnvData, declared_action, undeclared_action, request_type_in, unlinked_envs}
 use Rattle.schema_core.specs.Faults.{IsSchema}
 use Rattle.schema_core.specs.RequestEnvs.{env_data_of}
 use Rattle.schema_core.specs.declared.request_env.RequestEnv.{RequestEnv}
 use Rattle.schema_core.specs.Schema.{SchemaData}
 use Rattle.policy_set.specs.Data.{PolicyData}
-use Rattle.entity_manifest.specs.Manifest.{Manifest, IsNext}
-use Rattle.policy_links.specs.Accepted.{IsTyped, IsTypedIn}
-use Rattle.policy_acceptance.specs.Laws.{LeavesAll}
-use Rattle.typed_conditions.specs.Found.{found_conditions}
-use Rattle.typed_conditions.specs.Typed.{typed_conditions}
+use Rattle.manifest_core.specs.Manifest.{Manifest, IsNext}
+use Rattle.link_spec.specs.Accepted.{IsTyped, IsTypedIn}
+use Rattle.policy_validate.specs.AcceptanceLaws.{LeavesAll}
+use Rattle.policy_validate.specs.Found.{found_conditions}
+use Rattle.policy_validate.specs.Typed.{typed_conditions}
 use Rattle.manifest_computation.specs.Computed.{IsEntryOf, IsManifestOf}
 use Rattle.manifest_computation.specs.Found.{AreEntries}
 use Rattle.manifest_computation.proofs.Ascending.{Pairwise, IsBefore, all_more, envs_ascend, envs_declared}
+use Rattle.plain_lemmas.proofs.Lists.{empty_of_length}
 
 request_types_total : IsTotalOrder request_type_cmp
 request_types_total = then_total (on_total (λ t. t.action) uid_cmp_total) (then_total (on_total (λ t. t.principal) nat_list_cmp_total) (on_total (λ t. t.resource) nat_list_cmp_total))
@@ -104,10 +105,6 @@ all_left schema ps [] [] h = tt
 all_left schema ps [] (e ∷ m) h = absurd h
 all_left schema ps (env ∷ envs) [] h = absurd h
 all_left schema ps (env ∷ envs) (e ∷ m) h = (h.0.1, all_left schema ps envs m h.1)
-
-pub no_length : {X : Type 0} (xs : List X) → length xs ≡ 0 → xs ≡ []
-no_length [] h = refl
-no_length (x ∷ xs) h = absurd (omega (arith, h))
 
 pub each_some : {X E : Type 0} (P Q : X → Type 0) → ((x : X) → P x → Q x) → (r : Result (Option X) E) → IfOk r (λ o. IfSome o P) → IfOk r (λ o. IfSome o Q)
 each_some P Q f (Err e) h = tt

@@ -1,18 +1,18 @@
 -- The manifest of policies.
 use Rattle.std.specs.Prelude.{◌≡◌, ⊤, List, [], Some}
 use Rattle.std.specs.List.{AllZip}
-use Rattle.policy_store.specs.declared.request.RequestType.{RequestType}
+use Rattle.entity_store.specs.declared.request.RequestType.{RequestType}
 use Rattle.access_tries.specs.Paths.{IsLeast}
 use Rattle.access_tries.specs.Table.{Table}
 use Rattle.schema_core.specs.EnvData.{EnvData, request_type_in, unlinked_envs}
 use Rattle.schema_core.specs.Schema.{SchemaData}
-use Rattle.policy_typing.specs.Typing.{Typed}
-use Rattle.typed_conditions.specs.Typed.{typed_conditions}
-use Rattle.policy_reads.specs.Reads.{declared_reads, declared_demands}
+use Rattle.typing_spec.specs.Typing.{Typed}
+use Rattle.policy_validate.specs.Typed.{typed_conditions}
+use Rattle.reads_spec.specs.Reads.{declared_reads, declared_demands}
 use Rattle.policy_set.specs.Data.{PolicyData}
 use Rattle.policy_set.specs.PolicySet.{PolicySetData}
 use Rattle.policy_validate.specs.Accepted.{findings_of, IsAccepted}
-use Rattle.entity_manifest.specs.Manifest.{Manifest}
+use Rattle.manifest_core.specs.Manifest.{Manifest}
 use Rattle.manifest_computation.specs.declared.error.EntityManifestError.{EntityManifestError}
 use Rattle.manifest_computation.specs.declared.error.EntityManifestError.TheVariants.{Validation, OutOfMemory}
 

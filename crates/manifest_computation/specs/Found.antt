@@ -4,9 +4,9 @@ use Rattle.std.specs.List.{AllZip}
 use Rattle.schema_core.specs.EnvData.{EnvData}
 use Rattle.schema_core.specs.Schema.{SchemaData}
 use Rattle.policy_set.specs.Data.{PolicyData}
-use Rattle.typed_conditions.specs.Found.{found_conditions}
-use Rattle.entity_manifest.specs.Manifest.{Manifest}
-use Rattle.policy_acceptance.specs.Laws.{LeavesAll}
+use Rattle.policy_validate.specs.Found.{found_conditions}
+use Rattle.manifest_core.specs.Manifest.{Manifest}
+use Rattle.policy_validate.specs.AcceptanceLaws.{LeavesAll}
 use Rattle.manifest_computation.specs.Computed.{IsEntryOf}
 
 -- an entry for each environment, of what checks leave there: the condition of each policy

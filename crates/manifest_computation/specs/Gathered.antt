@@ -6,11 +6,11 @@ use Rattle.access_tries.specs.Paths.{address_of, demand_of, is_front, is_same, I
 use Rattle.access_tries.specs.Table.{Table, leads, is_marked}
 use Rattle.schema_core.specs.EnvData.{EnvData}
 use Rattle.schema_core.specs.Schema.{SchemaData}
-use Rattle.policy_typing.specs.Typing.{Typed}
+use Rattle.typing_spec.specs.Typing.{Typed}
 use Rattle.policy_set.specs.Data.{PolicyData}
-use Rattle.policy_reads.specs.Reads.{declared_reads, declared_demands}
-use Rattle.policy_acceptance.specs.Laws.{LeavesAll}
-use Rattle.typed_conditions.specs.Found.{found_conditions}
+use Rattle.reads_spec.specs.Reads.{declared_reads, declared_demands}
+use Rattle.policy_validate.specs.AcceptanceLaws.{LeavesAll}
+use Rattle.policy_validate.specs.Found.{found_conditions}
 
 module _ (schema : SchemaData) (env : EnvData) where
   -- whether the edges are a front of what conditions read or ask for

@@ -3,31 +3,31 @@
 ghost use Rattle.std.specs.Prelude.{◌≡◌, ◌↔◌, IfOk, IfErr, IfSome, IsTrue, None};
 ghost use Rattle.std.specs.List.{AllByRecursion, AllZip};
 ghost use Rattle.schema_core.specs.EnvData.{unlinked_envs};
-ghost use Rattle.policy_acceptance.specs.Laws.{LeavesAll};
-ghost use Rattle.policy_acceptance.specs.Rules.{keep_rules};
+ghost use Rattle.policy_validate.specs.AcceptanceLaws.{LeavesAll};
+ghost use Rattle.policy_validate.specs.Rules.{keep_rules};
 ghost use Rattle.policy_validate.specs.Accepted.{IsAccepted};
-ghost use Rattle.entity_manifest.specs.Manifest.{Manifest};
+ghost use Rattle.manifest_core.specs.Manifest.{Manifest};
 ghost use Rattle.manifest_computation.specs.Computed.{IsEntryOf, IsManifestOf, WhyNone};
 ghost use Rattle.manifest_computation.specs.Found.{AreEntries};
-ghost use Rattle.typed_conditions.specs.Typed.{typed_conditions};
+ghost use Rattle.policy_validate.specs.Typed.{typed_conditions};
 
 use crate::EntityManifestError;
 use crate::tries::tries_of;
 use access_tries::RootAccessTrie;
-use entity_manifest::EntityManifest;
+use manifest_core::EntityManifest;
 use extension_types::{ExtensionSchemas, all_objects};
-use policy_acceptance::keep_rules;
-use policy_acceptance::laws::accepted_by_rules;
+use policy_validate::keep_rules;
+use policy_validate::acceptance_laws::accepted_by_rules;
 use policy_set::PolicySet;
 use policy_set::laws::is_policy_set;
-use policy_store::RequestType;
+use entity_store::RequestType;
 use policy_typecheck::Typechecker;
 use policy_validate::Validator;
 use policy_validate::laws::accepted_are_typed;
 use schema_core::{ValidationMode, ValidatorSchema};
 use std::alloc::{AllocError, Global};
 use std::collections::BTreeMap;
-use typed_conditions::laws::found_are_typed;
+use policy_validate::condition_laws::found_are_typed;
 
 /// The manifest of policies: for each environment of the schema the trie of what the static policies and links read and ask
 /// for there, each by its own condition, with its types; no trie where there is no policy. Errs with `Validation` exactly

@@ -2,10 +2,10 @@
 
 ghost use Rattle.std.specs.Prelude.{◌≡◌, ◌++◌, ◌∷◌, [], List, IfOk, OnOk, IfSome, None};
 ghost use Rattle.schema_core.specs.RequestEnvs.{env_data_of};
-ghost use Rattle.policy_typing.specs.Typing.{Typed};
-ghost use Rattle.policy_acceptance.specs.Laws.{LeavesAll};
+ghost use Rattle.typing_spec.specs.Typing.{Typed};
+ghost use Rattle.policy_validate.specs.AcceptanceLaws.{LeavesAll};
 ghost use Rattle.manifest_computation.specs.Gathered.{HoldSame, IsTrieLeft};
-ghost use Rattle.typed_conditions.specs.Found.{condition_told};
+ghost use Rattle.policy_validate.specs.Found.{condition_told};
 
 use access_tries::RootAccessTrie;
 use path_analysis::conditions_trie;

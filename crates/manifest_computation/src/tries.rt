@@ -3,17 +3,17 @@
 ghost use Rattle.std.specs.Prelude.{◌≡◌, ◌++◌, ◌∷◌, [], IfOk, OnOk, IfSome, IsSome, Some, None};
 ghost use Rattle.std.specs.BTreeMap.{keys};
 ghost use Rattle.std.specs.List.{AllByRecursion};
-ghost use Rattle.policy_store.specs.declared.request.RequestType.{RequestType};
+ghost use Rattle.entity_store.specs.declared.request.RequestType.{RequestType};
 ghost use Rattle.schema_core.specs.EnvData.{request_type_in, unlinked_envs};
 ghost use Rattle.schema_core.specs.RequestEnvs.{env_data_of};
-ghost use Rattle.entity_manifest.specs.Manifest.{IsNext};
+ghost use Rattle.manifest_core.specs.Manifest.{IsNext};
 ghost use Rattle.manifest_computation.specs.Found.{AreEntries};
-ghost use Rattle.policy_acceptance.specs.Laws.{LeavesAll};
+ghost use Rattle.policy_validate.specs.AcceptanceLaws.{LeavesAll};
 
 use crate::gathering::trie_of_policies;
 use access_tries::RootAccessTrie;
 use policy_set::PolicySet;
-use policy_store::RequestType;
+use entity_store::RequestType;
 use policy_typecheck::Typechecker;
 use schema_core::{RequestEnv, ValidatorSchema};
 use std::alloc::{AllocError, Global};

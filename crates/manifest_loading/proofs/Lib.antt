@@ -1,0 +1,16 @@
+mod LendSteps
+mod AskSteps
+mod AnswerSteps
+mod KeepSteps
+mod RoundSteps
+mod PointSteps
+mod ReachSteps
+mod KeptSteps
+mod StateSteps
+mod AddSteps
+mod StoreSteps
+mod RightSteps
+mod MoreSteps
+mod AskedSteps
+mod NamedSteps
+mod BetweenSteps

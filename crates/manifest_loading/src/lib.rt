@@ -1,6 +1,19 @@
-//! Loading the entities that a manifest reads.
+//! Loading the entities that a trie or a manifest reads, in rounds, and slices of entity stores by manifests.
 #![tactic(auto)]
 
+mod ancestors;
+mod answers;
+mod error;
+mod keeping;
+mod lent;
 mod load;
+mod manifest;
+mod rounds;
+mod slice;
+mod steps;
 
-pub use load::load_entities;
+pub use error::{EntitySliceError, IncompatibleEntityManifestError, PartialRequestError, WrongNumberOfEntitiesError};
+pub use load::load_trie;
+pub use manifest::load_entities;
+pub use slice::slice_entities;
+pub use steps::Steps;

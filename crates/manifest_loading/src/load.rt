@@ -1,76 +1,107 @@
-//! Loading by the trie of a request's type.
+//! Loading the entities that a trie reads.
 
-ghost use Rattle.std.specs.Prelude.{◌≡◌, ◌⊎◌, ◌≤◌, ◌+◌, ◌↔◌, ℕ, List, [], Some, None, map, IfOk, IfErr};
+ghost use Rattle.std.specs.Prelude.{◌≡◌, ◌⊎◌, ◌≤◌, ◌+◌, ◌↔◌, ℕ, List, Some, map, IfOk, IfErr};
+ghost use Rattle.std.specs.BTreeMap.{get, values};
 ghost use Rattle.std.specs.List.Sorted.{IsStrictlySortedBy};
-ghost use Rattle.std.specs.Option.{option_copied};
-ghost use Rattle.access_tries.specs.Table.{Table};
 ghost use Rattle.access_tries.specs.declared.edge.EntityRoot.{EntityRoot};
-ghost use Rattle.entity_asking.specs.Begun.{PathsWithin, SomeRootSticks};
+ghost use Rattle.trie_traversal.specs.Begun.{PathsWithin, SomeRootSticks};
 ghost use Rattle.entity_loader.specs.State.{Continues};
-ghost use Rattle.entity_loading.specs.Between.{IsBetween};
-ghost use Rattle.entity_loading.specs.Causes.{CauseOf, IsPartial, IsRight};
-ghost use Rattle.entity_loading.specs.Ordered.{HasOrder};
-ghost use Rattle.entity_loading.specs.Right.{SticksAt};
-ghost use Rattle.entity_loading.specs.Rounds.{Sticks};
-ghost use Rattle.entity_loading.specs.declared.error.EntitySliceError.TheVariants.{OutOfMemory};
 ghost use Rattle.policy_names.specs.Uid.{uid_cmp};
-ghost use Rattle.policy_reads.specs.Merge.{IsOrdered};
-ghost use Rattle.policy_reads.specs.Paths.{AccessPath, Demand};
-ghost use Rattle.policy_reads.specs.Restrict.{root_value};
-ghost use Rattle.policy_store.specs.Request.{IsWhole};
-ghost use Rattle.policy_store.specs.Store.{Store};
+ghost use Rattle.policy_names.specs.declared.entity_uid.EntityUID.{EntityUID};
+ghost use Rattle.reads_spec.specs.Merge.{IsOrdered};
+ghost use Rattle.reads_spec.specs.Paths.{AccessPath, Demand};
+ghost use Rattle.reads_spec.specs.Restrict.{root_value};
+ghost use Rattle.entity_store.specs.Request.{IsWhole};
+ghost use Rattle.entity_store.specs.Store.{Store, entity_at};
 ghost use Rattle.store_slices.specs.Tries.{IsTrieOf};
-ghost use Rattle.entity_manifest.specs.Manifest.{trie_for};
+ghost use Rattle.manifest_loading.specs.Answering.{AreUnderIds};
+ghost use Rattle.manifest_loading.specs.Between.{IsBetween};
+ghost use Rattle.manifest_loading.specs.Causes.{CauseOf, IsPartial, IsRight};
+ghost use Rattle.manifest_loading.specs.KeptPart.{IsLoaded};
+ghost use Rattle.manifest_loading.specs.Ordered.{HasOrder};
+ghost use Rattle.manifest_loading.specs.Right.{SticksAt};
+ghost use Rattle.manifest_loading.specs.Rounds.{Sticks};
 
+use crate::ancestors::with_ancestors;
+use crate::error::{EntitySliceError, PartialRequestError};
+use crate::keeping::refusal;
+use crate::rounds::load_rounds;
+use crate::steps::Steps;
 use access_tries::RootAccessTrie;
+use trie_traversal::first_places;
 use entity_loader::EntityLoader;
-use entity_loading::{EntitySliceError, PartialRequestError, Steps, load_trie};
-use entity_manifest::EntityManifest;
-use policy_store::{Entities, Request};
+use policy_names::EntityUID;
+use entity_store::{Entities, Entity, Request};
 use std::alloc::{AllocError, Global};
+use std::collections::BTreeMap;
 use std::sync::ledger::Ledger;
 
-/// The entities that the manifest's trie of the request's type reads on the request, as a loader gives them; without a trie
-/// none, and the loader is not asked. A step is counted for each call of the loader's `load_entities`.
+/// The entities that the paths of the trie reach on the request, each with what is read of it and those of its ancestors that
+/// are asked for, as a loader gives them. A step is counted for each call of the loader's `load_entities`.
 ///
-/// Errors: `PartialRequest` exactly where an entry of the request is not known; the others as of a trie's loading.
-pub fn load_entities<D: EntityLoader, L: Ledger>(
+/// Errs with `PartialRequest` exactly where an entry of the request is not known; with `IncompatibleEntityManifest` for a
+/// value below which a path of the trie goes on, or of which ancestors are asked for, though it has none; with
+/// `WrongNumberOfEntities` or `WrongNumberOfAncestors` where the loader gives more or fewer answers than were asked for; with
+/// `InconsistentLoader` where an entity that it gives has another id than was asked for, or does not merge with what it gave
+/// before; with `LoaderFault` where it fails; and with `OutOfMemory` where memory runs out.
+pub fn load_trie<D: EntityLoader, L: Ledger>(
     alloc: Global,
-    manifest: &EntityManifest,
+    trie: &RootAccessTrie,
     request: &Request,
     loader: &mut D,
     steps: &mut Steps<L>,
 ) -> Result<Entities, EntitySliceError>
-    ensures partial { IsPartial result ↔ (IsWhole request.now → ⊥) }
-    ensures first { (IsWhole request.now → ⊥) → ((D.state loader.new).rounds ≡ (D.state loader.old).rounds) × (steps.new ≡ steps.old) }
-    ensures none { IsWhole request.now → trie_for manifest.now request.now ≡ None → IfOk result (λ s. s ≡ []) }
-    ensures no_round { trie_for manifest.now request.now ≡ None → ((D.state loader.new).rounds ≡ (D.state loader.old).rounds) × (steps.new ≡ steps.old) }
     ensures goes_on { Continues (D.state loader.old) (D.state loader.new) }
-    ensures rounds { (t : Table) → trie_for manifest.now request.now ≡ Some t → (n : ℕ) → PathsWithin t n → (D.state loader.new).rounds ≤ (D.state loader.old).rounds + (n + 1) }
-    ensures steps { (t : Table) → trie_for manifest.now request.now ≡ Some t → (n : ℕ) → PathsWithin t n → steps.new ≤ steps.old + (n + 1) }
-    ensures between { (t : Table) → trie_for manifest.now request.now ≡ Some t → (s : Store) → (D.state loader.old).store ≡ Some s → HasOrder s → IsStrictlySortedBy uid_cmp (map (λ e. e.uid) s) → ((r : EntityRoot) → IsOrdered (root_value request.now r)) → (reads : List AccessPath) (demands : List Demand) → IsTrieOf reads demands t → IfOk result (IsBetween (D.state loader.old).exact reads demands request.now s) }
-    ensures cause { IsWhole request.now → (t : Table) → trie_for manifest.now request.now ≡ Some t → IfErr result (CauseOf (λ v. SomeRootSticks t request.now v ⊎ Sticks t v) (D.state loader.old) (D.state loader.new)) }
-    ensures cause_without { IsWhole request.now → trie_for manifest.now request.now ≡ None → IfErr result (λ e. e ≡ OutOfMemory) }
-    ensures right { IsWhole request.now → (t : Table) → trie_for manifest.now request.now ≡ Some t → (s : Store) → (D.state loader.old).store ≡ Some s → HasOrder s → ((r : EntityRoot) → IsOrdered (root_value request.now r)) → IfErr result (IsRight (SticksAt t request.now s) (D.state loader.old) (D.state loader.new)) }
+    ensures rounds { (n : ℕ) → PathsWithin trie.now n → (D.state loader.new).rounds ≤ (D.state loader.old).rounds + (n + 1) }
+    ensures steps { (n : ℕ) → PathsWithin trie.now n → steps.new ≤ steps.old + (n + 1) }
+    ensures partial { IsPartial result ↔ (IsWhole request.now → ⊥) }
+    ensures honest { (s : Store) → (D.state loader.old).store ≡ Some s → HasOrder s → ((r : EntityRoot) → IsOrdered (root_value request.now r)) → IfOk result (IsLoaded (D.state loader.old).exact trie.now request.now s) }
+    ensures between { (s : Store) → (D.state loader.old).store ≡ Some s → HasOrder s → IsStrictlySortedBy uid_cmp (map (λ e. e.uid) s) → ((r : EntityRoot) → IsOrdered (root_value request.now r)) → (reads : List AccessPath) (demands : List Demand) → IsTrieOf reads demands trie.now → IfOk result (IsBetween (D.state loader.old).exact reads demands request.now s) }
+    ensures cause { IsWhole request.now → IfErr result (CauseOf (λ v. SomeRootSticks trie.now request.now v ⊎ Sticks trie.now v) (D.state loader.old) (D.state loader.new)) }
+    ensures right { IsWhole request.now → (s : Store) → (D.state loader.old).store ≡ Some s → HasOrder s → ((r : EntityRoot) → IsOrdered (root_value request.now r)) → IfErr result (IsRight (SticksAt trie.now request.now s) (D.state loader.old) (D.state loader.new)) }
 {
     if !request.is_whole() {
         return Err(EntitySliceError::PartialRequest(PartialRequestError {}));
     }
-    match chosen_trie(manifest, request)? {
-        Some(trie) => load_trie(alloc, trie, request, loader, steps),
-        None => Ok(Entities::new(alloc)),
-    }
+    load_whole(alloc, trie, request, loader, steps)
 }
 
-// The trie that the manifest has for requests of this type.
-fn chosen_trie<'a>(
-    manifest: &'a EntityManifest,
+fn load_whole<D: EntityLoader, L: Ledger>(
+    alloc: Global,
+    trie: &RootAccessTrie,
     request: &Request,
-) -> Result<Option<&'a RootAccessTrie>, AllocError>
-    ensures { IfOk result (λ trie. option_copied trie ≡ trie_for manifest.entry.now request.now) }
+    loader: &mut D,
+    steps: &mut Steps<L>,
+) -> Result<Entities, EntitySliceError>
+    requires { IsWhole request.now }
+    ensures partial { IsPartial result → ⊥ }
+    ensures goes_on { Continues (D.state loader.old) (D.state loader.new) }
+    ensures rounds { (n : ℕ) → PathsWithin trie.now n → (D.state loader.new).rounds ≤ (D.state loader.old).rounds + (n + 1) }
+    ensures steps { (n : ℕ) → PathsWithin trie.now n → steps.new ≤ steps.old + (n + 1) }
+    ensures honest { (s : Store) → (D.state loader.old).store ≡ Some s → HasOrder s → ((r : EntityRoot) → IsOrdered (root_value request.now r)) → IfOk result (IsLoaded (D.state loader.old).exact trie.now request.now s) }
+    ensures between { (s : Store) → (D.state loader.old).store ≡ Some s → HasOrder s → IsStrictlySortedBy uid_cmp (map (λ e. e.uid) s) → ((r : EntityRoot) → IsOrdered (root_value request.now r)) → (reads : List AccessPath) (demands : List Demand) → IsTrieOf reads demands trie.now → IfOk result (IsBetween (D.state loader.old).exact reads demands request.now s) }
+    ensures cause { IfErr result (CauseOf (λ v. SomeRootSticks trie.now request.now v ⊎ Sticks trie.now v) (D.state loader.old) (D.state loader.new)) }
+    ensures right { (s : Store) → (D.state loader.old).store ≡ Some s → HasOrder s → ((r : EntityRoot) → IsOrdered (root_value request.now r)) → IfErr result (IsRight (SticksAt trie.now request.now s) (D.state loader.old) (D.state loader.new)) }
 {
-    match request.request_type()? {
-        Some(request_type) => Ok(manifest.per_action().get(&request_type)),
-        None => Ok(None),
+    let start = match first_places(alloc, request, trie) {
+        Ok(start) => start,
+        Err(error) => return Err(refusal(error)),
+    };
+    let loaded = load_rounds(alloc, trie.nodes(), start, loader, steps)?;
+    let kept = with_ancestors(alloc, trie.nodes(), request, loaded, loader)?;
+    Ok(store_of(alloc, kept)?)
+}
+
+// The store of what is kept.
+fn store_of(alloc: Global, mut kept: BTreeMap<EntityUID, Entity>) -> Result<Entities, AllocError>
+    requires { AreUnderIds kept }
+    ensures values { IfOk result (λ s. s ≡ values kept) }
+    ensures at { IfOk result (λ s. (x : EntityUID) → entity_at s x ≡ get uid_cmp kept x) }
+    ensures ascending { IfOk result (λ s. IsStrictlySortedBy uid_cmp (map (λ e. e.uid) s)) }
+{
+    let mut store = Entities::new(alloc);
+    while let Some((_uid, entity)) = kept.pop_first() {
+        store.push(entity)?;
     }
+    Ok(store)
 }

@@ -1,7 +1,7 @@
 //! The program: a document from standard input, the answer to standard output.
 #![tactic(auto)]
 
-use outside::{StdSink, StdSource};
+use byte_streams::{StdSink, StdSource};
 use policy_gate::{Status, run};
 use std::process::ExitCode;
 use std::{env, io};

@@ -9,6 +9,7 @@ use Rattle.std.proofs.lemmas.Map.Lookups.{CmpEqualImpliesEq}
 use Rattle.access_tries.specs.Edges.{Address}
 use Rattle.access_tries.specs.Table.{Table}
 use Rattle.access_tries.specs.Paths.{IsLeastOf, is_front, is_same}
+use Rattle.plain_lemmas.proofs.Booleans.{or_again}
 
 abbrev pub Alike : {X : Type 0} → List X → List X → Type 0
 Alike {X} xs ys = (f : X → Bool) → list_any f xs ≡ list_any f ys
@@ -23,10 +24,6 @@ first_last true false true = refl
 first_last true false false = refl
 first_last false b c = with_none (b || c)
 
-again : (b c : Bool) → (b || c) ≡ ((b || c) || b)
-again true c = refl
-again false c = with_none c
-
 later : (a b c r : Bool) → r ≡ (c || a) → (b || r) ≡ ((b || c) || a)
 later a true c r h = refl
 later a false c r h = h
@@ -39,7 +36,7 @@ module _ {K : Type 0} {cmp : K → K → Ordering} (exact : CmpEqualImpliesEq cm
   one_turn : (f : K → Bool) (x k : K) (xs ys : List K) (o : Ordering) → cmp k x ≡ o → list_any f ys ≡ (list_any f xs || f k) →
       list_any f (match_ordering o (k ∷ x ∷ xs) (x ∷ xs) (x ∷ ys)) ≡ (list_any f (x ∷ xs) || f k)
   one_turn f x k xs ys Less e h = first_last (f k) (f x) (list_any f xs)
-  one_turn f x k xs ys Equal e h = again (f x) (list_any f xs) ∙ ap (λ z. list_any f (x ∷ xs) || f z) (sym (exact k x e))
+  one_turn f x k xs ys Equal e h = or_again (f x) (list_any f xs) ∙ ap (λ z. list_any f (x ∷ xs) || f z) (sym (exact k x e))
   one_turn f x k xs ys Greater e h = later (f k) (f x) (list_any f xs) (list_any f ys) h
 
   one_more : (f : K → Bool) (ks : List K) (k : K) → list_any f (insert_key cmp ks k) ≡ (list_any f ks || f k)

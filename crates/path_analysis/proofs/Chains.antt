@@ -4,8 +4,8 @@ use Rattle.std.proofs.lemmas.List.{map-append}
 use Rattle.schema_types.specs.Ty.{size_of_attrs}
 use Rattle.schema_types.specs.TyView.{attrs_of}
 use Rattle.schema_types.specs.declared.ty.AttributeType.{AttributeType}
-use Rattle.policy_reads.specs.Paths.{along, Chain, steps_of, AccessPath, beyond}
-use Rattle.policy_reads.specs.PathTypes.{chains, chains_in}
+use Rattle.reads_spec.specs.Paths.{along, Chain, steps_of, AccessPath, beyond}
+use Rattle.reads_spec.specs.PathTypes.{chains, chains_in}
 
 abbrev pub along_chains : AccessPath → List Chain → List AccessPath
 along_chains p cs = map (λ c. beyond p (steps_of c)) cs

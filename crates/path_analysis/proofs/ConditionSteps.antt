@@ -11,9 +11,9 @@ use Rattle.access_tries.specs.PathLaws.{exact_path}
 use Rattle.schema_core.specs.EnvData.{EnvData}
 use Rattle.schema_core.specs.Schema.{SchemaData}
 use Rattle.policy_expressions.specs.Tree.{Tree}
-use Rattle.policy_reads.specs.Paths.{AccessPath, Demand}
-use Rattle.policy_reads.specs.PathTypes.{declared_part}
-use Rattle.policy_reads.specs.Reads.{reads, reads_of, demands, demands_of, are_declared, declared_reads, declared_demands}
+use Rattle.reads_spec.specs.Paths.{AccessPath, Demand}
+use Rattle.reads_spec.specs.PathTypes.{declared_part}
+use Rattle.reads_spec.specs.Reads.{reads, reads_of, demands, demands_of, are_declared, declared_reads, declared_demands}
 use Rattle.path_analysis.specs.PathOrder.{demand_cmp, with_paths, with_demands}
 use Rattle.path_analysis.proofs.Alike.{Alike, alike-once, alike-map, alike-filter, least_alike}
 

@@ -3,7 +3,7 @@ use Rattle.std.proofs.Common.{◌≡◌, ℕ, Bool, true, false, List, [], ◌�
 use Rattle.std.specs.Map.{lookup}
 use Rattle.std.specs.BTreeMap.{is_at}
 use Rattle.policy_names.specs.Uid.{text_cmp}
-use Rattle.policy_reads.specs.Paths.{Shape, no_shape, shape_at}
+use Rattle.reads_spec.specs.Paths.{Shape, no_shape, shape_at}
 use Rattle.path_analysis.specs.ShapeView.{field_shapes}
 
 abbrev or_nothing : Option Shape → Shape

@@ -5,8 +5,8 @@ use Rattle.schema_types.specs.Names.{only_name}
 use Rattle.schema_types.specs.Ty.{Attrs, entity}
 use Rattle.schema_core.specs.Schema.{SchemaData}
 use Rattle.policy_types.specs.Attributes.{or_none, union_attrs}
-use Rattle.policy_typing.specs.Environment.{declared_tags}
-use Rattle.policy_typing.specs.Rules.{tag_type}
+use Rattle.typing_spec.specs.Environment.{declared_tags}
+use Rattle.typing_spec.specs.Rules.{tag_type}
 
 -- of a list of one name, what is declared under it
 pub attributes_of_one : (declared : List ℕ → Option Attrs) (ns : List (List ℕ)) (n : List ℕ) (xs : Attrs) → only_name ns ≡ Some n → declared n ≡ Some xs → xs ≡ union_attrs declared ns

@@ -1,8 +1,8 @@
 -- Steps of the walk through pairs.
 use Rattle.std.proofs.Common.{◌≡◌, ℕ, ◌+◌, ◌<◌, List, ◌++◌, map, length, get_or, drop, sym, ap, ◌∙◌}
 use Rattle.std.proofs.lemmas.List.{at_drop_more}
-use Rattle.policy_reads.specs.Paths.{AccessPath, Demand}
-use Rattle.policy_reads.specs.Reads.{pairs}
+use Rattle.reads_spec.specs.Paths.{AccessPath, Demand}
+use Rattle.reads_spec.specs.Reads.{pairs}
 use Rattle.path_analysis.specs.PathOrder.{with_demands}
 use Rattle.path_analysis.proofs.SetSteps.{demands_more}
 

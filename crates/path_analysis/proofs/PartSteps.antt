@@ -1,8 +1,8 @@
 -- The shapes of parts.
 use Rattle.std.proofs.Common.{◌≡◌, ℕ, List, [], ◌∷◌, map, refl}
 use Rattle.policy_expressions.specs.Tree.{Tree, trees_of, named_of}
-use Rattle.policy_reads.specs.Paths.{one_of, field_shape}
-use Rattle.policy_reads.specs.Reads.{shape_of, shape_of_all, shapes_of_named}
+use Rattle.reads_spec.specs.Paths.{one_of, field_shape}
+use Rattle.reads_spec.specs.Reads.{shape_of, shape_of_all, shapes_of_named}
 use Rattle.path_analysis.specs.ShapeView.{one_of_all, field_shapes}
 use Rattle.path_analysis.specs.Parts.{shaped}
 

@@ -3,8 +3,8 @@ use Rattle.std.proofs.Common.{◌≡◌, ◌++◌, List, sym, ap, ◌∙◌}
 use Rattle.std.specs.BTreeSet.{insert_key}
 use Rattle.std.proofs.lemmas.List.Sums.{fold-append}
 use Rattle.std.proofs.lemmas.List.Elements.{filter-append}
-use Rattle.policy_reads.specs.Paths.{AccessPath, Demand, has_step}
-use Rattle.policy_reads.specs.Reads.{with_step}
+use Rattle.reads_spec.specs.Paths.{AccessPath, Demand, has_step}
+use Rattle.reads_spec.specs.Reads.{with_step}
 use Rattle.access_tries.specs.Paths.{path_cmp}
 use Rattle.path_analysis.specs.PathOrder.{demand_cmp, with_paths, with_demands}
 

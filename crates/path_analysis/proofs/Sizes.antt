@@ -1,6 +1,6 @@
 -- The size of a shape among several.
 use Rattle.std.proofs.Common.{◌≡◌, ℕ, zero, suc, ◌+◌, ◌≤◌, ◌<◌, List, [], ◌∷◌, length, get_or, arith, subst, sym}
-use Rattle.policy_reads.specs.Paths.{Shape}
+use Rattle.reads_spec.specs.Paths.{Shape}
 use Rattle.path_analysis.specs.ShapeView.{one_of_all, size_of}
 
 size_of-get_or : (xs : List Shape) (i : ℕ) (d : Shape) → i < length xs → size_of (get_or xs i d) + 1 ≤ size_of (one_of_all xs)

@@ -2,8 +2,8 @@
 use Rattle.std.specs.Prelude.{List, [], ◌++◌, refl}
 use Rattle.std.specs.Coded.{Coded, coded_list, coded×, code_by}
 use Rattle.access_tries.specs.Paths.{coded_path}
-use Rattle.policy_reads.specs.Paths.{Step, AccessPath, Demand, Shape, no_shape, one_of, paths, extended}
-use Rattle.policy_reads.specs.Reads.{with_step}
+use Rattle.reads_spec.specs.Paths.{Step, AccessPath, Demand, Shape, no_shape, one_of, paths, extended}
+use Rattle.reads_spec.specs.Reads.{with_step}
 use Rattle.path_analysis.specs.ShapeCode.{coded_shape}
 
 pub record Analysis : Type 0 where

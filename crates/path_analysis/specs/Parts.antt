@@ -2,8 +2,8 @@
 use Rattle.std.specs.Prelude.{ℕ, List, Option, None}
 use Rattle.schema_types.specs.Ty.{Ty}
 use Rattle.policy_expressions.specs.Tree.{Tree, Mark}
-use Rattle.policy_reads.specs.Paths.{Shape}
-use Rattle.policy_reads.specs.Reads.{shape_of}
+use Rattle.reads_spec.specs.Paths.{Shape}
+use Rattle.reads_spec.specs.Reads.{shape_of}
 
 -- neither a type nor a place: neither matters to what is read
 abbrev pub unmarked : Mark (Option Ty)

@@ -5,7 +5,7 @@ use Rattle.std.proofs.Common.{arith, ap}
 use base.Stored.{Gv, gnil, gnum, gcons, num}
 use Rattle.policy_values.specs.Gv.{head, tail}
 use Rattle.access_tries.specs.Paths.{coded_path}
-use Rattle.policy_reads.specs.Paths.{Shape, no_shape, at_path, set_shape, record_shape, one_of, FieldShapes, no_field_shapes, field_shape}
+use Rattle.reads_spec.specs.Paths.{Shape, no_shape, at_path, set_shape, record_shape, one_of, FieldShapes, no_field_shapes, field_shape}
 
 abbrev text : Coded (List ℕ)
 text = coded_list coded_ℕ

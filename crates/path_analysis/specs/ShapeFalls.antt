@@ -2,7 +2,7 @@
 use Rattle.std.specs.Prelude.{ℕ, ◌+◌, ◌≤◌, List, [], ◌∷◌, map}
 use Rattle.std.proofs.Common.{arith}
 use denote.Param.Weighed.{most}
-use Rattle.policy_reads.specs.Paths.{Shape}
+use Rattle.reads_spec.specs.Paths.{Shape}
 use Rattle.path_analysis.specs.ShapeView.{one_of_all, field_shapes, shape_in, size_of, size_of_fields}
 use Rattle.path_analysis.specs.declared.shape.ShapeKind.{ShapeKind}
 use Rattle.path_analysis.specs.declared.shape.ShapeKind.TheVariants.{Nothing, Path, Set, Record, OneOf}

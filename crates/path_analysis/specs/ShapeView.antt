@@ -1,6 +1,6 @@
 -- The shape that a shape in code is.
 use Rattle.std.specs.Prelude.{ℕ, ◌+◌, max, List, [], ◌∷◌}
-use Rattle.policy_reads.specs.Paths.{Shape, no_shape, at_path, set_shape, record_shape, one_of, FieldShapes, no_field_shapes, field_shape}
+use Rattle.reads_spec.specs.Paths.{Shape, no_shape, at_path, set_shape, record_shape, one_of, FieldShapes, no_field_shapes, field_shape}
 use Rattle.path_analysis.specs.declared.shape.ShapeKind.{ShapeKind}
 use Rattle.path_analysis.specs.declared.shape.ShapeKind.TheVariants.{Nothing, Path, Set, Record, OneOf}
 

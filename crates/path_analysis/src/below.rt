@@ -3,9 +3,9 @@
 ghost use Rattle.std.specs.Prelude.{◌≡◌, ◌++◌, ◌∷◌, [], map, IfOk, OnOk};
 ghost use Rattle.std.specs.List.{flat_map};
 ghost use Rattle.schema_core.specs.RequestEnvs.{env_data_of};
-ghost use Rattle.policy_reads.specs.Paths.{along, beyond, steps_of};
-ghost use Rattle.policy_reads.specs.PathTypes.{chains, chains_in};
-ghost use Rattle.policy_reads.specs.Reads.{all_below};
+ghost use Rattle.reads_spec.specs.Paths.{along, beyond, steps_of};
+ghost use Rattle.reads_spec.specs.PathTypes.{chains, chains_in};
+ghost use Rattle.reads_spec.specs.Reads.{all_below};
 ghost use Rattle.path_analysis.specs.PathView.{type_in};
 
 use crate::path_type::{PathType, path_type};

@@ -3,9 +3,9 @@
 ghost use Rattle.std.specs.Prelude.{◌≡◌, ◌++◌, ◌∷◌, [], map, filter, IfOk, OnOk};
 ghost use Rattle.schema_core.specs.RequestEnvs.{env_data_of};
 ghost use Rattle.access_tries.specs.Paths.{IsLeast};
-ghost use Rattle.policy_reads.specs.PathTypes.{declared_part, is_declared_path};
-ghost use Rattle.policy_reads.specs.Reads as read;
-ghost use Rattle.policy_reads.specs.Reads.{are_declared, declared_reads, declared_demands};
+ghost use Rattle.reads_spec.specs.PathTypes.{declared_part, is_declared_path};
+ghost use Rattle.reads_spec.specs.Reads as read;
+ghost use Rattle.reads_spec.specs.Reads.{are_declared, declared_reads, declared_demands};
 ghost use Rattle.path_analysis.specs.PathOrder.{with_paths, with_demands};
 
 use crate::path_type::{declared_part, is_declared_path};

@@ -2,7 +2,7 @@
 
 ghost use Rattle.std.specs.Prelude.{◌≡◌, [], ◌∷◌, OnOk};
 ghost use Rattle.std.specs.BTreeSet.{insert_key};
-ghost use Rattle.policy_reads.specs.Reads.{with_step};
+ghost use Rattle.reads_spec.specs.Reads.{with_step};
 ghost use Rattle.access_tries.specs.Paths.{path_cmp};
 ghost use Rattle.path_analysis.specs.PathOrder.{demand_cmp, with_paths};
 

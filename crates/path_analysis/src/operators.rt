@@ -3,8 +3,8 @@
 ghost use Rattle.std.specs.Prelude.{◌≡◌, ◌++◌, map, IfOk, OnOk};
 ghost use Rattle.schema_core.specs.RequestEnvs.{env_data_of};
 ghost use Rattle.policy_expressions.specs.declared.kinds.BinaryOp.TheVariants.{In};
-ghost use Rattle.policy_reads.specs.Paths.{extended, paths};
-ghost use Rattle.policy_reads.specs.Reads.{wholly, with_step, unary_reads, binary_reads, binary_demands, binary_shape, pairs};
+ghost use Rattle.reads_spec.specs.Paths.{extended, paths};
+ghost use Rattle.reads_spec.specs.Reads.{wholly, with_step, unary_reads, binary_reads, binary_demands, binary_shape, pairs};
 ghost use Rattle.path_analysis.specs.PathOrder.{with_paths, with_demands};
 
 use crate::below::add_all_below;

@@ -5,9 +5,9 @@ ghost use Rattle.schema_core.specs.EnvData.{context_type_in};
 ghost use Rattle.schema_core.specs.RequestEnvs.{env_data_of};
 ghost use Rattle.schema_types.specs.Ty.{entity};
 ghost use Rattle.policy_types.specs.Attributes.{attrs_in, union_attrs};
-ghost use Rattle.policy_typing.specs.Environment.{declared_attributes, declared_tags, type_of_variable};
-ghost use Rattle.policy_typing.specs.Rules.{attribute_of, tag_type};
-ghost use Rattle.policy_reads.specs.PathTypes.{type_along, step_on, types_along, is_declared, declared_steps, root_type, path_type, is_declared_path, declared_part};
+ghost use Rattle.typing_spec.specs.Environment.{declared_attributes, declared_tags, type_of_variable};
+ghost use Rattle.typing_spec.specs.Rules.{attribute_of, tag_type};
+ghost use Rattle.reads_spec.specs.PathTypes.{type_along, step_on, types_along, is_declared, declared_steps, root_type, path_type, is_declared_path, declared_part};
 ghost use Rattle.path_analysis.specs.PathView.{type_in};
 
 use crate::setting::Setting;

@@ -2,8 +2,8 @@
 
 ghost use Rattle.std.specs.Prelude.{◌≡◌, ◌++◌, ◌∷◌, [], IfOk, OnOk};
 ghost use Rattle.access_tries.specs.declared.edge.Step.TheVariants.{Field};
-ghost use Rattle.policy_reads.specs.Paths.{at_root, at_path};
-ghost use Rattle.policy_reads.specs.Reads.{with_step};
+ghost use Rattle.reads_spec.specs.Paths.{at_root, at_path};
+ghost use Rattle.reads_spec.specs.Reads.{with_step};
 ghost use Rattle.path_analysis.specs.Analysis.{from_shape, without_shape, united, one_step_on};
 
 use crate::shape::Shape;

@@ -1,8 +1,8 @@
 //! Where results come from.
 
 ghost use Rattle.std.specs.Prelude.{◌≡◌, ◌++◌, ◌∷◌, [], IfOk, OnOk};
-ghost use Rattle.policy_reads.specs.Paths.{no_shape, at_path, at_root, set_shape, record_shape, one_of, beyond, paths, field_paths, shape_at, extended, shape_along};
-ghost use Rattle.policy_reads.specs.Reads.{with_step};
+ghost use Rattle.reads_spec.specs.Paths.{no_shape, at_path, at_root, set_shape, record_shape, one_of, beyond, paths, field_paths, shape_at, extended, shape_along};
+ghost use Rattle.reads_spec.specs.Reads.{with_step};
 ghost use Rattle.path_analysis.specs.PathOrder.{with_paths};
 ghost use Rattle.path_analysis.specs.ShapeView.{shape_in, one_of_all, field_shapes};
 
@@ -36,7 +36,7 @@ enum ShapeKind {
 }
 
 impl Model for Shape {
-    ghost use Rattle.policy_reads.specs.Paths.{Shape};
+    ghost use Rattle.reads_spec.specs.Paths.{Shape};
     ghost use Rattle.path_analysis.specs.ShapeCode.{coded_shape};
 
     ghost Value = { Shape };

@@ -3,9 +3,9 @@
 ghost use Rattle.std.specs.Prelude.{◌≡◌, map, IfOk, OnOk};
 ghost use Rattle.schema_core.specs.RequestEnvs.{env_data_of};
 ghost use Rattle.policy_expressions.specs.Tree.{attr, binary, conj, ite, named_of, rec, set, trees_of, unary};
-ghost use Rattle.policy_reads.specs.Paths.{no_shape};
-ghost use Rattle.policy_reads.specs.Reads as read;
-ghost use Rattle.policy_reads.specs.Reads.{reads_all, demands_all, reads_named, demands_named, shape_of, literal_shape};
+ghost use Rattle.reads_spec.specs.Paths.{no_shape};
+ghost use Rattle.reads_spec.specs.Reads as read;
+ghost use Rattle.reads_spec.specs.Reads.{reads_all, demands_all, reads_named, demands_named, shape_of, literal_shape};
 ghost use Rattle.path_analysis.specs.PathOrder.{with_paths, with_demands};
 ghost use Rattle.path_analysis.specs.Parts.{shaped, unmarked};
 

@@ -3,9 +3,9 @@ use Rattle.std.proofs.Common.{◌≡◌, ℕ, ◌≤◌, List, [], ◌∷◌, �
 use Rattle.std.specs.Map.{keys_of}
 use Rattle.policy_core.specs.declared.outcome.EvalError.{EvalError}
 use Rattle.policy_core.specs.declared.outcome.Outcome.TheVariants.{Value}
-use Rattle.policy_store.specs.declared.request.Request.{Request}
+use Rattle.entity_store.specs.declared.request.Request.{Request}
 use Rattle.policy_values.specs.Value.{Val}
-use Rattle.policy_store.specs.Store.{Store}
+use Rattle.entity_store.specs.Store.{Store}
 use Rattle.policy_expressions.specs.Tree.{Tree, named_of, deepest_named}
 use Rattle.policy_core.specs.Eval.{eval, eval_named, result_map, in_front}
 use Rattle.policy_values.proofs.MapSteps.{keys_of-append}

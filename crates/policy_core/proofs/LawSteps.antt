@@ -1,7 +1,7 @@
 -- Trees of one shape have one outcome.
 use Rattle.std.proofs.Common.{◌≡◌, false, true, ap, refl}
-use Rattle.policy_store.specs.declared.request.Request.{Request}
-use Rattle.policy_store.specs.Store.{Store}
+use Rattle.entity_store.specs.declared.request.Request.{Request}
+use Rattle.entity_store.specs.Store.{Store}
 use Rattle.policy_values.specs.Value.{truth}
 use Rattle.policy_core.specs.declared.outcome.Outcome.TheVariants.{Value}
 use Rattle.policy_expressions.specs.Tree.{Tree, lit, var, slot, ite, conj, disj, unary, binary, attr, has, like, is_type, call, set, rec, Trees, no_trees, tree, Named, no_named, named}

@@ -5,6 +5,7 @@ use Rattle.std.proofs.lemmas.List.{take_all}
 use Rattle.policy_expressions.specs.declared.kinds.PatternElem.{PatternElem}
 use Rattle.policy_expressions.specs.declared.kinds.PatternElem.TheVariants.{Char, Wildcard}
 use Rattle.policy_core.specs.Like.{some_tail, matches, Behind, wildcard, whole, nothing, behind_chars}
+use Rattle.plain_lemmas.proofs.Booleans.{equal_by_both_ways}
 
 first_tail : (f : List ℕ → Bool) (cs : List ℕ) → f cs ≡ true → some_tail f cs ≡ true
 first_tail f [] h = h
@@ -68,15 +69,10 @@ later_tails (Char d ∷ p) q (c ∷ cs) ds h i = here (c == d) h (later_tails p 
     here true k later = later k (tails (or_cases (matches (Char d ∷ p) (c ∷ cs)) (some_tail (matches (Char d ∷ p)) cs) i))
     here false k later = absurd (cc)
 
-same : (a b : Bool) → (a ≡ true → b ≡ true) → (b ≡ true → a ≡ true) → a ≡ b
-same true b h k = sym (h refl)
-same false true h k = k refl
-same false false h k = refl
-
 -- the first tail that fits up to a wildcard is enough
 pub behind_wildcard : (p q : List PatternElem) (cs ds : List ℕ) → behind_chars p cs ≡ wildcard q ds → some_tail (matches p) cs ≡ some_tail (matches q) ds
 behind_wildcard p q cs ds h =
-    same (some_tail (matches p) cs) (some_tail (matches q) ds) (later_tails p q cs ds h)
+    equal_by_both_ways (some_tail (matches p) cs) (some_tail (matches q) ds) (later_tails p q cs ds h)
     (λ i. first_tail (matches p) cs (matches_behind p cs ∙ ap matches_left h ∙ i))
 
 -- and each step leaves less

@@ -3,9 +3,9 @@ use Rattle.std.specs.Prelude.{⊤, ℕ, Bool, true, false, List, [], ◌∷◌, 
 use Rattle.policy_values.specs.Value.{Val, truth, long, string, entity, Fields, no_fields, fields_of}
 use Rattle.policy_values.specs.Value as value
 use Rattle.policy_values.specs.ValueOrder.{set_of}
-use Rattle.policy_store.specs.Store.{Store}
-use Rattle.policy_store.specs.Request.{principal_of, action_of, resource_of}
-use Rattle.policy_store.specs.declared.request.Request.{Request}
+use Rattle.entity_store.specs.Store.{Store}
+use Rattle.entity_store.specs.Request.{principal_of, action_of, resource_of}
+use Rattle.entity_store.specs.declared.request.Request.{Request}
 use Rattle.policy_expressions.specs.declared.kinds.Literal.{Literal}
 use Rattle.policy_expressions.specs.declared.kinds.Literal.TheVariants as literal
 use Rattle.policy_expressions.specs.declared.kinds.Var.{Var}

@@ -1,7 +1,7 @@
 -- Laws of evaluation.
 use Rattle.std.specs.Prelude.{◌≡◌}
-use Rattle.policy_store.specs.declared.request.Request.{Request}
-use Rattle.policy_store.specs.Store.{Store}
+use Rattle.entity_store.specs.declared.request.Request.{Request}
+use Rattle.entity_store.specs.Store.{Store}
 use Rattle.policy_expressions.specs.Tree.{Tree}
 use Rattle.policy_expressions.specs.Shape.{SameShape}
 use Rattle.policy_core.specs.Eval.{eval}

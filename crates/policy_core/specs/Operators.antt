@@ -8,7 +8,7 @@ use Rattle.policy_names.specs.Uid.{text_cmp, uid_eq}
 use Rattle.policy_values.specs.Value.{Val, truth, long, string, entity, set, rec, datetime, duration, Vals, no_vals, val, field_at}
 use Rattle.policy_values.specs.ValueOrder.{val_cmp}
 use Rattle.policy_values.specs.Sets.{is_empty, is_element, has_all, has_some}
-use Rattle.policy_store.specs.Store.{StoredEntity, Store, entity_at}
+use Rattle.entity_store.specs.Store.{StoredEntity, Store, entity_at}
 use Rattle.policy_expressions.specs.declared.kinds.PatternElem.{PatternElem}
 use Rattle.policy_core.specs.Like.{matches}
 use Rattle.policy_expressions.specs.declared.kinds.UnaryOp.{UnaryOp}

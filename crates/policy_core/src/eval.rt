@@ -2,7 +2,7 @@
 
 ghost use Rattle.std.specs.Prelude.{◌≡◌, IfOk, IfSome, IsOk, IsSome, true, false};
 ghost use Rattle.policy_values.specs.Value.{entity, field_at, rec, truth};
-ghost use Rattle.policy_store.specs.Request.{IsWhole, known};
+ghost use Rattle.entity_store.specs.Request.{IsWhole, known};
 ghost use Rattle.policy_expressions.specs.Tree.{trees_of, named_of};
 ghost use Rattle.policy_core.specs.Eval.{eval, eval_all, eval_named, result_map, known_fields, literal_value, variable_value, truth_of, truth_outcome, choose, with_value, set_outcome, record_outcome, IsPlain, IsPlainLiteral};
 ghost use Rattle.policy_core.specs.Calls.{call_outcome};

@@ -250,7 +250,7 @@ fn is_in_any(x: &EntityUID, ys: &Vec<Value>, entities: &Entities) -> Outcome
 }
 
 /// The attribute of an entity or the field of a record, as it stands there, where there is one.
-#[tactic(auto, using(policy_store::proofs::FieldsFound::field_found))]
+#[tactic(auto, using(entity_store::proofs::FieldsFound::field_found))]
 pub fn entry_of_value<'a>(x: &'a Value, name: &Text, entities: &'a Entities) -> Option<&'a Value>
     ensures { IfSome result (λ v. attr_value x.now name.now entities.now ≡ Outcome.Value v.now) }
 {
@@ -262,7 +262,7 @@ pub fn entry_of_value<'a>(x: &'a Value, name: &Text, entities: &'a Entities) -> 
 }
 
 /// The attribute of an entity of the store, where there is one.
-#[tactic(auto, using(policy_store::proofs::FieldsFound::field_found))]
+#[tactic(auto, using(entity_store::proofs::FieldsFound::field_found))]
 pub fn entry_of_entity<'a>(
     uid: &EntityUID,
     name: &Text,
@@ -277,7 +277,7 @@ pub fn entry_of_entity<'a>(
 }
 
 /// The attribute of an entity or the field of a record.
-#[tactic(auto, using(policy_store::proofs::FieldsFound::field_found))]
+#[tactic(auto, using(entity_store::proofs::FieldsFound::field_found))]
 pub fn attribute(
     alloc: Global,
     x: &Value,
@@ -315,7 +315,7 @@ fn found_or(alloc: Global, error: EvalError, found: Option<&Value>) -> Result<Ou
 }
 
 /// Whether an entity has an attribute, or a record a field.
-#[tactic(auto, using(policy_store::proofs::FieldsFound::field_found))]
+#[tactic(auto, using(entity_store::proofs::FieldsFound::field_found))]
 pub fn has_attribute(x: &Value, name: &Text, entities: &Entities) -> Outcome
     ensures { result ≡ has_value x.now name.now entities.now }
 {

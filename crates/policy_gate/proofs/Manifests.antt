@@ -1,10 +1,10 @@
 -- Which answer the manifest of a document's policies is.
 use Rattle.std.proofs.Common.{◌≡◌, List, [], ◌∷◌, refl, sym, subst}
-use Rattle.entity_manifest.specs.Manifest.{Manifest}
+use Rattle.manifest_core.specs.Manifest.{Manifest}
 use Rattle.findings.specs.declared.error.ValidationError.{ValidationError}
-use Rattle.finding_texts.specs.Findings.{Findings}
-use Rattle.finding_texts.specs.Written.{findings_text}
-use Rattle.policy_documents.specs.declared.document.Document.{Document}
+use Rattle.finding_messages.specs.Findings.{Findings}
+use Rattle.finding_messages.specs.Written.{findings_text}
+use Rattle.json_document.specs.declared.document.Document.{Document}
 use Rattle.policy_validate.specs.Accepted.{findings_of}
 use Rattle.policy_validate.specs.Laws.{NoErrorsWhereAccepted}
 use Rattle.manifest_computation.specs.Computed.{IsManifestOf, WhyNone}

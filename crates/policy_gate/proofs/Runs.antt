@@ -1,10 +1,10 @@
 -- From what a run does to why it ends so. Nothing here looks into what answers a document has.
 use Rattle.std.proofs.Common.{◌≡◌, ℕ, ◌+◌, ◌<◌, ◌≤◌, List, ◌++◌, length, true≢false, ◌⊎◌, inl, inr, Option, Some, None, append-nil, length-append, sym, ap, ◌∙◌, refl, subst, arith}
 use Rattle.std.specs.Io.KnownBytes.{Appends, Consumes, IsAtEnd}
-use Rattle.outside.specs.Document.{WasRead}
-use Rattle.outside.specs.State.{SinkState, SourceState}
-use Rattle.outside.specs.Steps.{IsQuiet, Rose}
-use Rattle.outside.specs.declared.reading.TheConstants.{DOCUMENT_LIMIT}
+use Rattle.byte_streams.specs.Document.{WasRead}
+use Rattle.byte_streams.specs.State.{SinkState, SourceState}
+use Rattle.byte_streams.specs.Steps.{IsQuiet, Rose}
+use Rattle.byte_streams.specs.declared.reading.TheConstants.{DOCUMENT_LIMIT}
 use Rattle.policy_gate.specs.Answer.{IsAnswer}
 use Rattle.policy_gate.specs.Reply.{Answer, answer}
 use Rattle.policy_gate.specs.Command.{own_document}
@@ -14,7 +14,7 @@ use Rattle.policy_gate.specs.Status.{IsAfterEnd, IsOfDocument, after_fault}
 use Rattle.policy_gate.specs.declared.command.Command.{Command}
 use Rattle.policy_gate.specs.declared.status.Status.{Status}
 use Rattle.policy_gate.specs.declared.status.Status.TheVariants.{Done, Findings, Usage, Document, Request, Store, PartialRequest, ReadFault, WriteFault, OutOfMemory, TooLong}
-use Rattle.policy_documents.specs.declared.document.Document.{Document as ADocument}
+use Rattle.json_document.specs.declared.document.Document.{Document as ADocument}
 use Rattle.policy_gate.specs.Headline.{HasPoliciesFor, IsDocumentOf, KeepsRules, KeepsRulesOf, Says}
 use Rattle.policy_gate.proofs.Answers.{status_of_document}
 use Rattle.policy_gate.proofs.Says.{says_done, says_refused, kept_is_done}

@@ -4,24 +4,24 @@ use Rattle.std.specs.Option.{option_or, option_map}
 use Rattle.serde_json.specs.Data.{Data}
 use Rattle.policy_names.specs.declared.entity_uid.EntityUID.{EntityUID}
 use Rattle.policy_values.specs.Value.{Fields}
-use Rattle.policy_store.specs.declared.request.Request.{Request}
-use Rattle.policy_store.specs.Request.{IsWhole}
-use Rattle.policy_documents.specs.Reading.{IsRead}
-use Rattle.policy_documents.specs.declared.document.Document.{Document}
-use Rattle.finding_texts.specs.Findings.{Findings}
+use Rattle.entity_store.specs.declared.request.Request.{Request}
+use Rattle.entity_store.specs.Request.{IsWhole}
+use Rattle.json_document.specs.Reading.{IsRead}
+use Rattle.json_document.specs.declared.document.Document.{Document}
+use Rattle.finding_messages.specs.Findings.{Findings}
 use Rattle.findings.specs.declared.error.ValidationError.{ValidationError}
 use Rattle.conformance_errors.specs.Written.{request_text, entity_text}
-use Rattle.policy_typing.specs.Conforms.{RequestConforms, StoreConforms}
+use Rattle.typing_spec.specs.Conforms.{RequestConforms, StoreConforms}
 use Rattle.policy_gate.specs.Answer.{IsAnswer, IsAnswerIf, IsAnswerFor, IsWellMade, IsAnswerTo, IsRefusedOr, IsWork, found_in, found_at, refused_levels, is_whole, partial_request, refusal, refused_data, refused_decision, refused_partial, refused_policies, refused_request, refused_store, refused_with, request_fault, slice_of, store_fault}
 use Rattle.policy_gate.specs.Headline.{Conforms, HasAcceptedPolicies, HasPoliciesAt, HasPoliciesFor, IsDocumentOf, KeepsRules, KeepsRulesOf, IsChecked, IsSliced, IsDecided, Says}
-use Rattle.json_parts.specs.Json.{json_of}
+use Rattle.json_values.specs.Json.{json_of}
 use Rattle.policy_gate.specs.Laws.{Laws}
 use Rattle.policy_gate.specs.Reply.{Answer, answer}
 use Rattle.policy_gate.specs.declared.status.Status.{Status}
 use Rattle.policy_gate.specs.declared.status.Status.TheVariants as status
 use Rattle.policy_gate.specs.declared.command.Command.{Command}
 use Rattle.policy_gate.specs.declared.command.Command.TheVariants.{Check, Level, Request as Conformance, Manifest, Slice, Decide, Sample}
-use Rattle.policy_documents.proofs.OneReading.{one_reading}
+use Rattle.json_document.proofs.OneReading.{one_reading}
 use Rattle.conformance.proofs.Options.{none_first, none_rest, neither, none_inside}
 use Rattle.request_slices.specs.Enough.{IsEnough}
 

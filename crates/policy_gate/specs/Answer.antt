@@ -2,22 +2,22 @@
 use Rattle.std.specs.Prelude.{◌≡◌, ◌⊎◌, ◌&&◌, ℕ, Bool, true, List, [], ◌∷◌, ◌++◌, length, Option, Some, None, is_some, Ok, Err, codes, option_map, if◌then◌else◌}
 use Rattle.std.specs.Option.{option_or}
 use Rattle.serde_json.specs.Data.{Data}
-use Rattle.json_parts.specs.Json.{json_of}
+use Rattle.json_values.specs.Json.{json_of}
 use Rattle.policy_names.specs.declared.entity_uid.EntityUID.{EntityUID}
-use Rattle.policy_store.specs.declared.request.Request.{Request}
-use Rattle.policy_store.specs.Store.{Store}
+use Rattle.entity_store.specs.declared.request.Request.{Request}
+use Rattle.entity_store.specs.Store.{Store}
 use Rattle.policy_set.specs.PolicySet.{IsPolicySet, AreKeyedOnce}
 use Rattle.schema_core.specs.Faults.{IsSchema}
-use Rattle.authorizer.specs.Response.{response}
-use Rattle.authorizer.specs.declared.response.Decision.{Decision}
-use Rattle.authorizer.specs.declared.response.Decision.TheVariants.{Allow, Deny}
+use Rattle.policy_set.specs.Response.{response}
+use Rattle.policy_set.specs.declared.response.Decision.{Decision}
+use Rattle.policy_set.specs.declared.response.Decision.TheVariants.{Allow, Deny}
 use Rattle.std.specs.Fmt.{decimal}
-use Rattle.document_places.specs.PlaceText.{place_text}
-use Rattle.policy_documents.specs.Reading.{IsRead}
-use Rattle.policy_documents.specs.declared.document.Document.{Document}
-use Rattle.document_places.specs.declared.place.Place.{Place}
-use Rattle.finding_texts.specs.Findings.{Findings}
-use Rattle.finding_texts.specs.Written.{findings_text}
+use Rattle.json_document.specs.PlaceText.{place_text}
+use Rattle.json_document.specs.Reading.{IsRead}
+use Rattle.json_document.specs.declared.document.Document.{Document}
+use Rattle.json_document.specs.declared.place.Place.{Place}
+use Rattle.finding_messages.specs.Findings.{Findings}
+use Rattle.finding_messages.specs.Written.{findings_text}
 use Rattle.findings.specs.declared.error.ValidationError.{ValidationError}
 use Rattle.policy_validate.specs.Accepted.{findings_of}
 use Rattle.policy_validate.specs.Levels.{level_findings_of}
@@ -28,10 +28,10 @@ use Rattle.conformance_errors.specs.declared.request_error.RequestValidationErro
 use Rattle.conformance_errors.specs.declared.store_rule.StoreRule.{StoreRule}
 use Rattle.request_slices.specs.Slice.{slice}
 use Rattle.serde_json.specs.Written.{compact_text}
-use Rattle.entity_manifest.specs.Manifest.{Manifest}
-use Rattle.entity_manifest.specs.ManifestJson.{manifest_data}
+use Rattle.manifest_core.specs.Manifest.{Manifest}
+use Rattle.manifest_core.specs.ManifestJson.{manifest_data}
 use Rattle.manifest_computation.specs.Computed.{IsManifestOf}
-use Rattle.policy_writing.specs.SliceJson.{slice_text, response_text}
+use Rattle.json_response.specs.SliceJson.{slice_text, response_text}
 use Rattle.policy_gate.specs.Reply.{Answer, answer}
 use Rattle.policy_gate.specs.declared.command.Command.{Command}
 use Rattle.policy_gate.specs.declared.command.Command.TheVariants.{Check, Level, Request as Conformance, Manifest as Reads, Slice, Decide, Sample}

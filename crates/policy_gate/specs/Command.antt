@@ -2,7 +2,7 @@
 use Rattle.std.specs.Prelude.{ℕ, List, [], ◌∷◌, if◌then◌else◌, Option, Some, None, nat_lt, option_map, option_and_then, codes}
 use Rattle.std.specs.Str.{bytes_eq}
 use Rattle.policy_ext.specs.NumberReading.{plain_of}
-use Rattle.sample_documents.specs.Sample.{sample_document}
+use Rattle.json_samples.specs.Sample.{sample_document}
 use Rattle.policy_gate.specs.declared.command.Command.{Command}
 use Rattle.policy_gate.specs.declared.command.Command.TheVariants.{Check, Level, Request, Manifest, Slice, Decide, Sample}
 

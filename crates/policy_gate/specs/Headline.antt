@@ -1,19 +1,19 @@
 -- What status 0 says of each command.
 use Rattle.std.specs.Prelude.{◌≡◌, ℕ, List, length, Some, None, Ok, codes}
-use Rattle.authorizer.specs.Allowed.{AreAllowed}
-use Rattle.authorizer.specs.Response.{response}
-use Rattle.policy_documents.specs.Reading.{IsRead}
-use Rattle.policy_documents.specs.declared.document.Document.{Document}
+use Rattle.policy_set.specs.Allowed.{AreAllowed}
+use Rattle.policy_set.specs.Response.{response}
+use Rattle.json_document.specs.Reading.{IsRead}
+use Rattle.json_document.specs.declared.document.Document.{Document}
 use Rattle.serde_json.specs.Data.{Data}
-use Rattle.finding_texts.specs.Written.{findings_text}
-use Rattle.policy_typing.specs.Conforms.{StoreConforms}
+use Rattle.finding_messages.specs.Written.{findings_text}
+use Rattle.typing_spec.specs.Conforms.{StoreConforms}
 use Rattle.policy_validate.specs.Accepted.{IsAccepted}
 use Rattle.policy_validate.specs.Levels.{IsAcceptedAt, CutIsEnough}
 use Rattle.request_slices.specs.Enough.{IsEnough}
 use Rattle.request_slices.specs.Rules.{KeepRules}
-use Rattle.policy_writing.specs.SliceJson.{slice_text, response_text}
-use Rattle.json_parts.specs.Json.{json_of}
-use Rattle.entity_manifest.specs.Manifest.{Manifest as Tries}
+use Rattle.json_response.specs.SliceJson.{slice_text, response_text}
+use Rattle.json_values.specs.Json.{json_of}
+use Rattle.manifest_core.specs.Manifest.{Manifest as Tries}
 use Rattle.manifest_computation.specs.Computed.{IsManifestOf}
 use Rattle.policy_gate.specs.Answer.{found_in, found_at, manifest_text, request_fault, sample_text, slice_of}
 use Rattle.policy_gate.specs.declared.command.Command.{Command}

@@ -1,10 +1,10 @@
 -- What a whole run does.
 use Rattle.std.specs.Prelude.{◌≡◌, ℕ, ◌+◌, ◌≤◌, ◌⊎◌, List, length, take, Option, Some, None, IsSome, codes}
 use Rattle.std.specs.Io.KnownBytes.{Keeps, Appends}
-use Rattle.outside.specs.Document.{TakesTooMany, WasRead}
-use Rattle.outside.specs.State.{SinkState, SourceState}
-use Rattle.outside.specs.Steps.{IsQuiet, Rose}
-use Rattle.outside.specs.declared.reading.TheConstants.{DOCUMENT_LIMIT}
+use Rattle.byte_streams.specs.Document.{TakesTooMany, WasRead}
+use Rattle.byte_streams.specs.State.{SinkState, SourceState}
+use Rattle.byte_streams.specs.Steps.{IsQuiet, Rose}
+use Rattle.byte_streams.specs.declared.reading.TheConstants.{DOCUMENT_LIMIT}
 use Rattle.policy_gate.specs.Answer.{IsAnswer}
 use Rattle.policy_gate.specs.Command.{own_document}
 use Rattle.policy_gate.specs.Reply.{Answer, answer}

@@ -1,12 +1,12 @@
 //! From a document's bytes to the reply.
 ghost use Rattle.std.specs.Prelude.{◌≡◌, None, IfOk, length, option_map, string_bytes};
-ghost use Rattle.authorizer.specs.Response.{response};
+ghost use Rattle.policy_set.specs.Response.{response};
 ghost use Rattle.serde_json.specs.View.{view};
-ghost use Rattle.policy_store.specs.Request.{IsWhole};
+ghost use Rattle.entity_store.specs.Request.{IsWhole};
 ghost use Rattle.conformance.specs.Misfits.{knows};
 ghost use Rattle.conformance.specs.RequestRules.{first_request_fault};
 ghost use Rattle.conformance_errors.specs.Written.{request_text};
-ghost use Rattle.finding_texts.specs.Written.{findings_text};
+ghost use Rattle.finding_messages.specs.Written.{findings_text};
 ghost use Rattle.policy_gate.specs.Answer.{IsAnswer, IsAnswerFor, IsAnswerTo, IsRefusedOr, IsWellMade, IsWork, found_at, found_in, decision_word, manifest_text, refused_data, refused_decision, refused_policies, refused_request, refused_store, refused_with, request_fault, sample_text, slice_of, status_of, store_fault};
 ghost use Rattle.policy_gate.specs.Headline.{KeepsRules};
 ghost use Rattle.policy_gate.specs.Reply.{reply_view};
@@ -15,24 +15,24 @@ use crate::command::Command;
 use crate::laws::laws;
 use crate::reply::{Reply, reply_with};
 use crate::status::Status;
-use authorizer::{Decision, decide};
+use policy_set::{Decision, decide};
 use conformance::laws::all_functions_are_known;
 use conformance::{
     ConformanceError, EntityDoesNotConform, RequestValidationError, conforms, entity_text,
     request_text, validate_request,
 };
-use entity_manifest::EntityManifest;
+use manifest_core::EntityManifest;
 use extension_types::{ExtensionSchemas, all_objects};
 use manifest_computation::{EntityManifestError, compute_entity_manifest};
-use policy_documents::{Document, DocumentFault, parse_json, read_document};
+use json_document::{Document, DocumentFault, parse_json, read_document};
 use policy_names::Text;
 use policy_scope::{ValidationResult, findings_text};
 use policy_set::PolicySet;
 use policy_set::laws::{have_keys_once, is_policy_set};
-use policy_store::Entities;
+use entity_store::Entities;
 use policy_validate::laws::no_errors_where_accepted;
 use policy_validate::{ValidationMode, Validator};
-use policy_writing::{response_text, slice_text};
+use json_response::{response_text, slice_text};
 use request_slices::restricted_to_reads;
 use serde_json::Value;
 use std::alloc::{AllocError, Global};

@@ -3,7 +3,7 @@ ghost use Rattle.std.specs.Prelude.{◌≡◌, IfOk, map, option_map, string_byt
 ghost use Rattle.policy_ext.specs.NumberReading.{number_of, plain_of};
 ghost use Rattle.policy_gate.specs.Command.{command_of, one_word, own_document, size_of, three_words, two_words};
 
-use sample_documents::sample_document;
+use json_samples::sample_document;
 use std::alloc::{AllocError, Global};
 
 // The greatest level that policies are checked for.

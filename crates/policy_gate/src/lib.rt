@@ -9,12 +9,12 @@ mod runner;
 mod status;
 
 pub use command::{Command, command_of};
-pub use expr_documents::{Bounded, read_expr};
-pub use outside::{
+pub use json_expressions::{Bounded, read_expr};
+pub use byte_streams::{
     MemorySink, MemorySource, NoSink, ReadAnswer, Sink, SliceSource, Source, StdSink, StdSource,
     WriteAnswer,
 };
-pub use policy_documents::{DocumentFault, Place, read_schema, read_value};
-pub use policy_writing::write_value;
+pub use json_document::{DocumentFault, Place, read_schema, read_value};
+pub use json_response::write_value;
 pub use runner::run;
 pub use status::Status;

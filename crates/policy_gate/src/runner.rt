@@ -1,15 +1,15 @@
 //! The whole run, from a source to a sink.
 ghost use Rattle.std.specs.Prelude.{◌≡◌, ◌+◌, ◌<◌, ◌≤◌, ◌⊎◌, ℕ, List, length, Some, None, IfOk, map, string_bytes};
 ghost use Rattle.std.specs.Io.KnownBytes.{Appends};
-ghost use Rattle.outside.specs.Document.{TakesFew, WasRead};
-ghost use Rattle.outside.specs.Steps.{IsQuiet};
+ghost use Rattle.byte_streams.specs.Document.{TakesFew, WasRead};
+ghost use Rattle.byte_streams.specs.Steps.{IsQuiet};
 ghost use Rattle.policy_gate.specs.Answer.{IsAnswer};
 ghost use Rattle.policy_gate.specs.Command.{command_of, own_document};
-ghost use Rattle.policy_documents.specs.declared.document.Document.{Document};
+ghost use Rattle.json_document.specs.declared.document.Document.{Document};
 ghost use Rattle.policy_gate.specs.Headline.{HasPoliciesFor, IsChecked, IsCheckedAt, IsConforming, IsDecided, IsDocumentOf, IsManifested, IsSampled, IsSliced, KeepsRules, KeepsRulesOf};
 ghost use Rattle.policy_gate.specs.Reply.{answer, reply_view};
 ghost use Rattle.policy_gate.specs.Run.{Cause, Gives, IsDue, IsDueAfterReading, IsDueFor, IsGiven, IsToWorkOn, Reads, Runs};
-ghost use Rattle.sample_documents.specs.Sample.{sample_document};
+ghost use Rattle.json_samples.specs.Sample.{sample_document};
 ghost use Rattle.policy_gate.specs.Status.{IsAfterEnd};
 
 use crate::answer::reply;
@@ -17,7 +17,7 @@ use crate::command::{Command, command_of, own_document};
 use crate::laws::laws;
 use crate::reply::{Reply, reply_with};
 use crate::status::Status;
-use outside::{DOCUMENT_LIMIT, ReadError, Sink, Source, read_document_bytes, write_text};
+use byte_streams::{DOCUMENT_LIMIT, ReadError, Sink, Source, read_document_bytes, write_text};
 use std::alloc::{AllocError, Global};
 
 const USAGE: &str =

@@ -4,7 +4,7 @@
 mod names;
 mod scope;
 
-pub use finding_texts::{Diagnostic, ValidationResult, add_help, findings_text};
+pub use finding_messages::{Diagnostic, ValidationResult, add_help, findings_text};
 pub use findings::{
     AttributeAccess, EmptySetForbidden, EntityDerefLevel, EntityDerefLevelViolation,
     EntityDerefViolationKind, FunctionArgumentValidation, ImpossiblePolicy, IncompatibleTypes,

@@ -21,14 +21,7 @@ use Rattle.policy_set.specs.Condition.{variable_of, referred, of_type, scope_par
 use Rattle.policy_set.specs.Links.{with_id, linked, linked_of, own_condition, HasPlainBody, Fills}
 use Rattle.policy_set.specs.PolicySet.{given, slot_values, slot_fault, fault_if, is_missing, is_extra}
 use Rattle.policy_set.proofs.Plain.{action_slot}
-
-or_left : (a b : Bool) → (a || b) ≡ false → a ≡ false
-or_left true b h = cc
-or_left false b h = refl
-
-or_right : (a b : Bool) → (a || b) ≡ false → b ≡ false
-or_right true b h = cc
-or_right false b h = h
+use Rattle.plain_lemmas.proofs.Booleans.{or_false_left, or_false_right}
 
 -- filling an expression without slots
 module _ {A : Type 0} (w : SlotValues) where
@@ -38,12 +31,12 @@ module _ {A : Type 0} (w : SlotValues) where
     kept (var v m) h = refl
     kept (slot i m) h = absurd (cc)
     kept (ite x y z m) h =
-        let k = or_right (has_slot x) (has_slot y || has_slot z) h in
-        λ i. ite (kept x (or_left (has_slot x) (has_slot y || has_slot z) h) i) (kept y (or_left (has_slot y) (has_slot z) k) i) (kept z (or_right (has_slot y) (has_slot z) k) i) m
-    kept (conj x y m) h = λ i. conj (kept x (or_left (has_slot x) (has_slot y) h) i) (kept y (or_right (has_slot x) (has_slot y) h) i) m
-    kept (disj x y m) h = λ i. disj (kept x (or_left (has_slot x) (has_slot y) h) i) (kept y (or_right (has_slot x) (has_slot y) h) i) m
+        let k = or_false_right (has_slot x) (has_slot y || has_slot z) h in
+        λ i. ite (kept x (or_false_left (has_slot x) (has_slot y || has_slot z) h) i) (kept y (or_false_left (has_slot y) (has_slot z) k) i) (kept z (or_false_right (has_slot y) (has_slot z) k) i) m
+    kept (conj x y m) h = λ i. conj (kept x (or_false_left (has_slot x) (has_slot y) h) i) (kept y (or_false_right (has_slot x) (has_slot y) h) i) m
+    kept (disj x y m) h = λ i. disj (kept x (or_false_left (has_slot x) (has_slot y) h) i) (kept y (or_false_right (has_slot x) (has_slot y) h) i) m
     kept (unary o x m) h = ap (λ z. unary o z m) (kept x h)
-    kept (binary o x y m) h = λ i. binary o (kept x (or_left (has_slot x) (has_slot y) h) i) (kept y (or_right (has_slot x) (has_slot y) h) i) m
+    kept (binary o x y m) h = λ i. binary o (kept x (or_false_left (has_slot x) (has_slot y) h) i) (kept y (or_false_right (has_slot x) (has_slot y) h) i) m
     kept (attr x n m) h = ap (λ z. attr z n m) (kept x h)
     kept (has x n m) h = ap (λ z. has z n m) (kept x h)
     kept (like x p m) h = ap (λ z. like z p m) (kept x h)
@@ -54,11 +47,11 @@ module _ {A : Type 0} (w : SlotValues) where
 
     pub kept_all : (xs : Trees A) → some_has_slot xs ≡ false → filled_all w xs ≡ xs
     kept_all no_trees h = refl
-    kept_all (tree x xs) h = λ i. tree (kept x (or_left (has_slot x) (some_has_slot xs) h) i) (kept_all xs (or_right (has_slot x) (some_has_slot xs) h) i)
+    kept_all (tree x xs) h = λ i. tree (kept x (or_false_left (has_slot x) (some_has_slot xs) h) i) (kept_all xs (or_false_right (has_slot x) (some_has_slot xs) h) i)
 
     pub kept_named : (xs : Named A) → some_named_has_slot xs ≡ false → filled_named w xs ≡ xs
     kept_named no_named h = refl
-    kept_named (named k x xs) h = λ i. named k (kept x (or_left (has_slot x) (some_named_has_slot xs) h) i) (kept_named xs (or_right (has_slot x) (some_named_has_slot xs) h) i)
+    kept_named (named k x xs) h = λ i. named k (kept x (or_false_left (has_slot x) (some_named_has_slot xs) h) i) (kept_named xs (or_false_right (has_slot x) (some_named_has_slot xs) h) i)
 
 -- filling the parts of a scope
 place_filled : (i : SlotId) (o : Option EntityUID) → in_place o i unmarked ≡ referred i (with_id o Slot)

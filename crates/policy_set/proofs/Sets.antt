@@ -19,10 +19,8 @@ use Rattle.policy_set.specs.Condition.{IsPolicy}
 use Rattle.policy_set.specs.Links.{Fills, linked_policy}
 use Rattle.policy_set.specs.PolicySet.{PolicySetData, template_at, policy_at, is_taken, with_template, with_policy, IsToLink, IsLinkOf, IsLinkedIn, IsPolicySet, HoldsSet}
 use Rattle.policy_set.proofs.Each.{each_with}
-
-pub each_so : {V : Type 0} {P Q : V → Type 0} → ((v : V) → P v → Q v) → (vs : List V) → AllByRecursion P vs → AllByRecursion Q vs
-each_so f [] h = tt
-each_so f (v ∷ vs) h = (f v h.0, each_so f vs h.1)
+use Rattle.plain_lemmas.proofs.Options.{none_of_no_some}
+use Rattle.plain_lemmas.proofs.Lists.{all_weaker}
 
 module _ {V : Type 0} (key : V → List ℕ) where
   -- a look-up for another key is what it was
@@ -50,19 +48,15 @@ turned m n h = by (is_eq (text_cmp n m)) refl where
   by true e = let same = tells_apart exact_bytes n m e in sym e ∙ ap (λ k. is_eq (text_cmp k m)) same ∙ ap (λ k. is_eq (text_cmp m k)) (sym same) ∙ h
   by false e = refl
 
-none_of : {X : Type 0} (o : Option X) → is_some o ≡ false → o ≡ None
-none_of None h = refl
-none_of (Some x) h = cc
-
 neither : (a b : Bool) → a || b ≡ false → (a ≡ false) × (b ≡ false)
 neither true b h = cc
 neither false b h = (refl, h)
 
 pub no_template : (s : PolicySetData) (id : List ℕ) → is_taken s id ≡ false → template_at s id ≡ None
-no_template s id h = none_of (template_at s id) (neither (is_some (template_at s id)) (is_some (policy_at s id)) h).0
+no_template s id h = none_of_no_some (template_at s id) (neither (is_some (template_at s id)) (is_some (policy_at s id)) h).0
 
 pub no_policy : (s : PolicySetData) (id : List ℕ) → is_taken s id ≡ false → policy_at s id ≡ None
-no_policy s id h = none_of (policy_at s id) (neither (is_some (template_at s id)) (is_some (policy_at s id)) h).1
+no_policy s id h = none_of_no_some (policy_at s id) (neither (is_some (template_at s id)) (is_some (policy_at s id)) h).1
 
 -- the template of a link stands after another was added
 module _ (s : PolicySetData) (t : TemplateData) (new : template_at s t.id ≡ None) where
@@ -85,7 +79,7 @@ template_added s set t free ok sorted = record {
   apart = both s.policies set.apart (others (λ p. p.id) s.policies t.id (no_policy s t.id free));
   templates = each_with text_cmp (λ u. u.id) IsToLink t ok s.templates set.templates;
   policies = set.policies;
-  links = each_so (still_linked s t (no_template s t.id free)) s.policies set.links;
+  links = all_weaker (still_linked s t (no_template s t.id free)) s.policies set.links;
 }
   where
     both : (ps : List PolicyData) → AllByRecursion (λ p. template_at s p.id ≡ None) ps → AllByRecursion (λ p. is_eq (text_cmp t.id p.id) ≡ false) ps → AllByRecursion (λ p. template_at (with_template t s) p.id ≡ None) ps

@@ -2,3 +2,5 @@ pub mod Condition
 pub mod Data
 pub mod Links
 pub mod PolicySet
+pub mod Allowed
+pub mod Response

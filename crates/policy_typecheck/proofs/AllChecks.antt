@@ -10,15 +10,16 @@ use Rattle.policy_expressions.specs.Plain.{Plain}
 use Rattle.policy_expressions.specs.Tree.{depth_of}
 use Rattle.policy_set.specs.Data.{TemplateData}
 use Rattle.policy_set.specs.Condition.{condition_of}
-use Rattle.policy_links.specs.Linked.{linked_envs}
+use Rattle.link_spec.specs.Linked.{linked_envs}
 use Rattle.findings.specs.declared.error.ValidationWarning.{ValidationWarning}
-use Rattle.typing_findings.specs.Check.{Check, Success, Irrelevant, Fail, TooDeep, checked}
+use Rattle.typecheck_spec.specs.Check.{Check, Success, Irrelevant, Fail, TooDeep, checked}
 use Rattle.policy_typecheck.specs.declared.policy_check.PolicyCheck.{PolicyCheck}
 use Rattle.policy_typecheck.specs.declared.policy_check.PolicyCheck.TheVariants as code
 use Rattle.policy_typecheck.specs.Answer.{Tells, TellsIn, errors_of, too_deep}
 use Rattle.policy_typecheck.specs.Checks.{Checks, has_passed, is_false, errors_in, all_passed, all_false, all_errors}
 use Rattle.policy_typecheck.specs.Added.{added, same_warning}
 use Rattle.policy_typecheck.specs.Policies.{passes, is_irrelevant, impossible, checks_of, refusals, is_accepted, warned}
+use Rattle.plain_lemmas.proofs.Lists.{all_push}
 
 passed_same : (id : List ℕ) (c : Check) (r : PolicyCheck) → Tells id c r → has_passed r ≡ passes c
 passed_same id (Success t) (code.Success u) h = refl
@@ -62,10 +63,6 @@ errors_same id TooDeep (code.Success u) h = absurd h
 errors_same id TooDeep (code.Irrelevant u) h = absurd h
 errors_same id TooDeep (code.Fail es) h = h
 
-each_more : {A : Type 0} (P : A → Type 0) (rs : List A) (r : A) → AllByRecursion P rs → P r → AllByRecursion P (rs ++ r ∷ [])
-each_more P [] r hs h = (h, tt)
-each_more P (q ∷ rs) r hs h = (hs.0, each_more P rs r hs.1 h)
-
 module _ (schema : SchemaData) (id : List ℕ) (x : Plain) where
   -- the definitions' checks in the environments of those in code
   abbrev checks : Checks → List Check
@@ -105,7 +102,7 @@ module _ (schema : SchemaData) (id : List ℕ) (x : Plain) where
         ∙ h
 
     pub told_more : AllByRecursion (TellsIn schema id x) done → TellsIn schema id x r → AllByRecursion (TellsIn schema id x) new
-    told_more hs h = subst (AllByRecursion (TellsIn schema id x)) (sym pushed) (each_more (TellsIn schema id x) done r hs h)
+    told_more hs h = subst (AllByRecursion (TellsIn schema id x)) (sym pushed) (all_push (TellsIn schema id x) done r hs h)
 
 -- a template whose condition is not too deep
 module _ (schema : SchemaData) (t : TemplateData) (rs : Checks) (same : map (λ r. env_data_of r.0) rs ≡ linked_envs schema t)

@@ -8,10 +8,10 @@ use Rattle.schema_core.specs.EnvData.{EnvData}
 use Rattle.policy_expressions.specs.Plain.{Plain}
 use Rattle.policy_expressions.specs.Tree.{named_of, deepest_named}
 use Rattle.capabilities.specs.Capability.{Capability}
-use Rattle.typing_findings.specs.Walk.{walked, walked_named}
-use Rattle.typing_findings.specs.Operators.{Fields}
-use Rattle.typing_operators.specs.declared.told.Told.{Told}
-use Rattle.typing_operators.specs.Told.{walked_of, field_of}
+use Rattle.typecheck_spec.specs.Walk.{walked, walked_named}
+use Rattle.typecheck_spec.specs.Operators.{Fields}
+use Rattle.typecheck_operators.specs.declared.told.Told.{Told}
+use Rattle.typecheck_operators.specs.Told.{walked_of, field_of}
 
 module _ (s : SchemaData) (env : EnvData) (cs : List Capability)
     (done new : List (List ℕ × Told)) (k : List ℕ) (x : Plain) (v : Told) (it rest : List (List ℕ × Plain)) (is : it ≡ (k, x) ∷ rest) (pushed : new ≡ done ++ (k, v) ∷ []) where

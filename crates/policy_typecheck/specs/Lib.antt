@@ -4,3 +4,4 @@ pub mod Asked
 pub mod Checks
 pub mod Known
 pub mod Policies
+pub mod Pointed

@@ -5,11 +5,11 @@ use Rattle.schema_core.specs.Schema.{SchemaData}
 use Rattle.policy_expressions.specs.Tree.{depth_of}
 use Rattle.policy_set.specs.Data.{TemplateData}
 use Rattle.policy_set.specs.Condition.{condition_of}
-use Rattle.policy_links.specs.Linked.{linked_envs}
+use Rattle.link_spec.specs.Linked.{linked_envs}
 use Rattle.findings.specs.declared.error.ValidationError.{ValidationError}
 use Rattle.findings.specs.declared.error.ValidationWarning.{ValidationWarning}
 use Rattle.findings.specs.declared.error.ValidationWarning.TheVariants as warning
-use Rattle.typing_findings.specs.Check.{Check, Success, Irrelevant, checked}
+use Rattle.typecheck_spec.specs.Check.{Check, Success, Irrelevant, checked}
 use Rattle.policy_typecheck.specs.Added.{added, same_warning}
 use Rattle.policy_typecheck.specs.Answer.{errors_of, too_deep}
 

@@ -3,8 +3,8 @@
 ghost use Rattle.std.specs.Prelude.{◌≡◌, ◌∷◌, [], IfOk, nat_lt};
 ghost use Rattle.schema_core.specs.RequestEnvs.{env_data_of};
 ghost use Rattle.policy_expressions.specs.Tree.{depth_of};
-ghost use Rattle.typing_findings.specs.Check.{check_walked, checked, condition_walked};
-ghost use Rattle.typing_operators.specs.Told.{walked_of};
+ghost use Rattle.typecheck_spec.specs.Check.{check_walked, checked, condition_walked};
+ghost use Rattle.typecheck_operators.specs.Told.{walked_of};
 ghost use Rattle.policy_typecheck.specs.Answer.{Tells, too_deep};
 
 use crate::PolicyCheck;
@@ -17,8 +17,8 @@ use policy_expressions::{BuildError, Expr};
 use policy_names::Text;
 use schema_types::{Primitive, Type, TypeKind};
 use std::alloc::{AllocError, Global};
-use typing_operators::{Told, Typing, expect};
-use typing_rules::Expected;
+use typecheck_operators::{Told, Typing, expect};
+use typecheck_rules::Expected;
 
 // What is deeper is not typed.
 const MAX_TYPED_DEPTH: u32 = 200;

@@ -2,12 +2,12 @@
 
 ghost use Rattle.std.specs.Prelude.{◌≡◌, IfOk, map};
 ghost use Rattle.findings.specs.Seen.{error_of};
-ghost use Rattle.typing_rules.specs.Found.{findings_from};
+ghost use Rattle.typecheck_rules.specs.Found.{findings_from};
 
 use findings::ValidationError;
 use policy_names::Text;
 use std::alloc::{AllocError, Global};
-use typing_rules::{Finding, error_of};
+use typecheck_rules::{Finding, error_of};
 
 /// The findings as errors of the policy.
 pub(crate) fn errors_of(

@@ -2,7 +2,7 @@
 
 ghost use Rattle.std.specs.Prelude.{◌≡◌, IfOk};
 ghost use Rattle.capabilities.specs.Capability.{has_cap};
-ghost use Rattle.policy_typing.specs.Typing.{attribute_known, tag_known};
+ghost use Rattle.typing_spec.specs.Typing.{attribute_known, tag_known};
 ghost use Rattle.policy_typecheck.specs.Asked.{asked};
 
 use capabilities::{Capability, CapabilitySet};

@@ -3,15 +3,18 @@
 
 mod added;
 mod conditions;
+mod environments;
 mod errors;
 mod known;
 mod policies;
 mod policy_check;
 mod setting;
+mod slots;
 mod typechecker;
 mod walks;
 
 pub use conditions::is_too_deep;
+pub use environments::linked_request_envs;
 pub use policy_check::PolicyCheck;
 pub use typecheck_answer::TypecheckAnswer;
 pub use typechecker::Typechecker;

@@ -10,7 +10,7 @@ use policy_names::Name;
 use schema_core::{RequestEnv, ValidatorSchema};
 use std::alloc::Global;
 use std::marker::Model;
-use typing_rules::{CalledFunction, called_function};
+use typecheck_rules::{CalledFunction, called_function};
 
 /// Extensions in which every extension function is found.
 #[derive(Drop)]

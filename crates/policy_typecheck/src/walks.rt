@@ -3,11 +3,11 @@
 ghost use Rattle.std.specs.Prelude.{◌≡◌, ◌++◌, IfOk, map};
 ghost use Rattle.schema_core.specs.RequestEnvs.{env_data_of};
 ghost use Rattle.policy_expressions.specs.Tree.{attr, binary, call, conj, disj, has, is_type, ite, like, named_of, rec, set, trees_of, unary};
-ghost use Rattle.typing_findings.specs.Expected.{a_boolean};
-ghost use Rattle.typing_findings.specs.Walk.{walked, walked_all, walked_named};
-ghost use Rattle.typing_findings.specs.Walked.{expect};
-ghost use Rattle.typing_findings.specs.Operators.{place, reached_after, reached_besides};
-ghost use Rattle.typing_operators.specs.Told.{all_of, field_of, mark, walked_of};
+ghost use Rattle.typecheck_spec.specs.Expected.{a_boolean};
+ghost use Rattle.typecheck_spec.specs.Walk.{walked, walked_all, walked_named};
+ghost use Rattle.typecheck_spec.specs.Walked.{expect};
+ghost use Rattle.typecheck_spec.specs.Operators.{place, reached_after, reached_besides};
+ghost use Rattle.typecheck_operators.specs.Told.{all_of, field_of, mark, walked_of};
 
 use crate::known::{knows_attribute, knows_tag};
 use crate::setting::Setting;
@@ -18,12 +18,12 @@ use policy_values::push_entry;
 use schema_types::TypeKind;
 use std::alloc::AllocError;
 use std::collections::BTreeMap;
-use typing_operators::{
+use typecheck_operators::{
     Told, and_sides, attr_told, binary_told, call_told, expect, has_told, if_parts, is_told,
     like_told, literal_told, or_sides, record_told, set_told, skipped, slot_told, unary_told,
     undefined_told, variable_told,
 };
-use typing_rules::Expected;
+use typecheck_rules::Expected;
 
 // The walk through an expression: its typing, or what is found. Each kind has a function of its own, which keeps proofs short;
 // so does dropping by a call what was told of one part when the walk of the next fails.

@@ -1,4 +1,4 @@
--- Both types are below their join, in both modes.
+-- Both types are below their join, in and_parts_of modes.
 use Rattle.std.proofs.Common.{◌≡◌, inl, inr, ℕ, ◌≤◌, suc, List, Bool, true, false, ◌&&◌, cond, Ordering, Result, Ok, Err, ap, sym, refl, arith, IfOk}
 use Rattle.std.specs.declared.cmp.Ordering.TheVariants.{Less, Equal, Greater}
 use Rattle.std.specs.Ordering.{match_ordering}
@@ -21,6 +21,7 @@ use Rattle.policy_types.specs.Join.{result_map, text_eq, texts_eq, bool_eq, eith
 use Rattle.policy_types.specs.Laws.{NoActions, NoActionsIn}
 use Rattle.policy_types.proofs.SubtypeLaws.{subtype_refl, covers_more}
 use Rattle.policy_types.proofs.UnionLaws.{union_left, union_right}
+use Rattle.plain_lemmas.proofs.Booleans.{and_parts_of}
 
 abbrev IsAbove : SubtypeMode → Ty → Ty → Ty → Type 0
 IsAbove m t u v = Subtype m t v × Subtype m u v
@@ -45,10 +46,6 @@ same_bool true true h = refl
 same_bool false false h = refl
 same_bool true false h = cc
 same_bool false true h = cc
-
-both : (a b : Bool) → (a && b) ≡ true → (a ≡ true) × (b ≡ true)
-both true b h = (refl, h)
-both false b h = cc
 
 left_open : (o p : OpenTag) → SubOpen o (either_open o p)
 left_open ClosedAttributes ClosedAttributes = tt
@@ -99,7 +96,7 @@ required_right true false = tt
 required_right false true = tt
 required_right false false = tt
 
--- one key of both
+-- one key of and_parts_of
 keep_covered : (k l : List ℕ) (t u : Ty) (q r : Bool) (xs ys zs : Attrs) (v : Result Ty LubHelp) → k ≡ l → IfOk v (IsAbove Permissive t u) → AreCovered xs ys zs → AreCovered (attr k t q xs) (attr l u r ys) (keep k (q && r) v zs)
 keep_covered k l t u q r xs ys zs (Err h) e f g = (covers_more Permissive k t q xs zs g.0, covers_more Permissive l u r ys zs g.1)
 keep_covered k l t u q r xs ys zs (Ok v) e f g = (inl (refl, f.0, required_left q r, g.0), inl (sym e, f.1, required_right q r, g.1))
@@ -122,7 +119,7 @@ covers_count (attr k t q xs) (attr l u r zs) (inr h) = omega (arith, covers_coun
 
 same_count : (zs xs : Attrs) → same_keys zs xs ≡ true → count zs ≡ count xs
 same_count no_attrs no_attrs h = refl
-same_count (attr k t q xs) (attr l u r ys) h = ap suc (same_count xs ys (both (text_eq k l) (same_keys xs ys) h).1)
+same_count (attr k t q xs) (attr l u r ys) h = ap suc (same_count xs ys (and_parts_of (text_eq k l) (same_keys xs ys) h).1)
 same_count no_attrs (attr l u r ys) h = cc
 same_count (attr k t q xs) no_attrs h = cc
 
@@ -130,8 +127,8 @@ covers_same : (xs zs : Attrs) → Covers Permissive xs zs → same_keys zs xs �
 covers_same no_attrs no_attrs h e = tt
 covers_same no_attrs (attr l u r zs) h e = cc
 covers_same (attr k t q xs) no_attrs h e = cc
-covers_same (attr k t q xs) (attr l u r zs) (inl h) e = (h.0, h.1, h.2, covers_same xs zs h.3 (both (text_eq l k) (same_keys zs xs) e).1)
-covers_same (attr k t q xs) (attr l u r zs) (inr h) e = absurd (omega (arith, covers_count xs (attr l u r zs) h, same_count zs xs (both (text_eq l k) (same_keys zs xs) e).1))
+covers_same (attr k t q xs) (attr l u r zs) (inl h) e = (h.0, h.1, h.2, covers_same xs zs h.3 (and_parts_of (text_eq l k) (same_keys zs xs) e).1)
+covers_same (attr k t q xs) (attr l u r zs) (inr h) e = absurd (omega (arith, covers_count xs (attr l u r zs) h, same_count zs xs (and_parts_of (text_eq l k) (same_keys zs xs) e).1))
 
 any_open : (o : OpenTag) → SubOpen o OpenAttributes
 any_open OpenAttributes = tt
@@ -142,7 +139,7 @@ tag_above xs ys zs o p true f g = ((left_open o p, inr (f refl).0), (right_open 
 tag_above xs ys zs o p false f g = ((any_open o, inl (tt, tt, g.0)), (any_open p, inl (tt, tt, g.1)))
 
 record_above : (xs ys zs : Attrs) (o p : OpenTag) → AreCovered xs ys zs → IsAbove Permissive (record_of xs o) (record_of ys p) (record_of zs (wide_open o p xs ys zs))
-record_above xs ys zs o p g = tag_above xs ys zs o p (same_keys zs xs && same_keys zs ys) (λ e. let s = both (same_keys zs xs) (same_keys zs ys) e in (covers_same xs zs g.0 s.0, covers_same ys zs g.1 s.1)) g
+record_above xs ys zs o p g = tag_above xs ys zs o p (same_keys zs xs && same_keys zs ys) (λ e. let s = and_parts_of (same_keys zs xs) (same_keys zs ys) e in (covers_same xs zs g.0 s.0, covers_same ys zs g.1 s.1)) g
 
 records_above : (m : SubtypeMode) (xs ys : Attrs) (o p : OpenTag) → (same_keys xs ys ≡ true → IfOk (join_attrs xs ys) (AreAbove xs ys)) → AreCovered xs ys (shared xs ys) → IfOk (join_records m xs ys o p (join_attrs xs ys) (shared xs ys)) (IsAbove m (record_of xs o) (record_of ys p))
 records_above Strict xs ys o p f g =
@@ -198,7 +195,7 @@ mutual
   attrs_above : (xs ys : Attrs) → NoActionsIn xs → NoActionsIn ys → same_keys xs ys ≡ true → IfOk (join_attrs xs ys) (AreAbove xs ys)
   attrs_above no_attrs no_attrs a b e = (tt, tt)
   attrs_above (attr k t q xs) (attr l u r ys) a b e =
-      let s = both (text_eq k l) (same_keys xs ys) e in
+      let s = and_parts_of (text_eq k l) (same_keys xs ys) e in
       above_first k l t u q r xs ys (join Strict t u) (join_attrs xs ys) (same_text k l s.0) (join_above Strict t u a.0 b.0) (attrs_above xs ys a.1 b.1 s.1)
   attrs_above no_attrs (attr l u r ys) a b e = cc
   attrs_above (attr k t q xs) no_attrs a b e = cc

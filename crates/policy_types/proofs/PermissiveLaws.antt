@@ -24,6 +24,7 @@ use Rattle.policy_types.specs.Laws.{IsBefore, Ascends, AscendIn}
 use Rattle.policy_types.proofs.SubtypeLaws.{attrs_refl}
 use Rattle.policy_types.proofs.GreaterLaws.{join_greater}
 use Rattle.policy_types.proofs.UnionLaws.{own_text, union_left, union_right}
+use Rattle.plain_lemmas.proofs.Booleans.{equal_by_both_ways, or_right_true}
 
 abbrev IsGreater : Ty → Ty → Type 0
 IsGreater t u = (join Permissive t u ≡ Ok u) × (join Permissive u t ≡ Ok u)
@@ -67,10 +68,6 @@ either : (a b c : Bool) → (a ≡ true → c ≡ true) → (b ≡ true → c �
 either true b c f g h = f refl
 either false b c f g h = g h
 
-or_right : (a b : Bool) → b ≡ true → (a || b) ≡ true
-or_right true b e = refl
-or_right false b e = e
-
 inserted_within_turn : (q n x : List ℕ) (xs ys : List (List ℕ)) (goal : Bool) (o : Ordering) → (is_eq (text_cmp q n) ≡ true → goal ≡ true) → (has_name (x ∷ xs) q ≡ true → goal ≡ true) → (has_name ys q ≡ true → goal ≡ true) → has_name (match_ordering o (n ∷ x ∷ xs) (x ∷ xs) (x ∷ ys)) q ≡ true → goal ≡ true
 inserted_within_turn q n x xs ys goal Less f g h k = either (is_eq (text_cmp q n)) (has_name (x ∷ xs) q) goal f g k
 inserted_within_turn q n x xs ys goal Equal f g h k = g k
@@ -78,27 +75,22 @@ inserted_within_turn q n x xs ys goal Greater f g h k = either (is_eq (text_cmp 
 
 inserted_within : (n q : List ℕ) (ms : List (List ℕ)) (goal : Bool) → (is_eq (text_cmp q n) ≡ true → goal ≡ true) → (has_name ms q ≡ true → goal ≡ true) → has_name (insert_key text_cmp ms n) q ≡ true → goal ≡ true
 inserted_within n q [] goal f g h = either (is_eq (text_cmp q n)) false goal f (λ e. cc) h
-inserted_within n q (m ∷ ms) goal f g h = inserted_within_turn q n m ms (insert_key text_cmp ms n) goal (text_cmp n m) f g (inserted_within n q ms goal f (λ e. g (or_right (is_eq (text_cmp q m)) (has_name ms q) e))) h
+inserted_within n q (m ∷ ms) goal f g h = inserted_within_turn q n m ms (insert_key text_cmp ms n) goal (text_cmp n m) f g (inserted_within n q ms goal f (λ e. g (or_right_true (is_eq (text_cmp q m)) (has_name ms q) e))) h
 
 -- what is in a union is in all that both sides are in
 union_within : (ms ns gs : List (List ℕ)) → AreAmong ms gs → AreAmong ns gs → AreAmong (union ms ns) gs
 union_within ms [] gs f g = f
 union_within ms (n ∷ ns) gs f g = union_within (insert_key text_cmp ms n) ns gs
     (λ q. inserted_within n q ms (has_name gs q) (λ e. g q (ap (λ b. b || has_name ns q) e)) (f q))
-    (λ q e. g q (or_right (is_eq (text_cmp q n)) (has_name ns q) e))
-
-same_bool : (a b : Bool) → (a ≡ true → b ≡ true) → (b ≡ true → a ≡ true) → a ≡ b
-same_bool true b f g = sym (f refl)
-same_bool false true f g = g refl
-same_bool false false f g = refl
+    (λ q e. g q (or_right_true (is_eq (text_cmp q n)) (has_name ns q) e))
 
 same_union : (ms ns : List (List ℕ)) → IsStrictlySortedBy text_cmp (union ms ns) → IsStrictlySortedBy text_cmp ns → AreAmong (union ms ns) ns → AreAmong ns (union ms ns) → union ms ns ≡ ns
-same_union ms ns h k f g = same_sorted text_cmp nat_list_cmp_total exact_bytes (union ms ns) ns h k (λ q. same_bool (has_name (union ms ns) q) (has_name ns q) (f q) (g q))
+same_union ms ns h k f g = same_sorted text_cmp nat_list_cmp_total exact_bytes (union ms ns) ns h k (λ q. equal_by_both_ways (has_name (union ms ns) q) (has_name ns q) (f q) (g q))
 
 entities_greater : (ms ns : List (List ℕ)) → IsStrictlySortedBy text_cmp ms → IsStrictlySortedBy text_cmp ns → AreAmong ms ns → (union ms ns ≡ ns) × (union ns ms ≡ ns)
 entities_greater ms ns h k f = (
   same_union ms ns (union_sorted ms ns h) k (union_within ms ns ns f (λ q e. e)) (union_right ms ns),
-  same_sorted text_cmp nat_list_cmp_total exact_bytes (union ns ms) ns (union_sorted ns ms k) k (λ q. same_bool (has_name (union ns ms) q) (has_name ns q) (union_within ns ms ns (λ r e. e) f q) (union_left ns ms q)),
+  same_sorted text_cmp nat_list_cmp_total exact_bytes (union ns ms) ns (union_sorted ns ms k) k (λ q. equal_by_both_ways (has_name (union ns ms) q) (has_name ns q) (union_within ns ms ns (λ r e. e) f q) (union_left ns ms q)),
 )
 
 -- ---- records

@@ -8,15 +8,11 @@ use Rattle.schema_types.specs.Ty.{Attrs}
 use Rattle.schema_types.specs.TyOrder.{attrs_cmp}
 use Rattle.schema_types.specs.TyLaws as laws
 use Rattle.schema_types.specs.NameLaws as names
-
-own_reverse : (o : Ordering) → o ≡ ordering_reverse o → o ≡ Equal
-own_reverse Less h = cc
-own_reverse Equal h = refl
-own_reverse Greater h = cc
+use Rattle.plain_lemmas.proofs.Orderings.{equal_of_own_reverse}
 
 module _ {X : Type 0} {R : X → X → Ordering} (total : IsTotalOrder R) where
   tie : (x : X) → R x x ≡ Equal
-  tie x = own_reverse (R x x) (total.antisymm x x)
+  tie x = equal_of_own_reverse (R x x) (total.antisymm x x)
 
   differs_less : (x y : X) → R x y ≡ Less → x ≢ y
   differs_less x y h e = let t = ap (λ w. R x w) (sym e) in let u = tie x in cc (h, t, u)

@@ -8,14 +8,7 @@ use Rattle.std.proofs.lemmas.Map.Lookups.{exact_bytes}
 use Rattle.policy_names.specs.Uid.{text_cmp}
 use Rattle.policy_names.proofs.Ties.{equal_of}
 use Rattle.schema_types.specs.Names.{has_name, AreAmong, union}
-
-or_right : (a b : Bool) → b ≡ true → (a || b) ≡ true
-or_right true b h = refl
-or_right false b h = h
-
-or_under : (a b c : Bool) → (b ≡ true → c ≡ true) → (a || b) ≡ true → (a || c) ≡ true
-or_under true b c f h = refl
-or_under false b c f h = f h
+use Rattle.plain_lemmas.proofs.Booleans.{or_right_true, or_weaker_right}
 
 pub own_reverse : (o : Ordering) → o ≡ ordering_reverse o → is_eq o ≡ true
 own_reverse Less h = cc
@@ -26,9 +19,9 @@ pub own_text : (k : List ℕ) → is_eq (text_cmp k k) ≡ true
 own_text k = own_reverse (text_cmp k k) (nat_list_cmp_total.antisymm k k)
 
 kept_turn : (q n x : List ℕ) (xs ys : List (List ℕ)) (o : Ordering) → (has_name xs q ≡ true → has_name ys q ≡ true) → has_name (x ∷ xs) q ≡ true → has_name (match_ordering o (n ∷ x ∷ xs) (x ∷ xs) (x ∷ ys)) q ≡ true
-kept_turn q n x xs ys Less f h = or_right (is_eq (text_cmp q n)) (has_name (x ∷ xs) q) h
+kept_turn q n x xs ys Less f h = or_right_true (is_eq (text_cmp q n)) (has_name (x ∷ xs) q) h
 kept_turn q n x xs ys Equal f h = h
-kept_turn q n x xs ys Greater f h = or_under (is_eq (text_cmp q x)) (has_name xs q) (has_name ys q) f h
+kept_turn q n x xs ys Greater f h = or_weaker_right (is_eq (text_cmp q x)) (has_name xs q) (has_name ys q) f h
 
 kept : (ms : List (List ℕ)) (n q : List ℕ) → has_name ms q ≡ true → has_name (insert_key text_cmp ms n) q ≡ true
 kept [] n q h = cc
@@ -37,7 +30,7 @@ kept (m ∷ ms) n q h = kept_turn q n m ms (insert_key text_cmp ms n) (text_cmp 
 there_turn : (n x : List ℕ) (xs ys : List (List ℕ)) (o : Ordering) → text_cmp n x ≡ o → has_name ys n ≡ true → has_name (match_ordering o (n ∷ x ∷ xs) (x ∷ xs) (x ∷ ys)) n ≡ true
 there_turn n x xs ys Less e h = ap (λ b. b || has_name (x ∷ xs) n) (own_text n)
 there_turn n x xs ys Equal e h = ap (λ o. is_eq o || has_name xs n) e
-there_turn n x xs ys Greater e h = or_right (is_eq (text_cmp n x)) (has_name ys n) h
+there_turn n x xs ys Greater e h = or_right_true (is_eq (text_cmp n x)) (has_name ys n) h
 
 there : (ms : List (List ℕ)) (n : List ℕ) → has_name (insert_key text_cmp ms n) n ≡ true
 there [] n = ap (λ b. b || false) (own_text n)

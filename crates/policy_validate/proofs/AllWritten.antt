@@ -13,6 +13,7 @@ use Rattle.policy_set.specs.Data.{TemplateData, PolicyData}
 use Rattle.policy_set.specs.Condition.{written_of}
 use Rattle.policy_set.specs.PolicySet.{PolicySetData, template_at, is_static, statics, written, IsPolicySet}
 use Rattle.policy_validate.proofs.Empty.{all_more}
+use Rattle.plain_lemmas.proofs.Lists.{all_map, all_of_map}
 
 module _ {X : Type 0} where
   all_split : (P : X → Type 0) (xs ys : List X) → AllByRecursion P (xs ++ ys) → AllByRecursion P xs × AllByRecursion P ys
@@ -48,14 +49,6 @@ module _ {X : Type 0} where
       by : (b : Bool) → (find f ys ≡ Some x → P x) → cond b (Some y) (find f ys) ≡ Some x → P x
       by true rest k = subst P (cc k) h.0
       by false rest k = rest k
-
-pub all_mapped : {X Y : Type 0} (f : X → Y) (P : Y → Type 0) (xs : List X) → AllByRecursion P (map f xs) → AllByRecursion (λ x. P (f x)) xs
-all_mapped f P [] h = tt
-all_mapped f P (x ∷ xs) h = (h.0, all_mapped f P xs h.1)
-
-mapped_all : {X Y : Type 0} (f : X → Y) (P : Y → Type 0) (xs : List X) → AllByRecursion (λ x. P (f x)) xs → AllByRecursion P (map f xs)
-mapped_all f P [] h = tt
-mapped_all f P (x ∷ xs) h = (h.0, mapped_all f P xs h.1)
 
 -- values of which no two have one key
 module _ {V : Type 0} (key : V → List ℕ) where
@@ -112,7 +105,7 @@ module _ {V : Type 0} (key : V → List ℕ) where
   unfolding IsStrictlySortedBy
   sorted_others [] h = tt
   sorted_others (v ∷ vs) h = (
-    all_more (λ w. text_cmp (key v) (key w) ≡ Less) (λ w. IsOther w v) (λ w less. ap is_eq (nat_list_cmp_total.antisymm (key w) (key v) ∙ ap ordering_reverse less)) vs (all_mapped key (λ k. text_cmp (key v) k ≡ Less) vs h.0),
+    all_more (λ w. text_cmp (key v) (key w) ≡ Less) (λ w. IsOther w v) (λ w less. ap is_eq (nat_list_cmp_total.antisymm (key w) (key v) ∙ ap ordering_reverse less)) vs (all_of_map key (λ k. text_cmp (key v) k ≡ Less) vs h.0),
     sorted_others vs h.1,
   )
 
@@ -135,17 +128,17 @@ module _ {V : Type 0} (key : V → List ℕ) where
 
 mapped_others : (ps : List PolicyData) → AreOthers (λ p. p.id) ps → AreOthers (λ t. t.id) (map written_of ps)
 mapped_others [] h = tt
-mapped_others (p ∷ ps) h = (mapped_all written_of (λ t. IsOther (λ t. t.id) t (written_of p)) ps h.0, mapped_others ps h.1)
+mapped_others (p ∷ ps) h = (all_map written_of (λ t. IsOther (λ t. t.id) t (written_of p)) ps h.0, mapped_others ps h.1)
 
 pub all_written : (P : TemplateData → Type 0) (s : PolicySetData) → IsPolicySet s → AllByRecursion P (written s) → AllByRecursion P s.templates × AllByRecursion (λ p. is_static p ≡ true → P (written_of p)) s.policies
 all_written P s set h =
     let others = joined_others (λ t. t.id) s.templates (statics s) (sorted_others (λ t. t.id) s.templates set.template_ids)
     (mapped_others (filter is_static s.policies) (kept_others (λ p. p.id) is_static s.policies (sorted_others (λ p. p.id) s.policies set.policy_ids)))
-    (mapped_all written_of (λ t. AllByRecursion (IsOther (λ t. t.id) t) s.templates) (filter is_static s.policies)
+    (all_map written_of (λ t. AllByRecursion (IsOther (λ t. t.id) t) s.templates) (filter is_static s.policies)
     (kept (λ p. AllByRecursion (IsOther (λ t. t.id) (written_of p)) s.templates) is_static s.policies
     (all_more (λ p. template_at s p.id ≡ None) (λ p. AllByRecursion (IsOther (λ t. t.id) (written_of p)) s.templates) (λ p none. none_other (λ t. t.id) p.id s.templates none) s.policies set.apart))) in
     let each = all_split P s.templates (statics s) (each_put (λ t. t.id) P [] (s.templates ++ statics s) (nothing (s.templates ++ statics s)) others h).1 in
-    (each.0, passed (λ p. P (written_of p)) is_static s.policies (all_mapped written_of P (filter is_static s.policies) each.1))
+    (each.0, passed (λ p. P (written_of p)) is_static s.policies (all_of_map written_of P (filter is_static s.policies) each.1))
   where
     nothing : (ts : List TemplateData) → AllByRecursion (λ t. Unit {0}) ts
     nothing [] = tt

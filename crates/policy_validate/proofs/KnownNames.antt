@@ -9,15 +9,12 @@ use Rattle.policy_expressions.specs.declared.kinds.Loc.{Loc}
 use Rattle.policy_expressions.specs.Plain.{Plain}
 use Rattle.schema_core.specs.Kinds.{Kind, standard, enumerated}
 use Rattle.schema_core.specs.Schema.{SchemaData, TypeData, type_at}
-use Rattle.policy_typing.specs.Conforms.{is_listed, is_listed_in}
+use Rattle.typing_spec.specs.Conforms.{is_listed, is_listed_in}
 use Rattle.findings.specs.Mentioned.{Mentioned, an_id, a_type, type_of, names_in, is_known_type, is_known_action}
 use Rattle.policy_scope.specs.Names.{distinct, entity_type_cmp, action_id_cmp, enum_cmp, entity_type_finding, entity_type_findings, action_id_finding, action_id_findings, choices_in, others_listed, enum_finding, enum_findings}
-use Rattle.typing_findings.specs.Names.{is_known_name, has_known_names}
+use Rattle.typecheck_spec.specs.Names.{is_known_name, has_known_names}
 use Rattle.policy_validate.proofs.Empty.{none_grown, none_kept, kept_none, all_pass, pass_all, all_more, all_both}
-
-and_both : (a b : Bool) → (a && b) ≡ true → (a ≡ true) × (b ≡ true)
-and_both true b h = (refl, h)
-and_both false b h = absurd (cc h)
+use Rattle.plain_lemmas.proofs.Booleans.{and_parts_of}
 
 pub found_none : {X : Type 0} (b : Bool) (x : X) → (if b then None else Some x) ≡ None → b ≡ true
 found_none true x h = refl
@@ -66,15 +63,15 @@ module _ (schema : SchemaData) (id : List ℕ) where
   name_known (a_type n, l) type listed action = found_none (is_known_type schema n) _ type
 
   type_known : (m : Mentioned × Option Loc) → IsKnown m → HasKnownType m
-  type_known (an_id u, l) h = none_found (is_known_type schema u.entity_type) _ (and_both (is_known_type schema u.entity_type) _ h).0
+  type_known (an_id u, l) h = none_found (is_known_type schema u.entity_type) _ (and_parts_of (is_known_type schema u.entity_type) _ h).0
   type_known (a_type n, l) h = none_found (is_known_type schema n) _ h
 
   id_listed : (m : Mentioned × Option Loc) → IsKnown m → IsListed m
-  id_listed (an_id u, l) h = listed_type u _ (type_at schema u.entity_type) (and_both (is_known_action schema u) _ (and_both (is_known_type schema u.entity_type) _ h).1).1
+  id_listed (an_id u, l) h = listed_type u _ (type_at schema u.entity_type) (and_parts_of (is_known_action schema u) _ (and_parts_of (is_known_type schema u.entity_type) _ h).1).1
   id_listed (a_type n, l) h = refl
 
   action_known : (m : Mentioned × Option Loc) → IsKnown m → HasKnownAction m
-  action_known (an_id u, l) h = none_found (is_known_action schema u) _ (and_both (is_known_action schema u) _ (and_both (is_known_type schema u.entity_type) _ h).1).0
+  action_known (an_id u, l) h = none_found (is_known_action schema u) _ (and_parts_of (is_known_action schema u) _ (and_parts_of (is_known_type schema u.entity_type) _ h).1).0
   action_known (a_type n, l) h = refl
 
   pub names_known : (e : Plain) → entity_type_findings schema id e ≡ [] → enum_findings schema id e ≡ [] → action_id_findings schema id e ≡ [] → IsTrue (has_known_names schema e)

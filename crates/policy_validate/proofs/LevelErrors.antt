@@ -12,24 +12,24 @@ use Rattle.schema_core.specs.Schema.{SchemaData}
 use Rattle.schema_core.specs.declared.request_env.RequestEnv.{RequestEnv}
 use Rattle.policy_expressions.specs.Tree.{depth_of}
 use Rattle.policy_expressions.specs.Plain.{Plain}
-use Rattle.policy_typing.specs.Operands.{is_boolean}
-use Rattle.policy_typing.specs.Typing.{Typed, Typing, types}
+use Rattle.typing_spec.specs.Operands.{is_boolean}
+use Rattle.typing_spec.specs.Typing.{Typed, Typing, types}
 use Rattle.policy_set.specs.Data.{TemplateData}
 use Rattle.policy_set.specs.Condition.{condition_of}
 use Rattle.policy_set.specs.PolicySet.{written, links}
-use Rattle.typing_findings.specs.Check.{Check, check_of, check_by, checked, condition_walked, TooDeep, CheckIsExact}
-use Rattle.typing_findings.specs.Check as check
-use Rattle.typing_findings.specs.Walked.{findings_of}
-use Rattle.policy_links.specs.Accepted.{IsTyped, IsTypedIn, IsAcceptedTemplate}
-use Rattle.policy_links.specs.Laws.{RefusalsAreTold}
-use Rattle.policy_links.specs.Linked.{linked_envs}
-use Rattle.policy_levels.specs.Levels.{passes}
-use Rattle.policy_levels.specs.Policies as level
-use Rattle.policy_levels.specs.Policies.{PassesAt}
+use Rattle.typecheck_spec.specs.Check.{Check, check_of, check_by, checked, condition_walked, TooDeep, CheckIsExact}
+use Rattle.typecheck_spec.specs.Check as check
+use Rattle.typecheck_spec.specs.Walked.{findings_of}
+use Rattle.link_spec.specs.Accepted.{IsTyped, IsTypedIn, IsAcceptedTemplate}
+use Rattle.link_spec.specs.Laws.{RefusalsAreTold}
+use Rattle.link_spec.specs.Linked.{linked_envs}
+use Rattle.level_spec.specs.Levels.{passes}
+use Rattle.level_spec.specs.Policies as level
+use Rattle.level_spec.specs.Policies.{PassesAt}
 use Rattle.policy_typecheck.specs.Answer.{Tells, TellsIn}
 use Rattle.policy_typecheck.specs.declared.policy_check.PolicyCheck.{PolicyCheck}
 use Rattle.policy_typecheck.specs.declared.policy_check.PolicyCheck.TheVariants.{Success, Irrelevant, Fail}
-use Rattle.level_checks.specs.Errors.{Condition, PassesIn, LevelErrorsAreExact}
+use Rattle.level_validate.specs.Errors.{Condition, PassesIn, LevelErrorsAreExact}
 use Rattle.policy_validate.specs.Accepted.{errors_of_written, errors_of_link}
 use Rattle.policy_validate.specs.Checks.{condition_in}
 use Rattle.policy_validate.specs.Laws.{NoErrorsWhereAccepted}

@@ -7,8 +7,8 @@ use Rattle.policy_expressions.specs.Keys.{HasKeysOnce}
 use Rattle.policy_expressions.specs.Plain.{Plain}
 use Rattle.policy_expressions.specs.Slots.{has_slot}
 use Rattle.policy_expressions.specs.declared.kinds.SlotId.TheVariants.{Principal, Resource}
-use Rattle.policy_store.specs.declared.request.Request.{Request}
-use Rattle.policy_store.specs.Store.{Store}
+use Rattle.entity_store.specs.declared.request.Request.{Request}
+use Rattle.entity_store.specs.Store.{Store}
 use Rattle.policy_core.specs.Eval.{eval}
 use Rattle.policy_set.specs.Data.{TemplateData, PolicyData, LinkData}
 use Rattle.policy_set.specs.Condition.{scope_part, action_part, condition_of, written_of, IsPolicy}
@@ -16,15 +16,16 @@ use Rattle.policy_set.specs.PolicySet.{PolicySetData, template_at, is_link, is_s
 use Rattle.schema_core.specs.Faults.{IsSchema}
 use Rattle.schema_core.specs.Schema.{SchemaData}
 use Rattle.policy_scope.specs.Scope.{is_applicable}
-use Rattle.policy_typing.specs.Conforms.{RequestConforms, StoreConforms}
-use Rattle.policy_links.specs.Accepted.{IsAcceptedTemplate, HasKnownType}
-use Rattle.policy_levels.specs.Cut.{cut}
-use Rattle.policy_levels.specs.Policies.{PassesAt, LinkLevelsAreSound, StaticLevelsAreSound}
+use Rattle.typing_spec.specs.Conforms.{RequestConforms, StoreConforms}
+use Rattle.link_spec.specs.Accepted.{IsAcceptedTemplate, HasKnownType}
+use Rattle.level_spec.specs.Cut.{cut}
+use Rattle.level_spec.specs.Policies.{PassesAt, LinkLevelsAreSound, StaticLevelsAreSound}
 use Rattle.policy_validate.specs.Accepted.{KeepsLinkRules}
 use Rattle.policy_validate.specs.Levels.{AcceptedLevelsAreSound}
 use Rattle.policy_validate.proofs.Empty.{all_both}
 use Rattle.policy_validate.proofs.AllWritten.{all_found, passed, all_written}
-use Rattle.policy_validate.proofs.OwnConditions.{either_false, part_slot}
+use Rattle.policy_validate.proofs.OwnConditions.{part_slot}
+use Rattle.plain_lemmas.proofs.Booleans.{or_false_parts}
 
 module _ (schema : SchemaData) (ok : IsSchema schema) (n : ℕ) (q : Request) (conforms : RequestConforms schema q) (whole : Store) (stored : StoreConforms schema whole) where
   abbrev IsSame : Plain → Type 0
@@ -38,9 +39,9 @@ module _ (schema : SchemaData) (ok : IsSchema schema) (n : ℕ) (q : Request) (c
   static_same sound p policy keys accepted =
       let t = written_of p in
       let plain : has_slot (condition_of t) ≡ false = sym (ap has_slot policy.condition) ∙ policy.no_slot in
-      let parts = either_false ((has_slot (scope_part Principal t.principal) || has_slot (action_part t.action)) || has_slot (scope_part Resource t.resource)) (has_slot t.body) plain in
-      let scope = either_false (has_slot (scope_part Principal t.principal) || has_slot (action_part t.action)) (has_slot (scope_part Resource t.resource)) parts.0 in
-      let principal = either_false (has_slot (scope_part Principal t.principal)) (has_slot (action_part t.action)) scope.0 in
+      let parts = or_false_parts ((has_slot (scope_part Principal t.principal) || has_slot (action_part t.action)) || has_slot (scope_part Resource t.resource)) (has_slot t.body) plain in
+      let scope = or_false_parts (has_slot (scope_part Principal t.principal) || has_slot (action_part t.action)) (has_slot (scope_part Resource t.resource)) parts.0 in
+      let principal = or_false_parts (has_slot (scope_part Principal t.principal)) (has_slot (action_part t.action)) scope.0 in
       subst IsSame (sym policy.condition)
       (sound schema ok t parts.1 (subst HasKeysOnce policy.condition keys).1 (sym (part_slot Principal t.principal) ∙ principal.0) (sym (part_slot Resource t.resource) ∙ scope.1) accepted.0 n accepted.1 q conforms whole stored)
 

@@ -6,3 +6,7 @@ pub mod OwnConditions
 pub mod TypedConditions
 pub mod LevelErrors
 pub mod LevelsSound
+pub mod Checks
+mod Shallow
+mod Exact
+mod Left

@@ -12,9 +12,9 @@ use Rattle.policy_set.specs.PolicySet.{PolicySetData, written, links}
 use Rattle.findings.specs.Mentioned.{an_id, is_known_type}
 use Rattle.policy_scope.specs.Names.{distinct, entity_type_cmp, entity_type_finding, entity_type_findings, enum_findings, action_id_findings, ids_given, slot_type_findings}
 use Rattle.policy_scope.specs.Scope.{application_finding, application_findings, is_applicable}
-use Rattle.typing_findings.specs.Check.{CheckIsExact}
-use Rattle.policy_links.specs.Accepted.{IsAcceptedTemplate, HasKnownType}
-use Rattle.policy_links.specs.Laws.{RefusalsAreTold}
+use Rattle.typecheck_spec.specs.Check.{CheckIsExact}
+use Rattle.link_spec.specs.Accepted.{IsAcceptedTemplate, HasKnownType}
+use Rattle.link_spec.specs.Laws.{RefusalsAreTold}
 use Rattle.policy_validate.specs.Accepted.{typing_errors, errors_of_written, errors_of_link, findings_of, KeepsLinkRules, IsAccepted}
 use Rattle.policy_validate.specs.Laws.{NoErrorsWhereAccepted}
 use Rattle.policy_validate.proofs.Empty.{parts_empty, empty_parts, none_grown, none_mapped, none_kept, kept_none, all_more, none_in_each, each_none}

@@ -18,16 +18,13 @@ use Rattle.schema_core.specs.EnvData.{unlinked_envs}
 use Rattle.schema_core.specs.Faults.{IsSchema}
 use Rattle.schema_core.specs.Schema.{SchemaData}
 use Rattle.policy_scope.specs.Scope.{is_applicable}
-use Rattle.policy_links.specs.Accepted.{IsTypedIn, IsAcceptedTemplate, HasKnownType}
-use Rattle.policy_links.specs.Laws.{LinksAreTyped, StaticsAreTyped, TypedAreSound, IsConditionFor}
+use Rattle.link_spec.specs.Accepted.{IsTypedIn, IsAcceptedTemplate, HasKnownType}
+use Rattle.link_spec.specs.Laws.{LinksAreTyped, StaticsAreTyped, TypedAreSound, IsConditionFor}
 use Rattle.policy_validate.specs.Accepted.{KeepsLinkRules, IsAccepted}
 use Rattle.policy_validate.specs.Laws.{AcceptedAreTyped, AcceptedAreSound}
 use Rattle.policy_validate.proofs.Empty.{all_both}
 use Rattle.policy_validate.proofs.AllWritten.{all_found, passed, all_written}
-
-pub either_false : (a b : Bool) → (a || b) ≡ false → (a ≡ false) × (b ≡ false)
-either_false true b h = absurd (cc h)
-either_false false b h = (refl, h)
+use Rattle.plain_lemmas.proofs.Booleans.{or_false_parts}
 
 -- a part of a scope has a slot exactly where its constraint asks for one
 pub part_slot : (i : SlotId) (c : PrincipalOrResourceConstraint) → has_slot (scope_part i c) ≡ asks_slot c
@@ -48,9 +45,9 @@ module _ (schema : SchemaData) where
   static_typed typed p policy accepted =
       let t = written_of p in
       let plain : has_slot (condition_of t) ≡ false = sym (ap has_slot policy.condition) ∙ policy.no_slot in
-      let whole = either_false ((has_slot (scope_part Principal t.principal) || has_slot (action_part t.action)) || has_slot (scope_part Resource t.resource)) (has_slot t.body) plain in
-      let scope = either_false (has_slot (scope_part Principal t.principal) || has_slot (action_part t.action)) (has_slot (scope_part Resource t.resource)) whole.0 in
-      let principal = either_false (has_slot (scope_part Principal t.principal)) (has_slot (action_part t.action)) scope.0 in
+      let whole = or_false_parts ((has_slot (scope_part Principal t.principal) || has_slot (action_part t.action)) || has_slot (scope_part Resource t.resource)) (has_slot t.body) plain in
+      let scope = or_false_parts (has_slot (scope_part Principal t.principal) || has_slot (action_part t.action)) (has_slot (scope_part Resource t.resource)) whole.0 in
+      let principal = or_false_parts (has_slot (scope_part Principal t.principal)) (has_slot (action_part t.action)) scope.0 in
       subst (λ x. IsTypedIn schema x (unlinked_envs schema)) (sym policy.condition)
       (typed schema t (sym (part_slot Principal t.principal) ∙ principal.0) (sym (part_slot Resource t.resource) ∙ scope.1) accepted)
 

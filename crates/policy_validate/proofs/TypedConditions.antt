@@ -9,18 +9,19 @@ use Rattle.schema_core.specs.EnvData.{EnvData}
 use Rattle.schema_core.specs.Schema.{SchemaData}
 use Rattle.policy_expressions.specs.Tree.{depth_of}
 use Rattle.policy_expressions.specs.Plain.{Plain}
-use Rattle.policy_typing.specs.Operands.{is_boolean}
-use Rattle.policy_typing.specs.Typing.{Typed, Typing, types}
+use Rattle.typing_spec.specs.Operands.{is_boolean}
+use Rattle.typing_spec.specs.Typing.{Typed, Typing, types}
 use Rattle.policy_set.specs.Data.{TemplateData}
 use Rattle.policy_set.specs.Condition.{condition_of}
-use Rattle.typing_findings.specs.Check.{Check, check_of, check_by, checked, condition_walked, TooDeep, CheckIsExact, TellsWhy}
-use Rattle.typing_findings.specs.Walked.{findings_of}
-use Rattle.policy_links.specs.Accepted.{IsTyped, IsTypedIn}
-use Rattle.policy_links.specs.Linked.{linked_envs}
+use Rattle.typecheck_spec.specs.Check.{Check, check_of, check_by, checked, condition_walked, TooDeep, CheckIsExact, TellsWhy}
+use Rattle.typecheck_spec.specs.Walked.{findings_of}
+use Rattle.link_spec.specs.Accepted.{IsTyped, IsTypedIn}
+use Rattle.link_spec.specs.Linked.{linked_envs}
 use Rattle.policy_typecheck.specs.Added.{all_added, same_error}
 use Rattle.policy_typecheck.specs.Answer.{errors_of, too_deep}
 use Rattle.policy_typecheck.specs.Policies.{refusals}
 use Rattle.policy_validate.proofs.Empty.{all_both, all_more, none_grown, none_in_each, each_none}
+use Rattle.plain_lemmas.proofs.Lists.{all_map, all_of_map}
 
 module _ (id : List ℕ) where
   boolean_of : (u : Ty) (t : Typed) (fs : List Finding) → TellsWhy (check_of u t fs) → errors_of id (check_of u t fs) ≡ [] → is_boolean u ≡ true
@@ -57,14 +58,6 @@ module _ (id : List ℕ) where
     pub in_typed : (env : EnvData) → IsTyped schema e env → errors_of id (checked schema env e) ≡ []
     in_typed env h = subst (λ c. errors_of id c ≡ []) (sym (check_is env)) (of_typed (types schema env [] e) (findings_of (condition_walked schema env e)) h)
 
-none_mapped : {X Y : Type 0} (f : X → Y) (P : Y → Type 0) (xs : List X) → AllByRecursion P (map f xs) → AllByRecursion (λ x. P (f x)) xs
-none_mapped f P [] h = tt
-none_mapped f P (x ∷ xs) h = (h.0, none_mapped f P xs h.1)
-
-mapped_none : {X Y : Type 0} (f : X → Y) (P : Y → Type 0) (xs : List X) → AllByRecursion (λ x. P (f x)) xs → AllByRecursion P (map f xs)
-mapped_none f P [] h = tt
-mapped_none f P (x ∷ xs) h = (h.0, mapped_none f P xs h.1)
-
 module _ (exact : CheckIsExact) (schema : SchemaData) (t : TemplateData) where
   abbrev condition : Plain
   condition = condition_of t
@@ -80,7 +73,7 @@ module _ (exact : CheckIsExact) (schema : SchemaData) (t : TemplateData) where
       by false flat h = (
         ltb-false 200 (depth_of condition) flat,
         all_both (λ env. TellsWhy (check_at env)) (λ env. errors_of t.id (check_at env) ≡ []) (IsTyped schema condition) (λ env. typed_in t.id exact schema condition flat env) (linked_envs schema t) told
-            (none_mapped check_at (λ c. errors_of t.id c ≡ []) (linked_envs schema t) (none_in_each (errors_of t.id) (map check_at (linked_envs schema t)) h)),
+            (all_of_map check_at (λ c. errors_of t.id c ≡ []) (linked_envs schema t) (none_in_each (errors_of t.id) (map check_at (linked_envs schema t)) h)),
       )
 
   pub typed_is : depth_of condition ≤ 200 → IsTypedIn schema condition (linked_envs schema t) → all_added same_error [] (refusals schema t) ≡ []
@@ -89,4 +82,4 @@ module _ (exact : CheckIsExact) (schema : SchemaData) (t : TemplateData) where
       ap (all_added same_error [])
       (ap (λ b. if b then too_deep t.id ∷ [] else flat_map (errors_of t.id) (map check_at (linked_envs schema t))) flat
       ∙ each_none (errors_of t.id) (map check_at (linked_envs schema t))
-      (mapped_none check_at (λ c. errors_of t.id c ≡ []) (linked_envs schema t) (all_more (IsTyped schema condition) (λ env. errors_of t.id (check_at env) ≡ []) (λ env. in_typed t.id exact schema condition flat env) (linked_envs schema t) typed)))
+      (all_map check_at (λ c. errors_of t.id c ≡ []) (linked_envs schema t) (all_more (IsTyped schema condition) (λ env. errors_of t.id (check_at env) ≡ []) (λ env. in_typed t.id exact schema condition flat env) (linked_envs schema t) typed)))

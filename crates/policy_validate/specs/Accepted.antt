@@ -8,12 +8,12 @@ use Rattle.schema_core.specs.Schema.{SchemaData}
 use Rattle.findings.specs.declared.error.ValidationError.{ValidationError}
 use Rattle.findings.specs.declared.error.ValidationError.TheVariants.{UnrecognizedEntityType, InvalidEnumEntity, UnrecognizedActionId, InvalidActionApplication}
 use Rattle.findings.specs.declared.error.ValidationWarning.{ValidationWarning}
-use Rattle.finding_texts.specs.Findings.{Findings}
+use Rattle.finding_messages.specs.Findings.{Findings}
 use Rattle.policy_scope.specs.Names.{entity_type_findings, enum_findings, action_id_findings, slot_type_findings}
 use Rattle.policy_scope.specs.Scope.{application_findings, is_applicable}
 use Rattle.policy_typecheck.specs.Added.{all_added, same_error}
 use Rattle.policy_typecheck.specs.Policies.{refusals, warned}
-use Rattle.policy_links.specs.Accepted.{IsAcceptedTemplate, HasKnownType}
+use Rattle.link_spec.specs.Accepted.{IsAcceptedTemplate, HasKnownType}
 
 module _ (schema : SchemaData) where
   -- what typing finds of a condition, each finding once

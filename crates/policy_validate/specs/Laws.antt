@@ -1,15 +1,15 @@
 -- What holds of the sets that are accepted.
 use Rattle.std.specs.Prelude.{◌≡◌, ◌↔◌, []}
 use Rattle.std.specs.List.{AllByRecursion}
-use Rattle.policy_store.specs.declared.request.Request.{Request}
-use Rattle.policy_store.specs.Store.{Store}
+use Rattle.entity_store.specs.declared.request.Request.{Request}
+use Rattle.entity_store.specs.Store.{Store}
 use Rattle.policy_set.specs.PolicySet.{PolicySetData, IsPolicySet, AreKeyedOnce}
 use Rattle.schema_core.specs.EnvData.{unlinked_envs}
 use Rattle.schema_core.specs.Faults.{IsSchema}
 use Rattle.schema_core.specs.Schema.{SchemaData}
-use Rattle.policy_typing.specs.Conforms.{RequestConforms, StoreConforms}
-use Rattle.policy_links.specs.Accepted.{IsTypedIn}
-use Rattle.policy_links.specs.Laws.{IsConditionFor}
+use Rattle.typing_spec.specs.Conforms.{RequestConforms, StoreConforms}
+use Rattle.link_spec.specs.Accepted.{IsTypedIn}
+use Rattle.link_spec.specs.Laws.{IsConditionFor}
 use Rattle.policy_validate.specs.Accepted.{findings_of, IsAccepted}
 
 -- no error is found exactly where the set is accepted

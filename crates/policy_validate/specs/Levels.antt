@@ -2,8 +2,8 @@
 use Rattle.std.specs.Prelude.{◌≡◌, ◌↔◌, ℕ, List, [], ◌∷◌, ◌++◌, Option, flat_map, option_map}
 use Rattle.std.specs.List.{AllByRecursion, filter_map}
 use Rattle.policy_expressions.specs.Plain.{Plain}
-use Rattle.policy_store.specs.declared.request.Request.{Request}
-use Rattle.policy_store.specs.Store.{Store}
+use Rattle.entity_store.specs.declared.request.Request.{Request}
+use Rattle.entity_store.specs.Store.{Store}
 use Rattle.policy_core.specs.Eval.{eval}
 use Rattle.policy_set.specs.Data.{TemplateData}
 use Rattle.policy_set.specs.Condition.{condition_of}
@@ -12,13 +12,13 @@ use Rattle.schema_core.specs.EnvData.{EnvData, action_in}
 use Rattle.schema_core.specs.Faults.{IsSchema}
 use Rattle.schema_core.specs.Schema.{SchemaData}
 use Rattle.findings.specs.declared.error.ValidationError.{ValidationError}
-use Rattle.finding_texts.specs.Findings.{Findings}
-use Rattle.policy_typing.specs.Conforms.{RequestConforms, StoreConforms}
-use Rattle.typing_findings.specs.Check.{checked}
-use Rattle.policy_links.specs.Linked.{linked_envs}
-use Rattle.policy_levels.specs.Cut.{cut}
-use Rattle.policy_levels.specs.Policies.{PassesAt}
-use Rattle.level_checks.specs.Errors.{Condition, dereferences_in, level_errors_in, IsToldOf}
+use Rattle.finding_messages.specs.Findings.{Findings}
+use Rattle.typing_spec.specs.Conforms.{RequestConforms, StoreConforms}
+use Rattle.typecheck_spec.specs.Check.{checked}
+use Rattle.link_spec.specs.Linked.{linked_envs}
+use Rattle.level_spec.specs.Cut.{cut}
+use Rattle.level_spec.specs.Policies.{PassesAt}
+use Rattle.level_validate.specs.Errors.{Condition, dereferences_in, level_errors_in, IsToldOf}
 use Rattle.policy_validate.specs.Accepted.{errors_of_written, errors_of_link, warnings_of, IsAccepted}
 use Rattle.policy_validate.specs.Checks.{condition_in}
 

@@ -3,3 +3,8 @@ pub mod Checks
 pub mod Laws
 pub mod Levels
 pub mod Told
+pub mod Typed
+pub mod Found
+pub mod ConditionLaws
+pub mod Rules
+pub mod AcceptanceLaws

@@ -5,7 +5,7 @@ use Rattle.schema_core.specs.RequestEnvs.{env_data_of}
 use Rattle.schema_core.specs.declared.request_env.RequestEnv.{RequestEnv}
 use Rattle.policy_typecheck.specs.declared.policy_check.PolicyCheck.{PolicyCheck}
 use Rattle.policy_typecheck.specs.declared.policy_check.PolicyCheck.TheVariants.{Success, Irrelevant, Fail}
-use Rattle.level_checks.specs.Errors.{Condition}
+use Rattle.level_validate.specs.Errors.{Condition}
 
 -- that of a check in an environment, with the action there
 abbrev pub told_by : EnvData → PolicyCheck → Option Condition

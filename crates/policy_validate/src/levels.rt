@@ -3,7 +3,7 @@
 ghost use Rattle.std.specs.Prelude.{◌≡◌, ◌↔◌, ◌++◌, [], map, flat_map, IfOk, OnOk};
 ghost use Rattle.std.specs.List.{filter_map};
 ghost use Rattle.policy_set.specs.PolicySet.{written};
-ghost use Rattle.level_checks.specs.Errors.{condition_in};
+ghost use Rattle.level_validate.specs.Errors.{condition_in};
 ghost use Rattle.policy_validate.specs.Accepted.{warnings_of};
 ghost use Rattle.policy_validate.specs.Levels.{level_errors_of, errors_at_level, level_findings_of, IsAcceptedAt, CutIsEnough};
 ghost use Rattle.policy_validate.specs.Told.{level_condition_told};
@@ -12,7 +12,7 @@ use crate::Validator;
 use crate::laws::{accepted_levels_are_sound, no_errors_where_accepted_at};
 use crate::validator::{add_all_links, add_written};
 use extension_types::{ExtensionSchemas, all_objects};
-use level_checks::level_errors;
+use level_validate::level_errors;
 use policy_expressions::Expr;
 use policy_scope::{ValidationError, ValidationResult, ValidationWarning};
 use policy_set::laws::{have_keys_once, is_policy_set};

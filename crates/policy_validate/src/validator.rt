@@ -4,7 +4,7 @@ ghost use Rattle.std.specs.Prelude.{◌≡◌, ◌↔◌, ◌++◌, [], map, fla
 ghost use Rattle.std.specs.List.{AllByRecursion};
 ghost use Rattle.findings.specs.declared.error.ValidationError.TheVariants as error;
 ghost use Rattle.schema_core.specs.EnvData.{unlinked_envs};
-ghost use Rattle.policy_links.specs.Accepted.{IsTypedIn};
+ghost use Rattle.link_spec.specs.Accepted.{IsTypedIn};
 ghost use Rattle.policy_set.specs.PolicySet.{written, links};
 ghost use Rattle.policy_validate.specs.Accepted.{typing_errors, errors_of_written, errors_of_link, warnings_of, findings_of, IsAccepted};
 

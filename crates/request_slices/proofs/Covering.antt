@@ -7,30 +7,30 @@ use Rattle.policy_core.specs.Eval.{eval}
 use Rattle.policy_core.specs.declared.outcome.Outcome.{Outcome}
 use Rattle.policy_core.specs.declared.outcome.Outcome.TheVariants.{Value, Error}
 use Rattle.policy_expressions.specs.Plain.{Plain}
-use Rattle.policy_store.specs.declared.request.Request.{Request}
-use Rattle.policy_store.specs.Request.{principal_of, action_of, resource_of}
-use Rattle.policy_store.specs.Store.{Store}
+use Rattle.entity_store.specs.declared.request.Request.{Request}
+use Rattle.entity_store.specs.Request.{principal_of, action_of, resource_of}
+use Rattle.entity_store.specs.Store.{Store}
 use Rattle.policy_set.specs.Data.{PolicyData}
 use Rattle.policy_set.specs.PolicySet.{PolicySetData, IsPolicySet}
-use Rattle.authorizer.specs.Allowed.{AreAllowed}
-use Rattle.authorizer.specs.Response.{outcomes}
+use Rattle.policy_set.specs.Allowed.{AreAllowed}
+use Rattle.policy_set.specs.Response.{outcomes}
 use Rattle.schema_core.specs.Environments.{environment}
 use Rattle.schema_core.specs.EnvData.{declared_action, unlinked}
 use Rattle.schema_core.specs.Faults.{IsSchema}
 use Rattle.schema_core.specs.Schema.{ActionData, SchemaData, action_at}
-use Rattle.policy_typing.specs.Conditions.{IsCondition}
-use Rattle.policy_typing.specs.Conforms.{Applies, IsOf}
-use Rattle.policy_typing.specs.Signatures.{bool_type}
-use Rattle.policy_typing.specs.Sound.{IsOfType}
-use Rattle.policy_typing.specs.Typing.{Typing, types}
-use Rattle.policy_links.specs.Laws.{TypedEverywhere, IsConditionFor}
-use Rattle.policy_links.proofs.Statics.{env_for, for_request}
-use Rattle.policy_reads.specs.Cover.{IsPartOf, restricted}
-use Rattle.policy_reads.specs.Reads.{declared_reads, declared_demands}
-use Rattle.policy_reads.specs.Restrict.{needed}
-use Rattle.policy_coverage.specs.Policies.{PoliciesAreCovered}
+use Rattle.typing_spec.specs.Conditions.{IsCondition}
+use Rattle.typing_spec.specs.Conforms.{Applies, IsOf}
+use Rattle.typing_spec.specs.Signatures.{bool_type}
+use Rattle.typing_spec.specs.Sound.{IsOfType}
+use Rattle.typing_spec.specs.Typing.{Typing, types}
+use Rattle.link_spec.specs.Laws.{TypedEverywhere, IsConditionFor}
+use Rattle.link_spec.proofs.Statics.{env_for, for_request}
+use Rattle.reads_spec.specs.Cover.{IsPartOf, restricted}
+use Rattle.reads_spec.specs.Reads.{declared_reads, declared_demands}
+use Rattle.reads_spec.specs.Restrict.{needed}
+use Rattle.reads_spec.specs.Policies.{PoliciesAreCovered}
 use Rattle.policy_validate.specs.Laws.{AcceptedAreTyped, AcceptedAreSound}
-use Rattle.typed_conditions.specs.Typed.{typed_conditions}
+use Rattle.policy_validate.specs.Typed.{typed_conditions}
 use Rattle.request_slices.specs.Enough.{Covers, AreAllowedBetween, IsEnough, OutcomesAreAllowed, SlicesAreEnough}
 use Rattle.request_slices.specs.Rules.{KeepRules}
 use Rattle.request_slices.specs.Slice.{slice, slice_in}

@@ -2,12 +2,12 @@
 use Rattle.std.proofs.Common.{◌≡◌, true, List, [], ◌∷◌, filter, refl, sym, ap}
 use Rattle.policy_names.specs.declared.entity_uid.EntityUID.{EntityUID}
 use Rattle.policy_values.specs.Value.{Val, rec, Fields, no_fields, field}
-use Rattle.policy_store.specs.declared.request.Request.{Request}
-use Rattle.policy_store.specs.Store.{Store}
+use Rattle.entity_store.specs.declared.request.Request.{Request}
+use Rattle.entity_store.specs.Store.{Store}
 use Rattle.policy_set.specs.Data.{PolicyData}
-use Rattle.authorizer.specs.Response.{outcome, outcomes, true_permits, true_forbids, failures, decided, response}
-use Rattle.policy_reads.specs.Cover.{IsPartOf}
-use Rattle.policy_reads.specs.Restrict.{Keep, cut, cut_fields, part}
+use Rattle.policy_set.specs.Response.{outcome, outcomes, true_permits, true_forbids, failures, decided, response}
+use Rattle.reads_spec.specs.Cover.{IsPartOf}
+use Rattle.reads_spec.specs.Restrict.{Keep, cut, cut_fields, part}
 
 -- the response is made of the outcomes
 permits_same : (q : Request) (s w : Store) (ps : List PolicyData) → outcomes ps q s ≡ outcomes ps q w → true_permits q s ps ≡ true_permits q w ps

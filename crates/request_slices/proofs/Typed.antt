@@ -5,21 +5,21 @@ use Rattle.hierarchy.specs.Reaches.{has}
 use Rattle.policy_names.specs.Uid.{text_cmp}
 use Rattle.policy_expressions.specs.Keys.{HasKeysOnce}
 use Rattle.policy_expressions.specs.Plain.{Plain}
-use Rattle.policy_store.specs.declared.request.Request.{Request}
-use Rattle.policy_store.specs.Request.{principal_of, action_of, resource_of}
+use Rattle.entity_store.specs.declared.request.Request.{Request}
+use Rattle.entity_store.specs.Request.{principal_of, action_of, resource_of}
 use Rattle.schema_core.specs.Environments.{environment}
 use Rattle.schema_core.specs.EnvData.{EnvData, declared_action, unlinked, unlinked_envs}
 use Rattle.schema_core.specs.Schema.{ActionData, SchemaData, action_at}
 use Rattle.policy_set.specs.Condition.{IsPolicy}
 use Rattle.policy_set.specs.Data.{PolicyData}
-use Rattle.policy_typing.specs.Conforms.{Applies, RequestConforms}
-use Rattle.policy_typing.specs.Operands.{is_boolean}
-use Rattle.policy_typing.specs.Typing.{Typing, types}
-use Rattle.policy_links.specs.Accepted.{IsTyped, IsTypedIn}
-use Rattle.policy_links.specs.Laws.{TypedEverywhere}
-use Rattle.policy_links.proofs.Statics.{env_for, for_request}
-use Rattle.policy_coverage.specs.Policies.{PolicyHasTyping}
-use Rattle.typed_conditions.specs.Typed.{typed_conditions}
+use Rattle.typing_spec.specs.Conforms.{Applies, RequestConforms}
+use Rattle.typing_spec.specs.Operands.{is_boolean}
+use Rattle.typing_spec.specs.Typing.{Typing, types}
+use Rattle.link_spec.specs.Accepted.{IsTyped, IsTypedIn}
+use Rattle.link_spec.specs.Laws.{TypedEverywhere}
+use Rattle.link_spec.proofs.Statics.{env_for, for_request}
+use Rattle.reads_spec.specs.Policies.{PolicyHasTyping}
+use Rattle.policy_validate.specs.Typed.{typed_conditions}
 use Rattle.request_slices.specs.Slice.{env_of}
 
 module _ (everywhere : TypedEverywhere) (schema : SchemaData) (q : Request) (a : ActionData) (is : action_at schema (action_of q) ≡ Some a) (applies : Applies schema q a) where

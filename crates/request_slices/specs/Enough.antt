@@ -1,14 +1,14 @@
 -- The slice is enough.
 use Rattle.std.specs.Prelude.{◌≡◌, List}
-use Rattle.policy_store.specs.declared.request.Request.{Request}
-use Rattle.policy_store.specs.Store.{Store}
+use Rattle.entity_store.specs.declared.request.Request.{Request}
+use Rattle.entity_store.specs.Store.{Store}
 use Rattle.policy_set.specs.Data.{PolicyData}
 use Rattle.policy_set.specs.PolicySet.{PolicySetData, IsPolicySet, AreKeyedOnce}
-use Rattle.authorizer.specs.Allowed.{AreAllowed}
-use Rattle.authorizer.specs.Response.{outcomes, response}
+use Rattle.policy_set.specs.Allowed.{AreAllowed}
+use Rattle.policy_set.specs.Response.{outcomes, response}
 use Rattle.schema_core.specs.Faults.{IsSchema}
 use Rattle.schema_core.specs.Schema.{SchemaData}
-use Rattle.policy_reads.specs.Cover.{IsPartOf}
+use Rattle.reads_spec.specs.Cover.{IsPartOf}
 use Rattle.request_slices.specs.Slice.{slice}
 use Rattle.request_slices.specs.Rules.{KeepRules}
 

@@ -1,3 +1,5 @@
 pub mod Slice
 pub mod Rules
 pub mod Enough
+pub mod Refused
+pub mod CheckSteps

@@ -1,10 +1,10 @@
 -- What is asked of a schema, policies, a request and a store before there is a slice or a decision.
-use Rattle.policy_store.specs.declared.request.Request.{Request}
-use Rattle.policy_store.specs.Request.{IsWhole}
-use Rattle.policy_store.specs.Store.{Store}
+use Rattle.entity_store.specs.declared.request.Request.{Request}
+use Rattle.entity_store.specs.Request.{IsWhole}
+use Rattle.entity_store.specs.Store.{Store}
 use Rattle.policy_set.specs.PolicySet.{PolicySetData}
 use Rattle.schema_core.specs.Schema.{SchemaData}
-use Rattle.policy_typing.specs.Conforms.{RequestConforms, StoreConforms}
+use Rattle.typing_spec.specs.Conforms.{RequestConforms, StoreConforms}
 use Rattle.policy_validate.specs.Accepted.{IsAccepted}
 
 -- every rule holds

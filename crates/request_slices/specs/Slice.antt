@@ -1,14 +1,14 @@
 -- The slice of a store for a request.
 use Rattle.std.specs.Prelude.{List, [], Option, Some, None, option_map}
-use Rattle.policy_store.specs.declared.request.Request.{Request}
-use Rattle.policy_store.specs.Request.{principal_of, action_of, resource_of}
-use Rattle.policy_store.specs.Store.{Store}
+use Rattle.entity_store.specs.declared.request.Request.{Request}
+use Rattle.entity_store.specs.Request.{principal_of, action_of, resource_of}
+use Rattle.entity_store.specs.Store.{Store}
 use Rattle.schema_core.specs.Environments.{environment}
 use Rattle.schema_core.specs.EnvData.{EnvData, unlinked}
 use Rattle.schema_core.specs.Schema.{SchemaData, action_at}
 use Rattle.policy_set.specs.Data.{PolicyData}
-use Rattle.policy_reads.specs.Cover.{restricted}
-use Rattle.typed_conditions.specs.Typed.{typed_conditions}
+use Rattle.reads_spec.specs.Cover.{restricted}
+use Rattle.policy_validate.specs.Typed.{typed_conditions}
 
 -- the environment of a request: its action, with the types of its principal and its resource; none where the action is not declared
 abbrev pub env_of : SchemaData → Request → Option EnvData

@@ -2,8 +2,8 @@
 
 ghost use Rattle.request_slices.specs.Enough.{OutcomesAreAllowed, SlicesAreEnough};
 
-use policy_coverage::policies_are_covered;
-use policy_links::laws::typed_everywhere;
+use reads_spec::policies_are_covered;
+use link_spec::laws::typed_everywhere;
 use policy_validate::laws::{accepted_are_sound, accepted_are_typed};
 
 /// Slicing is sound: where every rule holds, each policy has on the slice, and on each store between it and the whole one, the

@@ -2,14 +2,14 @@
 
 ghost use Rattle.std.specs.Prelude.{◌≡◌, IfOk, Some, option_map};
 ghost use Rattle.access_tries.specs.Paths.{IsLeast};
-ghost use Rattle.policy_reads.specs.Cover.{restricted};
-ghost use Rattle.policy_reads.specs.Reads.{declared_reads, declared_demands};
-ghost use Rattle.policy_store.specs.Request.{IsWhole};
-ghost use Rattle.policy_typing.specs.Conforms.{RequestConforms};
+ghost use Rattle.reads_spec.specs.Cover.{restricted};
+ghost use Rattle.reads_spec.specs.Reads.{declared_reads, declared_demands};
+ghost use Rattle.entity_store.specs.Request.{IsWhole};
+ghost use Rattle.typing_spec.specs.Conforms.{RequestConforms};
 ghost use Rattle.policy_validate.specs.Accepted.{IsAccepted};
 ghost use Rattle.schema_core.specs.RequestEnvs.{env_data_of};
-ghost use Rattle.typed_conditions.specs.Found.{found_conditions};
-ghost use Rattle.typed_conditions.specs.Typed.{typed_conditions};
+ghost use Rattle.policy_validate.specs.Found.{found_conditions};
+ghost use Rattle.policy_validate.specs.Typed.{typed_conditions};
 ghost use Rattle.request_slices.specs.Rules.{KeepRules};
 ghost use Rattle.request_slices.specs.Slice.{env_of, slice};
 
@@ -17,18 +17,18 @@ use access_tries::RootAccessTrie;
 use extension_types::{ExtensionSchemas, all_objects};
 use path_analysis::conditions_trie;
 use policy_expressions::Expr;
-use policy_links::laws::typed_everywhere;
+use link_spec::laws::typed_everywhere;
 use policy_set::PolicySet;
 use policy_set::laws::is_policy_set;
-use policy_store::{Entities, Request};
+use entity_store::{Entities, Request};
 use policy_typecheck::Typechecker;
 use policy_validate::laws::accepted_are_typed;
 use schema_core::{RequestEnv, ValidationMode, ValidatorSchema};
 use schema_types::Type;
 use std::alloc::{AllocError, Global};
 use store_slices::restricted_store;
-use typed_conditions::conditions_in;
-use typed_conditions::laws::found_are_typed;
+use policy_validate::conditions_in;
+use policy_validate::condition_laws::found_are_typed;
 
 /// The slice of the store: the store restricted to what the policies read on the request, each by its own condition with its
 /// types in the environment of the request. Every rule holds.

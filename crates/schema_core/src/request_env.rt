@@ -9,7 +9,7 @@ ghost use Rattle.schema_core.specs.RequestEnvs.{env_data_of};
 
 use crate::{ValidatorSchema, euid_literal};
 use policy_names::{EntityType, EntityUID};
-use policy_store::RequestType;
+use entity_store::RequestType;
 use schema_declarations::ValidatorActionId;
 use schema_types::{Attributes, OpenTag, Type};
 use std::alloc::{AllocError, Global};

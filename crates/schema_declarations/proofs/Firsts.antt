@@ -10,7 +10,7 @@ use Rattle.std.proofs.lemmas.Map.Views.{tells_apart}
 use Rattle.hierarchy.specs.Reaches.{has}
 use Rattle.policy_names.specs.Uid.{text_cmp}
 use Rattle.schema_declarations.specs.Kinds.{firsts}
-use Rattle.schema_declarations.proofs.Lists.{append_nil}
+use Rattle.plain_lemmas.proofs.Lists.{append_empty}
 
 -- those that are not kept yet
 abbrev pub others : List (List ℕ) → List (List ℕ) → List (List ℕ)
@@ -85,4 +85,4 @@ module _ (all left rest kept seen seen' : List (List ℕ)) (x : List ℕ) (t : A
       by_test false is = rw is refl
 
 pub firsts_all : (all left kept seen : List (List ℕ)) → AreFirsts all left kept seen → left ≡ [] → kept ≡ firsts all
-firsts_all all left kept seen t e = sym (append_nil kept) ∙ rw e at t.whole
+firsts_all all left kept seen t e = sym (append_empty kept) ∙ rw e at t.whole

@@ -10,7 +10,8 @@ use Rattle.std.proofs.lemmas.Map.Lookups.{CmpEqualImpliesEq}
 use Rattle.std.proofs.lemmas.Map.Views.{tells_apart}
 use Rattle.hierarchy.specs.Reaches.{at}
 use Rattle.schema_declarations.specs.Listing.{Puts}
-use Rattle.schema_declarations.proofs.Mapped.{is_at_key, none_of, turned, fresh}
+use Rattle.schema_declarations.proofs.Mapped.{is_at_key, turned, fresh}
+use Rattle.plain_lemmas.proofs.Options.{none_of_no_some}
 
 -- the first of the two that there is
 abbrev pub either_of : {X : Type 0} → Option X → Option X → Option X
@@ -39,7 +40,7 @@ module _ {X A V W : Type 0} {cmp : A → A → Ordering} (o : IsTotalOrder cmp) 
     gone q is = rw (← (tells_apart exact (name x) q is)) (fresh cmp name x rest (IsDistinct-head (eq_by_cmp cmp) (name x) (map name rest) once))
 
     new : (q : A) → is_eq (cmp (name x) q) ≡ true → at cmp values q ≡ None
-    new q is = none_of (at cmp values q) (let a = rw (e, turned o (name x) q, is) at (t.apart q) in grind arith)
+    new q is = none_of_no_some (at cmp values q) (let a = rw (e, turned o (name x) q, is) at (t.apart q) in grind arith)
 
     apart_at : (q : A) (b : Bool) → is_eq (cmp (name x) q) ≡ b → (is_some (at cmp values' q) && is_some (find (is_at_key cmp name q) rest)) ≡ false
     apart_at q true is = rw (puts q, is, gone q is) refl

@@ -12,10 +12,7 @@ use Rattle.std.proofs.lemmas.Map.Keys.{IsDistinct-from_sorted}
 use Rattle.std.proofs.lemmas.Map.Views.{All-values_from_lookup}
 use Rattle.std.proofs.lemmas.List.{take_more, flat_map_more, map-append}
 use Rattle.schema_declarations.specs.Listing.{HasAscending}
-
-pub append_nil : {T : Type 0} (xs : List T) → xs ++ [] ≡ xs
-append_nil [] = refl
-append_nil (x ∷ xs) = ap (λ ys. x ∷ ys) (append_nil xs)
+use Rattle.plain_lemmas.proofs.Lists.{append_empty}
 
 module _ {E T U : Type 0} (g : T → U) where
   -- the next one has moved over, under two maps

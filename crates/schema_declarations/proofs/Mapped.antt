@@ -18,10 +18,7 @@ use Rattle.std.proofs.lemmas.Map.Views.{tells_apart}
 use Rattle.hierarchy.specs.Reaches.{at, has}
 use Rattle.hierarchy.specs.Repeated.{IsRepeated}
 use Rattle.schema_declarations.specs.Listing.{Puts}
-
-pub none_of : {Y : Type 0} (r : Option Y) → is_some r ≡ false → r ≡ None
-none_of None h = refl
-none_of (Some y) h = absurd (false≢true (sym h))
+use Rattle.plain_lemmas.proofs.Options.{none_of_no_some}
 
 -- of keys that ascend none stands twice
 pub once_from_ascending : {K : Type 0} {cmp : K → K → Ordering} → IsTotalOrder cmp → (ks : List K) → IsStrictlySortedBy cmp ks → (k : K) → IsRepeated ks k → ⊥
@@ -95,7 +92,7 @@ module _ {X A K : Type 0} {cmp_a : A → A → Ordering} {cmp : K → K → Orde
 
     -- the map has the key not yet
     new : (q : A) → is_eq (cmp_a (name x) q) ≡ true → at cmp_a sets q ≡ None
-    new q is = none_of (at cmp_a sets q) (let a = rw (e, turned o (name x) q, is) at (t.apart q) in grind arith)
+    new q is = none_of_no_some (at cmp_a sets q) (let a = rw (e, turned o (name x) q, is) at (t.apart q) in grind arith)
 
     apart_at : (q : A) (b : Bool) → is_eq (cmp_a (name x) q) ≡ b → (is_some (at cmp_a sets' q) && is_some (find (is_at_key cmp_a name q) rest)) ≡ false
     apart_at q true is = rw (puts q, is, gone q is) refl

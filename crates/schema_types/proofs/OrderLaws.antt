@@ -5,17 +5,14 @@ use Rattle.std.specs.Ordering.{bool_cmp, ordering_reverse, ordering_then}
 use Rattle.schema_types.specs.Ty.{Ty}
 use Rattle.schema_types.specs.TyOrder.{ty_cmp}
 use Rattle.policy_names.proofs.Ties.{then_equal, equal_of}
-use Rattle.schema_types.specs.TyLaws.{exact_ty, exact_bool, ty_cmp_total}
+use Rattle.schema_types.specs.TyLaws.{exact_ty, ty_cmp_total}
+use Rattle.policy_values.specs.ValueLaws.{exact_bool}
 use Rattle.schema_types.specs.Laws.{OrderIsExact, AttributeOrderIsExact, AttributeHashAgrees, attribute_cmp, attribute_fed}
 use Rattle.schema_types.specs.declared.ty.AttributeType.{AttributeType}
-
-own_reverse : (o : Ordering) → o ≡ ordering_reverse o → o ≡ Equal
-own_reverse Less h = cc
-own_reverse Equal h = refl
-own_reverse Greater h = cc
+use Rattle.plain_lemmas.proofs.Orderings.{equal_of_own_reverse}
 
 own : (t : Ty) → ty_cmp t t ≡ Equal
-own t = own_reverse (ty_cmp t t) (ty_cmp_total.antisymm t t)
+own t = equal_of_own_reverse (ty_cmp t t) (ty_cmp_total.antisymm t t)
 
 own_bool : (b : Bool) → bool_cmp b b ≡ Equal
 own_bool true = refl

@@ -15,12 +15,7 @@ use Rattle.schema_types.specs.declared.kinds.Primitive.{Primitive}
 use Rattle.schema_types.specs.declared.kinds.Primitive.TheVariants.{Bool as BoolType, Long, String}
 use Rattle.schema_types.specs.declared.kinds.OpenTag.{OpenTag}
 use Rattle.schema_types.specs.declared.kinds.OpenTag.TheVariants.{OpenAttributes, ClosedAttributes}
-
-pub exact_bool : CmpEqualImpliesEq bool_cmp
-exact_bool true true h = refl
-exact_bool false false h = refl
-exact_bool true false h = cc
-exact_bool false true h = cc
+use Rattle.policy_values.specs.ValueLaws.{exact_bool}
 
 exact_primitive : (p q : Primitive) → nat_cmp (place_of p) (place_of q) ≡ Equal → p ≡ q
 exact_primitive BoolType BoolType h = refl

@@ -3,22 +3,22 @@ use Rattle.std.proofs.Common.{◌≡◌, ◌⊎◌, ℕ, Bool, true, false, ◌&
 use Rattle.std.proofs.lemmas.Bool.{and_parts, and_from}
 use Rattle.policy_names.specs.declared.entity_uid.EntityUID.{EntityUID}
 use Rattle.policy_names.specs.Uid.{uid_eq}
-use Rattle.policy_store.specs.declared.request.Request.{Request}
-use Rattle.policy_store.specs.Store.{StoredEntity, Store, entity_at}
+use Rattle.entity_store.specs.declared.request.Request.{Request}
+use Rattle.entity_store.specs.Store.{StoredEntity, Store, entity_at}
 use Rattle.policy_values.specs.Value.{Val, truth, long, string, entity, set, rec, decimal, ip, datetime, duration, Fields, no_fields, field}
 use Rattle.access_tries.specs.declared.edge.Edge.TheVariants.{Field, AnyTag, Root}
 use Rattle.access_tries.specs.Edges.{Address}
 use Rattle.access_tries.specs.Paths.{edge_of}
 use Rattle.access_tries.specs.Table.{Table}
-use Rattle.policy_reads.specs.Restrict.{values_in}
-use Rattle.policy_reads.proofs.Lists.{IsIn, any_in, same_uid, uid_self}
-use Rattle.policy_reads.proofs.Words.{any_out}
-use Rattle.entity_asking.specs.declared.place.Place.{Place}
-use Rattle.entity_asking.specs.Answered.{AnswerSticks, SomeAnswerSticks}
-use Rattle.entity_asking.specs.Begun.{SomeRootSticks}
-use Rattle.entity_asking.specs.Places.{node_of}
-use Rattle.entity_asking.specs.Stuck.{Tests, tests_of, behind, GoesOn, Demands, Sticks, FieldsStick, SomeSticks, EntitySticks, IsStuck}
-use Rattle.entity_asking.specs.Wants.{Test, sees}
+use Rattle.reads_spec.specs.Restrict.{values_in}
+use Rattle.reads_spec.proofs.Lists.{IsIn, any_in, same_uid, uid_self}
+use Rattle.reads_spec.proofs.Words.{any_out}
+use Rattle.trie_traversal.specs.declared.place.Place.{Place}
+use Rattle.trie_traversal.specs.Answered.{AnswerSticks, SomeAnswerSticks}
+use Rattle.trie_traversal.specs.Begun.{SomeRootSticks}
+use Rattle.trie_traversal.specs.Places.{node_of}
+use Rattle.trie_traversal.specs.Stuck.{Tests, tests_of, behind, GoesOn, Demands, Sticks, FieldsStick, SomeSticks, EntitySticks, IsStuck}
+use Rattle.trie_traversal.specs.Wants.{Test, sees}
 use Rattle.store_slices.specs.Blocked.{IsBlockedInStore, IsBlocked}
 use Rattle.store_slices.specs.Reached.{IsReached, AreReached}
 

@@ -9,10 +9,10 @@ use Rattle.access_tries.specs.declared.table.Link.{Link}
 use Rattle.access_tries.specs.Edges.{Address, edge_eq}
 use Rattle.access_tries.specs.Paths.{edge_of, address_of, demand_of, has_path, asks}
 use Rattle.access_tries.specs.Table.{Table, NodeData, IsTable, IsClosed, links_at, has_mark, at_path, leads}
-use Rattle.policy_reads.specs.Paths.{AccessPath, Demand, beyond}
-use Rattle.policy_reads.specs.Among.{IsIn, IsFrontOfRead}
-use Rattle.policy_reads.proofs.Lists.{in_map, in_filter, in_flat_map}
-use Rattle.policy_reads.proofs.Words.{any_out}
+use Rattle.reads_spec.specs.Paths.{AccessPath, Demand, beyond}
+use Rattle.reads_spec.specs.Among.{IsIn, IsFrontOfRead}
+use Rattle.reads_spec.proofs.Lists.{in_map, in_filter, in_flat_map}
+use Rattle.reads_spec.proofs.Words.{any_out}
 use Rattle.store_slices.specs.Tries.{IsTrieOf, EveryTrieIsOfSome}
 use Rattle.store_slices.proofs.Fronts.{front_leads}
 use Rattle.store_slices.proofs.LeastSteps.{same_edge, first_path, behind_first, first_then, rest_then, path_alone, demand, map_append, in_filter_out, whole_path}

@@ -6,8 +6,8 @@ use Rattle.std.specs.Option.{option_map_or}
 use Rattle.std.proofs.lemmas.Bool.{and_parts, and_from}
 use Rattle.access_tries.specs.Edges.{Address, edge_eq}
 use Rattle.access_tries.specs.Table.{Table, NodeData, links_at, at_path}
-use Rattle.policy_reads.proofs.Lists.{any_in}
-use Rattle.policy_reads.proofs.Words.{any_out}
+use Rattle.reads_spec.proofs.Lists.{any_in}
+use Rattle.reads_spec.proofs.Words.{any_out}
 
 -- for a test that nothing passes where there is no node
 module _ (f : Option NodeData → Bool) (none : f None ≡ false) (ns : Table) where

@@ -13,24 +13,26 @@ use Rattle.std.proofs.lemmas.Bool.{and_parts, and_from}
 use Rattle.policy_names.specs.declared.entity_uid.EntityUID.{EntityUID}
 use Rattle.policy_names.specs.Uid.{uid_cmp, uid_eq}
 use Rattle.policy_values.specs.Value.{entity}
-use Rattle.policy_store.specs.declared.request.Request.{Request}
-use Rattle.policy_store.specs.Store.{StoredEntity, Store}
+use Rattle.entity_store.specs.declared.request.Request.{Request}
+use Rattle.entity_store.specs.Store.{StoredEntity, Store}
 use Rattle.access_tries.specs.declared.edge.Edge.TheVariants.{Root}
 use Rattle.access_tries.specs.Paths.{edge_of, address_of}
 use Rattle.access_tries.specs.Table.{Table}
 use Rattle.access_tries.specs.Views.{view_leads, view_marks, whole}
-use Rattle.policy_reads.specs.Paths.{Step, any_tag, Chain, steps_of, AccessPath, Demand, beyond}
-use Rattle.policy_reads.specs.Restrict.{part, is_id, names_id, reach, kept_steps, kept_chain, kept_tag, by_paths, kept_ancestor, needed, restrict}
-use Rattle.policy_reads.proofs.Lists.{IsIn, any_in, same_uid, uid_self}
-use Rattle.policy_reads.proofs.Words.{kept_means, any_out, id_of, same_tests}
-use Rattle.ancestor_names.specs.Names.{IsKept}
-use Rattle.entity_asking.specs.declared.place.Place.{Place}
-use Rattle.entity_asking.specs.Places.{node_of}
-use Rattle.entity_asking.specs.Wants.{wants}
+use Rattle.reads_spec.specs.Paths.{Step, any_tag, Chain, steps_of, AccessPath, Demand, beyond}
+use Rattle.reads_spec.specs.Restrict.{part, is_id, names_id, reach, kept_steps, kept_chain, kept_tag, by_paths, kept_ancestor, needed, restrict}
+use Rattle.reads_spec.proofs.Lists.{IsIn, any_in, same_uid, uid_self}
+use Rattle.reads_spec.proofs.Words.{kept_means, any_out, id_of}
+use Rattle.plain_lemmas.proofs.Booleans.{equal_by_both_ways, or_assoc, or_false, or_true}
+use Rattle.trie_traversal.specs.Names.{IsKept}
+use Rattle.trie_traversal.specs.declared.place.Place.{Place}
+use Rattle.trie_traversal.specs.Places.{node_of}
+use Rattle.trie_traversal.specs.Wants.{wants}
 use Rattle.entity_loader.specs.Asked.{some_asks}
 use Rattle.store_slices.specs.Tries.{IsTrieOf}
 use Rattle.store_slices.specs.Reached.{AreReached, AreThere}
 use Rattle.store_slices.specs.Kept.{Numbers, numbers_at, some_place, IsGrouped, IsNumbered, along_nodes, names, some_names, with_names, AreNodes, AreNamed}
+use Rattle.plain_lemmas.proofs.Lists.{is_some_within}
 
 -- ---- places by their entities
 
@@ -38,19 +40,6 @@ use Rattle.store_slices.specs.Kept.{Numbers, numbers_at, some_place, IsGrouped, 
 pub record IsGrouping (all left : List Place) (m : Numbers) : Type 0 where
   pub tests : (f : ℕ → Bool) (x : EntityUID) → (list_any f (numbers_at m x) || some_place f x left) ≡ some_place f x all
   pub keys : (x : EntityUID) → (is_some (get uid_cmp m x) || list_any (λ p. uid_eq p.uid x) left) ≡ list_any (λ p. uid_eq p.uid x) all
-
-or_assoc : (a b c : Bool) → ((a || b) || c) ≡ (a || (b || c))
-or_assoc true b c = refl
-or_assoc false b c = refl
-
-or_nothing : (a : Bool) → (a || false) ≡ a
-or_nothing true = refl
-or_nothing false = refl
-
-or_so : (a : Bool) → (a || true) ≡ true
-or_so true = refl
-or_so false = refl
-
 pub grouping_more : (all left : List Place) (m n : Numbers) (p : Place) (rest : List Place) → left ≡ p ∷ rest → IsNumbered p.uid p.number m n → IsGrouping all left m → IsGrouping all rest n
 grouping_more all left m n p rest is one g = record {
   tests = λ f x.
@@ -63,8 +52,8 @@ grouping_more all left m n p rest is one g = record {
 
 pub grouped : (all left : List Place) (m : Numbers) → left ≡ [] → IsGrouping all left m → IsGrouped all m
 grouped all left m none g = record {
-  tests = λ f x. sym (or_nothing (list_any f (numbers_at m x))) ∙ sym (ap (λ ps. list_any f (numbers_at m x) || some_place f x ps) none) ∙ g.tests f x;
-  keys = λ x. sym (or_nothing (is_some (get uid_cmp m x))) ∙ sym (ap (λ ps. is_some (get uid_cmp m x) || list_any (λ p. uid_eq p.uid x) ps) none) ∙ g.keys x;
+  tests = λ f x. sym (or_false (list_any f (numbers_at m x))) ∙ sym (ap (λ ps. list_any f (numbers_at m x) || some_place f x ps) none) ∙ g.tests f x;
+  keys = λ x. sym (or_false (is_some (get uid_cmp m x))) ∙ sym (ap (λ ps. is_some (get uid_cmp m x) || list_any (λ p. uid_eq p.uid x) ps) none) ∙ g.keys x;
 }
 
 pub numbered : (x : EntityUID) (i : ℕ) (old new : Numbers) (list : Vec ℕ Global) → list.items ≡ numbers_at old x ++ i ∷ [] → ((y : EntityUID) → get uid_cmp new y ≡ cond (uid_eq x y) (Some list) (get uid_cmp old y)) → IsNumbered x i old new
@@ -74,24 +63,17 @@ numbered x i old new list is put = record {
 }
   where
     tested : (f : ℕ → Bool) (y : EntityUID) (b : Bool) → uid_eq x y ≡ b → list_any f (option_map_or (λ (v : Vec ℕ Global). v.items) (cond b (Some list) (get uid_cmp old y)) []) ≡ (list_any f (numbers_at old y) || (b && f i))
-    tested f y true e = ap (list_any f) is ∙ list_any-append f (numbers_at old x) (i ∷ []) ∙ ap (λ c. list_any f (numbers_at old x) || c) (or_nothing (f i)) ∙ ap (λ z. list_any f (numbers_at old z) || f i) (same_uid x y e)
-    tested f y false e = sym (or_nothing (list_any f (numbers_at old y)))
+    tested f y true e = ap (list_any f) is ∙ list_any-append f (numbers_at old x) (i ∷ []) ∙ ap (λ c. list_any f (numbers_at old x) || c) (or_false (f i)) ∙ ap (λ z. list_any f (numbers_at old z) || f i) (same_uid x y e)
+    tested f y false e = sym (or_false (list_any f (numbers_at old y)))
 
     kept : (y : EntityUID) (b : Bool) → is_some (cond b (Some list) (get uid_cmp old y)) ≡ (is_some (get uid_cmp old y) || b)
-    kept y true = sym (or_so (is_some (get uid_cmp old y)))
-    kept y false = sym (or_nothing (is_some (get uid_cmp old y)))
+    kept y true = sym (or_true (is_some (get uid_cmp old y)))
+    kept y false = sym (or_false (is_some (get uid_cmp old y)))
 
 -- what is put where something was taken away
 pub put_over : {X : Type 0} (b : Bool) (o m n : Option X) → m ≡ cond b None n → cond b o m ≡ cond b o n
 put_over true o m n h = refl
 put_over false o m n h = h
-
--- ---- nodes that are there
-
-within_some : {X : Type 0} (xs : List X) (i : ℕ) → i < length xs → is_some (slice_get xs i) ≡ true
-within_some [] i h = absurd (omega (arith, h))
-within_some (x ∷ xs) zero h = refl
-within_some (x ∷ xs) (suc i) h = within_some xs i (omega (arith, h))
 
 and_true : (a b : Bool) → b ≡ true → a ≡ (a && b)
 and_true true b h = sym h
@@ -100,7 +82,7 @@ and_true false b h = refl
 all_there : (t : Table) (x : EntityUID) (ps : List Place) → AreThere t ps → list_any (λ p. uid_eq p.uid x) ps ≡ some_place (λ i. view_leads (record { nodes = t; number = i }) []) x ps
 all_there t x [] there = refl
 all_there t x (p ∷ ps) there =
-    λ i. and_true (uid_eq p.uid x) (is_some (slice_get t p.number)) (within_some t p.number (there p (inl refl))) i || all_there t x ps (λ q h. there q (inr h)) i
+    λ i. and_true (uid_eq p.uid x) (is_some (slice_get t p.number)) (is_some_within t p.number (there p (inl refl))) i || all_there t x ps (λ q h. there q (inr h)) i
 
 pub are_nodes : (t : Table) (ps : List Place) (m : Numbers) → AreThere t ps → IsGrouped ps m → AreNodes t m
 are_nodes t ps m there g x = g.keys x ∙ all_there t x ps there ∙ sym (g.tests (λ i. view_leads (record { nodes = t; number = i }) []) x)
@@ -116,7 +98,7 @@ module _ (reads : List AccessPath) (demands : List Demand) (t : Table) (fit : Is
   wanted x cs = g.tests (λ i. view_leads (record { nodes = t; number = i }) (map edge_of cs)) x
 
   kept_is : (x : EntityUID) (cs : List Step) → kept_steps reads q s x cs ≡ some_asks t (numbers_at m x) cs
-  kept_is x cs = same_tests (kept_steps reads q s x cs) (wants false t ps x (map edge_of cs)) to from ∙ sym (wanted x cs)
+  kept_is x cs = equal_by_both_ways (kept_steps reads q s x cs) (wants false t ps x (map edge_of cs)) to from ∙ sym (wanted x cs)
     where
       to : kept_steps reads q s x cs ≡ true → wants false t ps x (map edge_of cs) ≡ true
       to h =
@@ -148,7 +130,7 @@ module _ (reads : List AccessPath) (demands : List Demand) (t : Table) (fit : Is
     -- whether the entity is kept where it has a node
     has_place : (x : EntityUID) (p : Place) → IsIn p ps → uid_eq p.uid x ≡ true → kept_chain reads q s x [] ≡ true
     has_place x p i same =
-        kept_is x [] ∙ wanted x [] ∙ any_in (λ z. uid_eq z.uid x && view_leads (node_of t z) []) p ps i (and_from (uid_eq p.uid x) (view_leads (node_of t p) []) same (within_some t p.number (there p i)))
+        kept_is x [] ∙ wanted x [] ∙ any_in (λ z. uid_eq z.uid x && view_leads (node_of t z) []) p ps i (and_from (uid_eq p.uid x) (view_leads (node_of t p) []) same (is_some_within t p.number (there p i)))
 
     id_in : (x : EntityUID) (p : AccessPath) → list_any (is_id x) (reach s q p) ≡ true → IsIn (entity x) (reach s q p)
     id_in x p h = let a = any_out (is_id x) (reach s q p) h in subst (λ v. IsIn v (reach s q p)) (id_of a.0 x a.2) a.1
@@ -175,7 +157,7 @@ module _ (reads : List AccessPath) (demands : List Demand) (t : Table) (fit : Is
     needed_is : needed reads demands q s ≡ with_names t m sets
     needed_is i = record {
       chains = λ x c. kept_is x (steps_of c) i;
-      ancestors = λ x y. same_tests (kept_chain reads q s x [] && kept_ancestor reads demands q s x y) (some_names sets (numbers_at m x) y) (to x y) (from x y) i;
+      ancestors = λ x y. equal_by_both_ways (kept_chain reads q s x [] && kept_ancestor reads demands q s x y) (some_names sets (numbers_at m x) y) (to x y) (from x y) i;
       tags = λ x c. tags_are x c i;
     }
 

@@ -20,13 +20,15 @@ use Rattle.access_tries.specs.Edges.{Address, rank, first_text, second_text, edg
 use Rattle.access_tries.specs.Paths.{edge_of, address_of, demand_of, has_path, asks, is_front, is_same, IsLeast}
 use Rattle.access_tries.specs.Table.{Table}
 use Rattle.access_tries.specs.EdgeLaws.{exact_edge}
-use Rattle.policy_reads.specs.Paths.{Step, along, any_tag, AccessPath, Demand, Shape, beyond, paths}
-use Rattle.policy_reads.specs.PathTypes.{is_declared_path}
-use Rattle.policy_reads.specs.Reads.{shape_of, wholly, binary_reads, reads, reads_all, reads_named, reads_of, pairs, binary_demands, demands, demands_all, demands_named, demands_of, declared_reads, declared_demands, are_declared}
-use Rattle.policy_reads.proofs.Lists.{IsIn, in_left, in_right, in_map, any_in, or_true, nil_right}
-use Rattle.policy_reads.specs.Among.{IsFrontOfRead}
-use Rattle.policy_reads.proofs.Words.{any_out}
-use Rattle.policy_reads.proofs.DeclaredPaths.{declared_read}
+use Rattle.reads_spec.specs.Paths.{Step, along, any_tag, AccessPath, Demand, Shape, beyond, paths}
+use Rattle.reads_spec.specs.PathTypes.{is_declared_path}
+use Rattle.reads_spec.specs.Reads.{shape_of, wholly, binary_reads, reads, reads_all, reads_named, reads_of, pairs, binary_demands, demands, demands_all, demands_named, demands_of, declared_reads, declared_demands, are_declared}
+use Rattle.reads_spec.proofs.Lists.{IsIn, in_left, in_right, in_map, any_in}
+use Rattle.plain_lemmas.proofs.Booleans.{or_left_true}
+use Rattle.plain_lemmas.proofs.Lists.{append_empty}
+use Rattle.reads_spec.specs.Among.{IsFrontOfRead}
+use Rattle.reads_spec.proofs.Words.{any_out}
+use Rattle.reads_spec.proofs.DeclaredPaths.{declared_read}
 use Rattle.store_slices.specs.Tries.{IsTrieOf, LeastTriesFit}
 
 -- ---- addresses
@@ -197,7 +199,7 @@ module _ (rs : List AccessPath) (ds : List Demand) (t : Table) (read : (d : Dema
 
   from_read : (p : AccessPath) → IsFrontOfRead rs p → has_path t p ≡ true
   from_read p r =
-      l.paths (address_of p) ∙ or_true (list_any (is_front (address_of p)) (map address_of rs)) (list_any (is_front (address_of p)) (map demand_of ds))
+      l.paths (address_of p) ∙ or_left_true (list_any (is_front (address_of p)) (map address_of rs)) (list_any (is_front (address_of p)) (map demand_of ds))
       (any_in (is_front (address_of p)) (address_of (beyond p r.rest)) (map address_of rs) (in_map address_of (beyond p r.rest) rs r.among) (front_beyond p r.rest))
 
   to_demand : (p r : AccessPath) → asks t p r ≡ true → IsIn (demand p r) ds
@@ -288,7 +290,7 @@ in_filter_out f y (x ∷ xs) h = by (f x) refl h (in_filter_out f y xs)
     by false e i g = let r = g i in (inr r.0, r.1)
 
 pub whole_path : (p : AccessPath) → beyond p [] ≡ p
-whole_path p i = record { root = p.root; steps = nil_right p.steps i }
+whole_path p i = record { root = p.root; steps = append_empty p.steps i }
 
 -- each declared path of which conditions demand something is read
 pub declared_demand : {A : Type 0} (schema : SchemaData) (env : EnvData) (ts : List (Tree A)) (d : Demand) → IsIn d (declared_demands schema env ts) → IsFrontOfRead (declared_reads schema env ts) d.0

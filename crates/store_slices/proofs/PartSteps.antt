@@ -16,13 +16,13 @@ use Rattle.hierarchy.specs.Keyed.{AreAtTheirKeys, with_value}
 use Rattle.hierarchy.proofs.Keyed.{value_found, value_put, own_put}
 use Rattle.policy_names.specs.declared.entity_uid.EntityUID.{EntityUID}
 use Rattle.policy_names.specs.Uid.{uid_cmp, uid_cmp_total, exact_uid}
-use Rattle.policy_store.specs.declared.request.Request.{Request}
-use Rattle.policy_store.specs.Store.{StoredEntity, Store, entity_at}
-use Rattle.policy_store.specs.Ascending.{IsAbove}
+use Rattle.entity_store.specs.declared.request.Request.{Request}
+use Rattle.entity_store.specs.Store.{StoredEntity, Store, entity_at}
+use Rattle.entity_store.specs.Ascending.{IsAbove}
 use Rattle.access_tries.specs.Table.{Table}
-use Rattle.policy_reads.specs.Restrict.{Keep, cut_entity, part}
-use Rattle.policy_reads.proofs.Lists.{nil_right}
-use Rattle.ancestor_names.specs.Names.{IsKept, IsNamed}
+use Rattle.reads_spec.specs.Restrict.{Keep, cut_entity, part}
+use Rattle.plain_lemmas.proofs.Lists.{append_empty}
+use Rattle.trie_traversal.specs.Names.{IsKept, IsNamed}
 use Rattle.entity_loader.specs.Asked.{asked_by}
 use Rattle.store_slices.specs.Kept.{Numbers, numbers_at, along_nodes, names, some_names, with_names, AreNodes}
 
@@ -64,7 +64,7 @@ module _ (k : Keep) (made : Store) (e : StoredEntity) (it left all : Store) (is 
   parting_skip none = record { so_far = rw (is, none) at t.so_far; ascending = (rw is at t.ascending).1; above = (rw is at t.above).1 }
 
 pub parting_done : (k : Keep) (made left all : Store) → left ≡ [] → IsParting k made left all → made ≡ part k all
-parting_done k made left all none t = sym (nil_right made) ∙ ap (λ l. made ++ part k l) (sym none) ∙ t.so_far
+parting_done k made left all none t = sym (append_empty made) ∙ ap (λ l. made ++ part k l) (sym none) ∙ t.so_far
 
 -- ---- in a map
 

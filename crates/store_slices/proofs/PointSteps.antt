@@ -5,25 +5,22 @@ use Rattle.std.proofs.lemmas.Bool.{and_parts, and_from}
 use Rattle.policy_names.specs.declared.entity_uid.EntityUID.{EntityUID}
 use Rattle.policy_names.specs.Uid.{text_cmp, uid_eq}
 use Rattle.policy_values.specs.Value.{Val, entity, rec, Fields, no_fields, field, field_at}
-use Rattle.policy_store.specs.Store.{StoredEntity}
+use Rattle.entity_store.specs.Store.{StoredEntity}
 use Rattle.access_tries.specs.declared.edge.Edge.TheVariants.{Field, AnyTag}
 use Rattle.access_tries.specs.Edges.{Address}
-use Rattle.policy_reads.specs.Restrict.{values_in}
-use Rattle.policy_reads.proofs.Lists.{or_true, or_right, same_text}
+use Rattle.reads_spec.specs.Restrict.{values_in}
+use Rattle.reads_spec.proofs.Lists.{same_text}
+use Rattle.plain_lemmas.proofs.Booleans.{and_over_or, or_exchange, or_left_true, or_right_true, or_weaker}
 use Rattle.std.specs.Prelude.{ℕ, Some, if◌then◌else◌}
 use Rattle.std.specs.Ordering.{is_eq}
-use Rattle.entity_asking.specs.Wants.{Test, points, fields_point, entity_points}
-use Rattle.entity_asking.proofs.PointSteps.{points_none, fields_point_none, any_point_none}
-
-pub or_both : (a b c d : Bool) → (a ≡ true → c ≡ true) → (b ≡ true → d ≡ true) → (a || b) ≡ true → (c || d) ≡ true
-or_both true b c d f g h = or_true c d (f refl)
-or_both false b c d f g h = or_right c d (g h)
-
-or_cross : (a b c d : Bool) → ((a || b) || (c || d)) ≡ ((a || c) || (b || d))
-or_cross true b c d = refl
-or_cross false true true d = refl
-or_cross false true false d = refl
-or_cross false false c d = refl
+use Rattle.trie_traversal.specs.Wants.{Test, points, fields_point, entity_points}
+pub or_weaker : (a b c d : Bool) → (a ≡ true → c ≡ true) → (b ≡ true → d ≡ true) → (a || b) ≡ true → (c || d) ≡ true
+or_weaker true b c d f g h = or_left_true c d (f refl)
+or_exchange : (a b c d : Bool) → ((a || b) || (c || d)) ≡ ((a || c) || (b || d))
+or_exchange true b c d = refl
+or_exchange false true true d = refl
+or_exchange false true false d = refl
+or_exchange false false c d = refl
 
 -- ---- more addresses pass
 
@@ -36,18 +33,16 @@ mutual
   pub fields_point_more : (fs : Fields) (t u : Test) → ((a : Address) → t a ≡ true → u a ≡ true) → (x : EntityUID) (a : Address) → fields_point fs t x a ≡ true → fields_point fs u x a ≡ true
   fields_point_more no_fields t u h x a p = absurd (cc)
   fields_point_more (field n v fs) t u h x a p =
-      or_both (points v (λ b. t (Field n ∷ b)) x a) (fields_point fs t x a) (points v (λ b. u (Field n ∷ b)) x a) (fields_point fs u x a)
+      or_weaker (points v (λ b. t (Field n ∷ b)) x a) (fields_point fs t x a) (points v (λ b. u (Field n ∷ b)) x a) (fields_point fs u x a)
       (λ i. points_more v (λ b. t (Field n ∷ b)) (λ b. u (Field n ∷ b)) (λ b. h (Field n ∷ b)) x a i) (λ i. fields_point_more fs t u h x a i) p
 
--- ---- tests made of tests
-
-or_right_of : (a b c : Bool) → (a && (b || c)) ≡ ((a && b) || (a && c))
-or_right_of true b c = refl
-or_right_of false b c = refl
+and_over_or : (a b c : Bool) → (a && (b || c)) ≡ ((a && b) || (a && c))
+and_over_or true b c = refl
+and_over_or false b c = refl
 
 mutual
   points_or : (v : Val) (t u : Test) (x : EntityUID) (a : Address) → points v (λ b. t b || u b) x a ≡ (points v t x a || points v u x a)
-  points_or (entity y) t u x a = or_right_of (uid_eq y x) (t a) (u a)
+  points_or (entity y) t u x a = and_over_or (uid_eq y x) (t a) (u a)
   points_or (rec fs) t u x a = fields_point_or fs t u x a
   points_or v t u x a = refl
 
@@ -56,20 +51,20 @@ mutual
   fields_point_or (field n v fs) t u x a =
       ap (λ c. c || fields_point fs (λ b. t b || u b) x a) (points_or v (λ b. t (Field n ∷ b)) (λ b. u (Field n ∷ b)) x a)
       ∙ ap (λ c. (points v (λ b. t (Field n ∷ b)) x a || points v (λ b. u (Field n ∷ b)) x a) || c) (fields_point_or fs t u x a)
-      ∙ or_cross (points v (λ b. t (Field n ∷ b)) x a) (points v (λ b. u (Field n ∷ b)) x a) (fields_point fs t x a) (fields_point fs u x a)
+      ∙ or_exchange (points v (λ b. t (Field n ∷ b)) x a) (points v (λ b. u (Field n ∷ b)) x a) (fields_point fs t x a) (fields_point fs u x a)
 
 some_point_or : (vs : List Val) (t u : Test) (x : EntityUID) (a : Address) → list_any (λ v. points v (λ b. t b || u b) x a) vs ≡ (list_any (λ v. points v t x a) vs || list_any (λ v. points v u x a) vs)
 some_point_or [] t u x a = refl
 some_point_or (v ∷ vs) t u x a =
     ap (λ c. c || list_any (λ w. points w (λ b. t b || u b) x a) vs) (points_or v t u x a)
     ∙ ap (λ c. (points v t x a || points v u x a) || c) (some_point_or vs t u x a)
-    ∙ or_cross (points v t x a) (points v u x a) (list_any (λ w. points w t x a) vs) (list_any (λ w. points w u x a) vs)
+    ∙ or_exchange (points v t x a) (points v u x a) (list_any (λ w. points w t x a) vs) (list_any (λ w. points w u x a) vs)
 
 pub entity_points_or : (e : StoredEntity) (t u : Test) (x : EntityUID) (a : Address) → entity_points e (λ b. t b || u b) x a ≡ (entity_points e t x a || entity_points e u x a)
 entity_points_or e t u x a =
     ap (λ c. c || list_any (λ v. points v (λ b. t (AnyTag ∷ b) || u (AnyTag ∷ b)) x a) (values_in e.tags)) (fields_point_or e.attrs t u x a)
     ∙ ap (λ c. (fields_point e.attrs t x a || fields_point e.attrs u x a) || c) (some_point_or (values_in e.tags) (λ b. t (AnyTag ∷ b)) (λ b. u (AnyTag ∷ b)) x a)
-    ∙ or_cross (fields_point e.attrs t x a) (fields_point e.attrs u x a) (list_any (λ v. points v (λ b. t (AnyTag ∷ b)) x a) (values_in e.tags)) (list_any (λ v. points v (λ b. u (AnyTag ∷ b)) x a) (values_in e.tags))
+    ∙ or_exchange (fields_point e.attrs t x a) (fields_point e.attrs u x a) (list_any (λ v. points v (λ b. t (AnyTag ∷ b)) x a) (values_in e.tags)) (list_any (λ v. points v (λ b. u (AnyTag ∷ b)) x a) (values_in e.tags))
 
 pub entity_points_none : (e : StoredEntity) (x : EntityUID) (a : Address) → entity_points e (λ b. false) x a ≡ false
 entity_points_none e x a = ap (λ c. c || list_any (λ v. points v (λ b. false) x a) (values_in e.tags)) (fields_point_none e.attrs x a) ∙ any_point_none (values_in e.tags) x a
@@ -98,5 +93,5 @@ field_points (field m v fs) n w t x a h p = by (is_eq (text_cmp n m)) refl h (λ
     by : (b : Bool) → is_eq (text_cmp n m) ≡ b → (if b then Some v else field_at fs n) ≡ Some w → (field_at fs n ≡ Some w → fields_point fs t x a ≡ true) → fields_point (field m v fs) t x a ≡ true
     by true e k f =
         let same : v ≡ w = cc in
-        or_true (points v (λ b. t (Field m ∷ b)) x a) (fields_point fs t x a) (rw (← same_text n m e) (rw same p))
-    by false e k f = or_right (points v (λ b. t (Field m ∷ b)) x a) (fields_point fs t x a) (f k)
+        or_left_true (points v (λ b. t (Field m ∷ b)) x a) (fields_point fs t x a) (rw (← same_text n m e) (rw same p))
+    by false e k f = or_right_true (points v (λ b. t (Field m ∷ b)) x a) (fields_point fs t x a) (f k)

@@ -10,8 +10,8 @@ use Rattle.std.proofs.lemmas.Bool.{and_parts, and_from, or_cases}
 use Rattle.policy_names.specs.declared.entity_uid.EntityUID.{EntityUID}
 use Rattle.policy_names.specs.Uid.{uid_eq}
 use Rattle.policy_values.specs.Value.{Val, entity, rec, Fields, field_at}
-use Rattle.policy_store.specs.declared.request.Request.{Request}
-use Rattle.policy_store.specs.Store.{StoredEntity, Store, entity_at}
+use Rattle.entity_store.specs.declared.request.Request.{Request}
+use Rattle.entity_store.specs.Store.{StoredEntity, Store, entity_at}
 use Rattle.access_tries.specs.declared.edge.Edge.TheVariants.{AnyTag, Root}
 use Rattle.access_tries.specs.declared.edge.EntityRoot.{EntityRoot}
 use Rattle.access_tries.specs.declared.table.Link.{Link}
@@ -21,27 +21,24 @@ use Rattle.access_tries.specs.Table.{Table, links_at}
 use Rattle.access_tries.specs.Views.{whole}
 use Rattle.access_tries.specs.EdgeLaws.{exact_edge}
 use Rattle.policy_names.proofs.Ties.{equal_of}
-use Rattle.policy_reads.specs.Paths.{Step, along, any_tag, AccessPath, beyond}
-use Rattle.policy_reads.specs.Restrict.{root_value, values_in, step, step_in_entity, step_in_record, walk}
-use Rattle.policy_reads.proofs.Lists.{IsIn, or_true, or_right, any_in, same_uid, uid_self, in_flat_map, flat_map_out}
-use Rattle.policy_reads.proofs.Words.{any_out}
-use Rattle.policy_reads.proofs.Cuts.{walk_on}
-use Rattle.entity_asking.specs.declared.place.Place.{Place}
-use Rattle.entity_asking.specs.Answered.{answer_points}
-use Rattle.entity_asking.specs.Begun.{root_points, roots_point}
-use Rattle.entity_asking.specs.Leads.{RootLeads}
+use Rattle.reads_spec.specs.Paths.{Step, along, any_tag, AccessPath, beyond}
+use Rattle.reads_spec.specs.Restrict.{root_value, values_in, step, step_in_entity, step_in_record, walk}
+use Rattle.reads_spec.proofs.Lists.{IsIn, any_in, same_uid, uid_self, in_flat_map, flat_map_out}
+use Rattle.plain_lemmas.proofs.Booleans.{or_false, or_left_true, or_right_true, true_of_or_false}
+use Rattle.reads_spec.proofs.Words.{any_out}
+use Rattle.reads_spec.proofs.Cuts.{walk_on}
+use Rattle.trie_traversal.specs.declared.place.Place.{Place}
+use Rattle.trie_traversal.specs.Answered.{answer_points}
+use Rattle.trie_traversal.specs.Begun.{root_points, roots_point}
+use Rattle.trie_traversal.specs.Leads.{RootLeads}
 use Rattle.std.specs.Ordering.{is_eq}
 use Rattle.std.specs.BTreeSet.{BTreeSet, contains}
-use Rattle.entity_asking.proofs.PlaceSteps.{exact_place}
-use Rattle.entity_asking.specs.Places.{place_cmp, IsPlaced, IsBelowSome, node_of}
-use Rattle.entity_asking.specs.Wants.{Test, sees, wants, points, fields_point, entity_points, Adds}
+use Rattle.trie_traversal.proofs.PlaceSteps.{exact_place}
+use Rattle.trie_traversal.specs.Places.{place_cmp, IsPlaced, IsBelowSome, node_of}
+use Rattle.trie_traversal.specs.Wants.{Test, sees, wants, points, fields_point, entity_points, Adds}
 use Rattle.store_slices.specs.Reached.{IsReached, either_wants, IsExplored, IsAnswerLed, AreReached, AreThere}
-use Rattle.store_slices.proofs.PointSteps.{or_both, points_more, points_any, field_points, entity_points_or, entity_points_none, entity_points_when}
-
-or_nothing : (a : Bool) → (a || false) ≡ true → a ≡ true
-or_nothing true h = refl
-or_nothing false h = h
-
+true_of_or_false : (a : Bool) → (a || false) ≡ true → a ≡ true
+true_of_or_false true h = refl
 or_false : (a : Bool) → (a || false) ≡ a
 or_false true = refl
 or_false false = refl
@@ -75,25 +72,25 @@ module _ (ns : Table) (q : Request) (s : Store) where
 
   module _ (reached rest next : List Place) (p : Place) (t : IsExplored ns q s reached ((p ∷ rest) ++ next)) where
     of_place : (b : Bool) (x : EntityUID) (a : Address) → (uid_eq p.uid x && sees b (node_of ns p) a) ≡ true → either_wants b ns reached ((p ∷ rest) ++ next) x a ≡ true
-    of_place b x a h = or_right (wants b ns reached x a) (wants b ns ((p ∷ rest) ++ next) x a) (or_true (uid_eq p.uid x && sees b (node_of ns p) a) (wants b ns (rest ++ next) x a) h)
+    of_place b x a h = or_right_true (wants b ns reached x a) (wants b ns ((p ∷ rest) ++ next) x a) (or_left_true (uid_eq p.uid x && sees b (node_of ns p) a) (wants b ns (rest ++ next) x a) h)
 
     of_rest : (b : Bool) (x : EntityUID) (a : Address) → wants b ns (rest ++ next) x a ≡ true → either_wants b ns reached ((p ∷ rest) ++ next) x a ≡ true
-    of_rest b x a h = or_right (wants b ns reached x a) (wants b ns ((p ∷ rest) ++ next) x a) (or_right (uid_eq p.uid x && sees b (node_of ns p) a) (wants b ns (rest ++ next) x a) h)
+    of_rest b x a h = or_right_true (wants b ns reached x a) (wants b ns ((p ∷ rest) ++ next) x a) (or_right_true (uid_eq p.uid x && sees b (node_of ns p) a) (wants b ns (rest ++ next) x a) h)
 
     -- a place that was reached before
     pub explored_again : IsIn p reached → IsExplored ns q s reached (rest ++ next)
     explored_again there = record {
       begun = λ b r x a h. still b x a (t.begun b r x a h);
       followed = λ b y e at x a h. still b x a (t.followed b y e at x a h);
-      sound = λ b x a h. t.sound b x a (or_both (wants b ns reached x a) (wants b ns (rest ++ next) x a) (wants b ns reached x a) (wants b ns ((p ∷ rest) ++ next) x a) (λ i. i) (or_right (uid_eq p.uid x && sees b (node_of ns p) a) (wants b ns (rest ++ next) x a)) h);
+      sound = λ b x a h. t.sound b x a (or_both (wants b ns reached x a) (wants b ns (rest ++ next) x a) (wants b ns reached x a) (wants b ns ((p ∷ rest) ++ next) x a) (λ i. i) (or_right_true (uid_eq p.uid x && sees b (node_of ns p) a) (wants b ns (rest ++ next) x a)) h);
     }
       where
         by : (b : Bool) (x : EntityUID) (a : Address) → ((uid_eq p.uid x && sees b (node_of ns p) a) ≡ true) ⊎ (wants b ns (rest ++ next) x a ≡ true) → either_wants b ns reached (rest ++ next) x a ≡ true
-        by b x a (inl i) = or_true (wants b ns reached x a) (wants b ns (rest ++ next) x a) (any_in (λ r. uid_eq r.uid x && sees b (node_of ns r) a) p reached there i)
-        by b x a (inr i) = or_right (wants b ns reached x a) (wants b ns (rest ++ next) x a) i
+        by b x a (inl i) = or_left_true (wants b ns reached x a) (wants b ns (rest ++ next) x a) (any_in (λ r. uid_eq r.uid x && sees b (node_of ns r) a) p reached there i)
+        by b x a (inr i) = or_right_true (wants b ns reached x a) (wants b ns (rest ++ next) x a) i
 
         either : (b : Bool) (x : EntityUID) (a : Address) → (wants b ns reached x a ≡ true) ⊎ (wants b ns ((p ∷ rest) ++ next) x a ≡ true) → either_wants b ns reached (rest ++ next) x a ≡ true
-        either b x a (inl i) = or_true (wants b ns reached x a) (wants b ns (rest ++ next) x a) i
+        either b x a (inl i) = or_left_true (wants b ns reached x a) (wants b ns (rest ++ next) x a) i
         either b x a (inr i) = by b x a (or_cases (uid_eq p.uid x && sees b (node_of ns p) a) (wants b ns (rest ++ next) x a) i)
 
         still : (b : Bool) (x : EntityUID) (a : Address) → either_wants b ns reached ((p ∷ rest) ++ next) x a ≡ true → either_wants b ns reached (rest ++ next) x a ≡ true
@@ -102,27 +99,27 @@ module _ (ns : Table) (q : Request) (s : Store) where
     -- a place that is followed
     module _ (reached' next' : List Place) (placed : IsPlaced p reached reached') (adds : Adds ns (answer_points (entity_at s p.uid) (node_of ns p)) next next') (led : IsAnswerLed (node_of ns p) (entity_at s p.uid)) where
       of_next : (b : Bool) (x : EntityUID) (a : Address) → wants b ns next' x a ≡ true → either_wants b ns reached' (rest ++ next') x a ≡ true
-      of_next b x a h = or_right (wants b ns reached' x a) (wants b ns (rest ++ next') x a) (list_any-append (λ r. uid_eq r.uid x && sees b (node_of ns r) a) rest next' ∙ or_right (wants b ns rest x a) (wants b ns next' x a) h)
+      of_next b x a h = or_right_true (wants b ns reached' x a) (wants b ns (rest ++ next') x a) (list_any-append (λ r. uid_eq r.uid x && sees b (node_of ns r) a) rest next' ∙ or_right_true (wants b ns rest x a) (wants b ns next' x a) h)
 
       of_old : (b : Bool) (x : EntityUID) (a : Address) → wants b ns rest x a ≡ true → either_wants b ns reached' (rest ++ next') x a ≡ true
-      of_old b x a h = or_right (wants b ns reached' x a) (wants b ns (rest ++ next') x a) (list_any-append (λ r. uid_eq r.uid x && sees b (node_of ns r) a) rest next' ∙ or_true (wants b ns rest x a) (wants b ns next' x a) h)
+      of_old b x a h = or_right_true (wants b ns reached' x a) (wants b ns (rest ++ next') x a) (list_any-append (λ r. uid_eq r.uid x && sees b (node_of ns r) a) rest next' ∙ or_left_true (wants b ns rest x a) (wants b ns next' x a) h)
 
       wants_now : (b : Bool) (x : EntityUID) (a : Address) → wants b ns reached' x a ≡ (wants b ns reached x a || (uid_eq p.uid x && sees b (node_of ns p) a))
       wants_now b x a = placed.tests (λ r. uid_eq r.uid x && sees b (node_of ns r) a)
 
       reached_still : (b : Bool) (x : EntityUID) (a : Address) → ((wants b ns reached x a || (uid_eq p.uid x && sees b (node_of ns p) a)) ≡ true) → either_wants b ns reached' (rest ++ next') x a ≡ true
-      reached_still b x a h = or_true (wants b ns reached' x a) (wants b ns (rest ++ next') x a) (wants_now b x a ∙ h)
+      reached_still b x a h = or_left_true (wants b ns reached' x a) (wants b ns (rest ++ next') x a) (wants_now b x a ∙ h)
 
       rest_still : (b : Bool) (x : EntityUID) (a : Address) → (wants b ns rest x a ≡ true) ⊎ (wants b ns next x a ≡ true) → either_wants b ns reached' (rest ++ next') x a ≡ true
       rest_still b x a (inl i) = of_old b x a i
-      rest_still b x a (inr i) = of_next b x a (adds.each b x a ∙ or_true (wants b ns next x a) (answer_points (entity_at s p.uid) (node_of ns p) b x a) i)
+      rest_still b x a (inr i) = of_next b x a (adds.each b x a ∙ or_left_true (wants b ns next x a) (answer_points (entity_at s p.uid) (node_of ns p) b x a) i)
 
       pending_still : (b : Bool) (x : EntityUID) (a : Address) → ((uid_eq p.uid x && sees b (node_of ns p) a) ≡ true) ⊎ (wants b ns (rest ++ next) x a ≡ true) → either_wants b ns reached' (rest ++ next') x a ≡ true
-      pending_still b x a (inl i) = reached_still b x a (or_right (wants b ns reached x a) (uid_eq p.uid x && sees b (node_of ns p) a) i)
+      pending_still b x a (inl i) = reached_still b x a (or_right_true (wants b ns reached x a) (uid_eq p.uid x && sees b (node_of ns p) a) i)
       pending_still b x a (inr i) = rest_still b x a (or_cases (wants b ns rest x a) (wants b ns next x a) (sym (list_any-append (λ r. uid_eq r.uid x && sees b (node_of ns r) a) rest next) ∙ i))
 
       more : (b : Bool) (x : EntityUID) (a : Address) → (wants b ns reached x a ≡ true) ⊎ (wants b ns ((p ∷ rest) ++ next) x a ≡ true) → either_wants b ns reached' (rest ++ next') x a ≡ true
-      more b x a (inl i) = reached_still b x a (or_true (wants b ns reached x a) (uid_eq p.uid x && sees b (node_of ns p) a) i)
+      more b x a (inl i) = reached_still b x a (or_left_true (wants b ns reached x a) (uid_eq p.uid x && sees b (node_of ns p) a) i)
       more b x a (inr i) = pending_still b x a (or_cases (uid_eq p.uid x && sees b (node_of ns p) a) (wants b ns (rest ++ next) x a) i)
 
       still : (b : Bool) (x : EntityUID) (a : Address) → either_wants b ns reached ((p ∷ rest) ++ next) x a ≡ true → either_wants b ns reached' (rest ++ next') x a ≡ true
@@ -139,7 +136,7 @@ module _ (ns : Table) (q : Request) (s : Store) where
       new_followed b y e at x a h =
           let c = and_parts (uid_eq p.uid y) (entity_points e (sees b (node_of ns p)) x a) h in
           let here : entity_at s p.uid ≡ Some e = ap (entity_at s) (same_uid p.uid y c.0) ∙ at in
-          of_next b x a (adds.each b x a ∙ or_right (wants b ns next x a) (answer_points (entity_at s p.uid) (node_of ns p) b x a) (ap (λ o. answer_points o (node_of ns p) b x a) here ∙ c.1))
+          of_next b x a (adds.each b x a ∙ or_right_true (wants b ns next x a) (answer_points (entity_at s p.uid) (node_of ns p) b x a) (ap (λ o. answer_points o (node_of ns p) b x a) here ∙ c.1))
 
       followed_now : (b : Bool) (y : EntityUID) (e : StoredEntity) → entity_at s y ≡ Some e → (x : EntityUID) (a : Address) → (entity_points e (wants b ns reached y) x a ≡ true) ⊎ ((uid_eq p.uid y && entity_points e (sees b (node_of ns p)) x a) ≡ true) → either_wants b ns reached' (rest ++ next') x a ≡ true
       followed_now b y e at x a (inl i) = still b x a (t.followed b y e at x a i)
@@ -147,15 +144,15 @@ module _ (ns : Table) (q : Request) (s : Store) where
 
       -- whatever is asked for now is reached
       new_sound : (b : Bool) (x : EntityUID) (a : Address) → (wants b ns next x a ≡ true) ⊎ (answer_points (entity_at s p.uid) (node_of ns p) b x a ≡ true) → IsReached b ns q s x a
-      new_sound b x a (inl i) = t.sound b x a (of_rest b x a (list_any-append (λ r. uid_eq r.uid x && sees b (node_of ns r) a) rest next ∙ or_right (wants b ns rest x a) (wants b ns next x a) i))
+      new_sound b x a (inl i) = t.sound b x a (of_rest b x a (list_any-append (λ r. uid_eq r.uid x && sees b (node_of ns r) a) rest next ∙ or_right_true (wants b ns rest x a) (wants b ns next x a) i))
       new_sound b x a (inr i) = reached_further p b x a (λ c j. t.sound b p.uid c (of_place b p.uid c (and_from (uid_eq p.uid p.uid) (sees b (node_of ns p) c) (uid_self p.uid) j))) (entity_at s p.uid) refl led i
 
       rest_sound : (b : Bool) (x : EntityUID) (a : Address) → (wants b ns rest x a ≡ true) ⊎ (wants b ns next' x a ≡ true) → IsReached b ns q s x a
-      rest_sound b x a (inl i) = t.sound b x a (of_rest b x a (list_any-append (λ r. uid_eq r.uid x && sees b (node_of ns r) a) rest next ∙ or_true (wants b ns rest x a) (wants b ns next x a) i))
+      rest_sound b x a (inl i) = t.sound b x a (of_rest b x a (list_any-append (λ r. uid_eq r.uid x && sees b (node_of ns r) a) rest next ∙ or_left_true (wants b ns rest x a) (wants b ns next x a) i))
       rest_sound b x a (inr i) = new_sound b x a (or_cases (wants b ns next x a) (answer_points (entity_at s p.uid) (node_of ns p) b x a) (sym (adds.each b x a) ∙ i))
 
       reached_sound : (b : Bool) (x : EntityUID) (a : Address) → (wants b ns reached x a ≡ true) ⊎ ((uid_eq p.uid x && sees b (node_of ns p) a) ≡ true) → IsReached b ns q s x a
-      reached_sound b x a (inl i) = t.sound b x a (or_true (wants b ns reached x a) (wants b ns ((p ∷ rest) ++ next) x a) i)
+      reached_sound b x a (inl i) = t.sound b x a (or_left_true (wants b ns reached x a) (wants b ns ((p ∷ rest) ++ next) x a) i)
       reached_sound b x a (inr i) = t.sound b x a (of_place b x a i)
 
       sound_now : (b : Bool) (x : EntityUID) (a : Address) → (wants b ns reached' x a ≡ true) ⊎ (wants b ns (rest ++ next') x a ≡ true) → IsReached b ns q s x a
@@ -198,7 +195,7 @@ module _ (ns : Table) (q : Request) (s : Store) where
 
   module _ (reached : List Place) (t : IsExplored ns q s reached []) where
     at_last : (b : Bool) (x : EntityUID) (a : Address) → either_wants b ns reached [] x a ≡ true → wants b ns reached x a ≡ true
-    at_last b x a h = or_nothing (wants b ns reached x a) h
+    at_last b x a h = true_of_or_false (wants b ns reached x a) h
 
     in_field : (b : Bool) (fs : Fields) (n : Step) (w : Val) (u : Test) → IsIn w (step_in_record fs n) → (x : EntityUID) (a : Address) → points w (λ c. u (edge_of n ∷ c)) x a ≡ true → fields_point fs u x a ≡ true
     in_field b fs any_tag w u h x a p = absurd h
@@ -210,8 +207,8 @@ module _ (ns : Table) (q : Request) (s : Store) where
         by (Some v) at (inr i) = absurd i
 
     in_entity : (b : Bool) (e : StoredEntity) (n : Step) (w : Val) (u : Test) → IsIn w (step_in_entity (Some e) n) → (x : EntityUID) (a : Address) → points w (λ c. u (edge_of n ∷ c)) x a ≡ true → entity_points e u x a ≡ true
-    in_entity b e (along n) w u h x a p = or_true (fields_point e.attrs u x a) (list_any (λ v. points v (λ c. u (AnyTag ∷ c)) x a) (values_in e.tags)) (in_field b e.attrs (along n) w u h x a p)
-    in_entity b e any_tag w u h x a p = or_right (fields_point e.attrs u x a) (list_any (λ v. points v (λ c. u (AnyTag ∷ c)) x a) (values_in e.tags)) (any_in (λ v. points v (λ c. u (AnyTag ∷ c)) x a) w (values_in e.tags) h p)
+    in_entity b e (along n) w u h x a p = or_left_true (fields_point e.attrs u x a) (list_any (λ v. points v (λ c. u (AnyTag ∷ c)) x a) (values_in e.tags)) (in_field b e.attrs (along n) w u h x a p)
+    in_entity b e any_tag w u h x a p = or_right_true (fields_point e.attrs u x a) (list_any (λ v. points v (λ c. u (AnyTag ∷ c)) x a) (values_in e.tags)) (any_in (λ v. points v (λ c. u (AnyTag ∷ c)) x a) w (values_in e.tags) h p)
 
     -- all to which a value points was asked for, and so is all to which a value points that is one step on
     one_step : (b : Bool) (v : Val) (u : Test) → ((x : EntityUID) (a : Address) → points v u x a ≡ true → wants b ns reached x a ≡ true) → (n : Step) (w : Val) → IsIn w (step s v n)
@@ -236,7 +233,7 @@ module _ (ns : Table) (q : Request) (s : Store) where
 
     pub all_reached : AreReached ns q s reached
     all_reached b x a = (
-      λ h. t.sound b x a (or_true (wants b ns reached x a) false h),
+      λ h. t.sound b x a (or_left_true (wants b ns reached x a) false h),
       λ r. walked b r.path.steps (root_value q r.path.root) (λ c. sees b (whole ns) (Root r.path.root ∷ c)) (λ y c h. at_last b y c (t.begun b r.path.root y c h)) x a r.reached r.passes,
     )
 

@@ -1,14 +1,14 @@
 -- Values that a path of a trie reaches and cannot go on from.
 use Rattle.std.specs.Prelude.{◌≡◌, ◌⊎◌, Bool, true, false, Some}
 use Rattle.policy_names.specs.declared.entity_uid.EntityUID.{EntityUID}
-use Rattle.policy_store.specs.declared.request.Request.{Request}
-use Rattle.policy_store.specs.Store.{StoredEntity, Store, entity_at}
+use Rattle.entity_store.specs.declared.request.Request.{Request}
+use Rattle.entity_store.specs.Store.{StoredEntity, Store, entity_at}
 use Rattle.policy_values.specs.Value.{Val}
 use Rattle.access_tries.specs.Edges.{Address}
 use Rattle.access_tries.specs.Table.{Table}
-use Rattle.entity_asking.specs.Begun.{SomeRootSticks}
-use Rattle.entity_asking.specs.Stuck.{EntitySticks}
-use Rattle.entity_asking.specs.Wants.{Test}
+use Rattle.trie_traversal.specs.Begun.{SomeRootSticks}
+use Rattle.trie_traversal.specs.Stuck.{EntitySticks}
+use Rattle.trie_traversal.specs.Wants.{Test}
 use Rattle.store_slices.specs.Reached.{IsReached}
 
 -- in an entity of the store a value stands from which paths that reach the entity cannot go on

@@ -8,13 +8,13 @@ use Rattle.std.specs.declared.vec.Vec.{Vec}
 use Rattle.std.specs.declared.alloc.Global.{Global}
 use Rattle.policy_names.specs.declared.entity_uid.EntityUID.{EntityUID}
 use Rattle.policy_names.specs.Uid.{uid_cmp, uid_eq}
-use Rattle.policy_store.specs.declared.request.Request.{Request}
-use Rattle.policy_store.specs.Store.{StoredEntity, Store}
+use Rattle.entity_store.specs.declared.request.Request.{Request}
+use Rattle.entity_store.specs.Store.{StoredEntity, Store}
 use Rattle.access_tries.specs.Table.{Table}
-use Rattle.policy_reads.specs.Paths.{any_tag, steps_of}
-use Rattle.policy_reads.specs.Restrict.{Keep}
-use Rattle.ancestor_names.specs.Names.{IsKept, IsNamed}
-use Rattle.entity_asking.specs.declared.place.Place.{Place}
+use Rattle.reads_spec.specs.Paths.{any_tag, steps_of}
+use Rattle.reads_spec.specs.Restrict.{Keep}
+use Rattle.trie_traversal.specs.Names.{IsKept, IsNamed}
+use Rattle.trie_traversal.specs.declared.place.Place.{Place}
 use Rattle.entity_loader.specs.Asked.{by_tag, some_leads, some_asks, some_along}
 
 -- for each entity the numbers of the nodes at which it is reached

@@ -2,20 +2,20 @@
 use Rattle.std.specs.Prelude.{◌≡◌, ◌↔◌, ◌<◌, Bool, true, ◌||◌, List, ◌∷◌, ◌++◌, length, Option, Some, None}
 use Rattle.policy_names.specs.declared.entity_uid.EntityUID.{EntityUID}
 use Rattle.policy_values.specs.Value.{entity}
-use Rattle.policy_store.specs.declared.request.Request.{Request}
-use Rattle.policy_store.specs.Store.{StoredEntity, Store, entity_at}
+use Rattle.entity_store.specs.declared.request.Request.{Request}
+use Rattle.entity_store.specs.Store.{StoredEntity, Store, entity_at}
 use Rattle.access_tries.specs.declared.edge.Edge.TheVariants.{Root}
 use Rattle.access_tries.specs.declared.edge.EntityRoot.{EntityRoot}
 use Rattle.access_tries.specs.Edges.{Address}
 use Rattle.access_tries.specs.Paths.{address_of}
 use Rattle.access_tries.specs.Table.{Table}
 use Rattle.access_tries.specs.Views.{ViewData, whole}
-use Rattle.policy_reads.specs.Paths.{AccessPath}
-use Rattle.policy_reads.specs.Restrict.{reach, root_value}
-use Rattle.policy_reads.specs.Among.{IsIn}
-use Rattle.entity_asking.specs.declared.place.Place.{Place}
-use Rattle.entity_asking.specs.Leads.{EntityLeads, IsLed}
-use Rattle.entity_asking.specs.Wants.{sees, wants, points, entity_points}
+use Rattle.reads_spec.specs.Paths.{AccessPath}
+use Rattle.reads_spec.specs.Restrict.{reach, root_value}
+use Rattle.reads_spec.specs.Among.{IsIn}
+use Rattle.trie_traversal.specs.declared.place.Place.{Place}
+use Rattle.trie_traversal.specs.Leads.{EntityLeads, IsLed}
+use Rattle.trie_traversal.specs.Wants.{sees, wants, points, entity_points}
 
 -- a path leads to the entity, and the trie goes on from its end with the address, to a marked node if that is asked
 pub record IsReached (b : Bool) (ns : Table) (q : Request) (s : Store) (x : EntityUID) (a : Address) : Type 0 where

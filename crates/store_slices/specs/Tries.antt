@@ -2,8 +2,8 @@
 use Rattle.std.specs.Prelude.{◌≡◌, ◌↔◌, true, List}
 use Rattle.access_tries.specs.Table.{Table, IsTable}
 use Rattle.access_tries.specs.Paths.{has_path, asks, IsLeast}
-use Rattle.policy_reads.specs.Paths.{AccessPath, Demand}
-use Rattle.policy_reads.specs.Among.{IsIn, IsFrontOfRead}
+use Rattle.reads_spec.specs.Paths.{AccessPath, Demand}
+use Rattle.reads_spec.specs.Among.{IsIn, IsFrontOfRead}
 
 -- a trie with exactly the paths that are read and their fronts, which asks exactly what is demanded
 pub record IsTrieOf (reads : List AccessPath) (demands : List Demand) (t : Table) : Type 0 where

@@ -2,13 +2,13 @@
 
 ghost use Rattle.std.specs.Prelude.{◌≡◌, IfOk, filter};
 ghost use Rattle.access_tries.specs.Table.{IsTable};
-ghost use Rattle.policy_store.specs.Request.{IsWhole};
+ghost use Rattle.entity_store.specs.Request.{IsWhole};
 ghost use Rattle.store_slices.specs.Kept.{names, some_names, AreNamed};
 
 use access_tries::{Node, TrieRef};
-use ancestor_names::named_ids;
+use trie_traversal::named_ids;
 use policy_names::EntityUID;
-use policy_store::{Entity, Request};
+use entity_store::{Entity, Request};
 use std::alloc::{AllocError, Global};
 use std::collections::{BTreeMap, BTreeSet};
 

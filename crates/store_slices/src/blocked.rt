@@ -3,17 +3,17 @@
 ghost use Rattle.std.specs.Prelude.{IfOk};
 ghost use Rattle.std.specs.Option.{option_copied};
 ghost use Rattle.access_tries.specs.Table.{IsTable};
-ghost use Rattle.policy_store.specs.Request.{IsWhole};
-ghost use Rattle.policy_store.specs.Store.{entity_at};
-ghost use Rattle.entity_asking.specs.Answered.{AnswerSticks, SomeAnswerSticks};
-ghost use Rattle.entity_asking.specs.Places.{node_of};
-ghost use Rattle.entity_asking.specs.Stuck.{tests_of, IsStuck};
+ghost use Rattle.entity_store.specs.Request.{IsWhole};
+ghost use Rattle.entity_store.specs.Store.{entity_at};
+ghost use Rattle.trie_traversal.specs.Answered.{AnswerSticks, SomeAnswerSticks};
+ghost use Rattle.trie_traversal.specs.Places.{node_of};
+ghost use Rattle.trie_traversal.specs.Stuck.{tests_of, IsStuck};
 ghost use Rattle.store_slices.specs.Blocked.{IsBlocked};
 
 use crate::reach::reached_places;
 use access_tries::{Node, RootAccessTrie, TrieRef};
-use entity_asking::{Place, stuck_in_context, stuck_in_entity};
-use policy_store::{Entities, Request};
+use trie_traversal::{Place, stuck_in_context, stuck_in_entity};
+use entity_store::{Entities, Request};
 use policy_values::Value;
 use std::alloc::{AllocError, Global};
 use std::collections::BTreeSet;

@@ -2,8 +2,8 @@
 
 ghost use Rattle.std.specs.Prelude.{◌≡◌, IfOk};
 ghost use Rattle.access_tries.specs.Table.{IsTable};
-ghost use Rattle.policy_reads.specs.Restrict.{part};
-ghost use Rattle.ancestor_names.specs.Names.{IsKept};
+ghost use Rattle.reads_spec.specs.Restrict.{part};
+ghost use Rattle.trie_traversal.specs.Names.{IsKept};
 ghost use Rattle.store_slices.specs.Kept.{along_nodes, with_names, AreNodes};
 
 use crate::ancestors::ancestors_among;
@@ -11,7 +11,7 @@ use crate::numbers::Numbers;
 use access_tries::Node;
 use entity_loader::cut_entity;
 use policy_names::EntityUID;
-use policy_store::{Entities, Entity};
+use entity_store::{Entities, Entity};
 use std::alloc::{AllocError, Global};
 use std::collections::{BTreeMap, BTreeSet};
 

@@ -2,19 +2,19 @@
 
 ghost use Rattle.std.specs.Prelude.{◌≡◌, ◌⊎◌, ◌∷◌, ◌++◌, [], IfOk, OnOk};
 ghost use Rattle.access_tries.specs.Table.{IsTable};
-ghost use Rattle.policy_reads.specs.Among.{IsIn};
-ghost use Rattle.policy_store.specs.Request.{IsWhole};
-ghost use Rattle.policy_store.specs.Store.{entity_at};
-ghost use Rattle.policy_store.specs.declared.request.Request.{Request};
-ghost use Rattle.entity_asking.specs.declared.place.Place.{Place};
-ghost use Rattle.entity_asking.specs.Answered.{answer_points};
-ghost use Rattle.entity_asking.specs.Places.{IsBelow, IsBelowSome, node_of};
-ghost use Rattle.entity_asking.specs.Wants.{Adds};
+ghost use Rattle.reads_spec.specs.Among.{IsIn};
+ghost use Rattle.entity_store.specs.Request.{IsWhole};
+ghost use Rattle.entity_store.specs.Store.{entity_at};
+ghost use Rattle.entity_store.specs.declared.request.Request.{Request};
+ghost use Rattle.trie_traversal.specs.declared.place.Place.{Place};
+ghost use Rattle.trie_traversal.specs.Answered.{answer_points};
+ghost use Rattle.trie_traversal.specs.Places.{IsBelow, IsBelowSome, node_of};
+ghost use Rattle.trie_traversal.specs.Wants.{Adds};
 ghost use Rattle.store_slices.specs.Reached.{IsExplored, IsAnswerLed, AreReached, AreThere};
 
 use access_tries::{Node, RootAccessTrie, TrieRef};
-use entity_asking::{Place, ask, follow_entity, root_places};
-use policy_store::{Entities, Request};
+use trie_traversal::{Place, ask, follow_entity, root_places};
+use entity_store::{Entities, Request};
 use std::alloc::{AllocError, Global};
 use std::collections::BTreeSet;
 

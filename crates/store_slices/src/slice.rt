@@ -1,9 +1,9 @@
 //! The store restricted to the paths of a trie.
 
 ghost use Rattle.std.specs.Prelude.{◌≡◌, List, IfOk};
-ghost use Rattle.policy_reads.specs.Paths.{AccessPath, Demand};
-ghost use Rattle.policy_reads.specs.Restrict.{restrict};
-ghost use Rattle.policy_store.specs.Request.{IsWhole};
+ghost use Rattle.reads_spec.specs.Paths.{AccessPath, Demand};
+ghost use Rattle.reads_spec.specs.Restrict.{restrict};
+ghost use Rattle.entity_store.specs.Request.{IsWhole};
 ghost use Rattle.store_slices.specs.Tries.{IsTrieOf};
 
 use crate::ancestors::named_by_nodes;
@@ -11,7 +11,7 @@ use crate::numbers::numbers_of;
 use crate::parts::{parts_of, slice_of};
 use crate::reach::reached_places;
 use access_tries::RootAccessTrie;
-use policy_store::{Entities, Request};
+use entity_store::{Entities, Request};
 use std::alloc::{AllocError, Global};
 
 /// The store restricted to the paths of a trie: each entity that a path reaches, with the attributes, tags and fields along

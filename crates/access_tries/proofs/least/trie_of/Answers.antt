@@ -1,6 +1,6 @@
 use Rattle.std.proofs.Common.{ap, length, sym, ◌∙◌, ◌&&◌}
 use Rattle.access_tries.specs.Paths.{is_front, is_same}
-use Rattle.access_tries.proofs.Addresses.{or_false}
+use Rattle.plain_lemmas.proofs.Booleans.{or_false}
 use Rattle.access_tries.proofs.Chains.{chain_present, chain_marked}
 use Rattle.access_tries.proofs.least.trie_of.Goals as goal
 

@@ -1,8 +1,9 @@
 use Rattle.std.proofs.Common.{rules, ◌≡◌, ◌<◌, ◌∙◌, ap, subst, [], length}
 use Rattle.access_tries.specs.declared.edge.Edge.TheVariants.{Field}
-use Rattle.policy_reads.specs.Restrict.{cut}
+use Rattle.reads_spec.specs.Restrict.{cut}
 use Rattle.entity_loader.specs.Asked.{some_along}
-use Rattle.entity_loader.proofs.CutSteps.{IsCutting, cut_skip, cut_more, cut_done, chosen_there, not_chosen, cut_below, none_in}
+use Rattle.entity_loader.proofs.CutSteps.{IsCutting, cut_skip, cut_more, cut_done, chosen_there, not_chosen, cut_below}
+use Rattle.plain_lemmas.proofs.Lists.{empty_of_length}
 use Rattle.entity_loader.proofs.cut.+cutting.Goals as goal
 use Rattle.entity_loader.proofs.cut.+cutting.Goals.{cut_fields-then-not-is_empty+in_ok-value+in_ok-try_clone+in_ok-push_entry, cut_fields-else-not-is_empty}
 
@@ -23,7 +24,7 @@ cut_fields-loop-key-preserved t c =
       | cut_fields-else-not-is_empty w ↦
           let none : length js ≡ 0 = search rules in
           rw (ap (λ m. m.entries) w.kept-is)
-          (cut_skip (some_along ns is) c.args.fields.now.entries c.loop-key.key-iterator c.loop-key.kept.entries key value c.next.new.self c.in-Some.ensures.steps c.loop-key.invariant (not_chosen (Field key) ns is js b (none_in js none) []))
+          (cut_skip (some_along ns is) c.args.fields.now.entries c.loop-key.key-iterator c.loop-key.kept.entries key value c.next.new.self c.in-Some.ensures.steps c.loop-key.invariant (not_chosen (Field key) ns is js b (empty_of_length js none) []))
     ]
 
 pub cut_fields-returns : goal.cut_fields-returns

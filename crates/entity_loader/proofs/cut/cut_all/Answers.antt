@@ -1,5 +1,5 @@
 use Rattle.std.proofs.Common.{subst}
-use Rattle.policy_reads.specs.Paths.{Chain}
+use Rattle.reads_spec.specs.Paths.{Chain}
 use Rattle.std.specs.Prelude.{Bool}
 use Rattle.entity_loader.specs.Asked.{by_tag, some_along}
 use Rattle.entity_loader.proofs.CutSteps.{IsCutting, cut_more, cut_done}

@@ -1,6 +1,6 @@
 use Rattle.std.proofs.Common.{◌≡◌, ◌∙◌, ◌∷◌, []}
 use Rattle.std.proofs.lemmas.Result.{IfOk-weaker}
-use Rattle.policy_reads.specs.Restrict.{cut_entity}
+use Rattle.reads_spec.specs.Restrict.{cut_entity}
 use Rattle.entity_loader.specs.Asked.{asked, asked_by}
 use Rattle.entity_loader.proofs.AnswerSteps.{none_left}
 use Rattle.entity_loader.proofs.CutSteps.{asked_alone}

@@ -1,6 +1,6 @@
 use Rattle.std.proofs.Common.{subst}
 use Rattle.access_tries.specs.Paths.{IsLeast}
-use Rattle.policy_reads.specs.Reads.{declared_reads, declared_demands}
+use Rattle.reads_spec.specs.Reads.{declared_reads, declared_demands}
 use Rattle.schema_core.specs.RequestEnvs.{env_data_of}
 use Rattle.manifest_computation.proofs.Additions.{added}
 use Rattle.manifest_computation.proofs.gathering.add_all.Goals as goal

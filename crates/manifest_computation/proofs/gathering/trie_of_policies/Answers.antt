@@ -1,8 +1,8 @@
 use Rattle.std.proofs.Common.{◌≡◌, Some, sym, ap, ◌∙◌}
 use Rattle.schema_core.specs.RequestEnvs.{env_data_of}
-use Rattle.typing_findings.specs.Check.{checked}
-use Rattle.typed_conditions.specs.Found.{condition_in, found_conditions}
-use Rattle.typed_conditions.proofs.Checks.{told_condition}
+use Rattle.typecheck_spec.specs.Check.{checked}
+use Rattle.policy_validate.specs.Found.{condition_in, found_conditions}
+use Rattle.policy_validate.proofs.Checks.{told_condition}
 use Rattle.manifest_computation.proofs.Additions.{all_added, left_next, none_left, one_taken}
 use Rattle.manifest_computation.proofs.gathering.trie_of_policies.Goals as goal
 

@@ -1,7 +1,7 @@
 use Rattle.std.proofs.Common.{◌↔◌, [], ◌++◌}
 use Rattle.schema_core.specs.RequestEnvs.{env_data_of}
-use Rattle.policy_acceptance.specs.Laws.{LeavesAll}
-use Rattle.typed_conditions.specs.Found.{found_conditions}
+use Rattle.policy_validate.specs.AcceptanceLaws.{LeavesAll}
+use Rattle.policy_validate.specs.Found.{found_conditions}
 use Rattle.manifest_computation.specs.Gathered.{HoldSame}
 use Rattle.manifest_computation.proofs.gathering.trie_of_policies.Given as goal
 

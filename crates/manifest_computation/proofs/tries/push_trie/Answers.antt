@@ -1,5 +1,5 @@
 use Rattle.std.proofs.Common.{◌∙◌}
-use Rattle.entity_manifest.proofs.Entries.{put_next}
+use Rattle.manifest_core.proofs.Entries.{put_next}
 use Rattle.manifest_computation.proofs.tries.push_trie.Goals as goal
 
 pub returns : goal.returns

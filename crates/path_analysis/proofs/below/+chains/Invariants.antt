@@ -1,8 +1,8 @@
 use Rattle.std.proofs.Common.{◌≡◌, ◌≤◌, ◌+◌, ◌*◌, ◌++◌, map}
 use Rattle.schema_types.specs.Ty.{size_of, size_of_attrs}
 use Rattle.schema_types.specs.TyView.{attrs_of}
-use Rattle.policy_reads.specs.Paths.{beyond, steps_of}
-use Rattle.policy_reads.specs.PathTypes.{chains_in}
+use Rattle.reads_spec.specs.Paths.{beyond, steps_of}
+use Rattle.reads_spec.specs.PathTypes.{chains_in}
 use Rattle.path_analysis.proofs.below.+chains.Given as goal
 
 abbrev pub decreases-add_chains : goal.decreases-add_chains

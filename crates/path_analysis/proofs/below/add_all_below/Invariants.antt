@@ -1,7 +1,7 @@
 use Rattle.std.proofs.Common.{◌≡◌, ◌++◌, drop}
 use Rattle.std.specs.List.{flat_map}
 use Rattle.schema_core.specs.RequestEnvs.{env_data_of}
-use Rattle.policy_reads.specs.Reads.{all_below}
+use Rattle.reads_spec.specs.Reads.{all_below}
 use Rattle.path_analysis.proofs.below.add_all_below.Given as goal
 
 -- what was found, and what is left

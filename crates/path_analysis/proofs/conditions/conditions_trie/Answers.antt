@@ -2,8 +2,8 @@ use Rattle.std.proofs.Common.{map, filter}
 use Rattle.std.proofs.lemmas.Result.{IfOk-weaker}
 use Rattle.access_tries.specs.Paths.{IsLeast}
 use Rattle.schema_core.specs.RequestEnvs.{env_data_of}
-use Rattle.policy_reads.specs.PathTypes.{declared_part}
-use Rattle.policy_reads.specs.Reads.{are_declared, declared_reads, declared_demands}
+use Rattle.reads_spec.specs.PathTypes.{declared_part}
+use Rattle.reads_spec.specs.Reads.{are_declared, declared_reads, declared_demands}
 use Rattle.path_analysis.proofs.ConditionSteps.{reads_next, demands_next, least_once}
 use Rattle.path_analysis.proofs.conditions.conditions_trie.Goals as goal
 

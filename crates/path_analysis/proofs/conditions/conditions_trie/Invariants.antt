@@ -1,6 +1,6 @@
 use Rattle.std.proofs.Common.{◌≡◌, [], drop}
 use Rattle.schema_core.specs.RequestEnvs.{env_data_of}
-use Rattle.policy_reads.specs.Reads.{reads_of, demands_of}
+use Rattle.reads_spec.specs.Reads.{reads_of, demands_of}
 use Rattle.path_analysis.specs.PathOrder.{with_paths, with_demands}
 use Rattle.path_analysis.proofs.conditions.conditions_trie.Given as goal
 

@@ -1,6 +1,6 @@
 use Rattle.std.proofs.Common.{◌≡◌, ◌++◌, filter}
 use Rattle.schema_core.specs.RequestEnvs.{env_data_of}
-use Rattle.policy_reads.specs.Reads.{are_declared}
+use Rattle.reads_spec.specs.Reads.{are_declared}
 use Rattle.path_analysis.proofs.conditions.declared_demands.Given as goal
 
 -- what was added, and what is left

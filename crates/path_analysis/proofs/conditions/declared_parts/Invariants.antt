@@ -1,6 +1,6 @@
 use Rattle.std.proofs.Common.{◌≡◌, ◌++◌, map}
 use Rattle.schema_core.specs.RequestEnvs.{env_data_of}
-use Rattle.policy_reads.specs.PathTypes.{declared_part}
+use Rattle.reads_spec.specs.PathTypes.{declared_part}
 use Rattle.path_analysis.proofs.conditions.declared_parts.Given as goal
 
 -- what was added, and what is left

@@ -1,5 +1,5 @@
 use Rattle.std.proofs.Common.{◌≡◌, drop}
-use Rattle.policy_reads.specs.Reads.{pairs}
+use Rattle.reads_spec.specs.Reads.{pairs}
 use Rattle.path_analysis.specs.PathOrder.{with_demands}
 use Rattle.path_analysis.proofs.operators.add_pairs.Given as goal
 

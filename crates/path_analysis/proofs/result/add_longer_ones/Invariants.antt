@@ -1,6 +1,6 @@
 use Rattle.std.proofs.Common.{◌≡◌, ◌++◌}
 use Rattle.std.specs.Vec.Iter.{into_iter_items}
-use Rattle.policy_reads.specs.Reads.{with_step}
+use Rattle.reads_spec.specs.Reads.{with_step}
 use Rattle.path_analysis.proofs.result.add_longer_ones.Given as goal
 
 -- what was added, and what is left

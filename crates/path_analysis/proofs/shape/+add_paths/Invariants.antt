@@ -1,5 +1,5 @@
 use Rattle.std.proofs.Common.{◌≡◌, ◌≤◌, ◌+◌, ◌*◌, ◌++◌, drop}
-use Rattle.policy_reads.specs.Paths.{paths, field_paths}
+use Rattle.reads_spec.specs.Paths.{paths, field_paths}
 use Rattle.path_analysis.specs.ShapeView.{one_of_all, field_shapes, size_of, size_of_fields}
 use Rattle.path_analysis.proofs.shape.+add_paths.Given as goal
 

@@ -2,7 +2,7 @@ use Rattle.std.proofs.Common.{◌≡◌, ◌≤◌, ◌+◌, ◌*◌, ◌++◌, 
 use Rattle.std.specs.Map.{keys_of}
 use Rattle.schema_core.specs.RequestEnvs.{env_data_of}
 use Rattle.policy_expressions.specs.Tree.{depth_of, deepest, deepest_named, trees_of, named_of}
-use Rattle.policy_reads.specs.Reads.{reads_all, demands_all, reads_named, demands_named, shape_of}
+use Rattle.reads_spec.specs.Reads.{reads_all, demands_all, reads_named, demands_named, shape_of}
 use Rattle.path_analysis.specs.Parts.{shaped}
 use Rattle.path_analysis.specs.PathOrder.{with_paths, with_demands}
 use Rattle.path_analysis.proofs.walk.+analyze.Given as goal

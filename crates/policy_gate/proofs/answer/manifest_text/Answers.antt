@@ -1,9 +1,9 @@
 use Rattle.std.proofs.Common.{◌≡◌, ap, refl, ◌∙◌}
 use Rattle.serde_json.specs.View.{view}
 use Rattle.serde_json.specs.Written.{has_float, compact_text}
-use Rattle.entity_manifest.specs.ManifestJson.{manifest_data}
+use Rattle.manifest_core.specs.ManifestJson.{manifest_data}
 use Rattle.policy_gate.specs.Answer.{manifest_text}
-use Rattle.entity_manifest.proofs.Floats.{manifest_has_none}
+use Rattle.manifest_core.proofs.Floats.{manifest_has_none}
 use Rattle.policy_gate.proofs.answer.manifest_text.Goals as goal
 
 pub returns : goal.returns

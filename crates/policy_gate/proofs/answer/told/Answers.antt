@@ -1,7 +1,7 @@
 use Rattle.std.proofs.Common.{◌≡◌, List, [], ◌∷◌, refl, sym, subst, ap, ◌∙◌}
 use Rattle.findings.specs.declared.error.ValidationError.{ValidationError}
-use Rattle.finding_texts.specs.Findings.{Findings}
-use Rattle.finding_texts.specs.Written.{findings_text}
+use Rattle.finding_messages.specs.Findings.{Findings}
+use Rattle.finding_messages.specs.Written.{findings_text}
 use Rattle.policy_gate.specs.Answer.{IsRefusedOr, refused_with, status_of}
 use Rattle.policy_gate.specs.Reply.{Answer, answer, reply_view}
 use Rattle.policy_gate.proofs.Results.{more}

@@ -1,6 +1,6 @@
 use Rattle.std.proofs.Common.{◌≡◌, subst}
 use Rattle.std.specs.Prelude.{IfOk}
-use Rattle.finding_texts.specs.Written.{findings_text}
+use Rattle.finding_messages.specs.Written.{findings_text}
 use Rattle.policy_gate.specs.Answer.{IsRefusedOr, refused_with}
 use Rattle.policy_gate.specs.Reply.{reply_view}
 use Rattle.policy_gate.proofs.answer.with_levels.Goals as goal

@@ -1,7 +1,7 @@
 use Rattle.policy_gate.proofs.Runs.{both_for, causes, complete_for, done_for, exact_for, own_for, read_for, refused_for, too_long_for, too_long_told, usage_for}
 use Rattle.policy_gate.specs.declared.command.Command.TheVariants.{Check, Level, Request, Manifest, Slice, Decide, Sample}
 use Rattle.policy_gate.specs.Headline.{IsSliced, IsDecided, IsSampled}
-use Rattle.sample_documents.specs.Sample.{sample_document}
+use Rattle.json_samples.specs.Sample.{sample_document}
 use Rattle.policy_gate.proofs.runner.run.Goals as goal
 
 pub returns-clause-cause : goal.returns-clause-cause

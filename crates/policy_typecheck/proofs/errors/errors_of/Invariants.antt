@@ -1,7 +1,7 @@
 use Rattle.std.proofs.Common.{◌≡◌, ◌++◌, map}
 use Rattle.std.specs.Vec.Iter.{into_iter_items}
 use Rattle.findings.specs.Seen.{error_of}
-use Rattle.typing_rules.specs.Found.{findings_from}
+use Rattle.typecheck_rules.specs.Found.{findings_from}
 use Rattle.policy_typecheck.proofs.errors.errors_of.Given as goal
 
 -- the errors so far, and those of the findings that are left

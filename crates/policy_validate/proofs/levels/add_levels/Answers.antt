@@ -1,7 +1,7 @@
 use Rattle.std.proofs.Common.{◌++◌, ◌∙◌}
 use Rattle.policy_set.specs.Condition.{condition_of}
-use Rattle.policy_links.specs.Linked.{linked_envs}
-use Rattle.level_checks.specs.Errors.{level_errors_in}
+use Rattle.link_spec.specs.Linked.{linked_envs}
+use Rattle.level_validate.specs.Errors.{level_errors_in}
 use Rattle.policy_validate.proofs.LevelErrors.{conditions_told}
 use Rattle.policy_validate.proofs.levels.add_levels.Goals as goal
 

@@ -1,7 +1,7 @@
 use Rattle.std.proofs.Common.{◌≡◌, ◌++◌, map}
 use Rattle.std.specs.List.{filter_map}
 use Rattle.std.specs.Vec.Iter.{into_iter_items}
-use Rattle.level_checks.specs.Errors.{condition_in}
+use Rattle.level_validate.specs.Errors.{condition_in}
 use Rattle.policy_validate.specs.Told.{level_condition_told}
 use Rattle.policy_validate.proofs.levels.typed_conditions.Given as goal
 

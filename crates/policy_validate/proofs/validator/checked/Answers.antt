@@ -1,8 +1,8 @@
 use Rattle.std.proofs.Common.{◌≡◌, [], Result, Ok, Err, IfOk, sym, ap, ◌∙◌}
 use Rattle.std.specs.List.{AllByRecursion}
-use Rattle.finding_texts.specs.Findings.{Findings}
+use Rattle.finding_messages.specs.Findings.{Findings}
 use Rattle.schema_core.specs.EnvData.{unlinked_envs}
-use Rattle.policy_links.specs.Accepted.{IsTypedIn}
+use Rattle.link_spec.specs.Accepted.{IsTypedIn}
 use Rattle.policy_validate.specs.Accepted.{findings_of}
 use Rattle.policy_validate.proofs.validator.checked.Goals as goal
 

@@ -1,10 +1,10 @@
 use Rattle.std.proofs.Common.{◌≡◌, subst}
 use Rattle.std.specs.Prelude.{IfOk}
-use Rattle.policy_reads.specs.Cover.{restricted}
-use Rattle.policy_reads.specs.Reads.{declared_reads, declared_demands}
+use Rattle.reads_spec.specs.Cover.{restricted}
+use Rattle.reads_spec.specs.Reads.{declared_reads, declared_demands}
 use Rattle.schema_core.specs.RequestEnvs.{env_data_of}
 use Rattle.store_slices.proofs.LeastSteps.{declared_trie}
-use Rattle.typed_conditions.specs.Found.{found_conditions}
+use Rattle.policy_validate.specs.Found.{found_conditions}
 use Rattle.request_slices.proofs.slice.restricted_in.Goals as goal
 
 pub returns : goal.returns

@@ -2,7 +2,7 @@ use Rattle.std.proofs.Common.{◌≡◌, true, subst, arith}
 use Rattle.std.specs.Prelude.{◌↔◌}
 use Rattle.std.specs.BTreeSet.{contains}
 use Rattle.policy_names.specs.Uid.{uid_cmp}
-use Rattle.ancestor_names.specs.Names.{IsNamed}
+use Rattle.trie_traversal.specs.Names.{IsNamed}
 use Rattle.store_slices.proofs.PartSteps.{naming_more}
 use Rattle.store_slices.proofs.ancestors.named_by_nodes.Goals as goal
 

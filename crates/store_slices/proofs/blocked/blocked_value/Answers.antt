@@ -1,9 +1,9 @@
 use Rattle.std.proofs.Common.{subst}
 use Rattle.std.proofs.lemmas.Result.{IfOk-weaker}
-use Rattle.policy_store.specs.Store.{entity_at}
-use Rattle.entity_asking.specs.Answered.{SomeAnswerSticks}
-use Rattle.entity_asking.specs.Begun.{SomeRootSticks}
-use Rattle.entity_asking.specs.Stuck.{IsStuck}
+use Rattle.entity_store.specs.Store.{entity_at}
+use Rattle.trie_traversal.specs.Answered.{SomeAnswerSticks}
+use Rattle.trie_traversal.specs.Begun.{SomeRootSticks}
+use Rattle.trie_traversal.specs.Stuck.{IsStuck}
 use Rattle.store_slices.proofs.BlockedSteps.{blocked_whole}
 use Rattle.store_slices.proofs.blocked.blocked_value.Goals as goal
 

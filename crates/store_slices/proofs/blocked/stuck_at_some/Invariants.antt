@@ -1,4 +1,4 @@
-use Rattle.policy_store.specs.Store.{entity_at}
+use Rattle.entity_store.specs.Store.{entity_at}
 use Rattle.store_slices.proofs.BlockedSteps.{IsLooking}
 use Rattle.store_slices.proofs.blocked.stuck_at_some.Given as goal
 

@@ -1,7 +1,7 @@
 use Rattle.std.proofs.Common.{◌≡◌, ◌∙◌, sym, Some, None}
 use Rattle.std.specs.BTreeMap.{get}
 use Rattle.policy_names.specs.Uid.{uid_cmp}
-use Rattle.policy_reads.specs.Restrict.{cut_entity}
+use Rattle.reads_spec.specs.Restrict.{cut_entity}
 use Rattle.entity_loader.specs.Asked.{asked_by}
 use Rattle.store_slices.specs.Kept.{along_nodes}
 use Rattle.store_slices.proofs.PartSteps.{keeping_more, keeping_skip, keeping_done, chosen, not_chosen, bare_cut}

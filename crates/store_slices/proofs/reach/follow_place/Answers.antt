@@ -1,9 +1,9 @@
 use Rattle.std.proofs.Common.{inl, inr, subst}
 use Rattle.std.proofs.lemmas.Result.{on_ok_weaker}
-use Rattle.entity_asking.specs.Answered.{answer_points}
-use Rattle.entity_asking.specs.Leads.{EntityLeads, IsLed}
-use Rattle.entity_asking.specs.Places.{IsBelow, node_of}
-use Rattle.entity_asking.specs.Wants.{Adds, sees, entity_points}
+use Rattle.trie_traversal.specs.Answered.{answer_points}
+use Rattle.trie_traversal.specs.Leads.{EntityLeads, IsLed}
+use Rattle.trie_traversal.specs.Places.{IsBelow, node_of}
+use Rattle.trie_traversal.specs.Wants.{Adds, sees, entity_points}
 use Rattle.store_slices.specs.Reached.{IsAnswerLed}
 use Rattle.store_slices.proofs.ReachSteps.{adds_none}
 use Rattle.store_slices.proofs.reach.follow_place.Goals as goal

@@ -1,7 +1,7 @@
 use Rattle.std.proofs.Common.{rules, ◌≡◌, ◌++◌, true, inl, inr, refl, sym, subst}
-use Rattle.policy_reads.proofs.Lists.{IsIn}
+use Rattle.reads_spec.proofs.Lists.{IsIn}
 use Rattle.std.specs.BTreeSet.{contains}
-use Rattle.entity_asking.specs.Places.{place_cmp}
+use Rattle.trie_traversal.specs.Places.{place_cmp}
 use Rattle.store_slices.specs.Reached.{IsExplored}
 use Rattle.store_slices.proofs.ReachSteps.{explored_again, explored_more, among_places}
 use Rattle.store_slices.proofs.reach.follow_round.Goals as goal

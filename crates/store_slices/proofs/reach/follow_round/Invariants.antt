@@ -1,8 +1,8 @@
 use Rattle.std.proofs.Common.{◌++◌, ◌⊎◌}
-use Rattle.policy_store.specs.declared.request.Request.{Request}
-use Rattle.policy_reads.proofs.Lists.{IsIn}
-use Rattle.entity_asking.specs.declared.place.Place.{Place}
-use Rattle.entity_asking.specs.Places.{IsBelowSome}
+use Rattle.entity_store.specs.declared.request.Request.{Request}
+use Rattle.reads_spec.proofs.Lists.{IsIn}
+use Rattle.trie_traversal.specs.declared.place.Place.{Place}
+use Rattle.trie_traversal.specs.Places.{IsBelowSome}
 use Rattle.store_slices.specs.Reached.{IsExplored}
 use Rattle.store_slices.proofs.reach.follow_round.Given as goal
 

@@ -1,8 +1,8 @@
 use Rattle.std.proofs.Common.{rules, ◌≡◌, ◌<◌, length, inl, inr, sym, subst}
 use Rattle.std.proofs.lemmas.List.{nil_from_length}
-use Rattle.policy_reads.proofs.Lists.{IsIn}
-use Rattle.entity_asking.specs.declared.place.Place.{Place}
-use Rattle.entity_asking.specs.Places.{IsBelowSome}
+use Rattle.reads_spec.proofs.Lists.{IsIn}
+use Rattle.trie_traversal.specs.declared.place.Place.{Place}
+use Rattle.trie_traversal.specs.Places.{IsBelowSome}
 use Rattle.store_slices.specs.Reached.{IsExplored}
 use Rattle.store_slices.proofs.ReachSteps.{explored_start, all_reached, lower}
 use Rattle.store_slices.proofs.reach.reached_places.Goals as goal

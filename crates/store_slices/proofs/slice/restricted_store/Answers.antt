@@ -1,7 +1,7 @@
 use Rattle.std.proofs.Common.{◌∙◌, sym, subst}
 use Rattle.std.proofs.lemmas.Result.{IfOk-weaker}
-use Rattle.policy_reads.specs.Restrict.{part}
-use Rattle.ancestor_names.specs.Names.{IsKept}
+use Rattle.reads_spec.specs.Restrict.{part}
+use Rattle.trie_traversal.specs.Names.{IsKept}
 use Rattle.store_slices.specs.Kept.{along_nodes, with_names, AreNodes, AreNamed}
 use Rattle.store_slices.proofs.KeptSteps.{are_nodes, restricted_is}
 use Rattle.store_slices.proofs.slice.restricted_store.Goals as goal

@@ -1,6 +1,6 @@
 use Rattle.std.proofs.Common.{true, inl}
 use Rattle.entity_loader.specs.Answers.{IsHonestList}
-use Rattle.entity_loader.proofs.AnswerSteps.{zip_length}
+use Rattle.plain_lemmas.proofs.Lists.{zip_length}
 use Rattle.entity_loader.proofs.slicer.EntitySlicerEntityLoader.load_ancestors.Goals as goal
 
 pub returns-in-Ok-clause-fit : goal.returns-in-Ok-clause-fit

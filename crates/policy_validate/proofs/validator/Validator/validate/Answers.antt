@@ -2,7 +2,7 @@ use Rattle.std.proofs.Common.{◌≡◌, [], IfOk, subst}
 use Rattle.std.specs.List.{AllByRecursion}
 use Rattle.schema_core.specs.EnvData.{unlinked_envs}
 use Rattle.schema_core.specs.Schema.{SchemaData}
-use Rattle.policy_links.specs.Accepted.{IsTypedIn}
+use Rattle.link_spec.specs.Accepted.{IsTypedIn}
 use Rattle.policy_validate.proofs.validator.Validator.validate.Goals as goal
 
 pub returns-clause-typed : goal.returns-clause-typed

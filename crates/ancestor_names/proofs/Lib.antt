@@ -1,2 +1,0 @@
-mod NameSteps
-mod ValueSteps

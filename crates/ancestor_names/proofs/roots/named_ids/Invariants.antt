@@ -1,7 +1,0 @@
-use Rattle.policy_store.specs.Store.{Store}
-use Rattle.ancestor_names.specs.Names.{IsKept, IsNamed}
-use Rattle.ancestor_names.proofs.NameSteps.{IsNaming, RootNames}
-use Rattle.ancestor_names.proofs.roots.named_ids.Given as goal
-
-abbrev pub invariant-loop-root : goal.invariant-loop-root
-invariant-loop-root l = (s : Store) → IsKept l.kept s → IsNaming (IsNamed l.trie l.request s) (RootNames l.request s l.root-iterator) l.initial.ids l.ids

@@ -1,6 +1,0 @@
-//! Where a document has its first fault.
-#![tactic(auto)]
-
-mod place;
-
-pub use place::{DocumentFault, Place};

@@ -1,7 +1,0 @@
-pub mod PlaceSteps
-pub mod PointSteps
-mod FollowSteps
-mod DemandSteps
-mod BeginSteps
-mod LedSteps
-mod StuckSteps

@@ -1,0 +1,191 @@
+-- The tries of a computed manifest, and the environments that they are of.
+use Rattle.std.proofs.Common.{◌≡◌, ◌⊎◌, Bool, true, false, List, [], ◌∷◌, map, cond, Option, Some, None, IfSome, IsSomeAnd, refl, sym, ap, ◌∙◌, subst, inl, inr}
+use Rattle.std.specs.Prelude.{filter, if◌then◌else◌, option_map}
+use Rattle.std.specs.BTreeMap.{is_at}
+use Rattle.std.specs.List.{AllByRecursion, AllZip, cons_option, find}
+use Rattle.std.specs.List.Sorted.{IsStrictlySortedBy}
+use Rattle.std.specs.Map.{lookup}
+use Rattle.std.specs.Option.{option_and_then}
+use Rattle.std.specs.Cmp.{tied_itself}
+use Rattle.std.specs.declared.cmp.Ordering.TheVariants.{Less}
+use Rattle.std.proofs.lemmas.Cmp.{eq_by_cmp_equiv}
+use Rattle.std.proofs.lemmas.Map.Keys.{sorted_head, sorted_tail}
+use Rattle.policy_names.proofs.Ties.{equal_of}
+use Rattle.policy_names.specs.declared.entity_uid.EntityUID.{EntityUID}
+use Rattle.policy_names.specs.Uid.{uid_cmp, uid_cmp_total}
+use Rattle.entity_store.specs.declared.request.Request.{Request}
+use Rattle.entity_store.specs.declared.request.RequestType.{RequestType}
+use Rattle.entity_store.specs.Request.{known, type_of_ids, request_type_of, request_type_cmp, exact_request_type}
+use Rattle.access_tries.specs.Paths.{IsLeast}
+use Rattle.access_tries.specs.Table.{Table}
+use Rattle.schema_core.specs.EnvData.{EnvData, LinkedEnvironment, declared_action, request_type_in, unlinked, unlinked_of, unlinked_envs}
+use Rattle.schema_core.specs.Environments.{Environment, environment, environments_at, environments_of}
+use Rattle.schema_core.specs.Faults.{IsSchema}
+use Rattle.schema_core.specs.Schema.{ActionData, SchemaData, is_action_named, action_at}
+use Rattle.policy_set.specs.Data.{PolicyData}
+use Rattle.typing_spec.specs.Conforms.{IsOf}
+use Rattle.typing_spec.specs.Typing.{Typing, types}
+use Rattle.reads_spec.specs.Reads.{demands, demands_of, reads_of, are_declared, declared_reads, declared_demands}
+use Rattle.reads_spec.proofs.DeclaredPaths.{declared_read}
+use Rattle.reads_spec.proofs.Lists.{IsIn, in_map_out, flat_map_out}
+use Rattle.policy_validate.specs.Typed.{typed_conditions}
+use Rattle.store_slices.proofs.LeastSteps.{declared_trie}
+use Rattle.manifest_core.specs.Manifest.{Manifest, trie_for}
+use Rattle.manifest_computation.specs.Computed.{IsEntryOf, IsManifestOf}
+use Rattle.entity_manifest.specs.Declared.{IsDeclaredTrie}
+use Rattle.entity_manifest.specs.Computed.{ComputedTriesAreDeclared}
+use Rattle.entity_manifest.proofs.Conditions.{Asks, AsksIds, asks_both, none_asked, types_fine}
+
+-- ---- tries
+
+in_filter : {A : Type 0} (f : A → Bool) (y : A) (xs : List A) → IsIn y (filter f xs) → IsIn y xs
+in_filter f y [] h = h
+in_filter f y (x ∷ xs) h = by (f x) h (in_filter f y xs)
+  where
+    by : (b : Bool) → IsIn y (if b then x ∷ filter f xs else filter f xs) → (IsIn y (filter f xs) → IsIn y xs) → IsIn y (x ∷ xs)
+    by true (inl same) g = inl same
+    by true (inr i) g = inr (g i)
+    by false i g = inr (g i)
+
+module _ (d : SchemaData) (g : EnvData) where
+  conditions_ask : (ps : List PolicyData) → AsksIds d g (demands_of (typed_conditions d g ps))
+  conditions_ask [] = none_asked d g
+  conditions_ask (p ∷ ps) = by (types d g [] p.condition) (types_fine d g [] p.condition) (conditions_ask ps)
+    where
+      by : (o : Option Typing) → IfSome o (λ x. Asks d g x.type x.tree) → AsksIds d g (demands_of (typed_conditions d g ps)) → AsksIds d g (demands_of (cons_option (option_map (λ a. a.tree) o) (typed_conditions d g ps)))
+      by None h k = k
+      by (Some x) h k = asks_both d g (demands x.tree) (demands_of (typed_conditions d g ps)) h.asked k
+
+pub tries_declared : ComputedTriesAreDeclared
+tries_declared d g ps t l =
+    let ts = typed_conditions d g ps in
+    let fits = declared_trie d g ts t l in
+    record {
+      paths = λ p h. ((declared_read d g (reads_of d g ts) p).0 ((fits.paths p).0 h)).1;
+      asked = λ p r h. conditions_ask d g ps (p, r) (in_filter (are_declared d g) (p, r) (demands_of ts) ((fits.asks p r).0 h));
+    }
+
+-- ---- entries
+
+-- an environment that the entry is of
+record IsOfEntry (d : SchemaData) (ps : List PolicyData) (envs : List EnvData) (rt : RequestType) (t : Table) : Type 0 where
+  env : EnvData
+  among : IsIn env envs
+  request_type : request_type_in env ≡ Some rt
+  trie : IsLeast (declared_reads d env (typed_conditions d env ps)) (declared_demands d env (typed_conditions d env ps)) t
+
+same_type : (rt k : RequestType) → is_at (request_type_cmp rt) k ≡ true → rt ≡ k
+same_type rt k h = exact_request_type rt k (equal_of (request_type_cmp rt k) h)
+
+entry_found : (d : SchemaData) (ps : List PolicyData) (envs : List EnvData) (m : Manifest) (rt : RequestType) (t : Table) →
+    AllZip (λ env e. IsEntryOf d env (typed_conditions d env ps) e) envs m → lookup (is_at (request_type_cmp rt)) m ≡ Some t → IsOfEntry d ps envs rt t
+entry_found d ps [] [] rt t z h = absurd (cc)
+entry_found d ps [] (e ∷ m) rt t z h = absurd z
+entry_found d ps (env ∷ envs) [] rt t z h = absurd z
+entry_found d ps (env ∷ envs) (e ∷ m) rt t z h = by (is_at (request_type_cmp rt) e.0) refl h (entry_found d ps envs m rt t z.1)
+  where
+    by : (b : Bool) → is_at (request_type_cmp rt) e.0 ≡ b → cond b (Some e.1) (lookup (is_at (request_type_cmp rt)) m) ≡ Some t → (lookup (is_at (request_type_cmp rt)) m ≡ Some t → IsOfEntry d ps envs rt t) → IsOfEntry d ps (env ∷ envs) rt t
+    by true f k rest =
+        let same : e.1 ≡ t = cc in
+        record {
+          env = env;
+          among = inl refl;
+          request_type = z.0.request_type ∙ ap Some (sym (same_type rt e.0 f));
+          trie = subst (IsLeast (declared_reads d env (typed_conditions d env ps)) (declared_demands d env (typed_conditions d env ps))) same z.0.trie;
+        }
+    by false f k rest = let r = rest k in record { env = r.env; among = inr r.among; request_type = r.request_type; trie = r.trie }
+
+-- ---- environments of a schema
+
+-- environments of an action have it
+env_action : (a : ActionData) (e : Environment) → IsIn e (environments_of a) → a.name ≡ e.action
+env_action a e i =
+    let p = flat_map_out (environments_at a) e a.principals i in
+    let r = in_map_out (environment p.from a.name) e a.resources p.gives in
+    ap (λ z. z.action) r.2
+
+all_later : (k : EntityUID) (a : ActionData) (xs : List ActionData) → AllByRecursion (λ y. uid_cmp k y ≡ Less) (map (λ z. z.name) xs) → IsIn a xs → uid_cmp k a.name ≡ Less
+all_later k a [] h i = absurd i
+all_later k a (x ∷ xs) h (inl e) = subst (λ z. uid_cmp k z.name ≡ Less) e h.0
+all_later k a (x ∷ xs) h (inr i) = all_later k a xs h.1 i
+
+-- an action of the schema is found by its name
+member_found : (a : ActionData) (xs : List ActionData) → IsStrictlySortedBy uid_cmp (map (λ z. z.name) xs) → IsIn a xs → find (is_action_named a.name) xs ≡ Some a
+member_found a [] h i = absurd i
+member_found a (x ∷ xs) h (inl e) = rw (e, tied_itself uid_cmp_total a.name) refl
+member_found a (x ∷ xs) h (inr i) =
+    let later = all_later x.name a xs (sorted_head uid_cmp x.name (map (λ z. z.name) xs) h) i in
+    rw ((eq_by_cmp_equiv uid_cmp_total).symm a.name x.name, later) (member_found a xs (sorted_tail uid_cmp x.name (map (λ z. z.name) xs) h) i)
+
+-- what a request type says of the ids of a request
+types_known : (p a r : Option EntityUID) (rt : RequestType) → type_of_ids p a r ≡ Some rt → ((known p).entity_type ≡ rt.principal) × (known a ≡ rt.action) × ((known r).entity_type ≡ rt.resource)
+types_known (Some p) (Some a) (Some r) rt h =
+    let same : record { principal = p.entity_type; action = a; resource = r.entity_type } ≡ rt = some_same h in
+    (ap (λ z. z.principal) same, ap (λ z. z.action) same, ap (λ z. z.resource) same)
+  where
+    some_same : {X : Type 0} {x y : X} → Some x ≡ Some y → x ≡ y
+    some_same k = cc
+types_known None a r rt h = absurd (cc)
+types_known (Some p) None r rt h = absurd (cc)
+types_known (Some p) (Some a) None rt h = absurd (cc)
+
+-- the request is of an environment of the schema that has its type
+pub record HasEnvironment (d : SchemaData) (q : Request) (env : EnvData) : Type 0 where
+  pub linked : LinkedEnvironment
+  pub is : declared_action linked ≡ env
+  pub of : IsOf d q linked
+
+env_of_type : (d : SchemaData) → IsSchema d → (q : Request) (rt : RequestType) → request_type_of q ≡ Some rt → (env : EnvData) → IsIn env (unlinked_envs d) → request_type_in env ≡ Some rt → HasEnvironment d q env
+env_of_type d valid q rt has env among typed =
+    let a = flat_map_out unlinked_of env d.action_ids among in
+    let e = in_map_out (unlinked a.from) env (environments_of a.from) a.gives in
+    let named = env_action a.from e.0 e.1 in
+    let ids = types_known q.principal q.action q.resource rt has in
+    let same : record { principal = e.0.principal; action = e.0.action; resource = e.0.resource } ≡ rt = some_same (ap request_type_in e.2 ∙ typed) in
+    record {
+      linked = record { environment = e.0; context = a.from.context; principal_slot = None; resource_slot = None };
+      is = e.2;
+      of = record {
+        principal = ids.0 ∙ sym (ap (λ z. z.principal) same);
+        action = ids.1 ∙ sym (ap (λ z. z.action) same);
+        resource = ids.2 ∙ sym (ap (λ z. z.resource) same);
+        context = subst (λ u. IsSomeAnd (action_at d u) (λ b. a.from.context ≡ b.context)) named (subst (λ o. IsSomeAnd o (λ b. a.from.context ≡ b.context)) (sym (member_found a.from d.action_ids valid.actions_ascend a.among)) refl);
+      };
+    }
+  where
+    some_same : {X : Type 0} {x y : X} → Some x ≡ Some y → x ≡ y
+    some_same k = cc
+
+-- ---- the trie of a request
+
+-- an environment of which the request is, and the trie
+pub record IsChosen (d : SchemaData) (q : Request) (t : Table) : Type 0 where
+  pub linked : LinkedEnvironment
+  pub of : IsOf d q linked
+  pub declared : IsDeclaredTrie d (declared_action linked) t
+
+pub trie_chosen : (d : SchemaData) → IsSchema d → (ps : List PolicyData) (m : Manifest) → IsManifestOf d ps m → (q : Request) (t : Table) → trie_for m q ≡ Some t → IsChosen d q t
+trie_chosen d valid ps m is q t h = by (request_type_of q) refl h
+  where
+    none : (rt : RequestType) → m ≡ [] → lookup (is_at (request_type_cmp rt)) m ≡ Some t → IsChosen d q t
+    none rt e k = absurd (let no : None ≡ Some t = sym (ap (lookup (is_at (request_type_cmp rt))) e) ∙ k in cc)
+
+    some : (rt : RequestType) → request_type_of q ≡ Some rt → IsOfEntry d ps (unlinked_envs d) rt t → IsChosen d q t
+    some rt has e =
+        let env = env_of_type d valid q rt has e.env e.among e.request_type in
+        record {
+          linked = env.linked;
+          of = env.of;
+          declared = subst (λ g. IsDeclaredTrie d g t) (sym env.is) (tries_declared d e.env ps t e.trie);
+        }
+
+    entry : (ps : List PolicyData) (rt : RequestType) → IsManifestOf d ps m → lookup (is_at (request_type_cmp rt)) m ≡ Some t → (m ≡ []) ⊎ IsOfEntry d ps (unlinked_envs d) rt t
+    entry [] rt i k = inl i
+    entry (p ∷ ps) rt i k = inr (entry_found d (p ∷ ps) (unlinked_envs d) m rt t i k)
+
+    by : (o : Option RequestType) → request_type_of q ≡ o → option_and_then (λ rt. lookup (is_at (request_type_cmp rt)) m) o ≡ Some t → IsChosen d q t
+    by None e k = absurd (cc)
+    by (Some rt) e k = elim (entry ps rt is k) [
+      | inl i ↦ none rt i k
+      | inr i ↦ some rt e i
+    ]

@@ -1,6 +1,0 @@
-use Rattle.std.proofs.Common.{◌∙◌}
-use Rattle.entity_manifest.proofs.Entries.{put_next}
-use Rattle.entity_manifest.proofs.declared.push_trie.Goals as goal
-
-pub returns : goal.returns
-returns c = c.in_ok-insert.ensures.entries ∙ put_next c.args.tries.now.entries c.args.request_type c.args.trie c.requires

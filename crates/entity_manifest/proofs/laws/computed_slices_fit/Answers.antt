@@ -1,0 +1,5 @@
+use Rattle.entity_manifest.proofs.Loading.{slices_fit}
+use Rattle.entity_manifest.proofs.laws.computed_slices_fit.Goals as goal
+
+pub returns : goal.returns
+returns c = slices_fit

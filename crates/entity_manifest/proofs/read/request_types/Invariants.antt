@@ -1,7 +1,0 @@
-use Rattle.std.proofs.Common.{◌≡◌, take}
-use Rattle.entity_manifest.specs.Reading.{types_of}
-use Rattle.entity_manifest.proofs.read.request_types.Given as goal
-
--- those so far
-abbrev pub invariant-loop-entry : goal.invariant-loop-entry
-invariant-loop-entry l = l.types.items ≡ types_of (take l.entry-index l.entries)

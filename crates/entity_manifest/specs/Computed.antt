@@ -1,0 +1,54 @@
+-- Loading by computed manifests.
+use Rattle.std.specs.Prelude.{◌≡◌, List, Some, None}
+use Rattle.byte_streams.specs.Steps.{Rose}
+use Rattle.entity_store.specs.declared.request.Request.{Request}
+use Rattle.entity_store.specs.Store.{Store}
+use Rattle.policy_values.specs.Value.{Val}
+use Rattle.access_tries.specs.Paths.{IsLeast}
+use Rattle.access_tries.specs.Table.{Table}
+use Rattle.schema_core.specs.EnvData.{EnvData}
+use Rattle.schema_core.specs.Faults.{IsSchema}
+use Rattle.schema_core.specs.Schema.{SchemaData}
+use Rattle.policy_set.specs.Data.{PolicyData}
+use Rattle.typing_spec.specs.Conforms.{RequestConforms, StoreConforms}
+use Rattle.reads_spec.specs.Reads.{declared_reads, declared_demands}
+use Rattle.policy_validate.specs.Typed.{typed_conditions}
+use Rattle.entity_loader.specs.State.{LoaderState}
+use Rattle.manifest_loading.specs.Causes.{IsRight}
+use Rattle.manifest_loading.specs.Right.{SticksAt}
+use Rattle.manifest_loading.specs.declared.error.EntitySliceError.{EntitySliceError}
+use Rattle.manifest_loading.specs.declared.error.EntitySliceError.TheVariants.{OutOfMemory}
+use Rattle.store_slices.specs.Blocked.{IsBlocked}
+use Rattle.manifest_core.specs.Manifest.{Manifest, trie_for}
+use Rattle.manifest_computation.specs.Computed.{IsManifestOf}
+use Rattle.entity_manifest.specs.Declared.{IsDeclaredTrie}
+
+-- the trie of exactly what typed conditions read and ask for has declared paths alone, and asks only ids for ancestors
+abbrev pub ComputedTriesAreDeclared : Type 0
+ComputedTriesAreDeclared =
+    (schema : SchemaData) (env : EnvData) (ps : List PolicyData) (t : Table) →
+    IsLeast (declared_reads schema env (typed_conditions schema env ps)) (declared_demands schema env (typed_conditions schema env ps)) t → IsDeclaredTrie schema env t
+
+-- where the request and the store conform, the trie that the manifest of policies has for the request sticks at no value
+abbrev pub ComputedManifestsFit : Type 0
+ComputedManifestsFit =
+    (schema : SchemaData) → IsSchema schema → (ps : List PolicyData) (m : Manifest) → IsManifestOf schema ps m →
+    (q : Request) → RequestConforms schema q → (s : Store) → StoreConforms schema s → (t : Table) → trie_for m q ≡ Some t → (v : Val) → ¬ SticksAt t q s v
+
+-- a refusal as loading by the manifest promises it of an honest loader of the store
+pub record IsRightRefusal (m : Manifest) (q : Request) (s : Store) (old new : LoaderState) (e : EntitySliceError) : Type 0 where
+  pub without : trie_for m q ≡ None → e ≡ OutOfMemory
+  pub right : (t : Table) → trie_for m q ≡ Some t → IsRight (SticksAt t q s) old new e
+
+-- there an honest loader whose count of faults did not rise is refused for want of memory alone
+abbrev pub HonestLoadingSucceeds : Type 0
+HonestLoadingSucceeds =
+    (schema : SchemaData) → IsSchema schema → (ps : List PolicyData) (m : Manifest) → IsManifestOf schema ps m →
+    (q : Request) → RequestConforms schema q → (s : Store) → StoreConforms schema s →
+    (old new : LoaderState) → ¬ Rose old.faults new.faults → (e : EntitySliceError) → IsRightRefusal m q s old new e → e ≡ OutOfMemory
+
+-- there no path of the trie is blocked in the store, so slicing along it does not refuse the trie
+abbrev pub ComputedSlicesFit : Type 0
+ComputedSlicesFit =
+    (schema : SchemaData) → IsSchema schema → (ps : List PolicyData) (m : Manifest) → IsManifestOf schema ps m →
+    (q : Request) → RequestConforms schema q → (s : Store) → StoreConforms schema s → (t : Table) → trie_for m q ≡ Some t → (v : Val) → ¬ IsBlocked t q s v

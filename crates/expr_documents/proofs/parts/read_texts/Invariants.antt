@@ -1,8 +1,0 @@
-use Rattle.std.proofs.Common.{◌≡◌, ◌++◌, drop, option_map}
-use Rattle.serde_json.specs.View.{items_view}
-use Rattle.expr_documents.specs.Parts.{texts_of}
-use Rattle.expr_documents.proofs.parts.read_texts.Given as goal
-
--- those so far, and then those of what is left, are all
-abbrev pub invariant-loop-item : goal.invariant-loop-item
-invariant-loop-item l = option_map (λ xs. l.texts.items ++ xs) (texts_of (items_view (drop l.item-index l.items))) ≡ texts_of (items_view l.items)

@@ -1,0 +1,10 @@
+pub mod Faults
+pub mod PlaceText
+pub mod Entities
+pub mod Fields
+pub mod Request
+pub mod Store
+pub mod Laws
+pub mod Parts
+pub mod Policies
+pub mod Reading

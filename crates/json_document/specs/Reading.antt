@@ -1,0 +1,57 @@
+-- What a JSON value says as a document, or where its first fault is.
+use Rattle.std.specs.Prelude.{◌≡◌, Option, Some, None, Result, Ok, Err}
+use Rattle.policy_set.specs.PolicySet.{PolicySetData}
+use Rattle.entity_store.specs.Store.{Store}
+use Rattle.entity_store.specs.declared.request.Request.{Request}
+use Rattle.schema_core.specs.Declarations.{IsSchemaOf, IsRefused}
+use Rattle.schema_core.specs.Entries.{Declarations}
+use Rattle.schema_core.specs.Schema.{SchemaData}
+use Rattle.json_schema.specs.Schema.{schema_of}
+use Rattle.schema_declarations.specs.declared.fault.SchemaFault.TheVariants as refused
+use Rattle.serde_json.specs.Data.{Data}
+use Rattle.json_document.specs.Faults.{Then}
+use Rattle.json_document.specs.Parts.{DocumentParts, parts_of}
+use Rattle.json_document.specs.Policies.{no_policies, policies_of}
+use Rattle.json_document.specs.Request.{request_of}
+use Rattle.json_document.specs.Store.{IsStoreOf}
+use Rattle.json_document.specs.declared.document.Document.{Document}
+use Rattle.json_document.specs.declared.place.Place.{Place}
+use Rattle.json_document.specs.declared.place.Place.TheVariants as place
+
+-- the place of the fault for which the declarations make no schema
+abbrev pub IsSchemaFault : Declarations → Place → Type 0
+IsSchemaFault d (place.SchemaFault refused.OutOfMemory) = ⊥
+IsSchemaFault d (place.SchemaFault f) = IsRefused d f
+IsSchemaFault d _ = ⊥
+
+-- the schema that the declarations make, where there are any, or the place of the first fault
+abbrev pub IsSchemaFrom : Option Declarations → Result SchemaData Place → Type 0
+IsSchemaFrom None r = r ≡ Err place.Schema
+IsSchemaFrom (Some d) (Ok schema) = IsSchemaOf d schema
+IsSchemaFrom (Some d) (Err p) = IsSchemaFault d p
+
+abbrev pub or_place : {A : Type 0} → Place → Option A → Result A Place
+or_place p None = Err p
+or_place p (Some x) = Ok x
+
+abbrev pub document : SchemaData → PolicySetData → Store → Request → Document
+document schema policies entities request = record { schema = schema; policies = policies; entities = entities; request = request }
+
+-- Reading goes on behind the schema, the policies and the entities: each part in turn, up to the first fault.
+abbrev pub IsReadBehindStore : DocumentParts → SchemaData → PolicySetData → Store → Result Document Place → Type 0
+IsReadBehindStore parts schema policies entities =
+    Then (λ r. r ≡ or_place place.Request (request_of parts.request)) (λ request r. r ≡ Ok (document schema policies entities request))
+
+abbrev pub IsReadBehindPolicies : DocumentParts → SchemaData → PolicySetData → Result Document Place → Type 0
+IsReadBehindPolicies parts schema policies = Then (IsStoreOf parts.entities) (IsReadBehindStore parts schema policies)
+
+abbrev pub IsReadBehindSchema : DocumentParts → SchemaData → Result Document Place → Type 0
+IsReadBehindSchema parts schema = Then (λ r. r ≡ policies_of 0 no_policies parts.policies) (IsReadBehindPolicies parts schema)
+
+-- the document that the parts make, or the place of the first fault
+abbrev pub IsReadFrom : DocumentParts → Result Document Place → Type 0
+IsReadFrom parts = Then (IsSchemaFrom (schema_of parts.schema)) (IsReadBehindSchema parts)
+
+-- document reading: the document that the value is, or the place of the first fault
+unfoldable pub IsRead : Data → Result Document Place → Type 0
+IsRead d = Then (λ r. r ≡ or_place place.Form (parts_of d)) IsReadFrom

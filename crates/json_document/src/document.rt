@@ -1,0 +1,91 @@
+//! Documents.
+
+ghost use Rattle.serde_json.specs.View.{view};
+ghost use Rattle.json_document.specs.Faults.{MayComeTo};
+ghost use Rattle.json_document.specs.Parts.{parts_view};
+ghost use Rattle.json_document.specs.Reading.{IsRead, IsReadBehindPolicies, IsReadBehindSchema, IsReadBehindStore, IsReadFrom};
+
+use crate::parts::{Parts, parts_of};
+use crate::policies::read_policies;
+use crate::schema::read_schema;
+use crate::{DocumentFault, Place};
+use policy_set::PolicySet;
+use entity_store::{Entities, Request};
+use schema_core::ValidatorSchema;
+use serde_json::Value;
+use std::alloc::Global;
+use crate::{read_request, read_store};
+
+/// A schema, policies, entities and a request.
+#[derive(Drop)]
+pub struct Document {
+    /// The schema.
+    pub schema: ValidatorSchema,
+    /// The policies.
+    pub policies: PolicySet,
+    /// The store of the entities.
+    pub entities: Entities,
+    /// The request.
+    pub request: Request,
+}
+
+fn with_request(
+    alloc: Global,
+    parts: &Parts<'_>,
+    schema: ValidatorSchema,
+    policies: PolicySet,
+    entities: Entities,
+) -> Result<Document, DocumentFault>
+    ensures { MayComeTo result (IsReadBehindStore (parts_view parts.now) schema policies entities) }
+{
+    let Some(request) = read_request(alloc, parts.request)? else {
+        return Err(DocumentFault::Place(Place::Request));
+    };
+    Ok(Document {
+        schema,
+        policies,
+        entities,
+        request,
+    })
+}
+
+fn with_entities(
+    alloc: Global,
+    parts: &Parts<'_>,
+    schema: ValidatorSchema,
+    policies: PolicySet,
+) -> Result<Document, DocumentFault>
+    ensures { MayComeTo result (IsReadBehindPolicies (parts_view parts.now) schema policies) }
+{
+    let entities = read_store(alloc, parts.entities)?;
+    with_request(alloc, parts, schema, policies, entities)
+}
+
+fn with_policies(
+    alloc: Global,
+    parts: &Parts<'_>,
+    schema: ValidatorSchema,
+) -> Result<Document, DocumentFault>
+    ensures { MayComeTo result (IsReadBehindSchema (parts_view parts.now) schema) }
+{
+    let policies = read_policies(alloc, parts.policies)?;
+    with_entities(alloc, parts, schema, policies)
+}
+
+fn read_parts(alloc: Global, parts: &Parts<'_>) -> Result<Document, DocumentFault>
+    ensures { MayComeTo result (IsReadFrom (parts_view parts.now)) }
+{
+    let schema = read_schema(alloc, parts.schema)?;
+    with_policies(alloc, parts, schema)
+}
+
+/// The document that the value is; else the place of its first fault.
+#[tactic(auto, unfolding(crate::specs::Reading::IsRead))]
+pub fn read_document(alloc: Global, value: &Value) -> Result<Document, DocumentFault>
+    ensures { MayComeTo result (IsRead (view value.now)) }
+{
+    match parts_of(value) {
+        Some(parts) => read_parts(alloc, &parts),
+        None => Err(DocumentFault::Place(Place::Form)),
+    }
+}

@@ -1,0 +1,144 @@
+//! Entities in JSON.
+
+ghost use Rattle.std.specs.Prelude.{◌≡◌, [], IfOk, option_map};
+ghost use Rattle.serde_json.specs.View.{view, items_view, members_view};
+ghost use Rattle.json_values.specs.Json.{has_only};
+ghost use Rattle.json_document.specs.Entities.{entities_of, entity_names, entity_of, given_entity_of, index_from, with_uids};
+ghost use Rattle.policy_names.specs.Uid.{uid_eq};
+ghost use Rattle.entity_store.specs.FromParents.{ids_of};
+ghost use Rattle.json_document.specs.Faults.{ComesTo};
+
+use crate::fields::read_attrs_and_tags;
+use crate::{DocumentFault, Place};
+use json_values::{has_only, list_items, read_uid_like};
+use policy_names::EntityUID;
+use entity_store::Entity;
+use serde_json::{Map, Value};
+use std::alloc::{AllocError, Global};
+use std::cmp::Ordering;
+use std::collections::BTreeSet;
+
+fn read_uid_set(
+    alloc: Global,
+    items: &[Value],
+    like: Option<&EntityUID>,
+) -> Result<Option<BTreeSet<EntityUID>>, AllocError>
+    ensures { IfOk result (λ o. option_map (λ s. s.keys) o ≡ with_uids [] (items_view items.now)) }
+{
+    let mut set = BTreeSet::new(alloc);
+    for item in items {
+        let Some(uid) = read_uid_like(alloc, item, like)? else {
+            return Ok(None);
+        };
+        set.insert(uid)?;
+    }
+    Ok(Some(set))
+}
+
+// The id of the entity.
+fn id_of(entity: Option<&Entity>) -> Option<&EntityUID> {
+    match entity {
+        Some(entity) => Some(entity.uid()),
+        None => None,
+    }
+}
+
+// One of the entity's parents.
+fn parent_of(entity: Option<&Entity>) -> Option<&EntityUID> {
+    match entity {
+        Some(entity) => entity.ancestors().first(),
+        None => None,
+    }
+}
+
+// The entity of the members. Its ids share the characters of their types with those of the entity before, where they
+// can.
+#[tactic(auto, unfolding(crate::specs::Entities::given_entity_of))]
+fn read_given_entity(
+    alloc: Global,
+    value: &Value,
+    before: Option<&Entity>,
+) -> Result<Option<Entity>, AllocError>
+    ensures { IfOk result (λ o. o ≡ given_entity_of (view value.now)) }
+{
+    let Some(id) = value.get("id") else {
+        return Ok(None);
+    };
+    let Some(uid) = read_uid_like(alloc, id, id_of(before))? else {
+        return Ok(None);
+    };
+    let Some(items) = list_items(value.get("parents")) else {
+        return Ok(None);
+    };
+    let Some(parents) = read_uid_set(alloc, items, parent_of(before))? else {
+        return Ok(None);
+    };
+    match read_attrs_and_tags(alloc, value)? {
+        Some((attrs, tags)) => Ok(Some(Entity::new(uid, attrs, parents, tags))),
+        None => Ok(None),
+    }
+}
+
+fn has_names(members: &Map<String, Value>) -> bool
+    ensures { result ≡ has_only entity_names (members_view members.now.entries) }
+{
+    has_only(&["id", "attrs", "tags", "parents"], members)
+}
+
+fn read_entity(
+    alloc: Global,
+    value: &Value,
+    before: Option<&Entity>,
+) -> Result<Option<Entity>, AllocError>
+    ensures { IfOk result (λ o. o ≡ entity_of (view value.now)) }
+{
+    match value.as_object() {
+        Some(members) if has_names(members) => read_given_entity(alloc, value, before),
+        _ => Ok(None),
+    }
+}
+
+/// The entities of the items; else the place of the first item that is none.
+pub fn read_entities(alloc: Global, items: &[Value]) -> Result<Vec<Entity>, DocumentFault>
+    ensures { ComesTo (λ v. v.items) result (entities_of [] (items_view items.now)) }
+{
+    let mut entities = Vec::new(alloc);
+    for item in items {
+        let Some(entity) = read_entity(alloc, item, entities.last())? else {
+            return Err(DocumentFault::Place(Place::Entity(entities.len())));
+        };
+        entities.push(entity)?;
+    }
+    Ok(entities)
+}
+
+/// The ids of the entities, in their order.
+pub(crate) fn ids_of(alloc: Global, entities: &Vec<Entity>) -> Result<Vec<EntityUID>, AllocError>
+    ensures { IfOk result (λ v. v.items ≡ ids_of entities.now.items) }
+{
+    let mut ids = Vec::new(alloc);
+    for entity in entities {
+        ids.push(entity.uid().try_clone()?)?;
+    }
+    Ok(ids)
+}
+
+/// The index of the first id that is this one; how many there are where none is.
+pub(crate) fn index_of(uid: &EntityUID, ids: &Vec<EntityUID>) -> usize
+    ensures { result ≡ index_from 0 uid.now ids.now.items }
+{
+    let mut index = 0;
+    for id in ids {
+        if is_same(uid, id) {
+            return index;
+        }
+        index += 1;
+    }
+    index
+}
+
+fn is_same(one: &EntityUID, other: &EntityUID) -> bool
+    ensures { result ≡ uid_eq one.now other.now }
+{
+    one.cmp(other) == Ordering::Equal
+}

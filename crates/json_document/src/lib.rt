@@ -1,0 +1,25 @@
+//! Documents in JSON: the schema, the policies, the entities and the request that they declare, and where the first fault is.
+#![tactic(auto)]
+
+mod document;
+mod entities;
+mod fields;
+pub mod laws;
+mod parts;
+mod place;
+mod policies;
+mod request;
+mod schema;
+mod store;
+
+pub use document::{Document, read_document};
+pub use entities::read_entities;
+pub use json_policies::{PolicyParts, PolicyRead, TemplateLink, read_entry};
+pub use json_schema::read_declarations;
+pub use json_values::read_value;
+pub use json_values::{parse_json, read_uid};
+pub use place::{DocumentFault, Place};
+pub use policies::read_policies;
+pub use request::read_request;
+pub use schema::read_schema;
+pub use store::read_store;

@@ -1,0 +1,131 @@
+//! The set of policies of a document.
+
+ghost use Rattle.std.specs.Prelude.{◌≡◌, IfOk, MatchResult, None, Option};
+ghost use Rattle.policy_set.specs.declared.policy_set.PolicySetError.{PolicySetError};
+ghost use Rattle.serde_json.specs.View.{view, items_view};
+ghost use Rattle.policy_set.specs.PolicySet.{PolicySetData, id_fault, IsNotAdded};
+ghost use Rattle.json_document.specs.Faults.{ComesTo, Fails};
+ghost use Rattle.json_document.specs.Policies.{added, added_link, added_read, added_template, no_policies, policies_of, slot_pairs, unless_fault, with_written};
+
+use crate::{DocumentFault, Place};
+use json_policies::{PolicyRead, TemplateLink, read_entry};
+use policy_expressions::{SlotId, SlotValues};
+use policy_names::EntityUID;
+use policy_set::{PolicySet, PolicySetError, Template};
+use serde_json::Value;
+use std::alloc::{AllocError, Global};
+
+// The fault for which the policy at the index is not added.
+fn fault_at(index: usize, error: PolicySetError) -> DocumentFault
+    ensures { (fault : Option PolicySetError) (set : PolicySetData) → IsNotAdded fault error → Fails result (unless_fault index fault set) }
+{
+    match error {
+        PolicySetError::DuplicateId(_) => DocumentFault::Place(Place::PolicyDuplicate(index)),
+        PolicySetError::UnknownTemplate(_) => DocumentFault::Place(Place::UnknownTemplate(index)),
+        PolicySetError::SlotMissing(_) => DocumentFault::Place(Place::SlotMissing(index)),
+        PolicySetError::SlotExtra(_) => DocumentFault::Place(Place::SlotExtra(index)),
+        PolicySetError::OutOfMemory => DocumentFault::OutOfMemory,
+    }
+}
+
+// Adds a template, or a static policy where no slot stands in its scope.
+fn add_written(policies: &mut PolicySet, template: Template) -> Result<(), PolicySetError>
+    ensures { MatchResult result (λ _. (id_fault policies.old template.id ≡ None) × (policies.new ≡ with_written template policies.old)) (IsNotAdded (id_fault policies.old template.id)) }
+{
+    if template.has_slot() {
+        policies.add_template(template)
+    } else {
+        policies.add_static(template)
+    }
+}
+
+fn add_template(
+    policies: &mut PolicySet,
+    index: usize,
+    template: Template,
+) -> Result<(), DocumentFault>
+    ensures { ComesTo (λ _. policies.new) result (added_template index policies.old template) }
+{
+    match add_written(policies, template) {
+        Ok(()) => Ok(()),
+        Err(error) => Err(fault_at(index, error)),
+    }
+}
+
+// The ids for slots, each beside its slot.
+fn slot_pairs(alloc: Global, values: SlotValues) -> Result<Vec<(SlotId, EntityUID)>, AllocError>
+    ensures { IfOk result (λ v. v.items ≡ slot_pairs values) }
+{
+    let SlotValues {
+        principal,
+        resource,
+    } = values;
+    let mut pairs = Vec::new(alloc);
+    if let Some(principal) = principal {
+        pairs.push((SlotId::Principal, principal))?;
+    }
+    if let Some(resource) = resource {
+        pairs.push((SlotId::Resource, resource))?;
+    }
+    Ok(pairs)
+}
+
+fn add_link(
+    alloc: Global,
+    policies: &mut PolicySet,
+    index: usize,
+    link: TemplateLink,
+) -> Result<(), DocumentFault>
+    ensures { ComesTo (λ _. policies.new) result (added_link index policies.old link) }
+{
+    let TemplateLink {
+        id,
+        template,
+        values,
+    } = link;
+    let pairs = slot_pairs(alloc, values)?;
+    match policies.link(&template, id, pairs) {
+        Ok(()) => Ok(()),
+        Err(error) => Err(fault_at(index, error)),
+    }
+}
+
+fn add_read(
+    alloc: Global,
+    policies: &mut PolicySet,
+    index: usize,
+    read: Option<PolicyRead>,
+) -> Result<(), DocumentFault>
+    ensures { ComesTo (λ _. policies.new) result (added_read index policies.old read) }
+{
+    match read {
+        Some(PolicyRead::Policy(template)) => add_template(policies, index, template),
+        Some(PolicyRead::Link(link)) => add_link(alloc, policies, index, link),
+        Some(PolicyRead::Nested) => Err(DocumentFault::Place(Place::PolicyNested(index))),
+        None => Err(DocumentFault::Place(Place::Policy(index))),
+    }
+}
+
+// Adds what the value is: a policy, a template or a link.
+fn add_entry(
+    alloc: Global,
+    policies: &mut PolicySet,
+    index: usize,
+    value: &Value,
+) -> Result<(), DocumentFault>
+    ensures { ComesTo (λ _. policies.new) result (added index policies.old (view value.now)) }
+{
+    let read = read_entry(alloc, value)?;
+    add_read(alloc, policies, index, read)
+}
+
+/// The policies of the items; else the place of the first fault.
+pub fn read_policies(alloc: Global, items: &[Value]) -> Result<PolicySet, DocumentFault>
+    ensures { ComesTo (λ s. s) result (policies_of 0 no_policies (items_view items.now)) }
+{
+    let mut policies = PolicySet::new(alloc);
+    for (index, item) in items.iter().enumerate() {
+        add_entry(alloc, &mut policies, index, item)?;
+    }
+    Ok(policies)
+}

@@ -1,0 +1,54 @@
+-- Steps of reading expressions.
+use Rattle.std.proofs.Common.{◌≡◌, ℕ, ◌<◌, List, [], ◌∷◌, ◌++◌, length, map, false, Option, Some, None, option_map, is_some, append_assoc, arith, refl, sym, ap, ◌∙◌}
+use Rattle.std.proofs.lemmas.Option.{same_Some}
+use Rattle.serde_json.specs.View.{items_view}
+use Rattle.serde_json.specs.declared.value.Value.{Value}
+use Rattle.json_expressions.specs.Forms.{Plain, else_of}
+use Rattle.json_expressions.specs.Parts.{loc_of_items}
+use Rattle.json_expressions.specs.Reads.{Read, bounded, bounded_field}
+use Rattle.json_values.specs.Lists.{with_first}
+use Rattle.plain_lemmas.proofs.Options.{none_of_no_some}
+
+pub short_loc : (xs : List Value) → length xs < 2 → None ≡ loc_of_items (items_view xs)
+short_loc [] h = refl
+short_loc (x ∷ []) h = refl
+short_loc (x ∷ y ∷ zs) h = absurd (omega arith)
+
+pub long_loc : (xs : List Value) → 2 < length xs → None ≡ loc_of_items (items_view xs)
+long_loc [] h = absurd (omega arith)
+long_loc (x ∷ []) h = absurd (omega arith)
+long_loc (x ∷ y ∷ []) h = absurd (omega arith)
+long_loc (x ∷ y ∷ z ∷ zs) h = refl
+
+-- one more item at the end of those that were read
+pub item_more : {A B : Type 0} (h : A → B) (done new : List B) (r : B) (o : Option A) (os : Option (List A)) (whole : Option (List B))
+    → new ≡ done ++ r ∷ [] → option_map h o ≡ Some r → option_map (λ ys. done ++ ys) (option_map (map h) (with_first o os)) ≡ whole
+    → option_map (λ ys. new ++ ys) (option_map (map h) os) ≡ whole
+item_more h done new r None os whole is read all = cc
+item_more h done new r (Some x) None whole is read all = all
+item_more h done new r (Some x) (Some xs) whole is read all =
+    ap Some (ap (λ ys. ys ++ map h xs) is ∙ append_assoc done (r ∷ []) (map h xs) ∙ ap (λ s. done ++ s ∷ map h xs) (same_Some r (h x) (sym read))) ∙ all
+
+-- a field that was read
+pub field_read : (k : List ℕ) (r : Read) (o : Option Plain) → option_map bounded o ≡ Some r → option_map bounded_field (option_map (λ x. (k, x)) o) ≡ Some (k, r)
+field_read k r None h = cc
+field_read k r (Some x) h = ap (λ (s : Read). Some (k, s)) (same_Some (bounded x) r h)
+
+module _ {A : Type 0} (f : A → A → A → A) where
+  else_of-last : (front : List A) (t e a : A) → else_of f (front ++ t ∷ e ∷ a ∷ []) ≡ else_of f (front ++ f t e a ∷ [])
+  else_of-last [] t e a = refl
+  else_of-last (x ∷ []) t e a = refl
+  else_of-last (x ∷ y ∷ front) t e a = ap (option_map (f x y)) (else_of-last front t e a)
+
+  -- a test and its branch, taken from the end, stand before what there is
+  pub else_of-step : (front mid old : List A) (t e a m : A) (whole : Option A) → old ≡ mid ++ e ∷ [] → mid ≡ front ++ t ∷ [] → m ≡ f t e a
+      → else_of f (old ++ a ∷ []) ≡ whole → else_of f (front ++ m ∷ []) ≡ whole
+  else_of-step front mid old t e a m whole last before made all =
+      let seam : old ++ a ∷ [] ≡ front ++ t ∷ e ∷ a ∷ [] =
+      ap (λ xs. xs ++ a ∷ []) (last ∙ ap (λ xs. xs ++ e ∷ []) before)
+      ∙ append_assoc (front ++ t ∷ []) (e ∷ []) (a ∷ [])
+      ∙ append_assoc front (t ∷ []) (e ∷ a ∷ []) in
+      ap (λ x. else_of f (front ++ x ∷ [])) made
+      ∙ sym (else_of-last front t e a)
+      ∙ sym (ap (else_of f) seam)
+      ∙ all

@@ -1,0 +1,6 @@
+use Rattle.std.proofs.Common.{◌≡◌, map, take}
+use Rattle.access_tries.specs.Walks.{addresses_in}
+use Rattle.json_tries.proofs.places.addresses_of.Given as goal
+
+abbrev pub invariant-loop-place : goal.invariant-loop-place
+invariant-loop-place l = addresses_in l.all.items ≡ map (λ p. p.0) (take l.place-index l.places)

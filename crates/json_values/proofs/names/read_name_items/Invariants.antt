@@ -1,0 +1,8 @@
+use Rattle.std.proofs.Common.{◌≡◌, ◌++◌, drop, option_map}
+use Rattle.serde_json.specs.View.{items_view}
+use Rattle.json_values.specs.Names.{names_of_items}
+use Rattle.json_values.proofs.names.read_name_items.Given as goal
+
+-- those so far, and then those of what is left, are all
+abbrev pub invariant-loop-item : goal.invariant-loop-item
+invariant-loop-item l = option_map (λ xs. l.all.items ++ xs) (names_of_items (items_view (drop l.item-index l.item-items))) ≡ names_of_items (items_view l.item-items)

@@ -1,0 +1,4 @@
+pub mod Json
+pub mod Names
+pub mod Lists
+pub mod Values

@@ -1,5 +1,0 @@
-mod Fields
-mod Depths
-mod Branches
-mod Once
-mod Exact

@@ -1,4 +1,0 @@
-pub mod Faults
-pub mod Fields
-pub mod Errors
-pub mod Seen

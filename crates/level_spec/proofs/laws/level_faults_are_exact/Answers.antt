@@ -1,0 +1,5 @@
+use Rattle.level_spec.proofs.Told.{faults_are_exact}
+use Rattle.level_spec.proofs.laws.level_faults_are_exact.Goals as goal
+
+pub returns : goal.returns
+returns c = faults_are_exact

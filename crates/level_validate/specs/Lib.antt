@@ -1,0 +1,5 @@
+pub mod Faults
+pub mod Fields
+pub mod Errors
+pub mod Seen
+pub mod Fresh

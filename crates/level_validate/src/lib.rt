@@ -1,0 +1,14 @@
+//! Levels: what of typed conditions is further from the request than a level allows, and the entity store cut at a level.
+#![tactic(auto)]
+
+mod errors;
+mod fault;
+mod held;
+pub mod laws;
+mod levels;
+mod pending;
+mod slice;
+mod walk;
+
+pub use errors::level_errors;
+pub use slice::slice_at_level;

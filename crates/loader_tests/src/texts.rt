@@ -1,0 +1,43 @@
+//! Documents, and the texts of stores.
+
+use json_document::{Document, parse_json, read_document};
+use entity_store::{Entities, Entity};
+use json_response::write_entity;
+use serde_json::Value;
+use std::alloc::Global;
+use std::test::Fail;
+
+/// The document that a text says.
+pub(crate) fn document_of(alloc: Global, text: &str) -> Result<Option<Document>, Fail> {
+    match parse_json(alloc, text.as_bytes())? {
+        Some(value) => {
+            let document = document_in(alloc, &value);
+            drop(value);
+            Ok(document)
+        }
+        None => Ok(None),
+    }
+}
+
+fn document_in(alloc: Global, value: &Value) -> Option<Document> {
+    match read_document(alloc, value) {
+        Ok(document) => Some(document),
+        Err(_) => None,
+    }
+}
+
+/// The entities of a store, with a bar behind each.
+pub(crate) fn store_text(alloc: Global, store: &Entities) -> Result<String, Fail> {
+    let mut text = String::new(alloc);
+    for entity in store.iter() {
+        add_entity(alloc, &mut text, entity)?;
+    }
+    Ok(text)
+}
+
+fn add_entity(alloc: Global, text: &mut String, entity: &Entity) -> Result<(), Fail> {
+    let written = write_entity(alloc, entity)?.to_string(alloc)?;
+    text.push_str(written.as_str())?;
+    text.push_str("|")?;
+    Ok(())
+}

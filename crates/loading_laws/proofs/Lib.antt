@@ -1,8 +1,0 @@
-mod Below
-mod Shapes
-mod Conditions
-mod Having
-mod Sticking
-mod Conforming
-mod Manifests
-mod Loading

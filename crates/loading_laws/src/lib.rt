@@ -1,4 +1,0 @@
-//! Laws of loading by computed manifests.
-#![tactic(auto)]
-
-pub mod laws;

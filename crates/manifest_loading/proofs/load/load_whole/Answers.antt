@@ -1,0 +1,102 @@
+use Rattle.std.proofs.Common.{inr, [], sym, ap, ◌∙◌, subst, arith}
+use Rattle.std.proofs.lemmas.Result.{err_from_is_err_and}
+use Rattle.std.specs.BTreeMap.{get}
+use Rattle.std.specs.Option.{option_map}
+use Rattle.policy_names.specs.Uid.{uid_cmp}
+use Rattle.reads_spec.specs.Restrict.{part}
+use Rattle.manifest_loading.specs.Joining.{IsAskedFor, IsJoined}
+use Rattle.manifest_loading.specs.KeptPart.{IsState, IsBegun, bare}
+use Rattle.manifest_loading.specs.Causes.{IsRight}
+use Rattle.manifest_loading.specs.Right.{IsStuck, SticksAt}
+use Rattle.manifest_loading.proofs.BetweenSteps.{part_at, left_ascends, loaded_between}
+use Rattle.manifest_loading.proofs.RightSteps.{right_later}
+use Rattle.manifest_loading.proofs.RoundSteps.{goes_on_here}
+use Rattle.manifest_loading.proofs.StateSteps.{loaded}
+use Rattle.trie_traversal.specs.Begun.{PathsWithin, IsFirst}
+use Rattle.manifest_loading.proofs.load.load_whole.Goals as goal
+
+pub load_rounds-requires-clause-start : goal.load_rounds-requires-clause-start
+load_rounds-requires-clause-start g c = λ q h. subst (λ ns. IsFirst ns q) (sym c.nodes.ensures.nodes) (c.in-Ok.ensures.first q h)
+
+pub returns-in_err-loaded-clause-rounds : goal.returns-in_err-loaded-clause-rounds
+returns-in_err-loaded-clause-rounds g c = λ n w. c.load_rounds.ensures.rounds n (subst (λ ns. PathsWithin ns n) (sym c.nodes.ensures.nodes) w)
+
+pub returns-in_err-loaded-clause-steps : goal.returns-in_err-loaded-clause-steps
+returns-in_err-loaded-clause-steps g c = λ n w. c.load_rounds.ensures.steps n (subst (λ ns. PathsWithin ns n) (sym c.nodes.ensures.nodes) w)
+
+pub returns-in_err-kept-clause-rounds : goal.returns-in_err-kept-clause-rounds
+returns-in_err-kept-clause-rounds g c = λ n w.
+    let a = c.load_rounds.ensures.rounds n (subst (λ ns. PathsWithin ns n) (sym c.nodes.ensures.nodes) w) in
+    let b = c.with_ancestors.ensures.rounds in
+    omega (arith, a, b)
+
+pub returns-in_err-kept-clause-steps : goal.returns-in_err-kept-clause-steps
+returns-in_err-kept-clause-steps g c = λ n w. c.load_rounds.ensures.steps n (subst (λ ns. PathsWithin ns n) (sym c.nodes.ensures.nodes) w)
+
+pub returns-in_err-store_of-clause-rounds : goal.returns-in_err-store_of-clause-rounds
+returns-in_err-store_of-clause-rounds g c = λ n w.
+    let a = c.load_rounds.ensures.rounds n (subst (λ ns. PathsWithin ns n) (sym c.nodes.ensures.nodes) w) in
+    let b = c.with_ancestors.ensures.rounds in
+    omega (arith, a, b)
+
+pub returns-in_err-store_of-clause-steps : goal.returns-in_err-store_of-clause-steps
+returns-in_err-store_of-clause-steps g c = λ n w. c.load_rounds.ensures.steps n (subst (λ ns. PathsWithin ns n) (sym c.nodes.ensures.nodes) w)
+
+pub returns-clause-rounds : goal.returns-clause-rounds
+returns-clause-rounds g c = λ n w.
+    let a = c.load_rounds.ensures.rounds n (subst (λ ns. PathsWithin ns n) (sym c.nodes.ensures.nodes) w) in
+    let b = c.with_ancestors.ensures.rounds in
+    omega (arith, a, b)
+
+pub returns-clause-steps : goal.returns-clause-steps
+returns-clause-steps g c = λ n w. c.load_rounds.ensures.steps n (subst (λ ns. PathsWithin ns n) (sym c.nodes.ensures.nodes) w)
+
+pub returns-clause-honest : goal.returns-clause-honest
+returns-clause-honest g c = λ s told order context.
+    let ns = c.args.trie.now in
+    let q = c.args.request.now in
+    let exact = (g.D.EntityLoader.state c.args.loader.now).exact in
+    let begun : IsBegun ns q s c.in-Ok.start.keys = record { asked = c.in-Ok.ensures.asked; order = order; context = context } in
+    let state = subst (λ t. IsState exact t q s c.in_ok-loaded.loaded.asked.keys [] (get uid_cmp c.in_ok-loaded.loaded.kept)) c.nodes.ensures.nodes
+    (c.in_ok-loaded.ensures.honest s told q (subst (λ t. IsBegun t q s c.in-Ok.start.keys) (sym c.nodes.ensures.nodes) begun)) in
+    loaded exact ns q s c.in_ok-store_of.field-0 c.in_ok-loaded.loaded.asked.keys (get uid_cmp c.in_ok-loaded.loaded.kept) state
+    (λ x. ap (option_map bare) (c.in_ok-store_of.ensures.at x) ∙ c.in_ok-kept.ensures.alike x)
+
+pub returns-clause-between : goal.returns-clause-between
+returns-clause-between g c = λ s told order ids context reads demands fit.
+    let ns = c.args.trie.now in
+    let q = c.args.request.now in
+    let exact = (g.D.EntityLoader.state c.args.loader.now).exact in
+    let loaded = c.in_ok-loaded.loaded in
+    let kept = get uid_cmp loaded.kept in
+    let new = get uid_cmp c.in_ok-kept.kept in
+    let begun : IsBegun ns q s c.in-Ok.start.keys = record { asked = c.in-Ok.ensures.asked; order = order; context = context } in
+    let state = subst (λ t. IsState exact t q s loaded.asked.keys [] kept) c.nodes.ensures.nodes
+    (c.in_ok-loaded.ensures.honest s told q (subst (λ t. IsBegun t q s c.in-Ok.start.keys) (sym c.nodes.ensures.nodes) begun)) in
+    let joined = subst (λ e. IsJoined e s (IsAskedFor c.nodes-2.result.now q loaded.asked.keys (part state.part.choice s)) kept new) c.load_rounds.ensures.goes_on.exact
+    (c.in_ok-kept.ensures.honest s (c.load_rounds.ensures.goes_on.told s told) (part state.part.choice s) (λ x. part_at state.part.choice s x ∙ sym (state.part.is x))) in
+    loaded_between exact ns q s loaded.asked.keys kept new state order
+    (subst (λ t. IsJoined exact s (IsAskedFor t q loaded.asked.keys (part state.part.choice s)) kept new) c.nodes-2.ensures.nodes joined)
+    c.in_ok-kept.ensures.alike (c.in_ok-kept.ensures.ascending (left_ascends state.part.choice s kept order state.part.is))
+    reads demands fit ids c.in_ok-store_of.field-0 c.in_ok-store_of.ensures.at c.in_ok-store_of.ensures.ascending
+
+pub returns-in_err-loaded-clause-right : goal.returns-in_err-loaded-clause-right
+returns-in_err-loaded-clause-right g c = λ s told order context.
+    let ns = c.args.trie.now in
+    let q = c.args.request.now in
+    let old = g.D.EntityLoader.state c.args.loader.now in
+    let new = g.D.EntityLoader.state c.load_rounds.new.loader in
+    let begun : IsBegun ns q s c.in-Ok.start.keys = record { asked = c.in-Ok.ensures.asked; order = order; context = context } in
+    let exit = err_from_is_err_and c.from_residual.result c.from_residual.ensures.1 in
+    rw (exit.1, exit.2)
+    (right_later (IsStuck ns q s) (SticksAt ns q s) old old new (goes_on_here old) (λ v h. inr h) c.in_err-loaded.field-0.0
+    (subst (λ t. IsRight (IsStuck t q s) old new c.in_err-loaded.field-0.0) c.nodes.ensures.nodes (c.in_err-loaded.ensures.right s told q (subst (λ t. IsBegun t q s c.in-Ok.start.keys) (sym c.nodes.ensures.nodes) begun))))
+
+pub returns-in_err-kept-clause-right : goal.returns-in_err-kept-clause-right
+returns-in_err-kept-clause-right g c = λ s told order context.
+    let old = g.D.EntityLoader.state c.args.loader.now in
+    let mid = g.D.EntityLoader.state c.load_rounds.new.loader in
+    let exit = err_from_is_err_and c.from_residual-in_err-kept.result c.from_residual-in_err-kept.ensures.1 in
+    rw (exit.1, exit.2)
+    (right_later (λ v. ⊥) (SticksAt c.args.trie.now c.args.request.now s) old mid (g.D.EntityLoader.state c.with_ancestors.new.loader) c.load_rounds.ensures.goes_on (λ v h. absurd h) c.in_err-kept.field-0.0
+    (c.in_err-kept.ensures.right s (c.load_rounds.ensures.goes_on.told s told)))

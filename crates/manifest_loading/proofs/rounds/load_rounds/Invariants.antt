@@ -1,0 +1,28 @@
+use Rattle.std.proofs.Common.{◌≡◌, ◌+◌, ◌-◌, ◌≤◌, ℕ, [], length}
+use Rattle.std.specs.BTreeMap.{get}
+use Rattle.std.specs.Prelude.{Some}
+use Rattle.policy_names.specs.Uid.{uid_cmp}
+use Rattle.entity_store.specs.Store.{Store}
+use Rattle.entity_store.specs.declared.request.Request.{Request}
+use Rattle.trie_traversal.specs.Begun.{PathsWithin}
+use Rattle.entity_loader.specs.State.{Continues}
+use Rattle.manifest_loading.specs.Answering.{AreUnderIds}
+use Rattle.manifest_loading.specs.KeptPart.{IsState, IsBegun}
+use Rattle.manifest_loading.proofs.RoundSteps.{AreDeep}
+use Rattle.manifest_loading.proofs.rounds.load_rounds.Given as goal
+
+-- as many rounds were made as steps were taken
+abbrev pub invariant-rounds : goal.invariant-rounds
+invariant-rounds g l = record {
+  goes_on : Continues (g.D.EntityLoader.state l.fn.loader) (g.D.EntityLoader.state l.loader);
+  rounds : (g.D.EntityLoader.state l.loader).rounds ≤ (g.D.EntityLoader.state l.fn.loader).rounds + (l.steps - l.fn.steps);
+  steps : l.fn.steps ≤ l.steps;
+  ids : AreUnderIds l.kept;
+  deep : AreDeep l.nodes (l.steps - l.fn.steps) l.pending.keys;
+  within : (n : ℕ) → PathsWithin l.nodes n → l.steps ≤ l.fn.steps + (n + 1);
+  honest : (s : Store) → (g.D.EntityLoader.state l.fn.loader).store ≡ Some s → (q : Request) → IsBegun l.nodes q s l.fn.start.keys → IsState (g.D.EntityLoader.state l.fn.loader).exact l.nodes q s l.asked.keys l.pending.keys (get uid_cmp l.kept);
+  begun : l.fn.start.keys ≡ [] → (l.pending.keys ≡ []) × (l.steps ≡ l.fn.steps) × ((g.D.EntityLoader.state l.loader).rounds ≡ (g.D.EntityLoader.state l.fn.loader).rounds);
+}
+
+abbrev pub decreases-rounds : goal.decreases-rounds
+decreases-rounds g l = length l.nodes - (l.steps - l.fn.steps)

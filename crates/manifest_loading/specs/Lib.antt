@@ -1,0 +1,11 @@
+pub mod Lending
+pub mod Answering
+pub mod Keeping
+pub mod Ordered
+pub mod Rounds
+pub mod KeptPart
+pub mod Causes
+pub mod Right
+pub mod Joining
+pub mod Between
+pub mod Sliced

@@ -1,0 +1,30 @@
+-- Slices by manifests.
+use Rattle.std.specs.Prelude.{◌≡◌, List, [], Option}
+use Rattle.std.specs.Option.{unwrap_or}
+use Rattle.entity_store.specs.declared.request.Request.{Request}
+use Rattle.entity_store.specs.Request.{IsWhole}
+use Rattle.entity_store.specs.Store.{Store}
+use Rattle.policy_values.specs.Value.{Val}
+use Rattle.access_tries.specs.Table.{Table}
+use Rattle.reads_spec.specs.Paths.{AccessPath, Demand}
+use Rattle.reads_spec.specs.Restrict.{restrict}
+use Rattle.manifest_loading.specs.declared.error.EntitySliceError.{EntitySliceError}
+use Rattle.manifest_loading.specs.declared.error.EntitySliceError.TheVariants.{PartialRequest, IncompatibleEntityManifest, OutOfMemory}
+use Rattle.store_slices.specs.Blocked.{IsBlocked}
+use Rattle.store_slices.specs.Tries.{IsTrieOf}
+
+-- the trie, or that of nothing
+abbrev pub trie_or_none : Option Table → Table
+trie_or_none o = unwrap_or o []
+
+-- no path of the trie is blocked, and the store is the one restricted to what the trie is of
+pub record IsSlice (t : Table) (q : Request) (s sliced : Store) : Type 0 where
+  pub free : (u : Val) → ¬ IsBlocked t q s u
+  pub restricted : (reads : List AccessPath) (demands : List Demand) → IsTrieOf reads demands t → sliced ≡ restrict reads demands q s
+
+-- an entry of the request is not known, or a path of the trie is blocked at the value; or memory ran out
+abbrev pub IsRefused : Table → Request → Store → EntitySliceError → Type 0
+IsRefused t q s (PartialRequest e) = ¬ IsWhole q
+IsRefused t q s (IncompatibleEntityManifest e) = IsWhole q × IsBlocked t q s e.value
+IsRefused t q s OutOfMemory = Unit {0}
+IsRefused t q s e = ⊥

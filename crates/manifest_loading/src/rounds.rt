@@ -1,0 +1,127 @@
+//! Loading in rounds, until nothing is asked for.
+
+ghost use Rattle.std.specs.Prelude.{◌≡◌, ◌≤◌, ◌<◌, ◌+◌, ◌||◌, ℕ, Bool, List, [], length, Some, IfOk, IfErr, OnOk};
+ghost use Rattle.std.specs.BTreeMap.{get};
+ghost use Rattle.std.specs.List.{list_any};
+ghost use Rattle.access_tries.specs.Table.{IsTable};
+ghost use Rattle.trie_traversal.specs.Begun.{PathsWithin, IsFirst};
+ghost use Rattle.trie_traversal.specs.Places.{IsBelowSome};
+ghost use Rattle.trie_traversal.specs.declared.place.Place.{Place};
+ghost use Rattle.entity_loader.specs.State.{Continues};
+ghost use Rattle.policy_names.specs.Uid.{uid_cmp};
+ghost use Rattle.reads_spec.specs.Among.{IsIn};
+ghost use Rattle.entity_store.specs.Store.{Store};
+ghost use Rattle.entity_store.specs.declared.request.Request.{Request};
+ghost use Rattle.manifest_loading.specs.KeptPart.{IsState, IsBegun};
+ghost use Rattle.manifest_loading.specs.Answering.{AreUnderIds};
+ghost use Rattle.manifest_loading.specs.Causes.{CauseOf, IsRight};
+ghost use Rattle.manifest_loading.specs.Right.{IsStuck, IsRefused};
+ghost use Rattle.manifest_loading.specs.Rounds.{AreAnswers, IsRound, Sticks, AreNoted};
+
+use crate::answers::answers_for;
+use crate::error::EntitySliceError;
+use crate::keeping::take_answers;
+use crate::lent::{lent_tries, requests_of};
+use crate::steps::Steps;
+use access_tries::Node;
+use trie_traversal::{Place, ask};
+use entity_loader::EntityLoader;
+use policy_names::EntityUID;
+use entity_store::Entity;
+use std::alloc::{AllocError, Global};
+use std::collections::{BTreeMap, BTreeSet};
+use std::sync::ledger::Ledger;
+
+/// What was asked for, and what is kept of the answers.
+#[derive(Debug, Drop)]
+pub(crate) struct Loaded {
+    /// Where entities were asked for.
+    pub(crate) asked: BTreeSet<Place>,
+    /// What is kept of entities, under their ids.
+    pub(crate) kept: BTreeMap<EntityUID, Entity>,
+}
+
+// What comes for the ids of places, each of which is asked for once.
+fn answers_at<D: EntityLoader>(
+    alloc: Global,
+    nodes: &[Node],
+    pending: &BTreeSet<Place>,
+    loader: &mut D,
+) -> Result<BTreeMap<EntityUID, Entity>, EntitySliceError>
+    requires { IsTable nodes.now }
+    ensures goes_on { Continues (D.state loader.old) (D.state loader.new) }
+    ensures rounds { (D.state loader.new).rounds ≤ (D.state loader.old).rounds + 1 }
+    ensures ids { IfOk result AreUnderIds }
+    ensures cause { IfErr result (CauseOf (λ v. ⊥) (D.state loader.old) (D.state loader.new)) }
+    ensures honest { (s : Store) → (D.state loader.old).store ≡ Some s → IfOk result (λ found. AreAnswers (D.state loader.old).exact s nodes.now pending.now.keys (get uid_cmp found)) }
+    ensures right { (s : Store) → (D.state loader.old).store ≡ Some s → IfErr result (IsRight (λ v. ⊥) (D.state loader.old) (D.state loader.new)) }
+{
+    let lent = lent_tries(alloc, nodes, pending)?;
+    let requests = requests_of(alloc, nodes, &lent)?;
+    answers_for(alloc, &requests, loader)
+}
+
+// Asks for what is pending, keeps what comes, and answers what is to be asked for next.
+fn one_round<D: EntityLoader, L: Ledger>(
+    alloc: Global,
+    nodes: &[Node],
+    pending: &BTreeSet<Place>,
+    kept: &mut BTreeMap<EntityUID, Entity>,
+    loader: &mut D,
+    steps: &mut Steps<L>,
+) -> Result<BTreeSet<Place>, EntitySliceError>
+    requires table { IsTable nodes.now }
+    requires ids { AreUnderIds kept.old }
+    ensures goes_on { Continues (D.state loader.old) (D.state loader.new) }
+    ensures rounds { (D.state loader.new).rounds ≤ (D.state loader.old).rounds + 1 }
+    ensures steps { steps.new ≡ steps.old + 1 }
+    ensures ids { OnOk result (AreUnderIds kept.new) }
+    ensures below { IfOk result (λ next. (q : Place) → IsIn q next.keys → IsBelowSome nodes.now pending.now.keys q) }
+    ensures cause { IfErr result (CauseOf (Sticks nodes.now) (D.state loader.old) (D.state loader.new)) }
+    ensures honest { (s : Store) → (D.state loader.old).store ≡ Some s → IfOk result (λ next. IsRound (D.state loader.old).exact s nodes.now pending.now.keys (get uid_cmp kept.old) (get uid_cmp kept.new) next.keys) }
+    ensures right { (s : Store) → (D.state loader.old).store ≡ Some s → IfErr result (IsRefused (D.state loader.old).exact s nodes.now pending.now.keys (get uid_cmp kept.old) (D.state loader.old) (D.state loader.new)) }
+{
+    steps.tick();
+    let found = answers_at(alloc, nodes, pending, loader)?;
+    take_answers(alloc, nodes, pending, found, kept)
+}
+
+// Adds places to those that were asked for.
+fn note(asked: &mut BTreeSet<Place>, pending: &BTreeSet<Place>) -> Result<(), AllocError>
+    ensures { OnOk result (AreNoted pending.now.keys asked.old.keys asked.new.keys) }
+{
+    for place in pending.iter() {
+        ask(asked, &place.uid, place.number)?;
+    }
+    Ok(())
+}
+
+/// Asks for entities in rounds, until nothing is pending.
+pub(crate) fn load_rounds<D: EntityLoader, L: Ledger>(
+    alloc: Global,
+    nodes: &[Node],
+    start: BTreeSet<Place>,
+    loader: &mut D,
+    steps: &mut Steps<L>,
+) -> Result<Loaded, EntitySliceError>
+    requires table { IsTable nodes.now }
+    requires start { (q : Place) → IsIn q start.keys → IsFirst nodes.now q }
+    ensures goes_on { Continues (D.state loader.old) (D.state loader.new) }
+    ensures rounds { (n : ℕ) → PathsWithin nodes.now n → (D.state loader.new).rounds ≤ (D.state loader.old).rounds + (n + 1) }
+    ensures steps { (n : ℕ) → PathsWithin nodes.now n → steps.new ≤ steps.old + (n + 1) }
+    ensures none { start.keys ≡ [] → ((D.state loader.new).rounds ≡ (D.state loader.old).rounds) × (steps.new ≡ steps.old) }
+    ensures ids { IfOk result (λ loaded. AreUnderIds loaded.kept) }
+    ensures honest { (s : Store) → (D.state loader.old).store ≡ Some s → (q : Request) → IsBegun nodes.now q s start.keys → IfOk result (λ loaded. IsState (D.state loader.old).exact nodes.now q s loaded.asked.keys [] (get uid_cmp loaded.kept)) }
+    ensures right { (s : Store) → (D.state loader.old).store ≡ Some s → (q : Request) → IsBegun nodes.now q s start.keys → IfErr result (IsRight (IsStuck nodes.now q s) (D.state loader.old) (D.state loader.new)) }
+    ensures cause { IfErr result (CauseOf (Sticks nodes.now) (D.state loader.old) (D.state loader.new)) }
+{
+    let mut asked = BTreeSet::new(alloc);
+    let mut pending = start;
+    let mut kept = BTreeMap::new(alloc);
+    'rounds: while !pending.is_empty() {
+        let next = one_round(alloc, nodes, &pending, &mut kept, loader, steps)?;
+        note(&mut asked, &pending)?;
+        pending = next;
+    }
+    Ok(Loaded { asked, kept })
+}

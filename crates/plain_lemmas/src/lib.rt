@@ -1,0 +1,2 @@
+//! Lemmas on booleans, options, orderings and lists that several crates cite. All of it is in `proofs/`.
+#![tactic(auto)]

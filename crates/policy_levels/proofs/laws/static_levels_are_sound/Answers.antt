@@ -1,5 +1,0 @@
-use Rattle.policy_levels.proofs.Policing.{static_levels}
-use Rattle.policy_levels.proofs.laws.static_levels_are_sound.Goals as goal
-
-pub returns : goal.returns
-returns c = static_levels c.levels_are_sound.ensures

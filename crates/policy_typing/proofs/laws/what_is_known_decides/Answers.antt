@@ -1,5 +1,0 @@
-use Rattle.policy_typing.proofs.SameKnown.{what_is_known_decides}
-use Rattle.policy_typing.proofs.laws.what_is_known_decides.Goals as goal
-
-pub returns : goal.returns
-returns c = what_is_known_decides

@@ -1,0 +1,14 @@
+//! What checks leave of accepted policies.
+
+ghost use Rattle.policy_validate.specs.ConditionLaws.{FoundAreTyped};
+
+use link_spec::laws::links_are_written_out;
+use typecheck_spec::laws::check_is_exact;
+
+/// Of accepted policies the conditions that checks leave in an environment are those that typing gives, where each has a type there.
+pub fn found_are_typed()
+    ensures { FoundAreTyped }
+{
+    check_is_exact();
+    links_are_written_out();
+}

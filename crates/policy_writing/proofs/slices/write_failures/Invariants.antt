@@ -1,7 +1,0 @@
-use Rattle.std.proofs.Common.{◌≡◌, map, take}
-use Rattle.serde_json.specs.View.{view}
-use Rattle.policy_writing.specs.SliceJson.{failure_data}
-use Rattle.policy_writing.proofs.slices.write_failures.Given as goal
-
-abbrev pub invariant-loop-failure : goal.invariant-loop-failure
-invariant-loop-failure l = map view l.written.items ≡ map failure_data (take l.failure-index l.failures)

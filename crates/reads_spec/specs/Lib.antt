@@ -1,0 +1,9 @@
+pub mod Paths
+pub mod PathTypes
+pub mod Reads
+pub mod Restrict
+pub mod Among
+pub mod Cover
+pub mod Merge
+pub mod Conditions
+pub mod Policies

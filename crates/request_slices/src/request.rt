@@ -1,0 +1,61 @@
+//! The slice for a request, after every check.
+
+ghost use Rattle.std.specs.Prelude.{◌≡◌, IfErr, IfOk};
+ghost use Rattle.request_slices.specs.Enough.{IsEnough};
+ghost use Rattle.request_slices.specs.Refused.{WhyNoSlice};
+ghost use Rattle.request_slices.specs.Rules.{KeepRules};
+ghost use Rattle.request_slices.specs.Slice.{slice};
+
+use crate::checks::check_rules;
+use crate::error::SliceForRequestError;
+use policy_set::PolicySet;
+use policy_set::laws::{have_keys_once, is_policy_set};
+use entity_store::{Entities, Request};
+use crate::laws::slices_are_enough;
+use crate::restricted_to_reads;
+use schema_core::ValidatorSchema;
+use std::alloc::Global;
+
+/// The slice of the store: the store restricted to what the policies read on the request. On it, and on each store between it
+/// and the whole one, each policy has the outcome that it has on the whole one: a truth value, a missing entity or an
+/// overflow.
+///
+/// Errs with the first of these that does not hold: the request is whole, it conforms to the schema, so does the store, and
+/// the policies are accepted; a warning does not matter.
+pub fn slice_for_request(
+    alloc: Global,
+    schema: &ValidatorSchema,
+    policies: &PolicySet,
+    request: &Request,
+    entities: &Entities,
+) -> Result<Entities, SliceForRequestError>
+    ensures slice { IfOk result (λ s. s ≡ slice schema.now policies.now.policies request.now entities.now) }
+    ensures rules { IfOk result (λ _. KeepRules schema.now policies.now request.now entities.now) }
+    ensures enough { IfOk result (λ s. IsEnough policies.now.policies request.now s entities.now) }
+    ensures refused { IfErr result (WhyNoSlice schema.now policies.now request.now entities.now) }
+{
+    if let Err(error) = check_rules(alloc, schema, policies, request, entities) {
+        return Err(error);
+    }
+    slice_is_enough(schema, policies, request, entities);
+    match restricted_to_reads(alloc, schema, policies, request, entities) {
+        Ok(slice) => Ok(slice),
+        Err(_) => Err(SliceForRequestError::OutOfMemory),
+    }
+}
+
+// Where every rule holds, the slice is enough.
+fn slice_is_enough(
+    schema: &ValidatorSchema,
+    policies: &PolicySet,
+    request: &Request,
+    entities: &Entities,
+)
+    requires { KeepRules schema.now policies.now request.now entities.now }
+    ensures { IsEnough policies.now.policies request.now (slice schema.now policies.now.policies request.now entities.now) entities.now }
+{
+    slices_are_enough();
+    let _actions = schema.action_ids();
+    is_policy_set(policies);
+    have_keys_once(policies);
+}

@@ -1,4 +1,0 @@
-pub mod Entities
-pub mod Fields
-pub mod Request
-pub mod Store

@@ -1,6 +1,0 @@
-use Rattle.std.proofs.Common.{◌≡◌, drop}
-use Rattle.trie_documents.specs.Reading.{are_distinct}
-use Rattle.trie_documents.proofs.keys.are_distinct.Given as goal
-
-abbrev pub invariant-loop-i : goal.invariant-loop-i
-invariant-loop-i l = are_distinct (drop l.i l.edges) ≡ are_distinct l.edges

@@ -1,6 +1,0 @@
-use Rattle.std.proofs.Common.{◌≡◌, ◌++◌, map, take}
-use Rattle.trie_documents.specs.Places.{behind}
-use Rattle.trie_documents.proofs.places.add_behind.Given as goal
-
-abbrev pub invariant-loop-place : goal.invariant-loop-place
-invariant-loop-place l = l.all.items ≡ l.fn.all.items ++ map (behind l.edge) (take l.place-index l.places)

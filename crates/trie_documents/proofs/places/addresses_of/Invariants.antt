@@ -1,6 +1,0 @@
-use Rattle.std.proofs.Common.{◌≡◌, map, take}
-use Rattle.access_tries.specs.Walks.{addresses_in}
-use Rattle.trie_documents.proofs.places.addresses_of.Given as goal
-
-abbrev pub invariant-loop-place : goal.invariant-loop-place
-invariant-loop-place l = addresses_in l.all.items ≡ map (λ p. p.0) (take l.place-index l.places)

@@ -1,0 +1,55 @@
+-- Operators of several operands, by what their operands lend, one part after another.
+use Rattle.std.specs.Prelude.{ℕ, Bool, List, [], ◌∷◌, ◌++◌, Option, Some, None, map, option_map}
+use Rattle.std.specs.Option.{option_and_then, option_map_or}
+use Rattle.schema_types.specs.declared.kinds.OpenTag.TheVariants.{ClosedAttributes}
+use Rattle.schema_types.specs.Required.{required_attrs}
+use Rattle.schema_types.specs.Ty.{Ty, record_of}
+use Rattle.policy_expressions.specs.declared.functions.ExtensionFunction.{ExtensionFunction}
+use Rattle.policy_expressions.specs.Tree.{set, call, rec, Trees, Named, Mark}
+use Rattle.policy_expressions.specs.Plain.{Plain}
+use Rattle.typing_spec.specs.Signatures.{call_type, signature_of}
+use Rattle.typing_spec.specs.Rules.{set_type}
+use Rattle.typing_spec.specs.Typing.{Typed, Typing, typing, at}
+use Rattle.typecheck_spec.specs.Expected.{an_argument}
+use Rattle.findings.specs.Finding.{Finding}
+use Rattle.typecheck_spec.specs.Own.{set_found}
+use Rattle.typecheck_spec.specs.Walked.{Walked, ended, expect, lends, all_some, tree_of}
+use Rattle.typecheck_spec.specs.Operators.{Fields, place, type_lent}
+
+-- the types that operands lend, where each lends one
+abbrev pub types_lent : List Walked → Option (List Ty)
+types_lent ws = all_some (map type_lent ws)
+
+abbrev pub fields_lent : Fields → Option (List (List ℕ × Ty))
+fields_lent [] = Some []
+fields_lent (e ∷ es) = option_and_then (λ t. option_map (λ ts. (e.0, t) ∷ ts) (fields_lent es)) (type_lent e.1)
+
+-- the expressions of fields
+abbrev pub trees_in_fields : Fields → List (List ℕ × Typed)
+trees_in_fields es = map (λ e. (e.0, tree_of e.1)) es
+
+-- an argument, where a type is expected of it
+abbrev pub argument_walked : Option Ty → Option Plain → Walked → Walked
+argument_walked (Some t) (Some x) w = expect (an_argument t) (place x) w
+argument_walked t x w = w
+
+-- a set literal
+abbrev pub set_by : Mark (Unit {0}) → Trees (Mark (Option Ty)) → List Ty → Option Typing
+set_by m xs ts = option_map (λ t. typing t [] (set xs (at t m))) (set_type ts)
+
+abbrev pub set_in_parts : Mark (Unit {0}) → Bool → Option (List Ty) → Trees (Mark (Option Ty)) → List Finding → Walked
+set_in_parts m ok ts xs fs = ended ok (option_and_then (set_by m xs) ts) (set xs (lends None m)) (fs ++ option_map_or (set_found m.loc) ts [])
+
+-- a record literal
+abbrev pub record_by : Mark (Unit {0}) → Named (Mark (Option Ty)) → List (List ℕ × Ty) → Typing
+record_by m xs ts = typing (record_of (required_attrs ts) ClosedAttributes) [] (rec xs (at (record_of (required_attrs ts) ClosedAttributes) m))
+
+abbrev pub record_in_parts : Mark (Unit {0}) → Bool → Option (List (List ℕ × Ty)) → Named (Mark (Option Ty)) → List Finding → Walked
+record_in_parts m ok ts xs fs = ended ok (option_map (record_by m xs) ts) (rec xs (lends None m)) fs
+
+-- a call, with all that is found
+abbrev pub call_by : List ℕ → Mark (Unit {0}) → Trees (Mark (Option Ty)) → Ty → Typing
+call_by f m ys t = typing t [] (call f ys (at t m))
+
+abbrev pub call_in_parts : List ℕ → ExtensionFunction → Trees (Mark (Unit {0})) → Mark (Unit {0}) → Bool → Option (List Ty) → Trees (Mark (Option Ty)) → List Finding → Walked
+call_in_parts f g xs m ok ts ys fs = ended ok (option_map (call_by f m ys) (option_and_then (call_type (Some g) xs) ts)) (call f ys (lends (Some (signature_of g).result) m)) fs

@@ -1,0 +1,35 @@
+-- What the walk answers in code, as the definitions' answer.
+use Rattle.std.specs.Prelude.{ℕ, List, Option, map, option_map}
+use Rattle.policy_expressions.specs.declared.kinds.Loc.{Loc}
+use Rattle.policy_expressions.specs.Tree.{Mark}
+use Rattle.schema_types.specs.Ty.{Ty}
+use Rattle.capabilities.specs.Capability.{Capability}
+use Rattle.typing_spec.specs.Typing as definition
+use Rattle.typing_spec.specs.Typing.{Typed, typing}
+use Rattle.typecheck_spec.specs.Walked.{Walked, Success, Fail}
+use Rattle.typecheck_rules.specs.Found.{findings_from}
+use Rattle.typecheck_operators.specs.declared.told.Typing.{Typing}
+use Rattle.typecheck_operators.specs.declared.told.Told.{Told}
+use Rattle.typecheck_operators.specs.declared.told.Told.TheVariants as told
+
+-- the mark of a plain expression at a place
+abbrev pub mark : Option Loc → Mark (Unit {0})
+mark l = record { note = tt; loc = l }
+
+abbrev pub typing_from : Typing → definition.Typing
+typing_from a = record { type = a.of; caps = a.caps; tree = a.tree }
+
+abbrev pub walked_of : Told → Walked
+walked_of (told.Success a) = Success (typing_from a)
+walked_of (told.Fail t fs) = Fail t (findings_from fs.items)
+
+-- of the operands of a list, and of the fields of a record
+abbrev pub all_of : List Told → List Walked
+all_of ws = map walked_of ws
+
+abbrev pub field_of : List ℕ × Told → List ℕ × Walked
+field_of e = (e.0, walked_of e.1)
+
+-- what is lent by a part of this type, with these capabilities and this expression
+abbrev pub lent_as : Option Ty → List Capability → Typed → Option definition.Typing
+lent_as o cs t = option_map (λ u. typing u cs t) o

@@ -1,0 +1,181 @@
+//! Calls of extension functions.
+
+ghost use Rattle.std.specs.Prelude.{◌≡◌, IfOk, Some, None, option_map};
+ghost use Rattle.std.specs.Option.{option_and_then, option_copied};
+ghost use Rattle.std.specs.List.{slice_get};
+ghost use Rattle.policy_expressions.specs.Tree.{call, trees_of, no_trees};
+ghost use Rattle.typing_spec.specs.Signatures.{call_type};
+ghost use Rattle.findings.specs.Finding as finding;
+ghost use Rattle.typecheck_spec.specs.Walked as failed;
+ghost use Rattle.typecheck_spec.specs.Walked.{lends, one};
+ghost use Rattle.typecheck_spec.specs.Operators as definition;
+ghost use Rattle.typecheck_rules.specs.Found.{findings_from};
+ghost use Rattle.typecheck_operators.specs.Parts.{argument_walked, call_in_parts};
+ghost use Rattle.typecheck_operators.specs.Told.{mark, walked_of, all_of};
+
+use crate::parts::{are_typed, rest_of_all, types_lent};
+use crate::told::{Told, Typing, ended_typed, expect};
+use capabilities::CapabilitySet;
+use policy_expressions::{BuildError, Expr, Loc};
+use policy_names::Name;
+use schema_types::Type;
+use std::alloc::{AllocError, Global};
+use typecheck_rules::{
+    CalledFunction, Expected, Finding, argument_types, call_found, call_type, joined, result_type,
+    undefined_found,
+};
+
+/// A call of an undefined function, whose arguments are not looked at. Errs where memory runs out.
+pub fn undefined_told<'a>(alloc: Global, f: &Name, loc: Option<Loc>) -> Result<Told<'a>, BuildError>
+    ensures { IfOk result (λ r. walked_of r ≡ failed.Fail (call f.now no_trees (lends None (mark loc))) (one (finding.UndefinedFunction f.now) loc)) }
+{
+    let found = undefined_found(alloc, f, loc)?;
+    let tree = Expr::extension_function_app(f.try_clone()?, Vec::new(alloc), None, loc)?;
+    Ok(Told::Fail(tree, found))
+}
+
+/// A call, by what its arguments come to. Errs where memory runs out, or the expression would be nested too deep.
+pub fn call_told<'a>(
+    alloc: Global,
+    f: &Name,
+    g: CalledFunction<'_>,
+    xs: &Vec<Expr<()>>,
+    loc: Option<Loc>,
+    ws: Vec<Told<'a>>,
+) -> Result<Told<'a>, BuildError>
+    ensures { IfOk result (λ r. walked_of r ≡ definition.call_walked f.now (Some g.entry.function) (trees_of xs.now.items) (mark loc) (all_of ws.entry.items)) }
+{
+    let own = call_found(alloc, g, xs.as_slice(), loc)?;
+    let ws = arguments_told(alloc, &own, argument_types(g), xs, ws)?;
+    call_fitting(alloc, f, g, xs, loc, own, ws)
+}
+
+// Only where the call has no finding of its own have the arguments to fit.
+fn arguments_told<'a>(
+    alloc: Global,
+    own: &Vec<Finding>,
+    types: &[Type],
+    xs: &Vec<Expr<()>>,
+    ws: Vec<Told<'a>>,
+) -> Result<Vec<Told<'a>>, AllocError>
+    ensures { IfOk result (λ r. all_of r.items ≡ definition.arguments_walked (findings_from own.now.items) types.now (trees_of xs.now.items) (all_of ws.entry.items)) }
+{
+    match own.as_slice() {
+        [] => arguments_fitting(alloc, types, xs, ws),
+        _ => Ok(ws),
+    }
+}
+
+// The arguments have to be of the types, one after another.
+fn arguments_fitting<'a>(
+    alloc: Global,
+    types: &[Type],
+    xs: &Vec<Expr<()>>,
+    ws: Vec<Told<'a>>,
+) -> Result<Vec<Told<'a>>, AllocError>
+    ensures { IfOk result (λ r. all_of r.items ≡ definition.arguments_fitting types.now (trees_of xs.now.items) (all_of ws.entry.items)) }
+{
+    let mut fitted = Vec::new(alloc);
+    for w in ws {
+        let i = fitted.len();
+        let w = argument_told(alloc, type_at(types, i), argument_at(xs, i), w)?;
+        fitted.push(w)?;
+    }
+    Ok(fitted)
+}
+
+fn type_at(types: &[Type], i: usize) -> Option<&Type>
+    ensures { option_copied result ≡ slice_get types.now i }
+{
+    types.get(i)
+}
+
+fn argument_at(xs: &Vec<Expr<()>>, i: usize) -> Option<&Expr<()>>
+    ensures { option_copied result ≡ slice_get xs.now.items i }
+{
+    xs.as_slice().get(i)
+}
+
+fn argument_told<'a>(
+    alloc: Global,
+    t: Option<&Type>,
+    x: Option<&Expr<()>>,
+    w: Told<'a>,
+) -> Result<Told<'a>, AllocError>
+    ensures { IfOk result (λ r. walked_of r ≡ argument_walked (option_copied t.entry) (option_copied x.entry) (walked_of w.entry)) }
+{
+    match t {
+        Some(t) => match x {
+            Some(x) => expect(alloc, Expected::Argument(t), x.source_loc(), w),
+            None => Ok(w),
+        },
+        None => Ok(w),
+    }
+}
+
+#[tactic(auto, using(crate::proofs::PartLaws::call_by_parts))]
+fn call_fitting<'a>(
+    alloc: Global,
+    f: &Name,
+    g: CalledFunction<'_>,
+    xs: &Vec<Expr<()>>,
+    loc: Option<Loc>,
+    own: Vec<Finding>,
+    ws: Vec<Told<'a>>,
+) -> Result<Told<'a>, BuildError>
+    ensures { IfOk result (λ r. walked_of r ≡ definition.call_fitting f.now g.entry.function (trees_of xs.now.items) (mark loc) (findings_from own.items) (all_of ws.entry.items)) }
+{
+    let ok = are_typed(&ws);
+    let types = types_lent(alloc, &ws)?;
+    let rest = rest_of_all(alloc, ws)?;
+    let found = joined(own, rest.found)?;
+    call_ended(alloc, f, g, xs, loc, ok, types, rest.trees, found)
+}
+
+fn call_ended<'a>(
+    alloc: Global,
+    f: &Name,
+    g: CalledFunction<'_>,
+    xs: &Vec<Expr<()>>,
+    loc: Option<Loc>,
+    ok: bool,
+    types: Option<Vec<Type>>,
+    trees: Vec<Expr<Option<Type>>>,
+    found: Vec<Finding>,
+) -> Result<Told<'a>, BuildError>
+    ensures { IfOk result (λ r. walked_of r ≡ call_in_parts f.now g.entry.function (trees_of xs.now.items) (mark loc) ok (option_map (λ v. v.items) types) (trees_of trees.items) (findings_from found.items)) }
+{
+    let of = call_own(alloc, g, xs, types)?;
+    match of {
+        Some(of) => {
+            let note = of.try_clone(alloc)?;
+            let tree = Expr::extension_function_app(f.try_clone()?, trees, Some(note), loc)?;
+            let caps = CapabilitySet::new(alloc);
+            Ok(ended_typed(ok, Typing { of, caps, tree }, found))
+        }
+        None => {
+            let note = result_type(alloc, g)?;
+            let tree = Expr::extension_function_app(f.try_clone()?, trees, Some(note), loc)?;
+            Ok(Told::Fail(tree, found))
+        }
+    }
+}
+
+// The type of the call, where the arguments lend types.
+fn call_own(
+    alloc: Global,
+    g: CalledFunction<'_>,
+    xs: &Vec<Expr<()>>,
+    types: Option<Vec<Type>>,
+) -> Result<Option<Type>, AllocError>
+    ensures { IfOk result (λ o. o ≡ option_and_then (call_type (Some g.entry.function) (trees_of xs.now.items)) (option_map (λ v. v.items) types)) }
+{
+    match types {
+        Some(types) => {
+            let of = call_type(alloc, g, xs.as_slice(), types.as_slice())?;
+            drop(types);
+            Ok(of)
+        }
+        None => Ok(None),
+    }
+}

@@ -1,0 +1,149 @@
+//! `has`.
+
+ghost use Rattle.std.specs.Prelude.{◌≡◌, ◌++◌, [], IfOk, Some, cond};
+ghost use Rattle.std.specs.Option.{option_and_then};
+ghost use Rattle.policy_expressions.specs.Tree.{has};
+ghost use Rattle.typing_spec.specs.Signatures.{bool_type};
+ghost use Rattle.typing_spec.specs.Typing.{typing, at, has_caps};
+ghost use Rattle.typecheck_spec.specs.Walked as walked;
+ghost use Rattle.typecheck_spec.specs.Walked.{ended, lends};
+ghost use Rattle.typecheck_spec.specs.Operators as definition;
+ghost use Rattle.typecheck_rules.specs.Found.{findings_from};
+ghost use Rattle.typecheck_operators.specs.Told.{mark, walked_of, lent_as};
+
+use crate::told::{Part, Told, Typing, ended_typed, expect, parted};
+use capabilities::{Capability, CapabilitySet};
+use policy_expressions::{BuildError, Expr, Loc};
+use policy_names::Text;
+use schema_core::ValidatorSchema;
+use schema_types::Type;
+use std::alloc::{AllocError, Global};
+use typecheck_rules::{Expected, Finding, attribute_of, has_type};
+
+/// `has`, by what its operand comes to, and whether the attribute is known to be there. Errs where memory runs out, or the
+/// expression would be nested too deep.
+pub fn has_told<'a>(
+    alloc: Global,
+    schema: &ValidatorSchema,
+    known: bool,
+    x: &'a Expr<()>,
+    n: &Text,
+    loc: Option<Loc>,
+    v: Told<'a>,
+) -> Result<Told<'a>, BuildError>
+    ensures { IfOk result (λ r. walked_of r ≡ definition.has_walked schema.now known x.now n.now (mark loc) (walked_of v.entry)) }
+{
+    let v = expect(alloc, Expected::OwnerOfHas, x.source_loc(), v)?;
+    has_fitting(alloc, schema, known, x, n, loc, v)
+}
+
+fn has_fitting<'a>(
+    alloc: Global,
+    schema: &ValidatorSchema,
+    known: bool,
+    x: &'a Expr<()>,
+    n: &Text,
+    loc: Option<Loc>,
+    v: Told<'a>,
+) -> Result<Told<'a>, BuildError>
+    ensures { IfOk result (λ r. walked_of r ≡ definition.has_fitting schema.now known x.now n.now (mark loc) (walked_of v.entry)) }
+{
+    let v = parted(alloc, v)?;
+    has_ended(alloc, schema, known, x, n, loc, v)
+}
+
+fn has_ended<'a>(
+    alloc: Global,
+    schema: &ValidatorSchema,
+    known: bool,
+    x: &'a Expr<()>,
+    n: &Text,
+    loc: Option<Loc>,
+    v: Part<'a>,
+) -> Result<Told<'a>, BuildError>
+    ensures { IfOk result (λ r. walked_of r ≡ ended v.entry.ok (option_and_then (definition.has_typing_of schema.now known x.now n.now (mark loc)) (lent_as v.entry.of v.entry.caps v.entry.tree)) (has v.entry.tree n.now (lends (Some bool_type) (mark loc))) (findings_from v.entry.found.items ++ [])) }
+{
+    let Part {
+        ok,
+        of,
+        caps,
+        tree,
+        found,
+    } = v;
+    drop(caps);
+    match of {
+        Some(t) => {
+            let attribute = or_drop!(attribute_of(alloc, schema, &t, n), t, tree, found);
+            let own = has_type(schema, known, &t, n, &attribute);
+            let declared = attribute.is_some();
+            drop(attribute);
+            drop(t);
+            match own {
+                Some(of) => {
+                    let caps = or_drop!(has_caps(alloc, declared, x, n), of, tree, found);
+                    has_typed(alloc, n, loc, ok, of, caps, tree, found)
+                }
+                None => {
+                    let tree = or_drop!(has_lending(alloc, tree, n, loc), found);
+                    Ok(Told::Fail(tree, found))
+                }
+            }
+        }
+        None => {
+            let tree = or_drop!(has_lending(alloc, tree, n, loc), found);
+            Ok(Told::Fail(tree, found))
+        }
+    }
+}
+
+fn has_typed<'a>(
+    alloc: Global,
+    n: &Text,
+    loc: Option<Loc>,
+    ok: bool,
+    of: Type,
+    caps: CapabilitySet<'a>,
+    tree: Expr<Option<Type>>,
+    found: Vec<Finding>,
+) -> Result<Told<'a>, BuildError>
+    ensures { IfOk result (λ r. walked_of r ≡ cond ok (walked.Success (typing of caps.entry (has tree n.now (at of (mark loc))))) (walked.Fail (has tree n.now (at of (mark loc))) (findings_from found.items))) }
+{
+    let note = or_drop!(of.try_clone(alloc), of, caps, tree, found);
+    let n = or_drop!(n.try_clone(), of, caps, note, tree, found);
+    let tree = or_drop!(
+        Expr::has_attr(alloc, tree, n, Some(note), loc),
+        of,
+        caps,
+        found
+    );
+    Ok(ended_typed(ok, Typing { of, caps, tree }, found))
+}
+
+fn has_lending(
+    alloc: Global,
+    tree: Expr<Option<Type>>,
+    n: &Text,
+    loc: Option<Loc>,
+) -> Result<Expr<Option<Type>>, BuildError>
+    ensures { IfOk result (λ r. r ≡ has tree n.now (lends (Some bool_type) (mark loc))) }
+{
+    let n = or_drop!(n.try_clone(), tree);
+    let note = Type::primitive_boolean();
+    Expr::has_attr(alloc, tree, n, Some(note), loc)
+}
+
+// A declared attribute is known to be there once the test is true.
+fn has_caps<'a>(
+    alloc: Global,
+    declared: bool,
+    x: &'a Expr<()>,
+    n: &Text,
+) -> Result<CapabilitySet<'a>, AllocError>
+    ensures { IfOk result (λ s. s ≡ has_caps declared x.now n.now) }
+{
+    if declared {
+        CapabilitySet::singleton(alloc, Capability::new_attribute(x, n.try_clone()?))
+    } else {
+        Ok(CapabilitySet::new(alloc))
+    }
+}

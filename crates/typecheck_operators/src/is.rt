@@ -1,0 +1,98 @@
+//! `is`.
+
+ghost use Rattle.std.specs.Prelude.{◌≡◌, ◌++◌, [], IfOk, Some};
+ghost use Rattle.std.specs.Option.{option_and_then};
+ghost use Rattle.policy_expressions.specs.Tree.{is_type};
+ghost use Rattle.typing_spec.specs.Signatures.{bool_type};
+ghost use Rattle.typecheck_spec.specs.Walked.{ended, lends};
+ghost use Rattle.typecheck_spec.specs.Operators as definition;
+ghost use Rattle.typecheck_rules.specs.Found.{findings_from};
+ghost use Rattle.typecheck_operators.specs.Told.{mark, walked_of, lent_as};
+
+use crate::told::{Part, Told, Typing, ended_typed, expect, parted};
+use capabilities::CapabilitySet;
+use policy_expressions::{BuildError, Expr, Loc};
+use policy_names::EntityType;
+use schema_types::Type;
+use std::alloc::Global;
+use typecheck_rules::{Expected, is_type};
+
+/// `is`, by what its operand comes to. Errs where memory runs out, or the expression would be nested too deep.
+pub fn is_told<'a>(
+    alloc: Global,
+    name: &EntityType,
+    loc: Option<Loc>,
+    place: Option<Loc>,
+    v: Told<'a>,
+) -> Result<Told<'a>, BuildError>
+    ensures { IfOk result (λ r. walked_of r ≡ definition.is_walked name.now (mark loc) place (walked_of v.entry)) }
+{
+    let v = expect(alloc, Expected::EntityOfIs, place, v)?;
+    is_fitting(alloc, name, loc, v)
+}
+
+fn is_fitting<'a>(
+    alloc: Global,
+    name: &EntityType,
+    loc: Option<Loc>,
+    v: Told<'a>,
+) -> Result<Told<'a>, BuildError>
+    ensures { IfOk result (λ r. walked_of r ≡ definition.is_fitting name.now (mark loc) (walked_of v.entry)) }
+{
+    let v = parted(alloc, v)?;
+    is_ended(alloc, name, loc, v)
+}
+
+fn is_ended<'a>(
+    alloc: Global,
+    name: &EntityType,
+    loc: Option<Loc>,
+    v: Part<'a>,
+) -> Result<Told<'a>, BuildError>
+    ensures { IfOk result (λ r. walked_of r ≡ ended v.entry.ok (option_and_then (definition.is_typing name.now (mark loc)) (lent_as v.entry.of v.entry.caps v.entry.tree)) (is_type v.entry.tree name.now (lends (Some bool_type) (mark loc))) (findings_from v.entry.found.items ++ [])) }
+{
+    let Part {
+        ok,
+        of,
+        caps,
+        tree,
+        found,
+    } = v;
+    drop(caps);
+    match of {
+        Some(t) => {
+            let own = is_type(&t, name);
+            drop(t);
+            match own {
+                Some(of) => {
+                    let note = or_drop!(of.try_clone(alloc), of, tree, found);
+                    let name = or_drop!(name.try_clone(), of, note, tree, found);
+                    let tree = or_drop!(Expr::is(alloc, tree, name, Some(note), loc), of, found);
+                    let caps = CapabilitySet::new(alloc);
+                    Ok(ended_typed(ok, Typing { of, caps, tree }, found))
+                }
+                None => {
+                    let tree = or_drop!(is_lending(alloc, tree, name, loc), found);
+                    Ok(Told::Fail(tree, found))
+                }
+            }
+        }
+        None => {
+            let tree = or_drop!(is_lending(alloc, tree, name, loc), found);
+            Ok(Told::Fail(tree, found))
+        }
+    }
+}
+
+fn is_lending(
+    alloc: Global,
+    tree: Expr<Option<Type>>,
+    name: &EntityType,
+    loc: Option<Loc>,
+) -> Result<Expr<Option<Type>>, BuildError>
+    ensures { IfOk result (λ r. r ≡ is_type tree name.now (lends (Some bool_type) (mark loc))) }
+{
+    let name = or_drop!(name.try_clone(), tree);
+    let note = Type::primitive_boolean();
+    Expr::is(alloc, tree, name, Some(note), loc)
+}

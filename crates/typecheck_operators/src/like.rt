@@ -1,0 +1,101 @@
+//! `like`.
+
+ghost use Rattle.std.specs.Prelude.{◌≡◌, ◌++◌, [], IfOk, Some};
+ghost use Rattle.std.specs.Option.{option_and_then};
+ghost use Rattle.policy_expressions.specs.Tree.{like};
+ghost use Rattle.typing_spec.specs.Signatures.{bool_type};
+ghost use Rattle.typecheck_spec.specs.Walked.{ended, lends};
+ghost use Rattle.typecheck_spec.specs.Operators as definition;
+ghost use Rattle.typecheck_rules.specs.Found.{findings_from};
+ghost use Rattle.typecheck_operators.specs.Told.{mark, walked_of, lent_as};
+
+use crate::told::{Part, Told, Typing, ended_typed, expect, parted};
+use capabilities::CapabilitySet;
+use policy_expressions::{BuildError, Expr, Loc, Pattern};
+use schema_types::Type;
+use std::alloc::Global;
+use typecheck_rules::{Expected, like_type};
+
+/// `like`, by what its operand comes to. Errs where memory runs out, or the expression would be nested too deep.
+pub fn like_told<'a>(
+    alloc: Global,
+    pattern: &Pattern,
+    loc: Option<Loc>,
+    place: Option<Loc>,
+    v: Told<'a>,
+) -> Result<Told<'a>, BuildError>
+    ensures { IfOk result (λ r. walked_of r ≡ definition.like_walked pattern.now (mark loc) place (walked_of v.entry)) }
+{
+    let v = expect(alloc, Expected::StringOfLike, place, v)?;
+    like_fitting(alloc, pattern, loc, v)
+}
+
+fn like_fitting<'a>(
+    alloc: Global,
+    pattern: &Pattern,
+    loc: Option<Loc>,
+    v: Told<'a>,
+) -> Result<Told<'a>, BuildError>
+    ensures { IfOk result (λ r. walked_of r ≡ definition.like_fitting pattern.now (mark loc) (walked_of v.entry)) }
+{
+    let v = parted(alloc, v)?;
+    like_ended(alloc, pattern, loc, v)
+}
+
+fn like_ended<'a>(
+    alloc: Global,
+    pattern: &Pattern,
+    loc: Option<Loc>,
+    v: Part<'a>,
+) -> Result<Told<'a>, BuildError>
+    ensures { IfOk result (λ r. walked_of r ≡ ended v.entry.ok (option_and_then (definition.like_typing pattern.now (mark loc)) (lent_as v.entry.of v.entry.caps v.entry.tree)) (like v.entry.tree pattern.now (lends (Some bool_type) (mark loc))) (findings_from v.entry.found.items ++ [])) }
+{
+    let Part {
+        ok,
+        of,
+        caps,
+        tree,
+        found,
+    } = v;
+    drop(caps);
+    match of {
+        Some(t) => {
+            let own = like_type(&t);
+            drop(t);
+            match own {
+                Some(of) => {
+                    let note = or_drop!(of.try_clone(alloc), of, tree, found);
+                    let pattern = or_drop!(pattern.try_clone(alloc), of, note, tree, found);
+                    let tree = or_drop!(
+                        Expr::like(alloc, tree, pattern, Some(note), loc),
+                        of,
+                        found
+                    );
+                    let caps = CapabilitySet::new(alloc);
+                    Ok(ended_typed(ok, Typing { of, caps, tree }, found))
+                }
+                None => {
+                    let tree = or_drop!(like_lending(alloc, tree, pattern, loc), found);
+                    Ok(Told::Fail(tree, found))
+                }
+            }
+        }
+        None => {
+            let tree = or_drop!(like_lending(alloc, tree, pattern, loc), found);
+            Ok(Told::Fail(tree, found))
+        }
+    }
+}
+
+fn like_lending(
+    alloc: Global,
+    tree: Expr<Option<Type>>,
+    pattern: &Pattern,
+    loc: Option<Loc>,
+) -> Result<Expr<Option<Type>>, BuildError>
+    ensures { IfOk result (λ r. r ≡ like tree pattern.now (lends (Some bool_type) (mark loc))) }
+{
+    let pattern = or_drop!(pattern.try_clone(alloc), tree);
+    let note = Type::primitive_boolean();
+    Expr::like(alloc, tree, pattern, Some(note), loc)
+}

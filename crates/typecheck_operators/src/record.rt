@@ -1,0 +1,115 @@
+//! Record literals.
+
+ghost use Rattle.std.specs.Prelude.{◌≡◌, ◌++◌, IfOk, map, option_map};
+ghost use Rattle.std.specs.List.{list_all};
+ghost use Rattle.policy_expressions.specs.Tree.{named_of};
+ghost use Rattle.typecheck_spec.specs.Walked.{has_typing, findings_of_all};
+ghost use Rattle.typecheck_spec.specs.Operators as definition;
+ghost use Rattle.typecheck_spec.specs.Operators.{parts_of};
+ghost use Rattle.typecheck_rules.specs.Found.{findings_from};
+ghost use Rattle.typecheck_operators.specs.Parts.{fields_lent, trees_in_fields, record_in_parts};
+ghost use Rattle.typecheck_operators.specs.Told.{mark, walked_of, field_of};
+
+use crate::parts::{add_found, is_typed, told_rest, type_lent};
+use crate::told::{Told, Typing, ended_typed};
+use capabilities::CapabilitySet;
+use policy_expressions::{BuildError, Expr, Loc};
+use policy_names::Text;
+use policy_values::push_entry;
+use schema_types::Type;
+use std::alloc::{AllocError, Global};
+use std::collections::BTreeMap;
+use typecheck_rules::{Finding, record_type};
+
+/// A record literal, by what its fields come to. Errs where memory runs out, or the expression would be nested too deep.
+#[tactic(auto, using(crate::proofs::PartLaws::record_by_parts))]
+pub fn record_told<'a>(
+    alloc: Global,
+    loc: Option<Loc>,
+    fs: BTreeMap<Text, Told<'a>>,
+) -> Result<Told<'a>, BuildError>
+    ensures { IfOk result (λ r. walked_of r ≡ definition.record_walked (mark loc) (map field_of fs.entry.entries)) }
+{
+    let ok = are_fields_typed(&fs);
+    let types = fields_lent(alloc, &fs)?;
+    let rest = rest_of_fields(alloc, fs)?;
+    record_ended(alloc, loc, ok, types, rest.trees, rest.found)
+}
+
+// Whether all have a typing.
+fn are_fields_typed(fs: &BTreeMap<Text, Told<'_>>) -> bool
+    ensures { result ≡ list_all has_typing (parts_of (map field_of fs.now.entries)) }
+{
+    for (_, w) in fs.iter() {
+        if !is_typed(w) {
+            return false;
+        }
+    }
+    true
+}
+
+// The types that fields lend under their keys, where each lends one.
+fn fields_lent(
+    alloc: Global,
+    fs: &BTreeMap<Text, Told<'_>>,
+) -> Result<Option<BTreeMap<Text, Type>>, AllocError>
+    ensures { IfOk result (λ o. option_map (λ m. m.entries) o ≡ fields_lent (map field_of fs.now.entries)) }
+{
+    let mut types = BTreeMap::new(alloc);
+    for (key, w) in fs.iter() {
+        match type_lent(alloc, w)? {
+            Some(t) => {
+                let key = key.try_clone()?;
+                push_entry(&mut types, key, t)?;
+            }
+            None => return Ok(None),
+        }
+    }
+    Ok(Some(types))
+}
+
+// The expressions under their keys, and all that is found.
+#[derive(Drop)]
+struct Rest {
+    trees: BTreeMap<Text, Expr<Option<Type>>>,
+    found: Vec<Finding>,
+}
+
+fn rest_of_fields(alloc: Global, fs: BTreeMap<Text, Told<'_>>) -> Result<Rest, AllocError>
+    ensures trees { IfOk result (λ r. r.trees.entries ≡ trees_in_fields (map field_of fs.entry.entries)) }
+    ensures found { IfOk result (λ r. findings_from r.found.items ≡ findings_of_all (parts_of (map field_of fs.entry.entries))) }
+{
+    let mut trees = BTreeMap::new(alloc);
+    let mut found = Vec::new(alloc);
+    for (key, w) in fs {
+        let (tree, more) = told_rest(alloc, w);
+        push_entry(&mut trees, key, tree)?;
+        add_found(&mut found, more)?;
+    }
+    Ok(Rest { trees, found })
+}
+
+fn record_ended<'a>(
+    alloc: Global,
+    loc: Option<Loc>,
+    ok: bool,
+    types: Option<BTreeMap<Text, Type>>,
+    trees: BTreeMap<Text, Expr<Option<Type>>>,
+    found: Vec<Finding>,
+) -> Result<Told<'a>, BuildError>
+    ensures { IfOk result (λ r. walked_of r ≡ record_in_parts (mark loc) ok (option_map (λ m. m.entries) types) (named_of trees.entries) (findings_from found.items)) }
+{
+    match types {
+        Some(types) => {
+            let of = record_type(alloc, types)?;
+            let note = of.try_clone(alloc)?;
+            let tree = Expr::record(trees, Some(note), loc)?;
+            let caps = CapabilitySet::new(alloc);
+            Ok(ended_typed(ok, Typing { of, caps, tree }, found))
+        }
+        None => {
+            let tree = Expr::record(trees, None, loc)?;
+            Ok(Told::Fail(tree, found))
+        }
+    }
+}

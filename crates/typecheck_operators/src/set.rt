@@ -1,0 +1,81 @@
+//! Set literals.
+
+ghost use Rattle.std.specs.Prelude.{◌≡◌, [], IfOk, None, option_map};
+ghost use Rattle.policy_expressions.specs.Tree.{set, trees_of};
+ghost use Rattle.typing_spec.specs.Typing.{typing, at};
+ghost use Rattle.typecheck_spec.specs.Walked.{ended, lends};
+ghost use Rattle.typecheck_spec.specs.Operators as definition;
+ghost use Rattle.typecheck_rules.specs.Found.{findings_from};
+ghost use Rattle.typecheck_operators.specs.Parts.{set_in_parts};
+ghost use Rattle.typecheck_operators.specs.Told.{mark, walked_of, all_of};
+
+use crate::parts::{are_typed, rest_of_all, types_lent};
+use crate::told::{Told, Typing, ended_typed};
+use capabilities::CapabilitySet;
+use policy_expressions::{BuildError, Expr, Loc};
+use schema_types::Type;
+use std::alloc::Global;
+use typecheck_rules::{Finding, joined, set_found, set_type};
+
+/// A set literal, by what its elements come to. Errs where memory runs out, or the expression would be nested too deep.
+#[tactic(auto, using(crate::proofs::PartLaws::set_by_parts))]
+pub fn set_told<'a>(
+    alloc: Global,
+    loc: Option<Loc>,
+    ws: Vec<Told<'a>>,
+) -> Result<Told<'a>, BuildError>
+    ensures { IfOk result (λ r. walked_of r ≡ definition.set_walked (mark loc) (all_of ws.entry.items)) }
+{
+    let ok = are_typed(&ws);
+    let types = types_lent(alloc, &ws)?;
+    let rest = rest_of_all(alloc, ws)?;
+    set_ended(alloc, loc, ok, types, rest.trees, rest.found)
+}
+
+fn set_ended<'a>(
+    alloc: Global,
+    loc: Option<Loc>,
+    ok: bool,
+    types: Option<Vec<Type>>,
+    trees: Vec<Expr<Option<Type>>>,
+    found: Vec<Finding>,
+) -> Result<Told<'a>, BuildError>
+    ensures { IfOk result (λ r. walked_of r ≡ set_in_parts (mark loc) ok (option_map (λ v. v.items) types) (trees_of trees.items) (findings_from found.items)) }
+{
+    match types {
+        Some(types) => {
+            let own = set_found(alloc, loc, types.as_slice())?;
+            let of = set_type(alloc, types.as_slice())?;
+            drop(types);
+            set_typed(alloc, loc, ok, of, trees, joined(found, own)?)
+        }
+        None => {
+            let tree = Expr::set(trees, None, loc)?;
+            Ok(Told::Fail(tree, found))
+        }
+    }
+}
+
+fn set_typed<'a>(
+    alloc: Global,
+    loc: Option<Loc>,
+    ok: bool,
+    of: Option<Type>,
+    trees: Vec<Expr<Option<Type>>>,
+    found: Vec<Finding>,
+) -> Result<Told<'a>, BuildError>
+    ensures { IfOk result (λ r. walked_of r ≡ ended ok (option_map (λ t. typing t [] (set (trees_of trees.items) (at t (mark loc)))) of) (set (trees_of trees.items) (lends None (mark loc))) (findings_from found.items)) }
+{
+    match of {
+        Some(of) => {
+            let note = of.try_clone(alloc)?;
+            let tree = Expr::set(trees, Some(note), loc)?;
+            let caps = CapabilitySet::new(alloc);
+            Ok(ended_typed(ok, Typing { of, caps, tree }, found))
+        }
+        None => {
+            let tree = Expr::set(trees, None, loc)?;
+            Ok(Told::Fail(tree, found))
+        }
+    }
+}

@@ -1,0 +1,101 @@
+//! Operators of one operand.
+
+ghost use Rattle.std.specs.Prelude.{◌≡◌, [], ◌++◌, IfOk, Some};
+ghost use Rattle.std.specs.Option.{option_and_then};
+ghost use Rattle.policy_expressions.specs.Tree.{unary};
+ghost use Rattle.typecheck_spec.specs.Walked.{ended, lends};
+ghost use Rattle.typecheck_spec.specs.Operators.{unary_lent, unary_typing, unary_fitting, unary_walked};
+ghost use Rattle.typecheck_rules.specs.Found.{findings_from};
+ghost use Rattle.typecheck_operators.specs.Told.{mark, walked_of, lent_as};
+
+use crate::told::{Part, Told, Typing, ended_typed, expect, parted};
+use capabilities::CapabilitySet;
+use policy_expressions::{BuildError, Expr, Loc, UnaryOp};
+use schema_types::Type;
+use std::alloc::Global;
+use typecheck_rules::{of_unary, unary_type};
+
+fn unary_lent(op: UnaryOp) -> Type
+    ensures { result ≡ unary_lent op }
+{
+    match op {
+        UnaryOp::Not | UnaryOp::IsEmpty => Type::primitive_boolean(),
+        UnaryOp::Neg => Type::primitive_long(),
+    }
+}
+
+/// An operator of one operand, by what this comes to.
+pub fn unary_told<'a>(
+    alloc: Global,
+    op: UnaryOp,
+    loc: Option<Loc>,
+    place: Option<Loc>,
+    v: Told<'a>,
+) -> Result<Told<'a>, BuildError>
+    ensures { IfOk result (λ r. walked_of r ≡ unary_walked op (mark loc) place (walked_of v.entry)) }
+{
+    let v = expect(alloc, of_unary(op), place, v)?;
+    unary_fitting(alloc, op, loc, v)
+}
+
+fn unary_fitting<'a>(
+    alloc: Global,
+    op: UnaryOp,
+    loc: Option<Loc>,
+    v: Told<'a>,
+) -> Result<Told<'a>, BuildError>
+    ensures { IfOk result (λ r. walked_of r ≡ unary_fitting op (mark loc) (walked_of v.entry)) }
+{
+    let v = parted(alloc, v)?;
+    unary_ended(alloc, op, loc, v)
+}
+
+fn unary_ended<'a>(
+    alloc: Global,
+    op: UnaryOp,
+    loc: Option<Loc>,
+    v: Part<'a>,
+) -> Result<Told<'a>, BuildError>
+    ensures { IfOk result (λ r. walked_of r ≡ ended v.entry.ok (option_and_then (unary_typing op (mark loc)) (lent_as v.entry.of v.entry.caps v.entry.tree)) (unary op v.entry.tree (lends (Some (unary_lent op)) (mark loc))) (findings_from v.entry.found.items ++ [])) }
+{
+    let Part {
+        ok,
+        of,
+        caps,
+        tree,
+        found,
+    } = v;
+    drop(caps);
+    match of {
+        Some(u) => {
+            let own = unary_type(op, &u);
+            drop(u);
+            match own {
+                Some(t) => {
+                    let note = or_drop!(t.try_clone(alloc), t, tree, found);
+                    let tree = or_drop!(
+                        Expr::unary_app(alloc, op, tree, Some(note), loc),
+                        t,
+                        found
+                    );
+                    let caps = CapabilitySet::new(alloc);
+                    Ok(ended_typed(ok, Typing { of: t, caps, tree }, found))
+                }
+                None => {
+                    let tree = or_drop!(
+                        Expr::unary_app(alloc, op, tree, Some(unary_lent(op)), loc),
+                        found
+                    );
+                    Ok(Told::Fail(tree, found))
+                }
+            }
+        }
+        None => {
+            let tree = or_drop!(
+                Expr::unary_app(alloc, op, tree, Some(unary_lent(op)), loc),
+                found
+            );
+            Ok(Told::Fail(tree, found))
+        }
+    }
+}

@@ -1,5 +1,0 @@
-use Rattle.typing_rules.proofs.Apart.{disjoint_test}
-use Rattle.typing_rules.proofs.compared.are_disjoint.Goals as goal
-
-pub returns : goal.returns
-returns c = disjoint_test c.are_types_disjoint.result c.args.t.now c.args.u.now c.are_types_disjoint.ensures

@@ -1,6 +1,0 @@
-use Rattle.std.proofs.Common.{◌≡◌, ◌++◌}
-use Rattle.typing_rules.proofs.error.listed.Given as goal
-
--- the types so far, and those of what is left
-abbrev pub invariant-loop-t : goal.invariant-loop-t
-invariant-loop-t l = l.listed.items ++ l.t-iterator ≡ l.fn.types.keys
