@@ -1,6 +1,8 @@
-"""The lines that scripts/check-lines runs: its help says what a line is."""
+"""The lines that scripts/check-lines runs: its help says what a line is. And the documents of examples/."""
+import pathlib
 import re
 
+EXAMPLES = pathlib.Path(__file__).resolve().parents[2] / "examples"
 NAME = re.compile(r"\$(\w+)", re.ASCII)
 
 
@@ -63,3 +65,12 @@ def lines_of(path):
                 yield number, Line(text.rstrip("\r"), path.parent, names)
             except Fault as fault:
                 raise Fault(f"{path}:{number}: {fault}") from None
+
+
+def line_files():
+    return sorted((EXAMPLES / "lines").glob("*.txt"))
+
+
+def example_documents():
+    """The files with documents; examples/cedar has Cedar's own JSON."""
+    return sorted(path for path in EXAMPLES.rglob("*.json") if "cedar" not in path.relative_to(EXAMPLES).parts)

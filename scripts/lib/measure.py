@@ -1,4 +1,5 @@
-"""Measures one run of the program: the seconds of the processor, the most memory that it had, its status.
+"""Measures one run of a program: the seconds of the processor, the most memory that it had, its status. As a command, `measure.py FILE PROGRAM [WORD..]` prints the
+least seconds of three runs on a file, the most MiB, and the status where it is not 0, as cells of a table.
 
 The most memory that wait4 tells of a child has a floor: what this interpreter had when it made the child. So the program is stopped at its first
 write, by a pipe that is full, and what the kernel knows of its own memory is read then; it has made the whole text before it writes."""
@@ -7,6 +8,7 @@ import fcntl
 import os
 import re
 import resource
+import sys
 import time
 
 
@@ -38,7 +40,7 @@ def run(program, words, path, seconds=60, mebibytes=4096):
     """One run on the document in a file, with at most so many seconds of the processor and so much memory."""
     reader, writer = full_pipe()
     actions = [(os.POSIX_SPAWN_OPEN, 0, path, os.O_RDONLY, 0), (os.POSIX_SPAWN_DUP2, writer, 1), (os.POSIX_SPAWN_OPEN, 2, os.devnull, os.O_WRONLY, 0), (os.POSIX_SPAWN_CLOSE, reader)]
-    pid = os.posix_spawn(program, [program, *words], os.environ, file_actions=actions)
+    pid = os.posix_spawnp(program, [program, *words], os.environ, file_actions=actions)
     os.close(writer)
     resource.prlimit(pid, resource.RLIMIT_CPU, (seconds, seconds))
     resource.prlimit(pid, resource.RLIMIT_AS, (mebibytes << 20, mebibytes << 20))
@@ -55,3 +57,9 @@ def run(program, words, path, seconds=60, mebibytes=4096):
     if not ended:
         _, status, used = os.wait4(pid, 0)
     return Run(used.ru_utime + used.ru_stime, most / 1024, os.waitstatus_to_exitcode(status))
+
+
+if __name__ == "__main__":
+    runs = [run(sys.argv[2], sys.argv[3:], sys.argv[1]) for _ in range(3)]
+    status = f" (status {runs[0].status})" if runs[0].status else ""
+    print(f"{min(one.seconds for one in runs):.2f} | {max(one.mebibytes for one in runs):.0f}{status}")
