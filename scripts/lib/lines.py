@@ -14,10 +14,10 @@ class Line:
     """One line: the commands, each a list of words; the bytes of the document; the status and the text that are due."""
 
     def __init__(self, text, folder, names):
-        asked, arrow, due = text.rpartition(" => ")
-        status, _, told = due.partition(" ")
-        if not arrow or not re.fullmatch("[0-9]+", status):
+        parts = re.fullmatch(r"(.*) => ([0-9]+)(?: (.*))?", text)
+        if not parts:
             raise Fault("no line of the form WORDS DOCUMENT => STATUS TEXT")
+        asked, status, told = parts[1], parts[2], parts[3] or ""
         start = re.search(r'[{\["$<]', asked)
         at = start.start() if start else len(asked)
         self.text = text
