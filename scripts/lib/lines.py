@@ -72,5 +72,5 @@ def line_files():
 
 
 def example_documents():
-    """The files with documents; examples/cedar has Cedar's own JSON."""
-    return sorted(path for path in EXAMPLES.rglob("*.json") if "cedar" not in path.relative_to(EXAMPLES).parts)
+    """The files with documents; examples/cedar has Cedar's own JSON besides."""
+    return sorted(path for path in EXAMPLES.rglob("*.json") if path.name == "document.json" or "cedar" not in path.relative_to(EXAMPLES).parts)

@@ -153,8 +153,8 @@ def slip(text, at):
         (r"True\b|False\b", "it is true, false, in small letters"),
         (r"None\b|nil\b|undefined\b", "it is null"),
         (r"NaN|[-+]?Infinity|\+|\.[0-9]|[0-9]", "JSON has no such number"),
-        (r"(permit|forbid)\s*\(|@\w+\s*\(", "this is Cedar's text; scripts/from-cedar takes Cedar's JSON"),
-        (r"(namespace|entity|action|type)\s", "this is a schema in Cedar's text; scripts/from-cedar takes Cedar's JSON"),
+        (r"(permit|forbid)\s*\(|@\w+\s*\(", "this is Cedar's text; scripts/from-cedar makes a document of it"),
+        (r"(namespace|entity|action|type)\s", "this is a schema in Cedar's text; scripts/from-cedar makes a document of it"),
         (r"---|[\w-]+:\s", "this looks like YAML, not JSON"),
     ):
         if re.match(pattern, rest):

@@ -14,7 +14,7 @@ def faults_of(document):
     if not isinstance(document, dict):
         return found
     if "effect" in document and "schema" not in document:
-        return [Fault((), "this is one policy; a document is {\"schema\":{..},\"policies\":[..],..}, and scripts/from-cedar makes one of Cedar's JSON")]
+        return [Fault((), "this is one policy; a document is {\"schema\":{..},\"policies\":[..],..}, and scripts/from-cedar makes one of what Cedar has")]
     broken = {fault.path[:2] if fault.path[:1] in (("policies",), ("entities",)) else fault.path[:1] for fault in found}
     if ("schema",) not in broken and "schema" in document:
         found += rules.schema_faults(document["schema"])
