@@ -1,8 +1,10 @@
-"""What the program finds of a document, taken apart: each finding with its severity, kind, policy, place, source location, text and help.
+"""What the program finds of a document, taken apart: each finding with its severity, kind, policy, place,
+source location, text and help.
 
-Ids of policies may hold any text, also one that looks like a finding. So the program is given the document with other ids, which nobody can
-have foreseen, and the true ones are put back into what it says. It is also given a source location for each expression, by which a finding
-tells what part of the document it is about. So findings that differ in nothing but that part are told once each."""
+Ids of policies may hold any text, also one that looks like a finding. So the program is given the document
+with other ids, which nobody can have foreseen, and the true ones are put back into what it says. It is also
+given a source location for each expression, by which a finding tells what part of the document it is about.
+So findings that differ in nothing but that part are told once each."""
 import json
 import re
 import secrets
@@ -17,7 +19,8 @@ class Broken(Exception):
 
 
 class Finding:
-    """What is found: `path` is that of the part of the document that it is about, `at` the source location that the document gives, or None."""
+    """What is found: `path` is that of the part of the document that it is about, `at` the source location that
+    the document gives, or None."""
 
     def __init__(self, severity, kind, text, path, policy=None, at=None, help=None):
         self.severity, self.kind, self.text, self.help = severity, kind, text, help
@@ -27,7 +30,9 @@ class Finding:
 def ask(program, words, document):
     """The status and the text that the program answers with."""
     try:
-        ran = subprocess.run([program, *words], input=json.dumps(document, ensure_ascii=False).encode(), capture_output=True)
+        ran = subprocess.run(
+            [program, *words], input=json.dumps(document, ensure_ascii=False).encode(), capture_output=True
+        )
     except OSError as fault:
         raise Broken(125, f"{program} can't be run: {fault.strerror}") from None
     return ran.returncode, ran.stdout.decode(errors="replace")
@@ -54,14 +59,21 @@ def findings_of(program, document):
 def with_ids(policies, token):
     """The policies with their places in the list as ids."""
     new = {policy["id"]: f"{token}{i}" for i, policy in enumerate(policies)}
-    return [policy | {"id": new[policy["id"]]} | ({"link": new[policy["link"]]} if "link" in policy else {}) for policy in policies]
+    return [
+        policy | {"id": new[policy["id"]]} | ({"link": new[policy["link"]]} if "link" in policy else {})
+        for policy in policies
+    ]
 
 
 def with_marks(policies, marks):
-    """The policies with a number as source location of each expression; `marks` gets, for each number, the path and the location that was there."""
+    """The policies with a number as source location of each expression; `marks` gets, for each number, the path
+    and the location that was there."""
     made = []
     for i, policy in enumerate(policies):
-        body = [{kind: marked(inner, ("policies", i, "body", j, kind), None, marks) for kind, inner in clause.items()} for j, clause in enumerate(policy.get("body", []))]
+        body = [
+            {kind: marked(inner, ("policies", i, "body", j, kind), None, marks) for kind, inner in clause.items()}
+            for j, clause in enumerate(policy.get("body", []))
+        ]
         made.append(policy | {"body": body} if body else policy)
     return made
 
@@ -76,7 +88,10 @@ def marked(expression, path, at, marks):
 
 def with_marked_operands(expression, path, marks):
     def each(parts, path, first=0, last=None):
-        return [marked(part, path + (i,), None, marks) if first <= i and (last is None or i < last) else part for i, part in enumerate(parts)]
+        return [
+            marked(part, path + (i,), None, marks) if first <= i and (last is None or i < last) else part
+            for i, part in enumerate(parts)
+        ]
 
     if isinstance(expression, list):
         return each(expression, path)
@@ -92,7 +107,11 @@ def with_marked_operands(expression, path, marks):
         return {kind: each(inner, path, last=1)}
     if kind == "call":
         return {kind: each(inner, path, first=1)}
-    return {kind: each(inner, path) if isinstance(inner, list) and kind not in ("not", "neg", "isEmpty") else marked(inner, path, None, marks)}
+    return {
+        kind: each(inner, path)
+        if isinstance(inner, list) and kind not in ("not", "neg", "isEmpty")
+        else marked(inner, path, None, marks)
+    }
 
 
 def taken_apart(told, token, ids, marks):
@@ -100,7 +119,10 @@ def taken_apart(told, token, ids, marks):
     name = rf"for policy `{token}([0-9]+)`"
     head = r"(?:error|warning) \w+(?: at \d+\.\.\d+)?: "
     begins = rf"{head}(?:for policy `{token}|the types )"
-    pattern = rf"^(error|warning) (\w+)(?: at (\d+)\.\.\d+)?: (?:({name}[,:] .*?)|(the types .*? are not compatible))(?:\n  help: (.*?))?\n(?={begins}|errors \d+, warnings \d+\n\Z)"
+    pattern = (
+        rf"^(error|warning) (\w+)(?: at (\d+)\.\.\d+)?: (?:({name}[,:] .*?)|(the types .*? are not compatible))"
+        rf"(?:\n  help: (.*?))?\n(?={begins}|errors \d+, warnings \d+\n\Z)"
+    )
     found = []
     for match in re.finditer(pattern, told, re.MULTILINE | re.DOTALL):
         severity, kind, mark, own, index, types, help_ = match.groups()
@@ -138,5 +160,9 @@ def uid(id_):
 
 def entity_path(told, entities):
     """Where the entity stands that a text begins with."""
-    named = [(len(uid(entity["id"])), i) for i, entity in enumerate(entities) if told.startswith(f"entity: {uid(entity['id'])}: ")]
+    named = [
+        (len(uid(entity["id"])), i)
+        for i, entity in enumerate(entities)
+        if told.startswith(f"entity: {uid(entity['id'])}: ")
+    ]
     return ("entities", max(named)[1]) if named else ("entities",)

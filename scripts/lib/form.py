@@ -1,4 +1,5 @@
-"""The form of a document: what in a value is not as docs/schema/document.schema.json has it, each fault with its place."""
+"""The form of a document: what in a value is not as docs/schema/document.schema.json has it, each fault with
+its place."""
 import json
 import pathlib
 import re
@@ -6,7 +7,9 @@ import re
 import slips
 import values
 
-SCHEMA = json.loads((pathlib.Path(__file__).resolve().parents[2] / "docs/schema/document.schema.json").read_text(encoding="utf-8"))
+SCHEMA = json.loads(
+    (pathlib.Path(__file__).resolve().parents[2] / "docs/schema/document.schema.json").read_text(encoding="utf-8")
+)
 TYPES = {"object": dict, "array": list, "string": str, "integer": int, "null": type(None)}
 DUE = {
     "name": "the name of a type: components of letters, digits and _ joined by ::, none of them __cedar",
@@ -15,10 +18,12 @@ DUE = {
     "scope": '{"==":ID}, {"in":ID}, {"is":TYPE} or {"is":TYPE,"in":ID}',
     "clause": '{"when":EXPRESSION} or {"unless":EXPRESSION}',
     "attributes": "an object with the type of each attribute under its name",
-    "type": '"Bool", "Long", "String", "decimal", "ipaddr", "datetime", "duration", {"set":TYPE}, {"entity":NAME} or {"record":{..}}',
+    "type": '"Bool", "Long", "String", "decimal", "ipaddr", "datetime", "duration", {"set":TYPE}, {"entity":NAME} or '
+    '{"record":{..}}',
     "whole": "a whole number of 64 bits",
     "values": "an object with a value under each name",
-    "value": 'true, false, a whole number, a text, a list, or an object with one of "id", "record", "decimal", "ip", "datetime", "duration"',
+    "value": "true, false, a whole number, a text, a list, or an object with one of "
+    '"id", "record", "decimal", "ip", "datetime", "duration"',
     "time": "a text, or a whole number of milliseconds",
     "expression": "true, false, a whole number, a text, a list, or an object with one operator",
     "expressions": "a list of one expression or more",
@@ -26,8 +31,17 @@ DUE = {
     "place": "a number of bytes, to 4294967295",
 }
 NOUNS = {
-    "uid": "id", "reference": "id", "scope": "scope", "clause": "condition", "type": "type", "whole": "whole number of 64 bits", "value": "value",
-    "time": "text or number of milliseconds", "expression": "expression", "two": "list of two operands", "name": "name of a type",
+    "uid": "id",
+    "reference": "id",
+    "scope": "scope",
+    "clause": "condition",
+    "type": "type",
+    "whole": "whole number of 64 bits",
+    "value": "value",
+    "time": "text or number of milliseconds",
+    "expression": "expression",
+    "two": "list of two operands",
+    "name": "name of a type",
 }
 KINDS = {"object": "an object", "array": "a list", "string": "a text", "integer": "a whole number", "null": "null"}
 
@@ -76,7 +90,9 @@ def due_of(schema):
 
 
 def unfit(value, path, definition, schema):
-    named = definition or next((option["$ref"].rsplit("/", 1)[1] for option in schema.get("anyOf", []) if "$ref" in option), None)
+    named = definition or next(
+        (option["$ref"].rsplit("/", 1)[1] for option in schema.get("anyOf", []) if "$ref" in option), None
+    )
     slip = slips.of_value(value, named)
     if slip and named in NOUNS:
         return Fault(path, f"{slips.shown(value)} is no {NOUNS[named]}{slip}")
@@ -102,7 +118,12 @@ def operand_faults(value, schema, path, definition):
     if definition != "expression" or not isinstance(value, dict):
         return []
     lists = [(name, inner) for name, inner in value.items() if name in slips.OPERATORS and isinstance(inner, list)]
-    return [fault for name, inner in lists for i, operand in enumerate(inner) for fault in form_faults(operand, schema, path + (name, i), definition)]
+    return [
+        fault
+        for name, inner in lists
+        for i, operand in enumerate(inner)
+        for fault in form_faults(operand, schema, path + (name, i), definition)
+    ]
 
 
 def is_at(fault, path):
@@ -120,14 +141,28 @@ def resembles(value, schema):
         return any(type(choice) is type(value) and choice == value for choice in schema["enum"])
     if type(value) is not TYPES[schema["type"]]:
         return False
-    return not isinstance(value, dict) or not value or "properties" not in schema or not schema["properties"].keys().isdisjoint(value)
+    return (
+        not isinstance(value, dict)
+        or not value
+        or "properties" not in schema
+        or not schema["properties"].keys().isdisjoint(value)
+    )
 
 
 def object_faults(value, schema, path, definition):
     known, others = schema.get("properties", {}), schema.get("additionalProperties", {})
     strange = [name for name in value if others is False and name not in known]
-    found = [Fault(path + (name,), f"no member {slips.shown(name)} stands here" + slips.of_member(name, known, definition), True) for name in strange]
-    found += [Fault(path, f'the member "{name}" is missing') for name in schema.get("required", []) if name not in value]
+    found = [
+        Fault(
+            path + (name,),
+            f"no member {slips.shown(name)} stands here" + slips.of_member(name, known, definition),
+            True,
+        )
+        for name in strange
+    ]
+    found += [
+        Fault(path, f'the member "{name}" is missing') for name in schema.get("required", []) if name not in value
+    ]
     least, most = schema.get("minProperties", 0), schema.get("maxProperties", len(value))
     if not strange and not least <= len(value) <= most:
         found.append(unfit(value, path, definition, schema))
@@ -158,7 +193,13 @@ def list_faults(value, schema, path, definition):
         due = DUE.get(definition, f"a list of {least}{' or more' if rest is not False else ''}")
         found.append(Fault(path, f"expected {due}; found a list of {len(value)}" + slips.of_value(value, definition)))
     elif path[-1:] == ("if",) and least == 3 and len(value) % 2 == 0:
-        found.append(Fault(path, f"expected an odd number of expressions, tests each with what it leads to and last what else; found {len(value)}"))
+        found.append(
+            Fault(
+                path,
+                "expected an odd number of expressions, tests each with what it leads to and last what else; "
+                f"found {len(value)}",
+            )
+        )
     elif path[-1:] == ("at",) and least == 2 and all(type(v) is int for v in value) and value[0] > value[1]:
         found.append(Fault(path, "the place ends before it begins"))
     for i, inner in enumerate(value[:most]):

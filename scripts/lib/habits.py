@@ -1,4 +1,5 @@
-"""What is legal in a document and likely wrong: findings of these scripts' own, of which the program says nothing."""
+"""What is legal in a document and likely wrong: findings of these scripts' own, of which the program says
+nothing."""
 import json
 
 from findings import Finding, uid
@@ -41,10 +42,17 @@ def unlisted_actions(document, actions, policies):
         groups = above(tuple(action["id"]), direct)
         meant = [group for group in groups if group in named]
         if meant and tuple(action["id"]) not in stored:
-            text = f"action `{uid(action['id'])}` is not among the entities, so it is in no group when policies are evaluated: `in` with `{uid(meant[0])}` is false of it, as in policy `{named[meant[0]]}`"
-            entity = json.dumps({"id": action["id"], "parents": [list(group) for group in groups]}, ensure_ascii=False, separators=(",", ":"))
+            text = (
+                f"action `{uid(action['id'])}` is not among the entities, so it is in no group when policies are "
+                f"evaluated: `in` with `{uid(meant[0])}` is false of it, as in policy `{named[meant[0]]}`"
+            )
+            entity = compact({"id": action["id"], "parents": [list(group) for group in groups]})
             found.append(warning("UnlistedAction", text, ("schema", "actions", i), f"add to the entities {entity}"))
     return found
+
+
+def compact(value):
+    return json.dumps(value, ensure_ascii=False, separators=(",", ":"))
 
 
 def ids_in(part):
@@ -68,8 +76,12 @@ def unknown_entries(document):
     unknown = [entry for entry in ("principal", "action", "resource", "context") if request.get(entry) is None]
     if not unknown:
         return []
-    text = f"of the request {', '.join(unknown)} {'is' if len(unknown) == 1 else 'are'} unknown: `request` does not test what is unknown, and `slice` and `decide` end with status 6"
-    return [warning("UnknownRequest", text, ("request",), 'an empty context is "context":{}' if unknown == ["context"] else None)]
+    text = (
+        f"of the request {', '.join(unknown)} {'is' if len(unknown) == 1 else 'are'} unknown: `request` does not test "
+        "what is unknown, and `slice` and `decide` end with status 6"
+    )
+    help_ = 'an empty context is "context":{}' if unknown == ["context"] else None
+    return [warning("UnknownRequest", text, ("request",), help_)]
 
 
 def is_template(policy):
@@ -78,14 +90,26 @@ def is_template(policy):
 
 def unlinked_templates(policies):
     linked = {policy["link"] for policy in policies if "link" in policy}
-    return [warning("UnlinkedTemplate", f"template `{policy['id']}` has no link, so it says nothing", ("policies", i), policy=policy["id"])
-            for i, policy in enumerate(policies) if is_template(policy) and policy["id"] not in linked]
+    return [
+        warning(
+            "UnlinkedTemplate",
+            f"template `{policy['id']}` has no link, so it says nothing",
+            ("policies", i),
+            policy=policy["id"],
+        )
+        for i, policy in enumerate(policies)
+        if is_template(policy) and policy["id"] not in linked
+    ]
 
 
 def without_permit(policies):
     """Policies of which none permits: no request can be allowed."""
     effects = {policy["id"]: policy["effect"] for policy in policies if "link" not in policy}
-    deciding = [effects[policy["link"]] if "link" in policy else policy["effect"] for policy in policies if not is_template(policy)]
+    deciding = [
+        effects[policy["link"]] if "link" in policy else policy["effect"]
+        for policy in policies
+        if not is_template(policy)
+    ]
     if not deciding or "permit" in deciding:
         return []
     return [warning("NoPermit", "no policy and no link permits, so that each request is denied", ("policies",))]
@@ -94,6 +118,12 @@ def without_permit(policies):
 def idle_actions(actions):
     """Actions that apply to nothing and that are no groups."""
     groups = {tuple(group) for action in actions for group in action.get("memberOf", [])}
-    return [warning("IdleAction", f"action `{uid(action['id'])}` has no {' and no '.join(part for part in ('principals', 'resources') if not action.get(part))}, and is no group: it applies to nothing",
-                    ("schema", "actions", i))
-            for i, action in enumerate(actions) if not (action.get("principals") and action.get("resources")) and tuple(action["id"]) not in groups]
+    found = []
+    for i, action in enumerate(actions):
+        lacks = [part for part in ("principals", "resources") if not action.get(part)]
+        if lacks and tuple(action["id"]) not in groups:
+            text = (
+                f"action `{uid(action['id'])}` has no {' and no '.join(lacks)}, and is no group: it applies to nothing"
+            )
+            found.append(warning("IdleAction", text, ("schema", "actions", i)))
+    return found

@@ -73,4 +73,8 @@ def line_files():
 
 def example_documents():
     """The files with documents; examples/cedar has Cedar's own JSON besides."""
-    return sorted(path for path in EXAMPLES.rglob("*.json") if path.name == "document.json" or "cedar" not in path.relative_to(EXAMPLES).parts)
+    return sorted(
+        path
+        for path in EXAMPLES.rglob("*.json")
+        if path.name == "document.json" or "cedar" not in path.relative_to(EXAMPLES).parts
+    )

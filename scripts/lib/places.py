@@ -1,4 +1,5 @@
-"""JSON with places: the value of a text, and where in the text each part of it stands. Read as the program reads it."""
+"""JSON with places: the value of a text, and where in the text each part of it stands. Read as the program
+reads it."""
 import re
 from json.decoder import scanstring
 
@@ -15,7 +16,8 @@ class NoJson(Exception):
 
 
 class Place:
-    """Where a value begins; for a list the places of its items, for an object those of its members and of their names."""
+    """Where a value begins; for a list the places of its items, for an object those of its members and of their
+    names."""
 
     __slots__ = ("at", "inner", "names")
 
@@ -23,7 +25,8 @@ class Place:
         self.at, self.inner, self.names = at, inner, names
 
     def find(self, path, name=False):
-        """The offset of the part at a path; with `name` that of the member's name. Of a part that is not there, that of the nearest around it."""
+        """The offset of the part at a path; with `name` that of the member's name. Of a part that is not there, that
+        of the nearest around it."""
         place = self
         for i, step in enumerate(path):
             inner = place.inner
@@ -50,13 +53,17 @@ def skip(text, at):
 
 def part(text, at, depth):
     """The value at an offset, its place, and the offset behind it."""
-    first = text[at:at + 1]
+    first = text[at : at + 1]
     if first == '"':
         value, end = string(text, at)
         return value, Place(at), end
     if first in ("{", "["):
         if depth == DEEPEST:
-            raise NoJson(at, f"this is nested deeper than {DEEPEST} (a binary operator takes two levels; `all`, `any`, `get` and `if` are flat)")
+            raise NoJson(
+                at,
+                f"this is nested deeper than {DEEPEST} "
+                "(a binary operator takes two levels; `all`, `any`, `get` and `if` are flat)",
+            )
         return (members if first == "{" else items)(text, at, depth + 1)
     word = WORD.match(text, at)
     if word:
@@ -72,8 +79,10 @@ def string(text, at):
         if kind.startswith("Unterminated"):
             raise NoJson(at, "this text has no closing double quote") from None
         if kind.startswith("Invalid control"):
-            raise NoJson(where, "a line end or another control character stands in a text; write it as \\n, \\t or \\u00XX") from None
-        raise NoJson(where, "this is no escape of JSON: \\\" \\\\ \\/ \\b \\f \\n \\r \\t \\uXXXX are") from None
+            raise NoJson(
+                where, "a line end or another control character stands in a text; write it as \\n, \\t or \\u00XX"
+            ) from None
+        raise NoJson(where, 'this is no escape of JSON: \\" \\\\ \\/ \\b \\f \\n \\r \\t \\uXXXX are') from None
     if HALF.search(value):
         raise NoJson(at, "a text holds half of a surrogate pair, which is no character")
     return value, end
@@ -84,7 +93,7 @@ def number(text, at):
     if not found:
         raise NoJson(at, "expected a value" + slip(text, at))
     digits = found[0]
-    if text[found.end():found.end() + 1] in tuple(".eE+-0123456789_"):
+    if text[found.end() : found.end() + 1] in tuple(".eE+-0123456789_"):
         raise NoJson(at, "this is no number of JSON")
     if found[1] or found[2] or digits == "-0" or len(digits) > 20:  # no whole number of 64 bits
         value = float(digits)
@@ -98,7 +107,7 @@ def number(text, at):
 def items(text, at, depth):
     made, inner, start = [], [], at
     at = skip(text, at + 1)
-    if text[at:at + 1] == "]":
+    if text[at : at + 1] == "]":
         return made, Place(start, inner), at + 1
     while True:
         value, place, at = part(text, at, depth)
@@ -113,14 +122,14 @@ def items(text, at, depth):
 def members(text, at, depth):
     made, inner, names, start = {}, {}, {}, at
     at = skip(text, at + 1)
-    if text[at:at + 1] == "}":
+    if text[at : at + 1] == "}":
         return made, Place(start, inner, names), at + 1
     while True:
-        if text[at:at + 1] != '"':
+        if text[at : at + 1] != '"':
             raise NoJson(at, "expected the name of a member in double quotes" + slip(text, at))
         name, end = string(text, at)
         colon = skip(text, end)
-        if text[colon:colon + 1] != ":":
+        if text[colon : colon + 1] != ":":
             raise NoJson(colon, f'expected `:` behind the name "{name}"' + slip(text, colon))
         value, place, end = part(text, skip(text, colon + 1), depth)
         made[name], inner[name], names[name] = value, place, at
@@ -133,15 +142,15 @@ def members(text, at, depth):
 def follows(text, at, close):
     """The offset of the comma, or of the bracket that closes, behind a value."""
     at = skip(text, at)
-    if text[at:at + 1] not in (",", close):
-        begins = re.match(r'["{\[\w-]', text[at:at + 1])
+    if text[at : at + 1] not in (",", close):
+        begins = re.match(r'["{\[\w-]', text[at : at + 1])
         raise NoJson(at, f"expected `,` or `{close}`" + (" (a comma too few?)" if begins else slip(text, at)))
     return at
 
 
 def slip(text, at):
     """In brackets, what it may be that stands here in place of JSON."""
-    rest = text[at:at + 40]
+    rest = text[at : at + 40]
     if not rest:
         return ", and the text ends"
     if rest[0] in "}]":
@@ -154,7 +163,10 @@ def slip(text, at):
         (r"None\b|nil\b|undefined\b", "it is null"),
         (r"NaN|[-+]?Infinity|\+|\.[0-9]|[0-9]", "JSON has no such number"),
         (r"(permit|forbid)\s*\(|@\w+\s*\(", "this is Cedar's text; scripts/from-cedar makes a document of it"),
-        (r"(namespace|entity|action|type)\s", "this is a schema in Cedar's text; scripts/from-cedar makes a document of it"),
+        (
+            r"(namespace|entity|action|type)\s",
+            "this is a schema in Cedar's text; scripts/from-cedar makes a document of it",
+        ),
         (r"---|[\w-]+:\s", "this looks like YAML, not JSON"),
     ):
         if re.match(pattern, rest):

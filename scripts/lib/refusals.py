@@ -1,4 +1,5 @@
-"""Why a text is no document: all faults of it, each with its offset in the text, its place inside the document and what is wrong there."""
+"""Why a text is no document: all faults of it, each with its offset in the text, its place inside the
+document and what is wrong there."""
 import json
 
 import places
@@ -14,14 +15,24 @@ def faults_of(document):
     if not isinstance(document, dict):
         return found
     if "effect" in document and "schema" not in document:
-        return [Fault((), "this is one policy; a document is {\"schema\":{..},\"policies\":[..],..}, and scripts/from-cedar makes one of what Cedar has")]
+        return [
+            Fault(
+                (),
+                'this is one policy; a document is {"schema":{..},"policies":[..],..}, '
+                "and scripts/from-cedar makes one of what Cedar has",
+            )
+        ]
     broken = {fault.path[:2] if fault.path[:1] in (("policies",), ("entities",)) else fault.path[:1] for fault in found}
     if ("schema",) not in broken and "schema" in document:
         found += rules.schema_faults(document["schema"])
     if ("policies",) not in broken:
-        found += rules.policy_faults([known_part(p) if ("policies", i) in broken else p for i, p in enumerate(document.get("policies", []))])
+        found += rules.policy_faults(
+            [known_part(p) if ("policies", i) in broken else p for i, p in enumerate(document.get("policies", []))]
+        )
     if ("entities",) not in broken:
-        found += rules.entity_faults([None if ("entities", i) in broken else e for i, e in enumerate(document.get("entities", []))])
+        found += rules.entity_faults(
+            [None if ("entities", i) in broken else e for i, e in enumerate(document.get("entities", []))]
+        )
     return found
 
 
@@ -43,7 +54,14 @@ def told(text):
 
 def written(path):
     """A path as policies[0].body[0].when."""
-    steps = (f"[{step}]" if isinstance(step, int) else f".{step}" if step.isidentifier() else f"[{json.dumps(step, ensure_ascii=False)}]" for step in path)
+    steps = (
+        f"[{step}]"
+        if isinstance(step, int)
+        else f".{step}"
+        if step.isidentifier()
+        else f"[{json.dumps(step, ensure_ascii=False)}]"
+        for step in path
+    )
     return "".join(steps).lstrip(".")
 
 
@@ -58,6 +76,8 @@ def faults_in(data):
     try:
         text = data.decode()
     except UnicodeDecodeError as fault:
-        text = data[:fault.start].decode()
-        return text, [(len(text), "", f"the bytes from here on are no UTF-8 (byte {fault.start} is {data[fault.start]:#04x})")]
+        text = data[: fault.start].decode()
+        return text, [
+            (len(text), "", f"the bytes from here on are no UTF-8 (byte {fault.start} is {data[fault.start]:#04x})")
+        ]
     return text, told(text)

@@ -1,6 +1,8 @@
-"""The rules that a document keeps beside its form: declared names, distinct ids, templates and slots, depths, and what is its own ancestor.
+"""The rules that a document keeps beside its form: declared names, distinct ids, templates and slots, depths,
+and what is its own ancestor.
 
-Each function takes the parts of a document that have the due form, and gives faults (of `form`) with their places."""
+Each function takes the parts of a document that have the due form, and gives faults (of `form`) with their
+places."""
 from form import Fault
 from slips import near, shown
 
@@ -18,7 +20,13 @@ def schema_faults(schema):
     direct = {}
     for id_, action in zip(ids, actions):
         direct.setdefault(id_, []).extend(tuple(above) for above in action.get("memberOf", []))
-    found += [Fault(("schema", "actions", ids.index(id_), "memberOf"), f"the action {shown(id_)} is, by its groups, its own member") for id_ in on_cycles(direct)]
+    found += [
+        Fault(
+            ("schema", "actions", ids.index(id_), "memberOf"),
+            f"the action {shown(id_)} is, by its groups, its own member",
+        )
+        for id_ in on_cycles(direct)
+    ]
     return found
 
 
@@ -30,10 +38,16 @@ def type_faults(name, declared, types):
     path = ("schema", "entityTypes", name)
     found = []
     if name.rsplit("::", 1)[-1] == "Action":
-        found.append(Fault(path, "no type of entities may have the basename Action: actions are declared in `actions`", True))
+        found.append(
+            Fault(path, "no type of entities may have the basename Action: actions are declared in `actions`", True)
+        )
     if declared.get("enum") == []:
         found.append(Fault(path + ("enum",), "the type is enumerated and lists no id"))
-    found += [Fault(path + ("memberOf", i), undeclared(above, types)) for i, above in enumerate(declared.get("memberOf", [])) if above not in types]
+    found += [
+        Fault(path + ("memberOf", i), undeclared(above, types))
+        for i, above in enumerate(declared.get("memberOf", []))
+        if above not in types
+    ]
     found += record_faults(declared.get("attributes", {}), path + ("attributes",), types)
     return found + (named_faults(declared["tags"], path + ("tags",), types) if "tags" in declared else [])
 
@@ -57,15 +71,29 @@ def action_faults(path, action, earlier, types, ids):
     if tuple(action["id"]) in earlier:
         found.append(Fault(path + ("id",), f"an earlier action has the id {shown(action['id'])}"))
     if action["id"][0].rsplit("::", 1)[-1] != "Action":
-        found.append(Fault(path + ("id", 0), f"the basename of an action's type is Action, and that of {shown(action['id'][0])} is another"))
+        found.append(
+            Fault(
+                path + ("id", 0),
+                f"the basename of an action's type is Action, and that of {shown(action['id'][0])} is another",
+            )
+        )
     for part in ("principals", "resources"):
-        found += [Fault(path + (part, i), undeclared(name, types)) for i, name in enumerate(action.get(part, [])) if name not in types]
-    found += [Fault(path + ("memberOf", i), f"the action {shown(above)} is not declared") for i, above in enumerate(action.get("memberOf", [])) if tuple(above) not in ids]
+        found += [
+            Fault(path + (part, i), undeclared(name, types))
+            for i, name in enumerate(action.get(part, []))
+            if name not in types
+        ]
+    found += [
+        Fault(path + ("memberOf", i), f"the action {shown(above)} is not declared")
+        for i, above in enumerate(action.get("memberOf", []))
+        if tuple(above) not in ids
+    ]
     return found + record_faults(action.get("context", {}), path + ("context",), types)
 
 
 def on_cycles(direct):
-    """The keys that are reached from themselves by one step or more; steps to what is no key go nowhere. By Tarjan's algorithm, without recursion."""
+    """The keys that are reached from themselves by one step or more; steps to what is no key go nowhere. By
+    Tarjan's algorithm, without recursion."""
     number, low, stack, on_stack, found = {}, {}, [], set(), set()
     for root in direct:
         work = [(root, iter(direct[root]))] if root not in number else []
@@ -81,8 +109,8 @@ def on_cycles(direct):
                 if work:
                     low[work[-1][0]] = min(low[work[-1][0]], low[node])
                 if low[node] == number[node]:
-                    group = stack[stack.index(node):]
-                    del stack[len(stack) - len(group):]
+                    group = stack[stack.index(node) :]
+                    del stack[len(stack) - len(group) :]
                     on_stack.difference_update(group)
                     found.update(group if len(group) > 1 or node in direct[node] else [])
             elif step not in number:
@@ -107,7 +135,13 @@ def policy_faults(policies):
         if "link" in policy:
             found += link_faults(policy, path, slots, policies)
         elif "faulty" not in policy and depth_of(policy) > DEEPEST:
-            found.append(Fault(path + ("body",), f"the condition is nested {depth_of(policy)} deep, and {DEEPEST} is the most: `all` and `any` of n are nested n deep"))
+            found.append(
+                Fault(
+                    path + ("body",),
+                    f"the condition is nested {depth_of(policy)} deep, and {DEEPEST} is the most: "
+                    "`all` and `any` of n are nested n deep",
+                )
+            )
     return found
 
 
@@ -125,12 +159,24 @@ def link_faults(link, path, slots, policies):
     if due is None:
         return []
     if not due:
-        later = any(isinstance(p, dict) and p.get("id") == template for p in policies[path[1]:])
-        why = "a static policy or a link has this id" if template in slots and template != link.get("id") else "it has to stand earlier in the list" if later else "there is none" + near(template, slots)
+        later = any(isinstance(p, dict) and p.get("id") == template for p in policies[path[1] :])
+        why = (
+            "a static policy or a link has this id"
+            if template in slots and template != link.get("id")
+            else "it has to stand earlier in the list"
+            if later
+            else "there is none" + near(template, slots)
+        )
         return [Fault(path + ("link",), f"no template with the id {shown(template)}: {why}")]
     given = {part for part in ("principal", "resource") if part in link}
-    found = [Fault(path, f"the template {shown(template)} has a slot for the {part}, and this link no id for it") for part in sorted(due - given)]
-    return found + [Fault(path + (part,), f"the template {shown(template)} has no slot for the {part}", True) for part in sorted(given - due)]
+    found = [
+        Fault(path, f"the template {shown(template)} has a slot for the {part}, and this link no id for it")
+        for part in sorted(due - given)
+    ]
+    return found + [
+        Fault(path + (part,), f"the template {shown(template)} has no slot for the {part}", True)
+        for part in sorted(given - due)
+    ]
 
 
 def depth_of(policy):
@@ -144,7 +190,11 @@ def depth_of(policy):
 
 
 def body_depth(body):
-    return chain([depth(clause["when"]) if "when" in clause else 1 + depth(clause["unless"]) for clause in body]) if body else 1
+    return (
+        chain([depth(clause["when"]) if "when" in clause else 1 + depth(clause["unless"]) for clause in body])
+        if body
+        else 1
+    )
 
 
 def chain(depths):
@@ -197,5 +247,8 @@ def entity_faults(entities):
         if first.setdefault(id_, i) != i:
             found.append(Fault(("entities", i, "id"), f"entities[{first[id_]}] has this id, {shown(id_)}, already"))
         direct.setdefault(id_, [tuple(parent) for parent in entity.get("parents", [])])
-    found += [Fault(("entities", first[id_], "parents"), f"the entity {shown(id_)} is, by parents, its own ancestor") for id_ in on_cycles(direct)]
+    found += [
+        Fault(("entities", first[id_], "parents"), f"the entity {shown(id_)} is, by parents, its own ancestor")
+        for id_ in on_cycles(direct)
+    ]
     return found

@@ -1,4 +1,5 @@
-"""How a script begins and ends: its help, a file or standard input, the program, and no traceback where a reader goes away."""
+"""How a script begins and ends: its help, a file or standard input, the program, and no traceback where a
+reader goes away."""
 import os
 import pathlib
 import subprocess
@@ -9,7 +10,8 @@ RELEASE = TOP / "release/palvumiose-x86_64-linux"
 
 
 def run(main, doc):
-    """Ends the process with the status that `main` gives for the words of the command line; -h, --help prints the script's own text."""
+    """Ends the process with the status that `main` gives for the words of the command line; -h, --help prints the
+    script's own text."""
     words = sys.argv[1:]
     try:
         if words[:1] in (["-h"], ["--help"]):
@@ -44,11 +46,12 @@ def taken_out(words, option="--program"):
     if option not in words[:-1]:
         return None, words
     i = words.index(option)
-    return words[i + 1], words[:i] + words[i + 2:]
+    return words[i + 1], words[:i] + words[i + 2 :]
 
 
 def program_at(name):
-    """The program with this name, or without a name the one that scripts/palvumiose chooses; None where there is none, which is then said."""
+    """The program with this name, or without a name the one that scripts/palvumiose chooses; None where there is
+    none, which is then said."""
     if name:
         path = pathlib.Path(name).resolve()
         if path.is_file() and os.access(path, os.X_OK):

@@ -1,7 +1,18 @@
-"""Shapes of documents, each a function of a size: what there is SIZE of is what its text says. For measurements of growth."""
+"""Shapes of documents, each a function of a size: what there is SIZE of is what its text says. For
+measurements of growth."""
 import math
 
-USER = {"memberOf": ["Group"], "attributes": {"dept": "String", "labels": {"set": "String"}, "level": "Long", "manager": {"entity": "User"}, "name": "String"}, "tags": "String"}
+USER = {
+    "memberOf": ["Group"],
+    "attributes": {
+        "dept": "String",
+        "labels": {"set": "String"},
+        "level": "Long",
+        "manager": {"entity": "User"},
+        "name": "String",
+    },
+    "tags": "String",
+}
 PHOTO = {"attributes": {"owner": {"entity": "User"}, "size": "Long", "title": "String"}}
 TYPES = {"Group": {"memberOf": ["Group"]}, "User": USER, "Photo": PHOTO}
 VIEW = {"id": ["Action", "view"], "principals": ["User"], "resources": ["Photo"]}
@@ -21,7 +32,13 @@ def permit(i, when, **scope):
 
 
 def user(i, group=0):
-    attrs = {"dept": f"d{i % 7}", "labels": [f"l{i % 5}", f"l{i % 3}"], "level": i % 100, "manager": ref("User", f"u{i // 2}"), "name": f"n{i}"}
+    attrs = {
+        "dept": f"d{i % 7}",
+        "labels": [f"l{i % 5}", f"l{i % 3}"],
+        "level": i % 100,
+        "manager": ref("User", f"u{i // 2}"),
+        "name": f"n{i}",
+    }
     return {"id": ["User", f"u{i}"], "attrs": attrs, "tags": {"t1": "a"}, "parents": [["Group", f"g{group}"]]}
 
 
@@ -30,8 +47,12 @@ def photo():
 
 
 def document(policies, entities=None, types=None, actions=None, request=None):
-    return {"schema": {"entityTypes": types or TYPES, "actions": actions or [VIEW]}, "policies": policies,
-            "entities": [user(0), user(1), photo()] if entities is None else entities, "request": request or REQUEST}
+    return {
+        "schema": {"entityTypes": types or TYPES, "actions": actions or [VIEW]},
+        "policies": policies,
+        "entities": [user(0), user(1), photo()] if entities is None else entities,
+        "request": request or REQUEST,
+    }
 
 
 def with_attributes(attributes, **more):
@@ -48,22 +69,41 @@ def halved(parts, operator):
 
 
 def compared(i):
-    return {"all": [{"==": [get("principal", "name"), f"n{i}"]}, {"<": [get("principal", "manager", "level"), i]}, {"==": [get("resource", "owner", "dept"), get("principal", "dept")]}]}
+    return {
+        "all": [
+            {"==": [get("principal", "name"), f"n{i}"]},
+            {"<": [get("principal", "manager", "level"), i]},
+            {"==": [get("resource", "owner", "dept"), get("principal", "dept")]},
+        ]
+    }
 
 
 def square(environments):
     """Types and an action with this many environments, a square number."""
     root = math.isqrt(environments)
     users, photos = [f"User{i}" for i in range(root)], [f"Photo{i}" for i in range(root)]
-    types = {name: USER | {"memberOf": [], "attributes": USER["attributes"] | {"manager": {"entity": name}}} for name in users}
-    types |= {name: {"attributes": PHOTO["attributes"] | {"owner": {"entity": owner}}} for name, owner in zip(photos, users)}
+    types = {
+        name: USER | {"memberOf": [], "attributes": USER["attributes"] | {"manager": {"entity": name}}}
+        for name in users
+    }
+    types |= {
+        name: {"attributes": PHOTO["attributes"] | {"owner": {"entity": owner}}} for name, owner in zip(photos, users)
+    }
     request = REQUEST | {"principal": ["User0", "a"], "resource": ["Photo0", "x"]}
-    return {"types": types, "actions": [VIEW | {"principals": users, "resources": photos}], "request": request, "entities": []}
+    return {
+        "types": types,
+        "actions": [VIEW | {"principals": users, "resources": photos}],
+        "request": request,
+        "entities": [],
+    }
 
 
 def users(size):
     """users, each in one of ten groups"""
-    return document([permit(i, {"<": [get("principal", "manager", "level"), i]}) for i in range(5)], [user(i, i % 10) for i in range(size)] + [photo()])
+    return document(
+        [permit(i, {"<": [get("principal", "manager", "level"), i]}) for i in range(5)],
+        [user(i, i % 10) for i in range(size)] + [photo()],
+    )
 
 
 def policies(size):
@@ -74,7 +114,9 @@ def policies(size):
 def scopes(size):
     """policies that have scopes alone"""
     scope = {"action": {"==": ["Action", "view"]}, "resource": {"==": ["Photo", "x"]}}
-    return document([{"id": f"p{i}", "effect": "permit", "principal": {"in": ["Group", f"g{i}"]}, **scope} for i in range(size)])
+    return document(
+        [{"id": f"p{i}", "effect": "permit", "principal": {"in": ["Group", f"g{i}"]}, **scope} for i in range(size)]
+    )
 
 
 def environments(size):
@@ -85,7 +127,9 @@ def environments(size):
 def links(size):
     """links of one small template"""
     template = {"id": "t", "effect": "permit", "principal": {"in": "?"}, "body": [{"when": compared(1)}]}
-    return document([template] + [{"id": f"l{i}", "link": "t", "principal": ["Group", f"g{i % 50}"]} for i in range(size)])
+    return document(
+        [template] + [{"id": f"l{i}", "link": "t", "principal": ["Group", f"g{i % 50}"]} for i in range(size)]
+    )
 
 
 def links_of_large(size):
@@ -98,25 +142,40 @@ def links_of_large(size):
 def actions(size):
     """actions, and a policy for each of them"""
     made = [VIEW | {"id": ["Action", f"a{i}"]} for i in range(size)]
-    return document([permit(i, compared(i), action={"==": ["Action", f"a{i}"]}) for i in range(size)], actions=made, request=REQUEST | {"action": ["Action", "a0"]})
+    return document(
+        [permit(i, compared(i), action={"==": ["Action", f"a{i}"]}) for i in range(size)],
+        actions=made,
+        request=REQUEST | {"action": ["Action", "a0"]},
+    )
 
 
 def action_set(size):
     """actions, all of them listed in the scope of each of four policies"""
     ids = [["Action", f"a{i}"] for i in range(size)]
-    return document([{"id": f"p{i}", "effect": "permit", "action": {"in": ids}} for i in range(4)], actions=[VIEW | {"id": id_} for id_ in ids], request=REQUEST | {"action": ids[0]})
+    return document(
+        [{"id": f"p{i}", "effect": "permit", "action": {"in": ids}} for i in range(4)],
+        actions=[VIEW | {"id": id_} for id_ in ids],
+        request=REQUEST | {"action": ids[0]},
+    )
 
 
 def guards(size):
     """optional attributes, each tested and then read, in one condition"""
-    reads = [{"all": [{"has": [{"var": "principal"}, f"a{i}"]}, {"==": [get("principal", f"a{i}"), i]}]} for i in range(size)]
-    return document([permit(0, halved(reads, "all"))], types=with_attributes({f"a{i}": {"optional": "Long"} for i in range(size)}))
+    reads = [
+        {"all": [{"has": [{"var": "principal"}, f"a{i}"]}, {"==": [get("principal", f"a{i}"), i]}]} for i in range(size)
+    ]
+    return document(
+        [permit(0, halved(reads, "all"))], types=with_attributes({f"a{i}": {"optional": "Long"} for i in range(size)})
+    )
 
 
 def same_guards(size):
     """optional attributes that both sides of one `||` test"""
     tests = halved([{"has": [{"var": "principal"}, f"a{i}"]} for i in range(size)], "all")
-    return document([permit(0, {"any": [tests, tests]})], types=with_attributes({f"a{i}": {"optional": "Long"} for i in range(size)}))
+    return document(
+        [permit(0, {"any": [tests, tests]})],
+        types=with_attributes({f"a{i}": {"optional": "Long"} for i in range(size)}),
+    )
 
 
 def faults(size):
@@ -126,12 +185,16 @@ def faults(size):
 
 def faults_in_25(size):
     """undeclared attributes that one policy reads, in 25 environments"""
-    return document([permit(0, halved([{"<": [get("principal", f"x{i}"), i]} for i in range(size)], "any"))], **square(25))
+    return document(
+        [permit(0, halved([{"<": [get("principal", f"x{i}"), i]} for i in range(size)], "any"))], **square(25)
+    )
 
 
 def unknown_types(size):
     """undeclared types that one policy names"""
-    return document([permit(0, halved([{"==": [{"var": "principal"}, ref(f"No{i}", "x")]} for i in range(size)], "any"))])
+    return document(
+        [permit(0, halved([{"==": [{"var": "principal"}, ref(f"No{i}", "x")]} for i in range(size)], "any"))]
+    )
 
 
 def chains(size):
@@ -142,14 +205,21 @@ def chains(size):
 def distinct_paths(size):
     """attributes that are read, each by a policy of its own"""
     types = with_attributes({f"a{i}": {"record": {"x": "Long", "y": "Long"}} for i in range(size)})
-    return document([permit(i, {"<": [get("principal", "manager", f"a{i}", "x"), i]}) for i in range(size)], entities=[], types=types)
+    return document(
+        [permit(i, {"<": [get("principal", "manager", f"a{i}", "x"), i]}) for i in range(size)],
+        entities=[],
+        types=types,
+    )
 
 
 def pattern(size):
     """characters of a text and of the text that `like` searches it for"""
     person = user(1)
     person["attrs"]["name"] = "a" * size
-    return document([permit(0, {"like": [get("principal", "name"), [None, "a" * (size // 2) + "b", None]]})], [person, user(0), photo()])
+    return document(
+        [permit(0, {"like": [get("principal", "name"), [None, "a" * (size // 2) + "b", None]]})],
+        [person, user(0), photo()],
+    )
 
 
 def enumerated(size):
@@ -158,12 +228,18 @@ def enumerated(size):
     people = [user(i) for i in range(size)]
     for i, person in enumerate(people):
         person["attrs"]["color"] = ref("Color", f"c{i}")
-    return document([permit(0, {"==": [get("principal", "color"), ref("Color", "c1")]})], people + [photo()], with_attributes({"color": {"entity": "Color"}}, **color))
+    return document(
+        [permit(0, {"==": [get("principal", "color"), ref("Color", "c1")]})],
+        people + [photo()],
+        with_attributes({"color": {"entity": "Color"}}, **color),
+    )
 
 
 def tags_of_tags(size):
     """tags that a condition follows one after another, over users with ten tags each"""
-    people = [user(i) | {"tags": {f"t{j}": ref("User", f"u{(i * 10 + j) % 200}") for j in range(10)}} for i in range(200)]
+    people = [
+        user(i) | {"tags": {f"t{j}": ref("User", f"u{(i * 10 + j) % 200}") for j in range(10)}} for i in range(200)
+    ]
     reached, tests = {"var": "principal"}, []
     for _ in range(size):
         tests.append({"hasTag": [reached, "t1"]})
@@ -174,8 +250,12 @@ def tags_of_tags(size):
 
 def group_chain(size):
     """groups, each below the next"""
-    chain = [{"id": ["Group", f"g{i}"], "parents": [["Group", f"g{i + 1}"]] if i < size - 1 else []} for i in range(size)]
-    return document([{"id": "p", "effect": "permit", "principal": {"in": ["Group", "g5"]}}], chain + [user(0), user(1), photo()])
+    chain = [
+        {"id": ["Group", f"g{i}"], "parents": [["Group", f"g{i + 1}"]] if i < size - 1 else []} for i in range(size)
+    ]
+    return document(
+        [{"id": "p", "effect": "permit", "principal": {"in": ["Group", "g5"]}}], chain + [user(0), user(1), photo()]
+    )
 
 
 def type_chain(size):
@@ -189,7 +269,12 @@ def records_in_set(size):
     person = user(1)
     person["attrs"]["all"] = [{"record": {"a": i * 7919 % 1000003, "b": f"x{i}"}} for i in range(size)]
     types = with_attributes({"all": {"optional": {"set": {"record": {"a": "Long", "b": "String"}}}}})
-    test = {"all": [{"has": [{"var": "principal"}, "all"]}, {"containsAll": [get("principal", "all"), get("principal", "all")]}]}
+    test = {
+        "all": [
+            {"has": [{"var": "principal"}, "all"]},
+            {"containsAll": [get("principal", "all"), get("principal", "all")]},
+        ]
+    }
     return document([permit(0, test)], [person, user(0), photo()], types)
 
 
@@ -208,11 +293,18 @@ def nested_values(size):
     people = [user(i) for i in range(size)]
     for person in people:
         person["attrs"]["deep"] = value
-    return document([permit(0, {"<": [get("principal", "deep", *["r"] * 50), 5]})], people + [photo()], with_attributes({"deep": kind}))
+    return document(
+        [permit(0, {"<": [get("principal", "deep", *["r"] * 50), 5]})],
+        people + [photo()],
+        with_attributes({"deep": kind}),
+    )
 
 
 def ranges(size):
     """policies that test an IP address for a range"""
     action = VIEW | {"context": {"ip": "ipaddr"}}
-    made = [permit(i, {"call": ["isInRange", get("context", "ip"), {"call": ["ip", f"10.{i % 250}.0.0/16"]}]}) for i in range(size)]
+    made = [
+        permit(i, {"call": ["isInRange", get("context", "ip"), {"call": ["ip", f"10.{i % 250}.0.0/16"]}]})
+        for i in range(size)
+    ]
     return document(made, actions=[action], request=REQUEST | {"context": {"ip": {"ip": "10.0.0.1"}}})

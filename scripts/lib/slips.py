@@ -1,25 +1,74 @@
-"""What was probably meant where a document has not its form: usual slips, and what Cedar's own JSON has in its place."""
+"""What was probably meant where a document has not its form: usual slips, and what Cedar's own JSON has in
+its place."""
 import difflib
 import json
 
 OPERATORS = {
-    "!=": '{"not":{"==":[a,b]}}', ">": '{"not":{"<=":[a,b]}}', ">=": '{"not":{"<":[a,b]}}', "&&": '{"all":[a,b,..]}', "||": '{"any":[a,b,..]}',
-    "!": '{"not":a}', ".": '{"get":[a,"name"]}', "if-then-else": '{"if":[test,then,else]}', "Value": "the value itself", "Var": '{"var":"principal"}',
-    "Slot": '"?" in the scope', "Set": "a list", "Record": '{"record":{..}}', "__entity": '{"id":["Type","eid"]}',
-    "__extn": '{"decimal":"1.5"}, {"ip":"10.0.0.1"}, {"datetime":".."} or {"duration":".."} in values, {"call":["ip","10.0.0.1"]} in conditions',
-    "and": '{"all":[a,b,..]}', "or": '{"any":[a,b,..]}', "ip": '{"call":["ip","10.0.0.1"]}', "decimal": '{"call":["decimal","1.5"]}',
-    "datetime": '{"call":["datetime","2025-01-31"]}', "duration": '{"call":["duration","1h"]}',
+    "!=": '{"not":{"==":[a,b]}}',
+    ">": '{"not":{"<=":[a,b]}}',
+    ">=": '{"not":{"<":[a,b]}}',
+    "&&": '{"all":[a,b,..]}',
+    "||": '{"any":[a,b,..]}',
+    "!": '{"not":a}',
+    ".": '{"get":[a,"name"]}',
+    "if-then-else": '{"if":[test,then,else]}',
+    "Value": "the value itself",
+    "Var": '{"var":"principal"}',
+    "Slot": '"?" in the scope',
+    "Set": "a list",
+    "Record": '{"record":{..}}',
+    "__entity": '{"id":["Type","eid"]}',
+    "__extn": '{"decimal":"1.5"}, {"ip":"10.0.0.1"}, {"datetime":".."} or {"duration":".."} in values, '
+    '{"call":["ip","10.0.0.1"]} in conditions',
+    "and": '{"all":[a,b,..]}',
+    "or": '{"any":[a,b,..]}',
+    "ip": '{"call":["ip","10.0.0.1"]}',
+    "decimal": '{"call":["decimal","1.5"]}',
+    "datetime": '{"call":["datetime","2025-01-31"]}',
+    "duration": '{"call":["duration","1h"]}',
 }
 MEMBERS = {
-    "uid": '"id"', "memberOfTypes": '"memberOf"', "shape": '"attributes":{..}', "appliesTo": '"principals":[..], "resources":[..], "context":{..}',
-    "principalTypes": '"principals"', "resourceTypes": '"resources"', "commonTypes": "each type, written out where it is used", "conditions": '"body":[{"when":EXPRESSION},..]',
-    "templateId": '"link"', "newId": '"id"', "values": '"principal":ID and "resource":ID', "op": '{"==":ID}, {"in":ID}, {"is":TYPE}; no scope at all for all',
-    "kind": '{"when":EXPRESSION} or {"unless":EXPRESSION}', "attr": "attrs", "attributes": "attrs", "attrs": "attributes", "actions": "actions",
-    "staticPolicies": "a list of policies", "templates": "the same list as that of the policies", "templateLinks": "the same list as that of the policies, as {\"id\":..,\"link\":..}",
-    "annotations": "nothing: annotations decide nothing", "required": '{"optional":TYPE} round a type that may be absent', "when": '"body":[{"when":EXPRESSION}]', "unless": '"body":[{"unless":EXPRESSION}]',
+    "uid": '"id"',
+    "memberOfTypes": '"memberOf"',
+    "shape": '"attributes":{..}',
+    "appliesTo": '"principals":[..], "resources":[..], "context":{..}',
+    "principalTypes": '"principals"',
+    "resourceTypes": '"resources"',
+    "commonTypes": "each type, written out where it is used",
+    "conditions": '"body":[{"when":EXPRESSION},..]',
+    "templateId": '"link"',
+    "newId": '"id"',
+    "values": '"principal":ID and "resource":ID',
+    "op": '{"==":ID}, {"in":ID}, {"is":TYPE}; no scope at all for all',
+    "kind": '{"when":EXPRESSION} or {"unless":EXPRESSION}',
+    "attr": "attrs",
+    "attributes": "attrs",
+    "attrs": "attributes",
+    "actions": "actions",
+    "staticPolicies": "a list of policies",
+    "templates": "the same list as that of the policies",
+    "templateLinks": 'the same list as that of the policies, as {"id":..,"link":..}',
+    "annotations": "nothing: annotations decide nothing",
+    "required": '{"optional":TYPE} round a type that may be absent',
+    "when": '"body":[{"when":EXPRESSION}]',
+    "unless": '"body":[{"unless":EXPRESSION}]',
 }
-TYPES = {"Boolean": '"Bool"', "boolean": '"Bool"', "bool": '"Bool"', "Int": '"Long"', "Integer": '"Long"', "int": '"Long"', "Number": '"Long"', "long": '"Long"', "string": '"String"',
-         "Text": '"String"', "ip": '"ipaddr"', "Set": '{"set":TYPE}', "Record": '{"record":{..}}', "Entity": '{"entity":NAME}'}
+TYPES = {
+    "Boolean": '"Bool"',
+    "boolean": '"Bool"',
+    "bool": '"Bool"',
+    "Int": '"Long"',
+    "Integer": '"Long"',
+    "int": '"Long"',
+    "Number": '"Long"',
+    "long": '"Long"',
+    "string": '"String"',
+    "Text": '"String"',
+    "ip": '"ipaddr"',
+    "Set": '{"set":TYPE}',
+    "Record": '{"record":{..}}',
+    "Entity": '{"entity":NAME}',
+}
 KNOWN_TYPES = ("Bool", "Long", "String", "decimal", "ipaddr", "datetime", "duration")
 
 
@@ -51,7 +100,9 @@ def of_member(name, known, definition):
     if name in MEMBERS and (MEMBERS[name] not in ("attrs", "attributes", "actions") or MEMBERS[name] in known):
         return f"; here it is {MEMBERS[name]}"
     if "entityTypes" in known:
-        return near(name, known) or "; a schema of Cedar, by namespaces, is brought into this form by scripts/from-cedar"
+        return (
+            near(name, known) or "; a schema of Cedar, by namespaces, is brought into this form by scripts/from-cedar"
+        )
     return near(name, known) or (f"; {', '.join(map(shown, known))} may" if 0 < len(known) <= 8 else "")
 
 
@@ -78,7 +129,11 @@ def of_value(value, definition):
 
 def of_type(value):
     if isinstance(value, str):
-        return f"; here it is {TYPES[value]}" if value in TYPES else near(value, KNOWN_TYPES) or f'; if it is a type of entities, it is {{"entity":{shown(value)}}}'
+        return (
+            f"; here it is {TYPES[value]}"
+            if value in TYPES
+            else near(value, KNOWN_TYPES) or f'; if it is a type of entities, it is {{"entity":{shown(value)}}}'
+        )
     if isinstance(value, dict) and isinstance(value.get("type"), str):
         kind = value["type"]
         if kind == "Extension":

@@ -1,8 +1,11 @@
 """Texts of decimals, IP addresses, datetimes and durations: what is wrong with one, or nothing."""
 import re
 
-LEAST, MOST = -(2 ** 63), 2 ** 63 - 1
-DATE = re.compile(r"([0-9]{4})-([0-9]{2})-([0-9]{2})(?:T([0-9]{2}):([0-9]{2}):([0-9]{2})(?:\.[0-9]{3})?(?:Z|[+-]([0-9]{2})([0-9]{2})))?")
+LEAST, MOST = -(2**63), 2**63 - 1
+DATE = re.compile(
+    r"([0-9]{4})-([0-9]{2})-([0-9]{2})"
+    r"(?:T([0-9]{2}):([0-9]{2}):([0-9]{2})(?:\.[0-9]{3})?(?:Z|[+-]([0-9]{2})([0-9]{2})))?"
+)
 DURATION = re.compile("-?" + "".join(f"(?:([0-9]+){unit})?" for unit in ("d", "h", "m(?!s)", "s", "ms")))
 MILLISECONDS = (86400000, 3600000, 60000, 1000, 1)
 
@@ -10,7 +13,7 @@ MILLISECONDS = (86400000, 3600000, 60000, 1000, 1)
 def whole(digits):
     """The number that digits, perhaps with - in front, stand for; of too many digits any that is out of range."""
     short = digits.lstrip("-").lstrip("0") or "0"
-    return (-1 if digits.startswith("-") else 1) * (int(short) if len(short) <= 30 else 10 ** 30)
+    return (-1 if digits.startswith("-") else 1) * (int(short) if len(short) <= 30 else 10**30)
 
 
 def decimal(text):
@@ -26,7 +29,10 @@ def ip(text):
     address, slash, prefix = text.partition("/")
     version = 4 if is_ipv4(address) else 6 if is_ipv6(address) else None
     if version is None:
-        return "an IP address is four numbers to 255 with points between, or groups of hexadecimal digits with colons between, without needless zeros"
+        return (
+            "an IP address is four numbers to 255 with points between, without needless zeros, "
+            "or groups of hexadecimal digits with colons between"
+        )
     most = 32 if version == 4 else 128
     if slash and not (re.fullmatch("0|[1-9][0-9]{0,2}", prefix) and int(prefix) <= most):
         return f"behind the / of an IPv{version} address stands a prefix, a number to {most}"
@@ -53,7 +59,10 @@ def is_ipv6(text):
 def datetime(text):
     found = DATE.fullmatch(text)
     if not found:
-        return "a datetime is 2025-01-31, or 2025-01-31T12:00:00Z with perhaps .123 behind the seconds, and Z, +0100 or -0100 last"
+        return (
+            "a datetime is 2025-01-31, or 2025-01-31T12:00:00Z, "
+            "with perhaps .123 behind the seconds, and Z, +0100 or -0100 last"
+        )
     year, month, day, hour, minute, second, offset_hour, offset_minute = (int(n or 0) for n in found.groups())
     leap = year % 4 == 0 and (year % 100 != 0 or year % 400 == 0)
     days = (31, 29 if leap else 28, 31, 30, 31, 30, 31, 31, 30, 31, 30, 31)
