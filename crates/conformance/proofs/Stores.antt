@@ -20,7 +20,7 @@ use Rattle.schema_types.specs.Ty.{Ty, Attrs}
 use Rattle.schema_core.specs.Faults.{IsSchema}
 use Rattle.schema_core.specs.Kinds.{attributes_in, tags_in}
 use Rattle.schema_core.specs.Schema.{SchemaData, TypeData, ActionData, is_action_named, type_at, action_at, type_below, action_below}
-use Rattle.policy_types.specs.Member.{type_of, Undeclared, IsDeclared, Member, Typed}
+use Rattle.type_relations.specs.Member.{type_of, Undeclared, IsDeclared, Member, Typed}
 use Rattle.typing_spec.specs.Conforms.{is_listed, lists_ids, lists_fields, AreTags, IsAllowedAncestor, TypedConforms, ActionConforms, ConformsAs, EntityConforms, StoreConforms}
 use Rattle.conformance.specs.Misfits.{misfit, first_missing}
 use Rattle.conformance.specs.RequestRules.{unless}

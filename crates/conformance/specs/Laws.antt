@@ -7,7 +7,7 @@ use Rattle.policy_values.specs.Value.{Val}
 use Rattle.schema_core.specs.Faults.{IsSchema}
 use Rattle.schema_core.specs.Schema.{SchemaData}
 use Rattle.schema_types.specs.Ty.{Ty}
-use Rattle.policy_types.specs.Member.{Member}
+use Rattle.type_relations.specs.Member.{Member}
 use Rattle.typing_spec.specs.Conforms.{RequestConforms, StoreConforms}
 use Rattle.policy_expressions.specs.Functions.{function_of}
 use Rattle.extension_types.specs.Table.{function_at, typed}

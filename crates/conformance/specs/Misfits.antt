@@ -12,7 +12,7 @@ use Rattle.schema_types.specs.declared.ty.AttributeType.{AttributeType}
 use Rattle.schema_types.specs.Names.{has_name}
 use Rattle.schema_types.specs.Attrs.{attr_at}
 use Rattle.schema_types.specs.Ty.{Ty, true_type, false_type, primitive, any_set, set_of, record_of, any_entity, entity, action, extension, Attrs, no_attrs, attr, is_open}
-use Rattle.policy_types.specs.Member.{has_field, type_of}
+use Rattle.type_relations.specs.Member.{has_field, type_of}
 use Rattle.extension_types.specs.Types.{Extensions}
 use Rattle.extension_types.specs.Table.{is_function}
 use Rattle.conformance.specs.declared.misfits.Constructor.{Constructor}

@@ -8,7 +8,7 @@ ghost use Rattle.policy_values.specs.Value.{vals_of, fields_of};
 ghost use Rattle.schema_types.specs.Ty.{primitive, extension, record_of, is_open};
 ghost use Rattle.schema_types.specs.TyView.{kind_of};
 ghost use Rattle.policy_values.specs.Value.{rec};
-ghost use Rattle.policy_types.specs.Member.{has_field, type_of};
+ghost use Rattle.type_relations.specs.Member.{has_field, type_of};
 ghost use Rattle.conformance.specs.Misfits.{name_of, knows, fits_if, first_of, earlier, first_missing, misfit_field, extension_misfit, misfit, misfit_all, misfit_fields};
 ghost use Rattle.conformance.specs.Keyed.{at_key};
 

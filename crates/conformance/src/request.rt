@@ -16,9 +16,9 @@ use crate::{
     RequestValidationError, UndeclaredActionError, UndeclaredPrincipalTypeError,
     UndeclaredResourceTypeError,
 };
+use entity_store::{Context, Request};
 use extension_types::ExtensionSchemas;
 use policy_names::{EntityType, EntityUID, Text};
-use entity_store::{Context, Request};
 use policy_values::try_clone_fields;
 use schema_core::{OpenTag, ValidatorActionId, ValidatorSchema};
 use std::alloc::{AllocError, Global};

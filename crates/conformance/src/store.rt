@@ -15,16 +15,16 @@ ghost use Rattle.conformance.specs.StoreRules.{IsStoreFault, first_store_fault, 
 use crate::ids::{is_listed, lists_ids};
 use crate::misfits::first_missing;
 use crate::{ConformanceError, EntityDoesNotConform, StoreRule};
+use entity_store::{Entities, Entity};
 use hierarchy::lower;
 use policy_names::{EntityType, EntityUID, Text};
-use entity_store::{Entities, Entity};
-use policy_types::has_value;
 use policy_values::Value;
 use schema_core::{ValidatorActionId, ValidatorEntityType, ValidatorSchema};
 use schema_types::{AttributeType, Attributes, Type};
 use std::alloc::AllocError;
 use std::cmp::Ordering;
 use std::collections::{BTreeMap, BTreeSet};
+use type_relations::has_value;
 
 /// Whether the store conforms to the schema. The entity of an action has to be declared as an action, without
 /// attributes and tags, and with exactly the ancestors that the schema gives the action. Any other entity has to be

@@ -1,8 +1,8 @@
 //! Why a request does not conform to a schema.
 
+use entity_store::Context;
 use findings::InvalidEnumEntityError;
 use policy_names::{EntityType, EntityUID, Text};
-use entity_store::Context;
 use std::alloc::AllocError;
 use std::marker::Model;
 use thiserror::Error;

@@ -7,7 +7,7 @@ use Rattle.entity_store.specs.Store.{StoredEntity}
 use Rattle.schema_types.specs.declared.kinds.OpenTag.TheVariants.{ClosedAttributes}
 use Rattle.schema_types.specs.Ty.{Ty, Attrs, record_of}
 use Rattle.schema_types.specs.TyCode.{coded_ty, coded_attrs}
-use Rattle.schema_types.specs.CoreSchema.{TypeDescription, ActionDescription}
+use Rattle.core_schema.specs.Descriptions.{TypeDescription, ActionDescription}
 use Rattle.schema_core.specs.Kinds.{Kind, standard, enumerated, attributes_in, tags_in}
 use Rattle.schema_core.specs.Schema.{SchemaData, TypeData, ActionData, type_below, action_below}
 

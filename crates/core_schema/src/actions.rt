@@ -4,8 +4,8 @@ ghost use Rattle.std.specs.Prelude.{◌≡◌, IfOk};
 ghost use Rattle.schema_core.specs.Faults.{IsSchema};
 ghost use Rattle.core_schema.specs.Described.{ancestors_of, action_of};
 
-use policy_names::EntityUID;
 use entity_store::Entity;
+use policy_names::EntityUID;
 use schema_core::ValidatorSchema;
 use std::alloc::{AllocError, Global};
 use std::collections::BTreeMap;

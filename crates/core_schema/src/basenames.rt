@@ -1,7 +1,7 @@
 //! The last components of names.
 
 ghost use Rattle.std.specs.Prelude.{◌≡◌};
-ghost use Rattle.schema_types.specs.CoreSchema.{basename_of};
+ghost use Rattle.core_schema.specs.Descriptions.{basename_of};
 
 // What stands behind the last two colons; the whole name, where there are none.
 pub(crate) fn basename_of(name: &[u8]) -> &[u8]

@@ -34,7 +34,7 @@ impl<'a> Model for ContextSchema<'a> {
     ghost invariant = { λ c. plain_attrs c.attributes.now ≡ Some c.attributes.now };
 }
 
-impl<'a> schema_types::core_schema::ContextSchema for ContextSchema<'a> {
+impl<'a> crate::traits::ContextSchema for ContextSchema<'a> {
     ghost context = { λ c. c };
 
     fn context_type(&self, alloc: Global) -> Result<SchemaType, AllocError> {

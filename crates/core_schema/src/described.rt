@@ -9,10 +9,10 @@ ghost use Rattle.schema_core.specs.Faults.{IsSchema};
 ghost use Rattle.core_schema.specs.Described.{listed_in, parents_of, described_type};
 
 use crate::plain_types::{same_attributes, same_type};
+use crate::traits::DescribedType;
 use policy_names::{Eid, EntityType, Text};
 use schema_core::laws::schema_types_are_plain;
 use schema_core::{SchemaType, ValidatorEntityType, ValidatorEntityTypeKind, ValidatorSchema};
-use schema_types::core_schema::DescribedType;
 use std::alloc::{AllocError, Global};
 use std::collections::BTreeSet;
 use std::marker::Model;
@@ -25,7 +25,7 @@ pub struct EntityTypeDescription {
 
 impl Model for EntityTypeDescription {
     ghost use Rattle.std.specs.Option.{option_map};
-    ghost use Rattle.schema_types.specs.CoreSchema.{TypeDescription};
+    ghost use Rattle.core_schema.specs.Descriptions.{TypeDescription};
     ghost use Rattle.core_schema.specs.Described.{coded_description};
 
     ghost Value = { TypeDescription };
@@ -131,11 +131,11 @@ fn parents_of(
     Ok(parents)
 }
 
-impl schema_types::core_schema::EntityTypeDescription for EntityTypeDescription {
+impl crate::traits::EntityTypeDescription for EntityTypeDescription {
     ghost description = { λ d. d };
 
     fn enum_entity_eids(&self) -> Option<&[Eid]> {
-        schema_types::core_schema::EntityTypeDescription::enum_entity_eids(&self.described)
+        crate::traits::EntityTypeDescription::enum_entity_eids(&self.described)
     }
 
     fn entity_type(&self) -> &EntityType {
@@ -143,7 +143,7 @@ impl schema_types::core_schema::EntityTypeDescription for EntityTypeDescription 
     }
 
     fn attr_type(&self, attr: &Text) -> Option<&SchemaType> {
-        schema_types::core_schema::EntityTypeDescription::attr_type(&self.described, attr)
+        crate::traits::EntityTypeDescription::attr_type(&self.described, attr)
     }
 
     fn tag_type(&self) -> Option<&SchemaType> {
@@ -151,7 +151,7 @@ impl schema_types::core_schema::EntityTypeDescription for EntityTypeDescription 
     }
 
     fn required_attrs(&self, alloc: Global) -> Result<Vec<Text>, AllocError> {
-        schema_types::core_schema::EntityTypeDescription::required_attrs(&self.described, alloc)
+        crate::traits::EntityTypeDescription::required_attrs(&self.described, alloc)
     }
 
     fn allowed_parent_types(&self) -> &BTreeSet<EntityType> {

@@ -8,6 +8,7 @@ mod described;
 mod plain_types;
 mod request_schema;
 mod schema;
+pub mod traits;
 
 pub use conformance::RequestValidationError;
 pub use context_schema::{ContextSchema, context_schema_for_action};

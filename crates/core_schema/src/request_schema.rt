@@ -5,8 +5,8 @@ ghost use Rattle.conformance.specs.RequestRules.{IsRequestAnswer, first_request_
 ghost use Rattle.schema_core.specs.Schema.{SchemaData};
 
 use crate::{CoreSchema, RequestValidationError};
-use extension_types::ExtensionSchemas;
 use entity_store::Request;
+use extension_types::ExtensionSchemas;
 use schema_core::ValidatorSchema;
 use std::alloc::Global;
 

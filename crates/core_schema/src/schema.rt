@@ -7,10 +7,10 @@ ghost use Rattle.core_schema.specs.Described.{described_types, described_actions
 use crate::EntityTypeDescription;
 use crate::actions::action_entity;
 use crate::basenames::basename_of;
-use policy_names::{EntityType, EntityUID};
+use crate::traits::Schema;
 use entity_store::Entity;
+use policy_names::{EntityType, EntityUID};
 use schema_core::ValidatorSchema;
-use schema_types::core_schema::Schema;
 use std::alloc::{AllocError, Global};
 use std::marker::Model;
 

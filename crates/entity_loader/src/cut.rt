@@ -9,8 +9,8 @@ ghost use Rattle.reads_spec.specs.Restrict.{cut, cut_fields, cut_entity};
 ghost use Rattle.entity_loader.specs.Asked.{asked, asked_by, by_tag, some_leads, some_asks, some_along, AreBelow};
 
 use access_tries::{Node, TrieRef};
-use policy_names::{EntityUID, Text};
 use entity_store::Entity;
+use policy_names::{EntityUID, Text};
 use policy_values::{Value, ValueKind, push_entry};
 use std::alloc::{AllocError, Global};
 use std::collections::{BTreeMap, BTreeSet};

@@ -4,8 +4,8 @@ ghost use Rattle.std.specs.Prelude.{◌≡◌, IfOk};
 ghost use Rattle.reads_spec.specs.Merge.{united, merge_entities};
 
 use crate::values::merge_fields;
-use policy_names::EntityUID;
 use entity_store::Entity;
+use policy_names::EntityUID;
 use std::alloc::{AllocError, Global};
 use std::collections::BTreeSet;
 

@@ -8,8 +8,8 @@ ghost use Rattle.entity_loader.specs.Kept.{kept_with, WhyNotKept};
 ghost use Rattle.reads_spec.specs.Merge.{merge_entities};
 
 use crate::entities::merge_entities;
-use policy_names::EntityUID;
 use entity_store::Entity;
+use policy_names::EntityUID;
 use std::alloc::{AllocError, Global};
 use std::collections::BTreeMap;
 

@@ -10,8 +10,8 @@ ghost use Rattle.entity_loader.specs.Answers.{Fits, IsHonest, IsHonestList};
 ghost use Rattle.entity_loader.specs.State.{LoaderState, Continues, Ticks};
 
 use access_tries::TrieRef;
-use policy_names::EntityUID;
 use entity_store::Entity;
+use policy_names::EntityUID;
 use std::alloc::Global;
 
 /// Why nothing was loaded.

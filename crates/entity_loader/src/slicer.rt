@@ -7,8 +7,8 @@ ghost use Rattle.entity_loader.specs.Answers.{IsHonest, IsHonestList, IsListed};
 
 use crate::cut::cut_along;
 use crate::loader::{AncestorsRequest, EntityAnswer, EntityLoader, EntityRequest, LoadError};
-use policy_names::EntityUID;
 use entity_store::{Entities, Entity};
+use policy_names::EntityUID;
 use std::alloc::{AllocError, Global};
 
 /// A loader over a store, which answers just what is asked. No call fails but for want of memory.

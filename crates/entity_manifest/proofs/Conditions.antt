@@ -12,8 +12,8 @@ use Rattle.schema_types.specs.Required.{required_attrs}
 use Rattle.schema_types.specs.Ty.{Ty, true_type, false_type, primitive, set_of}
 use Rattle.schema_core.specs.EnvData.{EnvData}
 use Rattle.schema_core.specs.Schema.{SchemaData}
-use Rattle.policy_types.specs.declared.mode.SubtypeMode.TheVariants.{Strict}
-use Rattle.policy_types.specs.Join.{is_entity, join, join_all}
+use Rattle.type_relations.specs.declared.mode.SubtypeMode.TheVariants.{Strict}
+use Rattle.type_relations.specs.Join.{is_entity, join, join_all}
 use Rattle.policy_expressions.specs.declared.kinds.Literal.{Literal}
 use Rattle.policy_expressions.specs.declared.kinds.Literal.TheVariants as literal
 use Rattle.policy_expressions.specs.declared.kinds.BinaryOp.{BinaryOp}

@@ -8,8 +8,8 @@ use Rattle.policy_names.specs.Uid.{text_cmp}
 use Rattle.policy_values.specs.Value.{Val, entity as id, rec, Fields, no_fields, field, field_at}
 use Rattle.entity_store.specs.declared.request.Request.{Request}
 use Rattle.entity_store.specs.Store.{StoredEntity, Store, entity_at}
-use Rattle.policy_types.specs.Attributes.{or_none}
-use Rattle.policy_types.specs.Member.{Member, Typed, Undeclared, IsDeclared, type_of}
+use Rattle.type_relations.specs.Attributes.{or_none}
+use Rattle.type_relations.specs.Member.{Member, Typed, Undeclared, IsDeclared, type_of}
 use Rattle.schema_types.specs.Attrs.{attr_at}
 use Rattle.schema_types.specs.declared.kinds.OpenTag.{OpenTag}
 use Rattle.schema_types.specs.declared.kinds.OpenTag.TheVariants.{ClosedAttributes}

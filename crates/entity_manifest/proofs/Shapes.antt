@@ -8,7 +8,7 @@ use Rattle.schema_types.specs.declared.ty.AttributeType.{AttributeType}
 use Rattle.schema_types.specs.Ty.{Ty, never, record_of, any_entity, entity, action, Attrs, no_attrs, attr}
 use Rattle.schema_core.specs.EnvData.{EnvData}
 use Rattle.schema_core.specs.Schema.{SchemaData}
-use Rattle.policy_types.specs.Join.{is_entity}
+use Rattle.type_relations.specs.Join.{is_entity}
 use Rattle.typing_spec.specs.Rules.{tag_type, attribute_of}
 use Rattle.reads_spec.specs.Paths.{Step, along, any_tag, AccessPath, beyond, Shape, no_shape, at_path, set_shape, record_shape, one_of, FieldShapes, no_field_shapes, field_shape, shape_at, paths, extended}
 use Rattle.reads_spec.specs.PathTypes.{step_on, root_type, path_type}

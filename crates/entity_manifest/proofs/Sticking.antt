@@ -7,8 +7,8 @@ use Rattle.policy_names.specs.declared.entity_uid.EntityUID.{EntityUID}
 use Rattle.policy_values.specs.Value.{Val, truth, long, string, entity as id, set, rec, decimal, ip, datetime, duration, Fields, no_fields, field}
 use Rattle.entity_store.specs.declared.request.Request.{Request}
 use Rattle.entity_store.specs.Store.{StoredEntity, Store, entity_at}
-use Rattle.policy_types.specs.Attributes.{or_none}
-use Rattle.policy_types.specs.Member.{Member}
+use Rattle.type_relations.specs.Attributes.{or_none}
+use Rattle.type_relations.specs.Member.{Member}
 use Rattle.schema_types.specs.Attrs.{attr_at}
 use Rattle.schema_types.specs.declared.kinds.OpenTag.{OpenTag}
 use Rattle.schema_types.specs.Ty.{Ty, true_type, false_type, primitive, any_set, set_of, record_of, entity, extension, Attrs}

@@ -1,4 +1,23 @@
-//! Laws of loading by computed manifests.
+//! Entity manifests: what policies read, computed, written and read as JSON, and entities loaded and sliced by them.
+//! Passes on the calls of the crates behind it, and has the laws that tie computed manifests to loading.
 #![tactic(auto)]
 
 pub mod laws;
+
+pub use access_tries::{AccessPath, AccessTrie, EntityRoot, RootAccessTrie, RootTrieRef, TrieRef};
+pub use entity_loader::{
+    AncestorsRequest, EntityAnswer, EntityLoader, EntityRequest, EntitySlicer, LoadError,
+    cut_entity, merge_entities, merge_values,
+};
+pub use manifest_computation::{EntityManifestError, compute_entity_manifest};
+pub use manifest_core::{
+    EntityManifest, EntityManifestFromJsonError, MismatchedEntityManifestError,
+    MismatchedMissingEntityError, MismatchedNotStrictSchemaError,
+};
+pub use manifest_loading::{
+    EntitySliceError, IncompatibleEntityManifestError, PartialRequestError, Steps,
+    WrongNumberOfEntitiesError, load_entities, load_trie, slice_entities,
+};
+pub use path_analysis::EntityManifestAnalysisResult;
+pub use request_slices::{SliceForRequestError, slice_for_request};
+pub use store_slices::restricted_store;

@@ -6,11 +6,11 @@ mod rows;
 mod texts;
 mod wide;
 
+use entity_store::{Context, Entities, EntitiesError, Entity, Request};
 use json_values::{parse_json, with_item};
 use policy_core::{EvalError, Expr, Outcome, Value, ValueKind, evaluate, try_clone_fields};
 use policy_gate::{Bounded, read_expr, read_value, write_value};
 use policy_names::{Eid, EntityType, EntityUID, Name, Text};
-use entity_store::{Context, Entities, EntitiesError, Entity, Request};
 use serde_json::Value as Json;
 use std::alloc::{AllocError, Global};
 use std::collections::{BTreeMap, BTreeSet};

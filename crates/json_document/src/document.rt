@@ -8,13 +8,12 @@ ghost use Rattle.json_document.specs.Reading.{IsRead, IsReadBehindPolicies, IsRe
 use crate::parts::{Parts, parts_of};
 use crate::policies::read_policies;
 use crate::schema::read_schema;
-use crate::{DocumentFault, Place};
-use policy_set::PolicySet;
+use crate::{DocumentFault, Place, read_request, read_store};
 use entity_store::{Entities, Request};
+use policy_set::PolicySet;
 use schema_core::ValidatorSchema;
 use serde_json::Value;
 use std::alloc::Global;
-use crate::{read_request, read_store};
 
 /// A schema, policies, entities and a request.
 #[derive(Drop)]

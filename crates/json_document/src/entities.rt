@@ -10,9 +10,9 @@ ghost use Rattle.json_document.specs.Faults.{ComesTo};
 
 use crate::fields::read_attrs_and_tags;
 use crate::{DocumentFault, Place};
+use entity_store::Entity;
 use json_values::{has_only, list_items, read_uid_like};
 use policy_names::EntityUID;
-use entity_store::Entity;
 use serde_json::{Map, Value};
 use std::alloc::{AllocError, Global};
 use std::cmp::Ordering;

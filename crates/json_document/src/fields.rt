@@ -5,12 +5,12 @@ ghost use Rattle.serde_json.specs.Find.{get};
 ghost use Rattle.serde_json.specs.View.{view};
 ghost use Rattle.json_document.specs.Fields.{fields_in, both_of};
 
+use json_values::read_fields;
 use policy_names::Text;
 use policy_values::Value;
 use serde_json::Value as Json;
 use std::alloc::{AllocError, Global};
 use std::collections::BTreeMap;
-use json_values::read_fields;
 
 // The values of an object, under their names; an absent one has none.
 fn read_given_fields(

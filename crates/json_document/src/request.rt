@@ -4,12 +4,11 @@ ghost use Rattle.std.specs.Prelude.{◌≡◌, IfOk, option_map};
 ghost use Rattle.serde_json.specs.View.{view};
 ghost use Rattle.json_document.specs.Request.{context_of, entries_of, given_request_of, known_of, request_of};
 
-use json_values::{has_only, read_uid};
-use policy_names::EntityUID;
 use entity_store::{Context, Request};
+use json_values::{has_only, read_fields, read_uid};
+use policy_names::EntityUID;
 use serde_json::Value as Json;
 use std::alloc::{AllocError, Global};
-use json_values::read_fields;
 
 fn read_known(alloc: Global, value: Option<&Json>) -> Result<Option<Option<EntityUID>>, AllocError>
     ensures { IfOk result (λ o. o ≡ known_of (option_map (λ v. view v.now) value.entry)) }

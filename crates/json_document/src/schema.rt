@@ -6,8 +6,8 @@ ghost use Rattle.json_document.specs.Faults.{MayComeTo};
 ghost use Rattle.json_document.specs.Reading.{IsSchemaFrom};
 
 use crate::{DocumentFault, Place};
-use schema_core::{SchemaFault, ValidatorSchema};
 use json_schema::read_declarations;
+use schema_core::{SchemaFault, ValidatorSchema};
 use serde_json::Value;
 use std::alloc::Global;
 

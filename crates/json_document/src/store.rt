@@ -12,9 +12,9 @@ ghost use Rattle.json_document.specs.Store.{IsStoreOf, IsRepeatedIfDuplicate, Is
 
 use crate::entities::{ids_of, index_of, read_entities};
 use crate::{DocumentFault, Place};
+use entity_store::{Entities, EntitiesError};
 use hierarchy::first_repeated;
 use policy_names::EntityUID;
-use entity_store::{Entities, EntitiesError};
 use serde_json::Value;
 use std::alloc::{AllocError, Global};
 

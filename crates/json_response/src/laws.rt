@@ -3,9 +3,9 @@
 ghost use Rattle.std.specs.Prelude.{◌≡◌, IfOk, Some};
 
 use crate::write_value;
+use json_values::read_value;
 use policy_values::Value;
 use std::alloc::{AllocError, Global};
-use json_values::read_value;
 
 /// What is written of a value is read as that value.
 pub fn written_values_are_read_back(

@@ -7,8 +7,8 @@ ghost use Rattle.json_response.specs.ValueJson.{uid_data};
 ghost use Rattle.json_response.specs.SliceJson.{entity_data, decision_text, failure_data, response_data, response_text, slice_data, slice_text};
 
 use crate::values::{write_fields, write_pair, write_uid};
-use policy_set::{Decision, PolicyFailure, Response};
 use policy_core::{Entities, Entity, EntityUID, Text};
+use policy_set::{Decision, PolicyFailure, Response};
 use serde_json::{Map, Value as Json, put};
 use std::alloc::{AllocError, Global};
 use std::collections::BTreeSet;

@@ -7,8 +7,8 @@ ghost use Rattle.access_tries.specs.Trees.{branches_by, branch_at};
 ghost use Rattle.json_tries.specs.TrieJson.{variable_text, key_data, entry_data, field_part, tag_part, root_part, trie_data, with_tags, node_data, fields_data, tags_data, roots_data, root_trie_data};
 
 use access_tries::{Edge, EntityRoot, Node, RootAccessTrie, links_of, mark_of};
-use policy_expressions::Var;
 use json_response::write_uid;
+use policy_expressions::Var;
 use serde_json::{Map, Value, put};
 use std::alloc::{AllocError, Global};
 

@@ -5,8 +5,8 @@ use Rattle.std.specs.Option.{option_and_then, option_map, option_map_or}
 use Rattle.policy_values.specs.Value.{Val, truth, long, string, entity, set, rec, decimal, ip, datetime, duration}
 use Rattle.entity_store.specs.declared.request.Request.{Request}
 use Rattle.entity_store.specs.Store.{Store}
-use Rattle.policy_types.specs.Join.{is_entity}
-use Rattle.policy_types.specs.Member.{Member}
+use Rattle.type_relations.specs.Join.{is_entity}
+use Rattle.type_relations.specs.Member.{Member}
 use Rattle.policy_core.specs.declared.outcome.Outcome.{Outcome}
 use Rattle.policy_core.specs.declared.outcome.Outcome.TheVariants.{Value, Error}
 use Rattle.policy_core.specs.Eval.{truth_of, eval}

@@ -5,7 +5,7 @@ use Rattle.std.specs.Option.{option_map_or, option_and_then}
 use Rattle.std.specs.Ordering.{is_eq}
 use Rattle.policy_names.specs.declared.entity_uid.EntityUID.{EntityUID}
 use Rattle.policy_names.specs.Uid.{text_cmp, uid_eq}
-use Rattle.policy_types.specs.Join.{is_entity}
+use Rattle.type_relations.specs.Join.{is_entity}
 use Rattle.schema_types.specs.Ty.{Ty}
 use Rattle.policy_expressions.specs.declared.kinds.Literal.{Literal}
 use Rattle.policy_expressions.specs.declared.kinds.Literal.TheVariants as literal

@@ -8,8 +8,8 @@ ghost use Rattle.level_spec.specs.Cut.{entities_among, cut};
 ghost use Rattle.level_validate.specs.Fresh.{AreFresh};
 
 use crate::held::{asked, held_by};
-use policy_core::{Entities, Entity, EntityUID, Request, try_clone_fields};
 use level_spec::laws::hops_reach;
+use policy_core::{Entities, Entity, EntityUID, Request, try_clone_fields};
 use std::alloc::{AllocError, Global};
 use std::collections::BTreeSet;
 

@@ -1,7 +1,7 @@
 //! Manifests that JSON says, typed by schemas.
 
-use manifest_core::{EntityManifest, EntityManifestFromJsonError, MismatchedEntityManifestError};
 use json_document::{parse_json, read_schema};
+use manifest_core::{EntityManifest, EntityManifestFromJsonError, MismatchedEntityManifestError};
 use schema_core::ValidatorSchema;
 use serde_json::Value;
 use std::alloc::Global;

@@ -1,10 +1,10 @@
 //! Stores that are cut, and values that are merged.
 
 use entity_loader::merge_values;
-use level_validate::slice_at_level;
-use json_document::{Document, parse_json, read_document, read_value};
 use entity_store::{Entities, Entity};
+use json_document::{Document, parse_json, read_document, read_value};
 use json_response::{write_entity, write_value};
+use level_validate::slice_at_level;
 use serde_json::Value;
 use std::alloc::Global;
 use std::test::Fail;

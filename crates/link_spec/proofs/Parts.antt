@@ -12,7 +12,7 @@ use Rattle.policy_expressions.specs.declared.kinds.SlotId.{SlotId}
 use Rattle.policy_expressions.specs.declared.kinds.SlotId.TheVariants.{Principal, Resource}
 use Rattle.policy_expressions.specs.declared.kinds.Var.{Var}
 use Rattle.policy_expressions.specs.declared.kinds.Var.TheVariants as variable
-use Rattle.policy_types.specs.Join.{is_entity}
+use Rattle.type_relations.specs.Join.{is_entity}
 use Rattle.policy_expressions.specs.Slots.{has_slot, some_has_slot}
 use Rattle.policy_expressions.specs.Tree.{lit, var, slot, conj, binary}
 use Rattle.policy_names.proofs.Ties.{equal_of}

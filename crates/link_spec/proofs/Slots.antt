@@ -15,7 +15,7 @@ use Rattle.schema_types.specs.Ty.{Ty}
 use Rattle.schema_core.specs.EnvData.{EnvData}
 use Rattle.schema_core.specs.Environments.{Environment}
 use Rattle.schema_core.specs.Schema.{ActionData, SchemaData}
-use Rattle.policy_types.specs.Join.{is_entity}
+use Rattle.type_relations.specs.Join.{is_entity}
 use Rattle.policy_expressions.specs.Plain.{Plain}
 use Rattle.capabilities.specs.Capability.{Capability, has_cap}
 use Rattle.typing_spec.specs.Environment.{type_of_variable, known_id, known_ids, listed_ids}

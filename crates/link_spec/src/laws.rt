@@ -2,8 +2,8 @@
 
 ghost use Rattle.link_spec.specs.Laws.{SlotsAreNotRead, LinksFollowTemplates, LinksAreTyped, StaticsAreTyped, TypedEverywhere, LinksHaveKeysOnce, TypedAreSound, LinksAreSound, StaticsAreSound, LinksAreWrittenOut, FilledKeeps, StaticsAreUnlinked, RefusalsAreTold};
 
-use typing_spec::laws::conditions_are_sound;
 use typecheck_spec::laws::refusal_is_told;
+use typing_spec::laws::conditions_are_sound;
 
 /// The typing of an expression without slots does not depend on what stands for the slots.
 pub fn slots_are_not_read()

@@ -1,8 +1,8 @@
 //! A loader that goes wrong.
 
 use entity_loader::{AncestorsRequest, EntityAnswer, EntityLoader, EntityRequest, LoadError};
-use policy_names::EntityUID;
 use entity_store::{Entities, Entity};
+use policy_names::EntityUID;
 use policy_values::try_clone_fields;
 use std::alloc::{AllocError, Global};
 

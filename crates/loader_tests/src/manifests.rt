@@ -1,9 +1,9 @@
 //! Manifests that are computed, read from their texts, and typed by other schemas.
 
 use crate::texts::document_of;
-use manifest_core::{EntityManifest, EntityManifestFromJsonError, MismatchedEntityManifestError};
-use manifest_computation::compute_entity_manifest;
 use json_document::Document;
+use manifest_computation::compute_entity_manifest;
+use manifest_core::{EntityManifest, EntityManifestFromJsonError, MismatchedEntityManifestError};
 use schema_core::ValidatorSchema;
 use std::alloc::Global;
 use std::test::Fail;

@@ -1,7 +1,7 @@
 //! Documents, and the texts of stores.
 
-use json_document::{Document, parse_json, read_document};
 use entity_store::{Entities, Entity};
+use json_document::{Document, parse_json, read_document};
 use json_response::write_entity;
 use serde_json::Value;
 use std::alloc::Global;

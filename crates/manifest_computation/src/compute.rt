@@ -14,20 +14,19 @@ ghost use Rattle.policy_validate.specs.Typed.{typed_conditions};
 use crate::EntityManifestError;
 use crate::tries::tries_of;
 use access_tries::RootAccessTrie;
-use manifest_core::EntityManifest;
+use entity_store::RequestType;
 use extension_types::{ExtensionSchemas, all_objects};
-use policy_validate::keep_rules;
-use policy_validate::acceptance_laws::accepted_by_rules;
+use manifest_core::EntityManifest;
 use policy_set::PolicySet;
 use policy_set::laws::is_policy_set;
-use entity_store::RequestType;
 use policy_typecheck::Typechecker;
-use policy_validate::Validator;
+use policy_validate::acceptance_laws::accepted_by_rules;
+use policy_validate::condition_laws::found_are_typed;
 use policy_validate::laws::accepted_are_typed;
+use policy_validate::{Validator, keep_rules};
 use schema_core::{ValidationMode, ValidatorSchema};
 use std::alloc::{AllocError, Global};
 use std::collections::BTreeMap;
-use policy_validate::condition_laws::found_are_typed;
 
 /// The manifest of policies: for each environment of the schema the trie of what the static policies and links read and ask
 /// for there, each by its own condition, with its types; no trie where there is no policy. Errs with `Validation` exactly

@@ -12,8 +12,8 @@ ghost use Rattle.policy_validate.specs.AcceptanceLaws.{LeavesAll};
 
 use crate::gathering::trie_of_policies;
 use access_tries::RootAccessTrie;
-use policy_set::PolicySet;
 use entity_store::RequestType;
+use policy_set::PolicySet;
 use policy_typecheck::Typechecker;
 use schema_core::{RequestEnv, ValidatorSchema};
 use std::alloc::{AllocError, Global};

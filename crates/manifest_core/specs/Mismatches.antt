@@ -7,7 +7,7 @@ use Rattle.entity_store.specs.declared.request.RequestType.{RequestType}
 use Rattle.schema_types.specs.Ty.{Ty, never, no_attrs}
 use Rattle.schema_core.specs.Schema.{SchemaData, type_at, action_at}
 use Rattle.schema_core.specs.EnvData.{EnvData, declared_action, literal_type}
-use Rattle.policy_types.specs.Join.{is_entity, is_record}
+use Rattle.type_relations.specs.Join.{is_entity, is_record}
 use Rattle.reads_spec.specs.PathTypes.{type_along, root_type}
 use Rattle.access_tries.specs.declared.edge.EntityRoot.{EntityRoot}
 use Rattle.access_tries.specs.declared.edge.EntityRoot.TheVariants.{Literal, Var as Variable}

@@ -7,12 +7,12 @@ ghost use Rattle.json_tries.specs.Places.{places_in};
 ghost use Rattle.json_tries.specs.Reading.{trie_of};
 ghost use Rattle.manifest_core.specs.Reading.{are_names, request_type_form, request_type_in, request_type_of, entry_form, entry_of, entries_of_items, entries_form, entries_of};
 
-use json_values::{lone_member, pair, read_name, read_uid};
 use entity_store::RequestType;
+use json_tries::{Place, read_trie};
+use json_values::{lone_member, pair, read_name, read_uid};
 use serde_json::{Map, Value};
 use std::alloc::{AllocError, Global};
 use std::marker::Model;
-use json_tries::{Place, read_trie};
 
 // A request type, and the nodes of its trie in the order of the document.
 #[derive(Debug, Drop)]

@@ -9,10 +9,10 @@ use crate::listing::Entry;
 use crate::types::{edge_fault, type_behind};
 use access_tries::Edge;
 use entity_store::RequestType;
+use json_tries::Place;
 use schema_core::ValidatorSchema;
 use schema_types::Type;
 use std::alloc::{AllocError, Global};
-use json_tries::Place;
 
 /// What is wrong first with entries, in their order.
 pub(crate) fn entries_fault(

@@ -9,12 +9,12 @@ ghost use Rattle.manifest_core.specs.Said.{IsTypedOf, IsPut, AreTypedOf};
 use crate::declared::declared_trie;
 use crate::listing::Entry;
 use access_tries::RootAccessTrie;
-use hierarchy::first_repeated;
 use entity_store::RequestType;
+use hierarchy::first_repeated;
+use json_tries::trie_of_places;
 use schema_core::ValidatorSchema;
 use std::alloc::{AllocError, Global};
 use std::collections::BTreeMap;
-use json_tries::trie_of_places;
 
 fn request_types(alloc: Global, entries: &[Entry]) -> Result<Vec<RequestType>, AllocError>
     ensures { IfOk result (λ v. v.items ≡ types_of entries.now) }

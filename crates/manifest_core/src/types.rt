@@ -16,9 +16,9 @@ use crate::error::{
     MismatchedEntityManifestError, MismatchedMissingEntityError, MismatchedNotStrictSchemaError,
 };
 use access_tries::{Edge, EntityRoot};
+use entity_store::RequestType;
 use policy_expressions::Var;
 use policy_names::{EntityType, EntityUID, Text};
-use entity_store::RequestType;
 use schema_core::{ValidatorSchema, euid_literal};
 use schema_types::{Attributes, EntityLUB, EntityRecordKind, OpenTag, Type, TypeKind};
 use std::alloc::{AllocError, Global};

@@ -7,10 +7,10 @@ ghost use Rattle.manifest_core.specs.ManifestJson.{request_type_data, trie_entry
 use access_tries::RootAccessTrie;
 use entity_store::RequestType;
 use json_response::write_uid;
+use json_tries::write_root_trie;
 use serde_json::{Map, Value, put};
 use std::alloc::{AllocError, Global};
 use std::collections::BTreeMap;
-use json_tries::write_root_trie;
 
 pub(crate) fn write_per_action(
     alloc: Global,

@@ -22,14 +22,13 @@ use crate::error::EntitySliceError;
 use crate::lent::lent_tries;
 use crate::rounds::Loaded;
 use access_tries::Node;
-use trie_traversal::named_ids;
-use trie_traversal::Place;
 use entity_loader::{AncestorsRequest, EntityLoader, LoadError};
-use policy_names::EntityUID;
 use entity_store::{Entity, Request};
+use policy_names::EntityUID;
 use policy_values::try_clone_fields;
 use std::alloc::{AllocError, Global};
 use std::collections::{BTreeMap, BTreeSet};
+use trie_traversal::{Place, named_ids};
 
 /// What is kept, with the ancestors that are asked for.
 pub(crate) fn with_ancestors<D: EntityLoader>(

@@ -12,8 +12,8 @@ ghost use Rattle.manifest_loading.specs.Causes.{CauseOf, IsRight};
 
 use crate::error::{EntitySliceError, WrongNumberOfEntitiesError};
 use entity_loader::{EntityAnswer, EntityLoader, EntityRequest, LoadError};
-use policy_names::EntityUID;
 use entity_store::Entity;
+use policy_names::EntityUID;
 use std::alloc::{AllocError, Global};
 use std::collections::BTreeMap;
 

@@ -1,7 +1,7 @@
 //! Why nothing is loaded.
 
-use policy_names::EntityUID;
 use entity_store::Entity;
+use policy_names::EntityUID;
 use policy_values::Value;
 use std::alloc::AllocError;
 use thiserror::Error;

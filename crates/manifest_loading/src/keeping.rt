@@ -16,12 +16,12 @@ ghost use Rattle.manifest_loading.specs.Keeping.{kept_and, refusal_of, IsNotKept
 
 use crate::error::{EntitySliceError, IncompatibleEntityManifestError};
 use access_tries::Node;
-use trie_traversal::{FollowError, Place, next_places};
 use entity_loader::{KeepError, keep};
-use policy_names::EntityUID;
 use entity_store::Entity;
+use policy_names::EntityUID;
 use std::alloc::Global;
 use std::collections::{BTreeMap, BTreeSet};
+use trie_traversal::{FollowError, Place, next_places};
 
 /// Why a trie does not fit what is found.
 pub(crate) fn refusal(error: FollowError) -> EntitySliceError

@@ -8,11 +8,11 @@ ghost use Rattle.policy_names.specs.Uid.{uid_cmp};
 ghost use Rattle.manifest_loading.specs.Lending.{view_in, AreLent, Lends, IsUnited, request_of};
 
 use access_tries::{AccessTrie, Node, TrieRef};
-use trie_traversal::Place;
 use entity_loader::EntityRequest;
 use policy_names::EntityUID;
 use std::alloc::{AllocError, Global};
 use std::collections::{BTreeMap, BTreeSet};
+use trie_traversal::Place;
 
 /// What is read of an entity: what stands at a node of a table, or at several of them.
 #[derive(Debug, Drop)]

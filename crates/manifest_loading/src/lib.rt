@@ -12,7 +12,10 @@ mod rounds;
 mod slice;
 mod steps;
 
-pub use error::{EntitySliceError, IncompatibleEntityManifestError, PartialRequestError, WrongNumberOfEntitiesError};
+pub use error::{
+    EntitySliceError, IncompatibleEntityManifestError, PartialRequestError,
+    WrongNumberOfEntitiesError,
+};
 pub use load::load_trie;
 pub use manifest::load_entities;
 pub use slice::slice_entities;

@@ -28,13 +28,13 @@ use crate::keeping::refusal;
 use crate::rounds::load_rounds;
 use crate::steps::Steps;
 use access_tries::RootAccessTrie;
-use trie_traversal::first_places;
 use entity_loader::EntityLoader;
-use policy_names::EntityUID;
 use entity_store::{Entities, Entity, Request};
+use policy_names::EntityUID;
 use std::alloc::{AllocError, Global};
 use std::collections::BTreeMap;
 use std::sync::ledger::Ledger;
+use trie_traversal::first_places;
 
 /// The entities that the paths of the trie reach on the request, each with what is read of it and those of its ancestors that
 /// are asked for, as a loader gives them. A step is counted for each call of the loader's `load_entities`.

@@ -22,11 +22,11 @@ ghost use Rattle.entity_store.specs.Store.{Store};
 ghost use Rattle.store_slices.specs.Tries.{IsTrieOf};
 ghost use Rattle.manifest_core.specs.Manifest.{trie_for};
 
+use crate::{EntitySliceError, PartialRequestError, Steps, load_trie};
 use access_tries::RootAccessTrie;
 use entity_loader::EntityLoader;
-use crate::{EntitySliceError, PartialRequestError, Steps, load_trie};
-use manifest_core::EntityManifest;
 use entity_store::{Entities, Request};
+use manifest_core::EntityManifest;
 use std::alloc::{AllocError, Global};
 use std::sync::ledger::Ledger;
 

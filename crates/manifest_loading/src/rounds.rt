@@ -24,13 +24,13 @@ use crate::keeping::take_answers;
 use crate::lent::{lent_tries, requests_of};
 use crate::steps::Steps;
 use access_tries::Node;
-use trie_traversal::{Place, ask};
 use entity_loader::EntityLoader;
-use policy_names::EntityUID;
 use entity_store::Entity;
+use policy_names::EntityUID;
 use std::alloc::{AllocError, Global};
 use std::collections::{BTreeMap, BTreeSet};
 use std::sync::ledger::Ledger;
+use trie_traversal::{Place, ask};
 
 /// What was asked for, and what is kept of the answers.
 #[derive(Debug, Drop)]

@@ -5,10 +5,10 @@ ghost use Rattle.entity_store.specs.Request.{IsWhole};
 ghost use Rattle.manifest_core.specs.Manifest.{trie_at, trie_for};
 ghost use Rattle.manifest_loading.specs.Sliced.{trie_or_none, IsSlice, IsRefused};
 
-use access_tries::RootAccessTrie;
 use crate::{EntitySliceError, IncompatibleEntityManifestError, PartialRequestError};
-use manifest_core::EntityManifest;
+use access_tries::RootAccessTrie;
 use entity_store::{Entities, Request, RequestType};
+use manifest_core::EntityManifest;
 use std::alloc::Global;
 use store_slices::{blocked_value, restricted_store};
 

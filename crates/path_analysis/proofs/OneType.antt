@@ -4,7 +4,7 @@ use Rattle.std.specs.Option.{option_and_then}
 use Rattle.schema_types.specs.Names.{only_name}
 use Rattle.schema_types.specs.Ty.{Attrs, entity}
 use Rattle.schema_core.specs.Schema.{SchemaData}
-use Rattle.policy_types.specs.Attributes.{or_none, union_attrs}
+use Rattle.type_relations.specs.Attributes.{or_none, union_attrs}
 use Rattle.typing_spec.specs.Environment.{declared_tags}
 use Rattle.typing_spec.specs.Rules.{tag_type}
 

@@ -4,7 +4,7 @@ ghost use Rattle.std.specs.Prelude.{◌≡◌, ◌≤◌, nat_eq, option_map, ta
 ghost use Rattle.schema_core.specs.EnvData.{context_type_in};
 ghost use Rattle.schema_core.specs.RequestEnvs.{env_data_of};
 ghost use Rattle.schema_types.specs.Ty.{entity};
-ghost use Rattle.policy_types.specs.Attributes.{attrs_in, union_attrs};
+ghost use Rattle.type_relations.specs.Attributes.{attrs_in, union_attrs};
 ghost use Rattle.typing_spec.specs.Environment.{declared_attributes, declared_tags, type_of_variable};
 ghost use Rattle.typing_spec.specs.Rules.{attribute_of, tag_type};
 ghost use Rattle.reads_spec.specs.PathTypes.{type_along, step_on, types_along, is_declared, declared_steps, root_type, path_type, is_declared_path, declared_part};
@@ -14,12 +14,12 @@ use crate::setting::Setting;
 use access_tries::{AccessPath, EntityRoot, Step};
 use policy_expressions::Var;
 use policy_names::{EntityType, Text};
-use policy_types::lookup_attribute_type;
 use schema_core::{RequestEnv, ValidatorSchema, euid_literal};
 use schema_types::{
     AttributeType, Attributes, DeclaredAttributes, EntityLUB, EntityRecordKind, Type, TypeKind,
 };
 use std::alloc::{AllocError, Global};
+use type_relations::lookup_attribute_type;
 
 /// The type of what a path leads to.
 #[derive(Drop)]

@@ -8,6 +8,7 @@ mod like;
 mod operators;
 mod outcome;
 
+pub use entity_store::{Context, Entities, EntitiesError, Entity, Request, RequestType};
 pub use eval::evaluate;
 pub use outcome::{EvalError, Outcome};
 pub use policy_expressions::{
@@ -16,7 +17,6 @@ pub use policy_expressions::{
 };
 pub use policy_ext::{DateTimeValue, Decimal, Duration, IpAddr};
 pub use policy_names::{Eid, EntityType, EntityUID, Name, Quoted, Text};
-pub use entity_store::{Context, Entities, EntitiesError, Entity, Request, RequestType};
 pub use policy_values::{
     Value, ValueKind, push_entry, read_datetime, read_decimal, read_duration, read_ip,
     try_clone_fields,

@@ -15,24 +15,23 @@ use crate::command::Command;
 use crate::laws::laws;
 use crate::reply::{Reply, reply_with};
 use crate::status::Status;
-use policy_set::{Decision, decide};
 use conformance::laws::all_functions_are_known;
 use conformance::{
     ConformanceError, EntityDoesNotConform, RequestValidationError, conforms, entity_text,
     request_text, validate_request,
 };
-use manifest_core::EntityManifest;
+use entity_store::Entities;
 use extension_types::{ExtensionSchemas, all_objects};
-use manifest_computation::{EntityManifestError, compute_entity_manifest};
 use json_document::{Document, DocumentFault, parse_json, read_document};
+use json_response::{response_text, slice_text};
+use manifest_computation::{EntityManifestError, compute_entity_manifest};
+use manifest_core::EntityManifest;
 use policy_names::Text;
 use policy_scope::{ValidationResult, findings_text};
-use policy_set::PolicySet;
 use policy_set::laws::{have_keys_once, is_policy_set};
-use entity_store::Entities;
+use policy_set::{Decision, PolicySet, decide};
 use policy_validate::laws::no_errors_where_accepted;
 use policy_validate::{ValidationMode, Validator};
-use json_response::{response_text, slice_text};
 use request_slices::restricted_to_reads;
 use serde_json::Value;
 use std::alloc::{AllocError, Global};

@@ -8,13 +8,14 @@ mod reply;
 mod runner;
 mod status;
 
-pub use command::{Command, command_of};
-pub use json_expressions::{Bounded, read_expr};
 pub use byte_streams::{
     MemorySink, MemorySource, NoSink, ReadAnswer, Sink, SliceSource, Source, StdSink, StdSource,
     WriteAnswer,
 };
-pub use json_document::{DocumentFault, Place, read_schema, read_value};
+pub use command::{Command, command_of};
+pub use json_document::{Document, DocumentFault, Place, read_document, read_schema, read_value};
+pub use json_expressions::{Bounded, read_expr};
 pub use json_response::write_value;
+pub use json_values::parse_json;
 pub use runner::run;
 pub use status::Status;

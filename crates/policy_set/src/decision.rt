@@ -5,9 +5,8 @@ ghost use Rattle.policy_values.specs.Value.{truth};
 ghost use Rattle.entity_store.specs.Request.{IsWhole};
 ghost use Rattle.policy_set.specs.Response.{response, decided};
 
-use crate::{Decision, PolicyFailure, Response};
+use crate::{Decision, Effect, PolicyFailure, PolicySet, Response};
 use policy_core::{Entities, Outcome, Request, Text, Value, ValueKind, evaluate};
-use crate::{Effect, PolicySet};
 use std::alloc::{AllocError, Global};
 
 /// Allow where some permit is true and no forbid is, else Deny. A policy whose condition has no value is skipped, and

@@ -10,7 +10,9 @@ mod policy_set;
 mod response;
 mod template;
 
-pub use constraint::{ActionConstraint, ActionList, Effect, EntityReference, PrincipalOrResourceConstraint};
+pub use constraint::{
+    ActionConstraint, ActionList, Effect, EntityReference, PrincipalOrResourceConstraint,
+};
 pub use decision::decide;
 pub use policy::Policy;
 pub use policy_set::{PolicySet, PolicySetError};

@@ -12,14 +12,13 @@ ghost use Rattle.policy_typecheck.specs.Answer.{Tells, TellsIn};
 ghost use Rattle.policy_typecheck.specs.Known.{KnowsFunctions};
 ghost use Rattle.policy_typecheck.specs.Policies.{is_accepted, refusals, warned};
 
-use crate::PolicyCheck;
 use crate::added::add_errors;
 use crate::conditions::{check_condition, is_too_deep, only_too_deep};
 use crate::policies::tell_checks;
 use crate::setting::{Extensions, Setting};
+use crate::{PolicyCheck, linked_request_envs};
 use extension_types::ExtensionSchemas;
 use findings::{ValidationError, ValidationWarning};
-use crate::linked_request_envs;
 use policy_expressions::Expr;
 use policy_names::Text;
 use policy_set::{Policy, Template};

@@ -1,7 +1,8 @@
-pub mod Attributes
-pub mod Consistent
-pub mod Join
-pub mod JoinSteps
-pub mod Laws
-pub mod Member
-pub mod Subtype
+pub use Rattle.capabilities.specs.Capability
+pub use Rattle.capabilities.specs.Holds
+pub use Rattle.type_relations.specs.Attributes
+pub use Rattle.type_relations.specs.Consistent
+pub use Rattle.type_relations.specs.Join
+pub use Rattle.type_relations.specs.Laws
+pub use Rattle.type_relations.specs.Member
+pub use Rattle.type_relations.specs.Subtype

@@ -1,21 +1,9 @@
-//! How types relate: subtyping, joins, membership, attributes.
+//! How types relate, and what is known of expressions once a condition is true.
 #![tactic(auto)]
 
-mod attributes;
-mod consistent;
-mod disjoint;
-mod join;
-pub mod laws;
-mod member;
-mod mode;
-mod subtype;
-mod type_relations;
-
-pub use attributes::{all_attributes, all_known_attrs, lookup_attribute_type, may_have_attr};
-pub use consistent::is_consistent_with;
-pub use disjoint::are_types_disjoint;
-pub use join::{LubError, least_upper_bound, reduce_to_least_upper_bound};
-pub use member::has_value;
-pub use mode::SubtypeMode;
-pub use subtype::is_subtype;
-pub use type_relations::TypeRelations;
+pub use capabilities::{Capability, CapabilitySet};
+pub use type_relations::{
+    LubError, SubtypeMode, TypeRelations, all_attributes, all_known_attrs, are_types_disjoint,
+    has_value, is_consistent_with, is_subtype, least_upper_bound, lookup_attribute_type,
+    may_have_attr, reduce_to_least_upper_bound,
+};

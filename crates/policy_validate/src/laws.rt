@@ -3,8 +3,8 @@
 ghost use Rattle.policy_validate.specs.Laws.{NoErrorsWhereAccepted, AcceptedAreTyped, AcceptedAreSound};
 ghost use Rattle.policy_validate.specs.Levels.{LevelErrorsOfAreExact, NoErrorsWhereAcceptedAt, AcceptedLevelsAreSound};
 
-use level_validate::laws::level_errors_are_exact;
 use level_spec::laws::{link_levels_are_sound, static_levels_are_sound};
+use level_validate::laws::level_errors_are_exact;
 use link_spec::laws::{links_are_typed, refusals_are_told, statics_are_typed, typed_are_sound};
 use typecheck_spec::laws::check_is_exact;
 

@@ -1,4 +1,4 @@
-//! What policies keep of a schema.
+//! Whether policies, requests and entity stores keep to a schema.
 #![tactic(auto)]
 
 pub mod acceptance_laws;
@@ -10,6 +10,14 @@ mod rules;
 mod validator;
 
 pub use conditions::conditions_in;
+pub use conformance::{
+    ConformanceError, EntityDoesNotConform, StoreRule, conforms, validate_request,
+};
+pub use core_schema::{
+    ContextSchema, CoreSchema, EntityTypeDescription, RequestSchema, RequestValidationError,
+    context_schema_for_action, traits,
+};
+pub use level_validate::slice_at_level;
 pub use rules::keep_rules;
 pub use schema_core::ValidationMode;
 pub use validator::Validator;

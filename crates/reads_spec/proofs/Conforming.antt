@@ -11,7 +11,7 @@ use Rattle.entity_store.specs.Request.{principal_of, action_of, resource_of}
 use Rattle.entity_store.specs.Store.{StoredEntity, Store}
 use Rattle.policy_expressions.specs.declared.kinds.Var.TheVariants.{Principal, Action, Resource, Context}
 use Rattle.policy_core.specs.Eval.{known_fields, variable_value}
-use Rattle.policy_types.specs.Member.{Member}
+use Rattle.type_relations.specs.Member.{Member}
 use Rattle.schema_types.specs.declared.kinds.OpenTag.TheVariants.{ClosedAttributes}
 use Rattle.schema_types.specs.Names.{has_name}
 use Rattle.schema_types.specs.Ty.{Ty, record_of}

@@ -7,7 +7,7 @@ use Rattle.policy_names.specs.declared.entity_uid.EntityUID.{EntityUID}
 use Rattle.policy_values.specs.Value.{Val, entity as id, rec, Fields, no_fields, field}
 use Rattle.entity_store.specs.declared.request.Request.{Request}
 use Rattle.entity_store.specs.Store.{StoredEntity, Store}
-use Rattle.policy_types.specs.Attributes.{or_none}
+use Rattle.type_relations.specs.Attributes.{or_none}
 use Rattle.schema_types.specs.Attrs.{attr_at}
 use Rattle.schema_types.specs.declared.ty.AttributeType.{AttributeType}
 use Rattle.schema_types.specs.Ty.{Ty, record_of, entity, Attrs}

@@ -14,8 +14,8 @@ use Rattle.entity_store.specs.Request.{principal_of, action_of, resource_of}
 use Rattle.entity_store.specs.Store.{StoredEntity, Store, entity_at}
 use Rattle.policy_expressions.specs.declared.kinds.Var.TheVariants.{Principal, Action, Resource, Context}
 use Rattle.policy_core.specs.Eval.{variable_value}
-use Rattle.policy_types.specs.Attributes.{or_none}
-use Rattle.policy_types.specs.Member.{Member, Typed, Undeclared, IsDeclared, type_of}
+use Rattle.type_relations.specs.Attributes.{or_none}
+use Rattle.type_relations.specs.Member.{Member, Typed, Undeclared, IsDeclared, type_of}
 use Rattle.schema_types.specs.Attrs.{attr_at}
 use Rattle.schema_types.specs.Names.{has_name, only_name}
 use Rattle.schema_types.specs.declared.kinds.Primitive.TheVariants.{Bool as BoolType, Long, String}

@@ -128,6 +128,7 @@ record PathNames (c : Setting) (ps : List AccessPath) (y : EntityUID) : Type 0 w
   named : names_id y value ≡ true
 
 id_of : (v : Val) (y : EntityUID) → is_id y v ≡ true → v ≡ entity y
+
 or_weaker_right : (a b c : Bool) → (b ≡ true → c ≡ true) → (a || b) ≡ true → (a || c) ≡ true
 or_weaker_right true b c f h = refl
 or_weaker_right false b c f h = f h

@@ -9,8 +9,8 @@ use Rattle.policy_core.specs.declared.outcome.Outcome.{Outcome}
 use Rattle.policy_core.specs.declared.outcome.Outcome.TheVariants.{Value, Error}
 use Rattle.policy_core.specs.Eval.{variable_value, truth_of, eval}
 use Rattle.policy_expressions.specs.Tree.{Tree, lit, var, slot, ite, conj, disj, unary, binary, attr, has, like, is_type, call, set, rec, Trees, no_trees, tree, Named, no_named, named}
-use Rattle.policy_types.specs.Attributes.{or_none}
-use Rattle.policy_types.specs.Member.{Member, Typed}
+use Rattle.type_relations.specs.Attributes.{or_none}
+use Rattle.type_relations.specs.Member.{Member, Typed}
 use Rattle.schema_types.specs.declared.kinds.OpenTag.TheVariants.{ClosedAttributes}
 use Rattle.schema_types.specs.Ty.{Ty}
 use Rattle.schema_core.specs.EnvData.{EnvData, context_type_in}

@@ -2,9 +2,9 @@
 
 ghost use Rattle.request_slices.specs.Enough.{OutcomesAreAllowed, SlicesAreEnough};
 
-use reads_spec::policies_are_covered;
 use link_spec::laws::typed_everywhere;
 use policy_validate::laws::{accepted_are_sound, accepted_are_typed};
+use reads_spec::policies_are_covered;
 
 /// Slicing is sound: where every rule holds, each policy has on the slice, and on each store between it and the whole one, the
 /// outcome that it has on the whole one: a truth value, a missing entity or an overflow. So the response is the same.

@@ -8,11 +8,11 @@ ghost use Rattle.request_slices.specs.Slice.{slice};
 
 use crate::checks::check_rules;
 use crate::error::SliceForRequestError;
-use policy_set::PolicySet;
-use policy_set::laws::{have_keys_once, is_policy_set};
-use entity_store::{Entities, Request};
 use crate::laws::slices_are_enough;
 use crate::restricted_to_reads;
+use entity_store::{Entities, Request};
+use policy_set::PolicySet;
+use policy_set::laws::{have_keys_once, is_policy_set};
 use schema_core::ValidatorSchema;
 use std::alloc::Global;
 

@@ -14,21 +14,21 @@ ghost use Rattle.request_slices.specs.Rules.{KeepRules};
 ghost use Rattle.request_slices.specs.Slice.{env_of, slice};
 
 use access_tries::RootAccessTrie;
+use entity_store::{Entities, Request};
 use extension_types::{ExtensionSchemas, all_objects};
+use link_spec::laws::typed_everywhere;
 use path_analysis::conditions_trie;
 use policy_expressions::Expr;
-use link_spec::laws::typed_everywhere;
 use policy_set::PolicySet;
 use policy_set::laws::is_policy_set;
-use entity_store::{Entities, Request};
 use policy_typecheck::Typechecker;
+use policy_validate::condition_laws::found_are_typed;
+use policy_validate::conditions_in;
 use policy_validate::laws::accepted_are_typed;
 use schema_core::{RequestEnv, ValidationMode, ValidatorSchema};
 use schema_types::Type;
 use std::alloc::{AllocError, Global};
 use store_slices::restricted_store;
-use policy_validate::conditions_in;
-use policy_validate::condition_laws::found_are_typed;
 
 /// The slice of the store: the store restricted to what the policies read on the request, each by its own condition with its
 /// types in the environment of the request. Every rule holds.

@@ -8,8 +8,8 @@ ghost use Rattle.schema_core.specs.EnvData.{principal_in, action_in, resource_in
 ghost use Rattle.schema_core.specs.RequestEnvs.{env_data_of};
 
 use crate::{ValidatorSchema, euid_literal};
-use policy_names::{EntityType, EntityUID};
 use entity_store::RequestType;
+use policy_names::{EntityType, EntityUID};
 use schema_declarations::ValidatorActionId;
 use schema_types::{Attributes, OpenTag, Type};
 use std::alloc::{AllocError, Global};

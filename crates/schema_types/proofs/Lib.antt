@@ -1,5 +1,4 @@
 mod AttrSteps
-mod CoreSchemaSteps
 mod OrderLaws
 mod PlainSteps
 mod ShowSteps

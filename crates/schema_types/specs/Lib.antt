@@ -1,5 +1,4 @@
 pub mod Attrs
-pub mod CoreSchema
 pub mod HashLaws
 pub mod KindOrder
 pub mod Laws

@@ -3,7 +3,6 @@
 
 mod compared;
 mod copies;
-pub mod core_schema;
 mod declared;
 mod entity_lub;
 mod hash;

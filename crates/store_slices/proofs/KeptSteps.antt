@@ -40,6 +40,7 @@ use Rattle.plain_lemmas.proofs.Lists.{is_some_within}
 pub record IsGrouping (all left : List Place) (m : Numbers) : Type 0 where
   pub tests : (f : ℕ → Bool) (x : EntityUID) → (list_any f (numbers_at m x) || some_place f x left) ≡ some_place f x all
   pub keys : (x : EntityUID) → (is_some (get uid_cmp m x) || list_any (λ p. uid_eq p.uid x) left) ≡ list_any (λ p. uid_eq p.uid x) all
+
 pub grouping_more : (all left : List Place) (m n : Numbers) (p : Place) (rest : List Place) → left ≡ p ∷ rest → IsNumbered p.uid p.number m n → IsGrouping all left m → IsGrouping all rest n
 grouping_more all left m n p rest is one g = record {
   tests = λ f x.

@@ -14,8 +14,10 @@ use Rattle.plain_lemmas.proofs.Booleans.{and_over_or, or_exchange, or_left_true,
 use Rattle.std.specs.Prelude.{ℕ, Some, if◌then◌else◌}
 use Rattle.std.specs.Ordering.{is_eq}
 use Rattle.trie_traversal.specs.Wants.{Test, points, fields_point, entity_points}
+
 pub or_weaker : (a b c d : Bool) → (a ≡ true → c ≡ true) → (b ≡ true → d ≡ true) → (a || b) ≡ true → (c || d) ≡ true
 or_weaker true b c d f g h = or_left_true c d (f refl)
+
 or_exchange : (a b c d : Bool) → ((a || b) || (c || d)) ≡ ((a || c) || (b || d))
 or_exchange true b c d = refl
 or_exchange false true true d = refl

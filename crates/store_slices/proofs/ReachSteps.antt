@@ -37,8 +37,10 @@ use Rattle.trie_traversal.proofs.PlaceSteps.{exact_place}
 use Rattle.trie_traversal.specs.Places.{place_cmp, IsPlaced, IsBelowSome, node_of}
 use Rattle.trie_traversal.specs.Wants.{Test, sees, wants, points, fields_point, entity_points, Adds}
 use Rattle.store_slices.specs.Reached.{IsReached, either_wants, IsExplored, IsAnswerLed, AreReached, AreThere}
+
 true_of_or_false : (a : Bool) → (a || false) ≡ true → a ≡ true
 true_of_or_false true h = refl
+
 or_false : (a : Bool) → (a || false) ≡ a
 or_false true = refl
 or_false false = refl

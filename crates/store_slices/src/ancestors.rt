@@ -6,11 +6,11 @@ ghost use Rattle.entity_store.specs.Request.{IsWhole};
 ghost use Rattle.store_slices.specs.Kept.{names, some_names, AreNamed};
 
 use access_tries::{Node, TrieRef};
-use trie_traversal::named_ids;
-use policy_names::EntityUID;
 use entity_store::{Entity, Request};
+use policy_names::EntityUID;
 use std::alloc::{AllocError, Global};
 use std::collections::{BTreeMap, BTreeSet};
+use trie_traversal::named_ids;
 
 /// For each node of the table the ids that its ancestors' tries name, where they are followed in what is kept.
 pub(crate) fn named_by_nodes(

@@ -12,11 +12,11 @@ ghost use Rattle.store_slices.specs.Blocked.{IsBlocked};
 
 use crate::reach::reached_places;
 use access_tries::{Node, RootAccessTrie, TrieRef};
-use trie_traversal::{Place, stuck_in_context, stuck_in_entity};
 use entity_store::{Entities, Request};
 use policy_values::Value;
 use std::alloc::{AllocError, Global};
 use std::collections::BTreeSet;
+use trie_traversal::{Place, stuck_in_context, stuck_in_entity};
 
 /// A value to which a path of the trie leads and below which it goes on, though the value is neither id nor record, or of
 /// which ancestors are asked for, though it is no id. None exactly where there is no such value. Errs where memory runs out.

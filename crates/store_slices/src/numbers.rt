@@ -3,10 +3,10 @@
 ghost use Rattle.std.specs.Prelude.{◌≡◌, IfOk, OnOk};
 ghost use Rattle.store_slices.specs.Kept.{IsGrouped, IsNumbered};
 
-use trie_traversal::Place;
 use policy_names::EntityUID;
 use std::alloc::{AllocError, Global};
 use std::collections::{BTreeMap, BTreeSet};
+use trie_traversal::Place;
 
 /// For each entity the numbers of the nodes at which it is reached.
 pub(crate) type Numbers = BTreeMap<EntityUID, Vec<usize>>;

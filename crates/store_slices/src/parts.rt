@@ -10,8 +10,8 @@ use crate::ancestors::ancestors_among;
 use crate::numbers::Numbers;
 use access_tries::Node;
 use entity_loader::cut_entity;
-use policy_names::EntityUID;
 use entity_store::{Entities, Entity};
+use policy_names::EntityUID;
 use std::alloc::{AllocError, Global};
 use std::collections::{BTreeMap, BTreeSet};
 

@@ -13,10 +13,10 @@ ghost use Rattle.trie_traversal.specs.Wants.{Adds};
 ghost use Rattle.store_slices.specs.Reached.{IsExplored, IsAnswerLed, AreReached, AreThere};
 
 use access_tries::{Node, RootAccessTrie, TrieRef};
-use trie_traversal::{Place, ask, follow_entity, root_places};
 use entity_store::{Entities, Request};
 use std::alloc::{AllocError, Global};
 use std::collections::BTreeSet;
+use trie_traversal::{Place, ask, follow_entity, root_places};
 
 /// The places to which the paths of the trie lead in the store: each entity that is reached, with each node at which it is.
 pub(crate) fn reached_places(

@@ -14,6 +14,7 @@ use Rattle.policy_values.specs.Value.{Val, entity, rec, Fields, no_fields, field
 use Rattle.access_tries.specs.Edges.{Address}
 use Rattle.trie_traversal.specs.Wants.{points, fields_point}
 use Rattle.plain_lemmas.proofs.Lists.{any_weaker}
+
 -- nowhere, where no address passes
 mutual
   pub points_none : (v : Val) (x : EntityUID) (a : Address) → points v (λ b. false) x a ≡ false
@@ -33,6 +34,7 @@ any_point_none (v ∷ vs) x a = ap (λ c. c || list_any (λ w. points w (λ b. f
 pub values_are : (es : List (List ℕ × Val)) → values_of es ≡ values_in (fields_of es)
 values_are [] = refl
 values_are (e ∷ es) = ap (λ l. e.1 ∷ l) (values_are es)
+
 end_there : (o : Option NodeData) → has_mark o ≡ true → is_some o ≡ true
 end_there None h = cc
 end_there (Some n) h = refl
@@ -43,5 +45,6 @@ marks_lead ns i [] h = end_there (slice_get ns i) h
 marks_lead ns i (e ∷ es) h =
     any_weaker (λ l. edge_eq l.edge e && at_path has_mark ns l.number es) (λ l. edge_eq l.edge e && at_path is_some ns l.number es) (links_at ns i)
     (λ l p. let b = and_parts (edge_eq l.edge e) (at_path has_mark ns l.number es) p in and_from (edge_eq l.edge e) (at_path is_some ns l.number es) b.0 (marks_lead ns l.number es b.1)) h
+
 pub no_mark : (ns : Table) (i : ℕ) (a : Address) → at_path is_some ns i a ≡ false → at_path has_mark ns i a ≡ false
 no_mark ns i a h = false_by_weaker (at_path has_mark ns i a) (at_path is_some ns i a) (marks_lead ns i a) h

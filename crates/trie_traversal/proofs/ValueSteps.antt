@@ -31,6 +31,7 @@ values_are (e ∷ es) = ap (λ l. e.1 ∷ l) (values_are es)
 or_both : (a b c d : Bool) → (a ≡ true → c ≡ true) → (b ≡ true → d ≡ true) → (a ≡ true) ⊎ (b ≡ true) → (c || d) ≡ true
 or_both a b c d f g (inl h) = or_left_true c d (f h)
 or_both a b c d f g (inr h) = or_right_true c d (g h)
+
 end_there : (o : Option NodeData) → has_mark o ≡ true → is_some o ≡ true
 end_there None h = cc
 end_there (Some n) h = refl
@@ -41,6 +42,7 @@ marks_lead ns i [] h = end_there (slice_get ns i) h
 marks_lead ns i (e ∷ es) h =
     any_weaker (λ l. edge_eq l.edge e && at_path has_mark ns l.number es) (λ l. edge_eq l.edge e && at_path is_some ns l.number es) (links_at ns i)
     (λ l p. let b = and_parts (edge_eq l.edge e) (at_path has_mark ns l.number es) p in and_from (edge_eq l.edge e) (at_path is_some ns l.number es) b.0 (marks_lead ns l.number es b.1)) h
+
 -- behind an edge that leads nowhere nothing is marked
 pub no_mark_behind : (e : Edge) (v : ViewData) → LeadsNowhere e v → (a : Address) → view_marks v (e ∷ a) ≡ false
 no_mark_behind e v h a = false_by_weaker (at_path has_mark v.nodes v.number (e ∷ a)) (at_path is_some v.nodes v.number (e ∷ a)) (marks_lead v.nodes v.number (e ∷ a)) (h a)

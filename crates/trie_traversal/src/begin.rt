@@ -19,9 +19,9 @@ use crate::follow::{FollowError, follow_fields};
 use crate::place::{Place, ask};
 use crate::stuck::stuck_in_context;
 use access_tries::{Edge, EntityRoot, RootAccessTrie, TrieRef, links_of};
+use entity_store::{Context, Request};
 use policy_expressions::Var;
 use policy_names::EntityUID;
-use entity_store::{Context, Request};
 use std::alloc::{AllocError, Global};
 use std::collections::BTreeSet;
 

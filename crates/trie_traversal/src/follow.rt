@@ -13,8 +13,8 @@ ghost use Rattle.trie_traversal.specs.Leads.{Leads, FieldsLead, SomeLeads, Entit
 
 use crate::place::{Place, ask};
 use access_tries::TrieRef;
-use policy_names::Text;
 use entity_store::Entity;
+use policy_names::Text;
 use policy_values::{Value, ValueKind};
 use std::alloc::AllocError;
 use std::collections::{BTreeMap, BTreeSet};

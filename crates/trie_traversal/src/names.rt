@@ -10,8 +10,8 @@ ghost use Rattle.policy_values.specs.Value.{entity, rec, set, fields_of, vals_of
 ghost use Rattle.trie_traversal.specs.Names.{IsKept, Names, SomeNames, Adds};
 
 use access_tries::TrieRef;
-use policy_names::{EntityUID, Text};
 use entity_store::Entity;
+use policy_names::{EntityUID, Text};
 use policy_values::{Value, ValueKind};
 use std::alloc::AllocError;
 use std::collections::{BTreeMap, BTreeSet};

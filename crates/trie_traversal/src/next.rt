@@ -16,8 +16,8 @@ use crate::follow::{FollowError, follow_entity};
 use crate::place::Place;
 use crate::stuck::stuck_in_entity;
 use access_tries::{Node, TrieRef};
-use policy_names::EntityUID;
 use entity_store::Entity;
+use policy_names::EntityUID;
 use std::alloc::Global;
 use std::collections::{BTreeMap, BTreeSet};
 

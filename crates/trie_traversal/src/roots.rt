@@ -13,9 +13,9 @@ ghost use Rattle.trie_traversal.specs.Names.{IsKept, IsNamed, Names, Adds};
 
 use crate::names::{name_entity, name_fields};
 use access_tries::{EntityRoot, TrieRef};
+use entity_store::{Context, Entity, Request};
 use policy_expressions::Var;
 use policy_names::EntityUID;
-use entity_store::{Context, Entity, Request};
 use std::alloc::{AllocError, Global};
 use std::collections::{BTreeMap, BTreeSet};
 

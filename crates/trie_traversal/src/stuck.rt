@@ -10,9 +10,9 @@ ghost use Rattle.trie_traversal.specs.Stuck.{tests_of, Sticks, FieldsStick, Some
 
 use crate::demand::{is_demanded, is_needed_whole};
 use access_tries::{EntityRoot, RootAccessTrie, TrieRef};
+use entity_store::{Context, Entity, Request};
 use policy_expressions::Var;
 use policy_names::Text;
-use entity_store::{Context, Entity, Request};
 use policy_values::{Value, ValueKind, try_clone_fields};
 use std::alloc::{AllocError, Global};
 use std::collections::BTreeMap;

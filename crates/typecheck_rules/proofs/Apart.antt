@@ -10,8 +10,8 @@ use Rattle.policy_names.proofs.Ties.{equal_of}
 use Rattle.policy_names.specs.Uid.{text_cmp}
 use Rattle.schema_types.specs.Names.{has_name, AreApart}
 use Rattle.schema_types.specs.Ty.{Ty}
-use Rattle.policy_types.specs.Attributes.{names_of, AreApartIfKnown, AreDisjoint}
-use Rattle.policy_types.specs.Join.{text_eq}
+use Rattle.type_relations.specs.Attributes.{names_of, AreApartIfKnown, AreDisjoint}
+use Rattle.type_relations.specs.Join.{text_eq}
 use Rattle.typing_spec.specs.Rules.{are_apart, are_disjoint}
 use Rattle.plain_lemmas.proofs.Booleans.{and_parts_of, equal_by_both_ways, false_of_not}
 

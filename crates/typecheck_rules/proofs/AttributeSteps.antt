@@ -2,7 +2,7 @@
 use Rattle.std.proofs.Common.{◌≡◌, ℕ, List, [], ◌∷◌, Some, Option, ap, ◌∙◌, sym}
 use Rattle.schema_types.specs.Names.{only_name}
 use Rattle.schema_types.specs.Ty.{Attrs}
-use Rattle.policy_types.specs.Attributes.{or_none, union_attrs}
+use Rattle.type_relations.specs.Attributes.{or_none, union_attrs}
 
 -- of a list of one name, what is declared under it
 pub alone : (declared : List ℕ → Option Attrs) (ns : List (List ℕ)) (n : List ℕ) (xs : Attrs) → only_name ns ≡ Some n → declared n ≡ Some xs → xs ≡ union_attrs declared ns

@@ -3,8 +3,8 @@
 ghost use Rattle.std.specs.Prelude.{◌≡◌, ◌∷◌, [], IfOk, IfSome, option_copied};
 ghost use Rattle.std.specs.List.{list_all};
 ghost use Rattle.schema_core.specs.RequestEnvs.{env_data_of};
-ghost use Rattle.policy_types.specs.Attributes.{attrs_in, may_have, union_attrs};
-ghost use Rattle.policy_types.specs.Join.{text_eq};
+ghost use Rattle.type_relations.specs.Attributes.{attrs_in, may_have, union_attrs};
+ghost use Rattle.type_relations.specs.Join.{text_eq};
 ghost use Rattle.typing_spec.specs.Environment.{declared_attributes};
 ghost use Rattle.typing_spec.specs.Rules as rule;
 ghost use Rattle.findings.specs.Access as access;
@@ -18,13 +18,13 @@ use crate::shapes::{has_attributes, is_record};
 use findings::AttributeAccess;
 use policy_expressions::{Expr, Loc};
 use policy_names::{EntityType, Text};
-use policy_types::{lookup_attribute_type, may_have_attr};
 use schema_core::{RequestEnv, ValidatorSchema};
 use schema_types::{
     AttributeType, Attributes, DeclaredAttributes, EntityLUB, EntityRecordKind, Type, TypeKind,
 };
 use std::alloc::{AllocError, Global};
 use std::cmp::Ordering;
+use type_relations::{lookup_attribute_type, may_have_attr};
 
 /// The attribute that the values of the type declare.
 pub fn attribute_of(

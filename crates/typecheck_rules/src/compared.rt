@@ -10,10 +10,10 @@ use crate::expected::is_same_type;
 use crate::joins::bool_if_joined;
 use crate::shapes::{is_comparable, is_long};
 use policy_names::EntityUID;
-use policy_types::are_types_disjoint;
 use schema_types::Type;
 use std::alloc::{AllocError, Global};
 use std::cmp::Ordering;
+use type_relations::are_types_disjoint;
 
 /// Whether two ids that are known are one.
 pub fn are_one(x: Option<&EntityUID>, y: Option<&EntityUID>) -> Option<bool>

@@ -1,8 +1,8 @@
 //! Strict joins, and what is found where there is none.
 
 ghost use Rattle.std.specs.Prelude.{◌≡◌, ◌∷◌, [], IfOk, Err, is_some};
-ghost use Rattle.policy_types.specs.declared.mode.SubtypeMode.TheVariants.{Strict};
-ghost use Rattle.policy_types.specs.Join.{join, join_all};
+ghost use Rattle.type_relations.specs.declared.mode.SubtypeMode.TheVariants.{Strict};
+ghost use Rattle.type_relations.specs.Join.{join, join_all};
 ghost use Rattle.typing_spec.specs.Rules as rule;
 ghost use Rattle.typecheck_spec.specs.Own as own;
 ghost use Rattle.typecheck_rules.specs.Found.{findings_from};
@@ -10,10 +10,10 @@ ghost use Rattle.typecheck_rules.specs.Found.{findings_from};
 use crate::finding::{Finding, FindingKind, one};
 use findings::LubContext;
 use policy_expressions::Loc;
-use policy_types::{LubError, SubtypeMode, least_upper_bound, reduce_to_least_upper_bound};
 use schema_types::{LubHelp, Type};
 use std::alloc::{AllocError, Global};
 use std::collections::BTreeSet;
+use type_relations::{LubError, SubtypeMode, least_upper_bound, reduce_to_least_upper_bound};
 
 /// The strict join, or why there is none.
 pub fn strict_join(alloc: Global, t: &Type, u: &Type) -> Result<Result<Type, LubHelp>, AllocError>

@@ -3,7 +3,7 @@
 ghost use Rattle.std.specs.Prelude.{◌≡◌, ◌||◌};
 ghost use Rattle.std.specs.Ordering.{is_eq};
 ghost use Rattle.policy_names.specs.Uid.{text_cmp};
-ghost use Rattle.policy_types.specs.Join as join;
+ghost use Rattle.type_relations.specs.Join as join;
 ghost use Rattle.typing_spec.specs.Operands as operand;
 ghost use Rattle.typing_spec.specs.Rules as rule;
 ghost use Rattle.typing_spec.specs.Signatures.{long_type, same_type};

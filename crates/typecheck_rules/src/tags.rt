@@ -5,7 +5,7 @@ ghost use Rattle.std.specs.Option.{option_copied, option_and_then};
 ghost use Rattle.schema_types.specs.Names.{only_name};
 ghost use Rattle.schema_types.specs.Ty.{entity};
 ghost use Rattle.findings.specs.Finding as finding;
-ghost use Rattle.policy_types.specs.Attributes.{names_of};
+ghost use Rattle.type_relations.specs.Attributes.{names_of};
 ghost use Rattle.typing_spec.specs.Environment as environment;
 ghost use Rattle.typing_spec.specs.Rules as rule;
 ghost use Rattle.typecheck_spec.specs.Own as own;

@@ -9,8 +9,8 @@ use Rattle.schema_types.specs.Ty.{Ty, never, true_type, false_type, primitive, a
 use Rattle.schema_types.specs.TyOrder.{ty_cmp}
 use Rattle.schema_types.specs.TyLaws.{exact_ty, ty_cmp_total}
 use Rattle.policy_names.proofs.Ties.{equal_of}
-use Rattle.policy_types.specs.declared.mode.SubtypeMode.TheVariants.{Permissive}
-use Rattle.policy_types.specs.Subtype.{Subtype}
+use Rattle.type_relations.specs.declared.mode.SubtypeMode.TheVariants.{Permissive}
+use Rattle.type_relations.specs.Subtype.{Subtype}
 use Rattle.policy_expressions.specs.declared.functions.UnaryFunction.{UnaryFunction}
 use Rattle.policy_expressions.specs.declared.functions.UnaryFunction.TheVariants as unary
 use Rattle.policy_expressions.specs.declared.functions.BinaryFunction.TheVariants as binary

@@ -9,8 +9,8 @@ use Rattle.schema_types.specs.declared.kinds.LubHelp.{LubHelp}
 use Rattle.schema_types.specs.Ty.{Ty, true_type, false_type, primitive}
 use Rattle.schema_core.specs.Schema.{SchemaData}
 use Rattle.schema_core.specs.EnvData.{EnvData}
-use Rattle.policy_types.specs.declared.mode.SubtypeMode.TheVariants.{Strict}
-use Rattle.policy_types.specs.Join.{join, join_all}
+use Rattle.type_relations.specs.declared.mode.SubtypeMode.TheVariants.{Strict}
+use Rattle.type_relations.specs.Join.{join, join_all}
 use Rattle.policy_expressions.specs.declared.kinds.Loc.{Loc}
 use Rattle.policy_expressions.specs.declared.kinds.PatternElem.{PatternElem}
 use Rattle.policy_expressions.specs.declared.kinds.UnaryOp.{UnaryOp}

@@ -9,8 +9,8 @@ use Rattle.schema_types.specs.declared.ty.AttributeType.{AttributeType}
 use Rattle.schema_types.specs.Ty.{Ty, true_type, false_type, primitive, set_of}
 use Rattle.schema_core.specs.Schema.{SchemaData}
 use Rattle.schema_core.specs.EnvData.{EnvData}
-use Rattle.policy_types.specs.declared.mode.SubtypeMode.TheVariants.{Strict}
-use Rattle.policy_types.specs.Join.{join, is_entity, is_record}
+use Rattle.type_relations.specs.declared.mode.SubtypeMode.TheVariants.{Strict}
+use Rattle.type_relations.specs.Join.{join, is_entity, is_record}
 use Rattle.policy_expressions.specs.declared.kinds.Loc.{Loc}
 use Rattle.policy_expressions.specs.declared.kinds.UnaryOp.{UnaryOp}
 use Rattle.policy_expressions.specs.declared.kinds.UnaryOp.TheVariants.{Not, Neg, IsEmpty}

@@ -5,7 +5,7 @@ use Rattle.schema_types.specs.declared.kinds.Primitive.TheVariants.{Bool as Bool
 use Rattle.schema_types.specs.Ty.{Ty, true_type, false_type, primitive, set_of, record_of, any_entity, entity, action}
 use Rattle.schema_core.specs.Schema.{SchemaData}
 use Rattle.schema_core.specs.EnvData.{EnvData}
-use Rattle.policy_types.specs.Join.{is_entity, is_record}
+use Rattle.type_relations.specs.Join.{is_entity, is_record}
 use Rattle.policy_expressions.specs.declared.kinds.UnaryOp.{UnaryOp}
 use Rattle.policy_expressions.specs.declared.kinds.UnaryOp.TheVariants.{Not, Neg, IsEmpty}
 use Rattle.policy_expressions.specs.declared.kinds.BinaryOp.{BinaryOp}

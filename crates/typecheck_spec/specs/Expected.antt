@@ -2,7 +2,7 @@
 use Rattle.std.specs.Prelude.{Bool, true, false, ◌||◌, List, [], ◌∷◌, Option, Some, None, if◌then◌else◌}
 use Rattle.schema_types.specs.declared.kinds.OpenTag.TheVariants.{OpenAttributes}
 use Rattle.schema_types.specs.Ty.{Ty, any_set, set_of, record_of, any_entity, no_attrs}
-use Rattle.policy_types.specs.Join.{is_entity, is_record}
+use Rattle.type_relations.specs.Join.{is_entity, is_record}
 use Rattle.policy_expressions.specs.declared.kinds.UnaryOp.{UnaryOp}
 use Rattle.policy_expressions.specs.declared.kinds.UnaryOp.TheVariants.{Not, Neg, IsEmpty}
 use Rattle.policy_expressions.specs.declared.kinds.BinaryOp.{BinaryOp}

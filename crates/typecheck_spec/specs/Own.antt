@@ -9,9 +9,9 @@ use Rattle.schema_types.specs.Ty.{Ty, entity, set_of}
 use Rattle.schema_types.specs.TyOrder.{ty_cmp}
 use Rattle.schema_types.specs.declared.ty.AttributeType.{AttributeType}
 use Rattle.schema_core.specs.Schema.{SchemaData}
-use Rattle.policy_types.specs.declared.mode.SubtypeMode.TheVariants.{Strict}
-use Rattle.policy_types.specs.Attributes.{may_have, names_of}
-use Rattle.policy_types.specs.Join.{join, join_all}
+use Rattle.type_relations.specs.declared.mode.SubtypeMode.TheVariants.{Strict}
+use Rattle.type_relations.specs.Attributes.{may_have, names_of}
+use Rattle.type_relations.specs.Join.{join, join_all}
 use Rattle.policy_expressions.specs.declared.kinds.Loc.{Loc}
 use Rattle.policy_expressions.specs.declared.kinds.Literal.TheVariants as literal
 use Rattle.policy_expressions.specs.declared.kinds.BinaryOp.{BinaryOp}

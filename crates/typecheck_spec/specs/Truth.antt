@@ -5,10 +5,10 @@ use Rattle.schema_types.specs.Names.{only_name}
 use Rattle.schema_types.specs.Ty.{Ty, never, any_set, set_of}
 use Rattle.schema_core.specs.Schema.{SchemaData}
 use Rattle.schema_core.specs.EnvData.{EnvData}
-use Rattle.policy_types.specs.declared.mode.SubtypeMode.TheVariants.{Strict, Permissive}
-use Rattle.policy_types.specs.Attributes.{may_have, names_of}
-use Rattle.policy_types.specs.Join.{join_all}
-use Rattle.policy_types.specs.Subtype.{Subtype}
+use Rattle.type_relations.specs.declared.mode.SubtypeMode.TheVariants.{Strict, Permissive}
+use Rattle.type_relations.specs.Attributes.{may_have, names_of}
+use Rattle.type_relations.specs.Join.{join_all}
+use Rattle.type_relations.specs.Subtype.{Subtype}
 use Rattle.policy_expressions.specs.declared.kinds.Loc.{Loc}
 use Rattle.policy_expressions.specs.declared.functions.ExtensionFunction.{ExtensionFunction}
 use Rattle.policy_expressions.specs.Functions.{function_of}

@@ -14,10 +14,10 @@ use Rattle.schema_types.specs.Ty.{Ty, true_type, primitive, record_of, any_entit
 use Rattle.schema_core.specs.Faults.{IsSchema}
 use Rattle.schema_core.specs.Kinds.{attributes_in, tags_in}
 use Rattle.schema_core.specs.Schema.{TypeData, SchemaData, type_at}
-use Rattle.policy_types.specs.Attributes.{or_none, may_have}
-use Rattle.policy_types.specs.Join.{text_eq, is_entity}
+use Rattle.type_relations.specs.Attributes.{or_none, may_have}
+use Rattle.type_relations.specs.Join.{text_eq, is_entity}
 use Rattle.schema_types.specs.declared.kinds.Primitive.TheVariants.{String}
-use Rattle.policy_types.specs.Member.{Member, Typed}
+use Rattle.type_relations.specs.Member.{Member, Typed}
 use Rattle.policy_core.specs.declared.outcome.EvalError.TheVariants.{MissingAttribute, MissingTag}
 use Rattle.policy_core.specs.declared.outcome.Outcome.{Outcome}
 use Rattle.policy_core.specs.declared.outcome.Outcome.TheVariants.{Value, Error}

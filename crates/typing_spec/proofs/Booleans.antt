@@ -5,7 +5,7 @@ use Rattle.entity_store.specs.declared.request.Request.{Request}
 use Rattle.entity_store.specs.Store.{Store}
 use Rattle.schema_types.specs.declared.kinds.Primitive.TheVariants.{Bool as BoolType}
 use Rattle.schema_types.specs.Ty.{Ty, true_type, false_type, primitive}
-use Rattle.policy_types.specs.Member.{Member}
+use Rattle.type_relations.specs.Member.{Member}
 use Rattle.policy_core.specs.declared.outcome.EvalError.{EvalError}
 use Rattle.policy_core.specs.declared.outcome.Outcome.{Outcome}
 use Rattle.policy_core.specs.declared.outcome.Outcome.TheVariants.{Value, Error}

@@ -10,7 +10,7 @@ use Rattle.entity_store.specs.declared.request.Request.{Request}
 use Rattle.entity_store.specs.Store.{Store}
 use Rattle.policy_values.specs.Value.{Val, truth, string, decimal, ip, datetime, duration}
 use Rattle.schema_types.specs.Ty.{Ty}
-use Rattle.policy_types.specs.Member.{Member}
+use Rattle.type_relations.specs.Member.{Member}
 use Rattle.policy_expressions.specs.declared.functions.UnaryFunction.{UnaryFunction}
 use Rattle.policy_expressions.specs.declared.functions.UnaryFunction.TheVariants as unary
 use Rattle.policy_expressions.specs.declared.functions.BinaryFunction.{BinaryFunction}

@@ -4,8 +4,8 @@ use Rattle.std.specs.Bool.{Decides}
 use Rattle.std.specs.List.{list_all}
 use Rattle.schema_types.specs.Names.{has_name, AreApart}
 use Rattle.schema_types.specs.Ty.{Ty}
-use Rattle.policy_types.specs.Attributes.{names_of, AreApartIfKnown, AreDisjoint}
-use Rattle.policy_types.specs.Join.{text_eq}
+use Rattle.type_relations.specs.Attributes.{names_of, AreApartIfKnown, AreDisjoint}
+use Rattle.type_relations.specs.Join.{text_eq}
 use Rattle.typing_spec.specs.Rules.{are_apart, are_disjoint}
 use Rattle.typing_spec.proofs.Ids.{text_itself, apart_names}
 

@@ -13,8 +13,8 @@ use Rattle.policy_values.specs.ValueOrder.{val_cmp}
 use Rattle.policy_names.proofs.Ties.{equal_of}
 use Rattle.schema_types.specs.Names.{has_name}
 use Rattle.schema_types.specs.Ty.{Ty, true_type, false_type, any_entity, entity, action}
-use Rattle.policy_types.specs.Join.{text_eq, is_entity}
-use Rattle.policy_types.specs.Member.{Member}
+use Rattle.type_relations.specs.Join.{text_eq, is_entity}
+use Rattle.type_relations.specs.Member.{Member}
 use Rattle.policy_core.specs.declared.outcome.Outcome.{Outcome}
 use Rattle.policy_core.specs.declared.outcome.Outcome.TheVariants.{Value}
 use Rattle.policy_core.specs.Eval.{with_value}

@@ -15,11 +15,11 @@ use Rattle.schema_types.specs.declared.kinds.OpenTag.TheVariants.{OpenAttributes
 use Rattle.schema_types.specs.declared.kinds.LubHelp.{LubHelp}
 use Rattle.schema_types.specs.declared.kinds.LubHelp.TheVariants.{AttributeQualifier, RecordWidth, EntityType, None as Other}
 use Rattle.schema_types.specs.Ty.{Ty, never, true_type, false_type, primitive, any_set, set_of, record_of, any_entity, entity, action, extension, Attrs, no_attrs, attr}
-use Rattle.policy_types.specs.declared.mode.SubtypeMode.TheVariants.{Strict}
-use Rattle.policy_types.specs.Subtype.{SubOpen, Subtype, SubAttrs}
-use Rattle.policy_types.specs.Join.{result_map, text_eq, texts_eq, bool_eq, either_open, same_keys, join_primitive, join_first, join, join_attrs, join_rest}
-use Rattle.policy_types.proofs.SubtypeLaws.{subtype_refl, subtype_trans}
-use Rattle.policy_types.proofs.MemberLaws.{member_sub}
+use Rattle.type_relations.specs.declared.mode.SubtypeMode.TheVariants.{Strict}
+use Rattle.type_relations.specs.Subtype.{SubOpen, Subtype, SubAttrs}
+use Rattle.type_relations.specs.Join.{result_map, text_eq, texts_eq, bool_eq, either_open, same_keys, join_primitive, join_first, join, join_attrs, join_rest}
+use Rattle.type_relations.proofs.SubtypeLaws.{subtype_refl, subtype_trans}
+use Rattle.type_relations.proofs.MemberLaws.{member_sub}
 use Rattle.typing_spec.specs.Rules.{strict_join, set_type}
 use Rattle.typing_spec.proofs.Booleans.{IsAbove}
 use Rattle.plain_lemmas.proofs.Booleans.{and_parts_of}

@@ -13,8 +13,8 @@ use Rattle.schema_types.specs.Ty.{Ty, true_type, false_type, primitive, set_of, 
 use Rattle.schema_core.specs.EnvData.{LinkedEnvironment, declared_action, literal_type, id_type}
 use Rattle.schema_core.specs.Faults.{IsSchema}
 use Rattle.schema_core.specs.Schema.{TypeData, ActionData, SchemaData, type_at, action_at}
-use Rattle.policy_types.specs.Attributes.{or_none, names_of, may_have}
-use Rattle.policy_types.specs.Join.{is_entity, is_record, text_eq}
+use Rattle.type_relations.specs.Attributes.{or_none, names_of, may_have}
+use Rattle.type_relations.specs.Join.{is_entity, is_record, text_eq}
 use Rattle.policy_expressions.specs.declared.functions.UnaryFunction.TheVariants as unary_function
 use Rattle.policy_expressions.specs.declared.functions.BinaryFunction.TheVariants as binary_function
 use Rattle.policy_expressions.specs.declared.functions.ExtensionFunction.{ExtensionFunction}

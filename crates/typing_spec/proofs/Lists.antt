@@ -9,9 +9,9 @@ use Rattle.schema_types.specs.declared.ty.AttributeType.{AttributeType}
 use Rattle.schema_types.specs.Attrs.{attr_at}
 use Rattle.schema_types.specs.Required.{required_attrs}
 use Rattle.schema_types.specs.Ty.{Ty, set_of, Attrs, no_attrs, attr}
-use Rattle.policy_types.specs.Join.{text_eq}
-use Rattle.policy_types.specs.Member.{has_field, type_of, Undeclared, IsDeclared, HasRequired, Member, Members, Typed}
-use Rattle.policy_types.proofs.MemberLaws.{member_sub}
+use Rattle.type_relations.specs.Join.{text_eq}
+use Rattle.type_relations.specs.Member.{has_field, type_of, Undeclared, IsDeclared, HasRequired, Member, Members, Typed}
+use Rattle.type_relations.proofs.MemberLaws.{member_sub}
 use Rattle.policy_core.specs.declared.outcome.EvalError.{EvalError}
 use Rattle.policy_core.specs.declared.outcome.Outcome.{Outcome}
 use Rattle.policy_core.specs.declared.outcome.Outcome.TheVariants.{Value, Error}

@@ -8,8 +8,8 @@ use Rattle.schema_types.specs.declared.kinds.Primitive.TheVariants.{Bool as Bool
 use Rattle.schema_types.specs.Ty.{Ty, true_type, false_type, primitive, any_set, set_of, any_entity, entity, action}
 use Rattle.schema_types.specs.TyLaws.{exact_ty}
 use Rattle.schema_types.specs.TyOrder.{ty_cmp}
-use Rattle.policy_types.specs.Join.{text_eq, is_entity}
-use Rattle.policy_types.specs.Member.{Member}
+use Rattle.type_relations.specs.Join.{text_eq, is_entity}
+use Rattle.type_relations.specs.Member.{Member}
 use Rattle.policy_expressions.specs.declared.kinds.PatternElem.{PatternElem}
 use Rattle.policy_expressions.specs.declared.kinds.UnaryOp.{UnaryOp}
 use Rattle.policy_expressions.specs.declared.kinds.UnaryOp.TheVariants.{Not, Neg, IsEmpty}

@@ -12,8 +12,8 @@ use Rattle.schema_types.specs.Ty.{Ty, true_type, false_type, primitive}
 use Rattle.schema_core.specs.EnvData.{LinkedEnvironment, declared_action, literal_type, id_type}
 use Rattle.schema_core.specs.Faults.{IsSchema}
 use Rattle.schema_core.specs.Schema.{TypeData, ActionData, SchemaData, type_at, action_at}
-use Rattle.policy_types.specs.Join.{is_entity}
-use Rattle.policy_types.specs.Member.{Member}
+use Rattle.type_relations.specs.Join.{is_entity}
+use Rattle.type_relations.specs.Member.{Member}
 use Rattle.policy_expressions.specs.declared.kinds.Literal.{Literal}
 use Rattle.policy_expressions.specs.declared.kinds.Literal.TheVariants as literal
 use Rattle.policy_expressions.specs.declared.kinds.Var.{Var}

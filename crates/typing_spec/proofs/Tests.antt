@@ -9,13 +9,13 @@ use Rattle.schema_types.specs.Ty.{Ty, never, true_type, false_type, primitive, a
 use Rattle.schema_types.specs.TyLaws.{ty_cmp_total}
 use Rattle.schema_core.specs.EnvData.{LinkedEnvironment, declared_action}
 use Rattle.schema_core.specs.Schema.{ActionData, action_at}
-use Rattle.policy_types.specs.declared.mode.SubtypeMode.TheVariants.{Permissive}
-use Rattle.policy_types.specs.Subtype.{SubOpen, Subtype}
+use Rattle.type_relations.specs.declared.mode.SubtypeMode.TheVariants.{Permissive}
+use Rattle.type_relations.specs.Subtype.{SubOpen, Subtype}
 use Rattle.typing_spec.specs.Operands.{is_boolean, is_long, Tests, IsInhabited, TestsAreSubtyping, TypedIsInhabited}
 use Rattle.typing_spec.specs.Rules.{is_string, is_set, is_entity_set}
 use Rattle.typing_spec.specs.Signatures.{bool_type, long_type, string_type, same_type}
 use Rattle.typing_spec.specs.Typing.{Typing, types}
-use Rattle.policy_types.specs.Join.{is_entity, is_record}
+use Rattle.type_relations.specs.Join.{is_entity, is_record}
 use Rattle.typing_spec.proofs.Kept.{IsKept, AreKept}
 use Rattle.typing_spec.proofs.KeptTypes.{types_kept}
 use Rattle.typing_spec.proofs.Operators.{same_types_are_one}

@@ -16,8 +16,8 @@ use Rattle.schema_types.specs.Ty.{Ty, any_entity, entity, action, set_of as set_
 use Rattle.schema_core.specs.EnvData.{LinkedEnvironment, declared_action}
 use Rattle.schema_core.specs.Faults.{IsSchema}
 use Rattle.schema_core.specs.Schema.{TypeData, ActionData, SchemaData, type_at, action_at}
-use Rattle.policy_types.specs.Join.{text_eq, is_entity}
-use Rattle.policy_types.specs.Member.{Member, Members}
+use Rattle.type_relations.specs.Join.{text_eq, is_entity}
+use Rattle.type_relations.specs.Member.{Member, Members}
 use Rattle.policy_expressions.specs.declared.kinds.Literal.TheVariants as literal
 use Rattle.policy_expressions.specs.declared.kinds.Var.TheVariants.{Principal, Action, Resource, Context}
 use Rattle.policy_core.specs.declared.outcome.Outcome.{Outcome}
@@ -40,8 +40,10 @@ use Rattle.typing_spec.proofs.Kept.{same_text}
 use Rattle.typing_spec.proofs.Basics.{mapped}
 use Rattle.typing_spec.proofs.Lists.{EachIs, AllIs, ordered_all}
 use Rattle.typing_spec.proofs.Operators.{two, id_member}
+
 or_false_left : (a b : Bool) → (a || b) ≡ false → a ≡ false
 or_false_left true b h = cc
+
 or_false_right : (a b : Bool) → (a || b) ≡ false → b ≡ false
 or_false_right true b h = cc
 or_false_right false b h = h

@@ -16,7 +16,7 @@ use Rattle.schema_types.specs.Ty.{Ty, record_of, Attrs}
 use Rattle.schema_core.specs.Kinds.{Kind, standard, enumerated, attributes_in, tags_in}
 use Rattle.schema_core.specs.Schema.{TypeData, ActionData, SchemaData, type_at, action_at}
 use Rattle.schema_core.specs.EnvData.{LinkedEnvironment}
-use Rattle.policy_types.specs.Member.{Member}
+use Rattle.type_relations.specs.Member.{Member}
 use Rattle.policy_core.specs.Eval.{known_fields}
 use Rattle.schema_core.specs.Schema.{type_below, action_below}
 

@@ -7,9 +7,9 @@ use Rattle.schema_types.specs.Ty.{Ty, never, true_type, false_type, primitive, a
 use Rattle.schema_core.specs.EnvData.{LinkedEnvironment, declared_action}
 use Rattle.schema_core.specs.Faults.{IsSchema}
 use Rattle.schema_core.specs.Schema.{SchemaData}
-use Rattle.policy_types.specs.declared.mode.SubtypeMode.TheVariants.{Permissive}
-use Rattle.policy_types.specs.Join.{is_entity, is_record}
-use Rattle.policy_types.specs.Subtype.{Subtype}
+use Rattle.type_relations.specs.declared.mode.SubtypeMode.TheVariants.{Permissive}
+use Rattle.type_relations.specs.Join.{is_entity, is_record}
+use Rattle.type_relations.specs.Subtype.{Subtype}
 use Rattle.policy_expressions.specs.Plain.{Plain}
 use Rattle.capabilities.specs.Capability.{Capability}
 use Rattle.typing_spec.specs.Conforms.{IsOf}

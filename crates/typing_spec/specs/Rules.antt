@@ -12,9 +12,9 @@ use Rattle.schema_types.specs.Ty.{Ty, true_type, false_type, primitive, any_set,
 use Rattle.schema_types.specs.Attrs.{attr_at}
 use Rattle.schema_core.specs.Schema.{SchemaData}
 use Rattle.schema_core.specs.EnvData.{EnvData, principal_in, resource_in}
-use Rattle.policy_types.specs.declared.mode.SubtypeMode.TheVariants.{Strict}
-use Rattle.policy_types.specs.Attributes.{attrs_in, may_have, names_of}
-use Rattle.policy_types.specs.Join.{join, join_all, is_entity, is_record, text_eq}
+use Rattle.type_relations.specs.declared.mode.SubtypeMode.TheVariants.{Strict}
+use Rattle.type_relations.specs.Attributes.{attrs_in, may_have, names_of}
+use Rattle.type_relations.specs.Join.{join, join_all, is_entity, is_record, text_eq}
 use Rattle.policy_expressions.specs.declared.kinds.Var.TheVariants.{Principal, Resource}
 use Rattle.policy_expressions.specs.declared.kinds.UnaryOp.{UnaryOp}
 use Rattle.policy_expressions.specs.declared.kinds.UnaryOp.TheVariants.{Not, Neg, IsEmpty}

@@ -7,7 +7,7 @@ use Rattle.schema_types.specs.Ty.{Ty, true_type, false_type}
 use Rattle.schema_core.specs.Schema.{SchemaData}
 use Rattle.schema_core.specs.Faults.{IsSchema}
 use Rattle.schema_core.specs.EnvData.{EnvData, LinkedEnvironment, declared_action}
-use Rattle.policy_types.specs.Member.{Member}
+use Rattle.type_relations.specs.Member.{Member}
 use Rattle.policy_core.specs.Allowed.{IsAllowedError}
 use Rattle.policy_core.specs.declared.outcome.Outcome.{Outcome}
 use Rattle.policy_core.specs.declared.outcome.Outcome.TheVariants.{Value, Error}

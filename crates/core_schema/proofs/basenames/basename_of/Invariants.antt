@@ -1,6 +1,6 @@
 use Rattle.std.proofs.Common.{◌≡◌, length}
 use Rattle.std.specs.Option.{unwrap_or}
-use Rattle.schema_types.specs.CoreSchema.{behind_colons}
+use Rattle.core_schema.specs.Descriptions.{behind_colons}
 use Rattle.core_schema.proofs.basenames.basename_of.Given as goal
 
 -- what stands behind the last two colons that are left, and else behind the last that were seen

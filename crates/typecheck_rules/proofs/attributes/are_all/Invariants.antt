@@ -1,6 +1,6 @@
 use Rattle.std.proofs.Common.{◌≡◌}
 use Rattle.std.specs.List.{list_all}
-use Rattle.policy_types.specs.Join.{text_eq}
+use Rattle.type_relations.specs.Join.{text_eq}
 use Rattle.typecheck_rules.proofs.attributes.are_all.Given as goal
 
 -- what is left decides

@@ -1,6 +1,6 @@
 use Rattle.std.proofs.Common.{◌≡◌, map, take}
 use Rattle.core_schema.specs.Described.{described_type}
-use Rattle.schema_types.specs.CoreSchema.{with_basename}
+use Rattle.core_schema.specs.Descriptions.{with_basename}
 use Rattle.core_schema.proofs.schema.CoreSchemaSchema.entity_types_with_basename.Given as goal
 
 abbrev pub invariant-loop-declared : goal.invariant-loop-declared

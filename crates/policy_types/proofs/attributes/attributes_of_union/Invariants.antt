@@ -1,7 +1,0 @@
-use Rattle.std.proofs.Common.{◌≡◌}
-use Rattle.policy_types.specs.Attributes.{shared_with, union_attrs}
-use Rattle.policy_types.proofs.attributes.attributes_of_union.Given as goal
-
--- what is left is still to be joined
-abbrev pub invariant-loop-name : goal.invariant-loop-name
-invariant-loop-name g l = shared_with (g.S.DeclaredAttributes.declared l.schema) l.attrs l.name-iterator ≡ union_attrs (g.S.DeclaredAttributes.declared l.schema) l.lub

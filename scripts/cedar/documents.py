@@ -1,0 +1,140 @@
+"""The document: writes policies as its JSON, tests how deep it nests, and puts it out."""
+import json
+
+NESTED = 127  # so deep may a document nest
+PLACES, CHAINS, PLAIN = "places", "chains", "plain"
+
+
+class TooDeep(Exception):
+    """An expression whose JSON nests deeper than is read."""
+
+
+class Writer:
+    """Writes one policy's expressions. PLACES: each has its `at`; CHAINS: those inside `.` and `if` chains have none; PLAIN: none has."""
+
+    def __init__(self, source, mode):
+        self.source, self.mode = source, mode
+
+    def expression(self, node, room):
+        """The JSON of a node, which may nest `room` deep."""
+        placed = node.span is not None and self.mode != PLAIN
+        made = self.form(node, room - 1 if placed else room)
+        if not placed:
+            return made
+        if room < 2:
+            raise TooDeep
+        return {"at": [self.source.byte(node.span[0]), self.source.byte(node.span[1])], "of": made}
+
+    def form(self, node, room):
+        form, parts = node.form, node.parts
+        if form == "literal":
+            return parts[0]
+        if room < 2:
+            raise TooDeep
+        if form in ("id", "var"):
+            return {form: parts[0]}
+        if form == "set":
+            return self.all_of(parts, room - 1)
+        if form == "record":
+            return {"record": {name: self.expression(x, room - 2) for name, x in parts}}
+        if form in ("all", "any"):
+            first, rest = self.spine(node, 0, flat=True)
+            return {form: self.all_of([first] + [x.parts[1] for x in reversed(rest)], room - 2)}
+        if form == "get":
+            first, rest = self.spine(node, 0, flat=node.span is None or self.mode != PLACES)
+            return {"get": [self.expression(first, room - 2)] + [x.parts[1] for x in reversed(rest)]}
+        if form == "if":
+            last, rest = self.spine(node, 2, flat=node.span is None or self.mode != PLACES)
+            return {"if": self.all_of([x for n in rest for x in n.parts[:2]] + [last], room - 2)}
+        if form in ("not", "neg", "isEmpty"):
+            return {form: self.expression(parts[0], room - 1)}
+        if form in ("has", "is", "like"):
+            return {form: [self.expression(parts[0], room - 2), parts[1]]}
+        if form == "call":
+            return {"call": [parts[0]] + self.all_of(parts[1:], room - 2)}
+        return {form: self.all_of(parts, room - 2)}
+
+    def all_of(self, nodes, room):
+        return [self.expression(x, room) for x in nodes]
+
+    def spine(self, node, side, flat):
+        """What a chain of nodes of one form begins (or ends) with, and its nodes from the outermost; of one node alone where it isn't flat."""
+        form, found = node.form, [node]
+        node = node.parts[side]
+        while flat and node.form == form:
+            found.append(node)
+            node = node.parts[side]
+        return node, found
+
+
+def policy(p, report):
+    """The JSON of a policy, with as many places as fit into the depth that is read."""
+    for mode in (PLACES, CHAINS, PLAIN):
+        writer = Writer(p.place.source, mode)
+        try:
+            body = [{kind: writer.expression(node, NESTED - 5)} for kind, node in p.clauses]
+        except TooDeep:
+            continue
+        if mode == PLAIN and any(node.span for _, node in p.clauses):
+            report.dropped(p.place, f"the places of policy `{p.name}`: with them its JSON would nest deeper than {NESTED}")
+        return {"id": p.name, "effect": p.effect, **p.scope, **({"body": body} if body else {})}
+    return report.no(p.place, f"policy `{p.name}` has an expression whose JSON would nest deeper than {NESTED}, which is not read "
+                     "(chains of `&&`, of `||`, of `.` and of `if` nest no deeper than one of them)")
+
+
+def policies(static, links, report):
+    """The document's policies: static ones and templates, then links; each id once, each slot of a template once."""
+    made, known = [], {}
+
+    def note(one):
+        if one.name in known:
+            report.no(one.place, f"two policies have the id `{one.name}`; the other stands at {known[one.name].place.short()}")
+        known.setdefault(one.name, one)
+
+    for p in static:
+        note(p)
+        made.append(policy(p, report))
+    templates = {p.name: p for p in static if p.slots()}
+    templates.update({p.key: p for p in static if p.slots()})  # in a policy set links go by keys
+    for l in links:
+        note(l)
+        template = templates.get(l.template)
+        if template is None:
+            report.no(l.place, f"there is no template with the id `{l.template}`")
+            continue
+        if template.slots() != set(l.values):
+            due = ", ".join(f"`?{s}`" for s in sorted(template.slots()))
+            report.no(l.place, f"values for {due} are due, the slots of the template `{l.template}`")
+        made.append({"id": l.name, "link": template.name, **l.values})
+    return made
+
+
+def depth(value):
+    """How deep JSON nests."""
+    deepest, left = 0, [(value, 1)]
+    while left:
+        x, d = left.pop()
+        if isinstance(x, (list, dict)):
+            deepest = max(deepest, d)
+            left += [(y, d + 1) for y in (x.values() if isinstance(x, dict) else x) if isinstance(y, (list, dict))]
+    return deepest
+
+
+def text_of(document):
+    """The document's text, with a line for each entity type, action, policy and entity."""
+    def compact(value):
+        return json.dumps(value, ensure_ascii=False, separators=(",", ":"))
+
+    def lines(opening, items, closing):
+        return opening + ("\n  " + ",\n  ".join(items) + "\n" if items else "") + closing
+
+    schema = document["schema"]
+    types = lines("{", [f"{compact(name)}:{compact(t)}" for name, t in schema["entityTypes"].items()], "}")
+    parts = [f'{{"schema":{{"entityTypes":{types},\n"actions":{lines("[", map_list(compact, schema["actions"]), "]")}}}']
+    parts += [f'"{member}":{lines("[", map_list(compact, document[member]), "]")}' for member in ("policies", "entities") if member in document]
+    parts += [f'"request":{compact(document["request"])}'] if "request" in document else []
+    return ",\n".join(parts) + "}\n"
+
+
+def map_list(function, items):
+    return [function(x) for x in items]

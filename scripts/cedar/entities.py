@@ -1,0 +1,110 @@
+"""Reads entities and a request in Cedar's JSON; what Cedar lets out by the schema's types is put in."""
+from cedar.extensions import FUNCTIONS, stands_for_value
+from cedar.json_text import Number
+from cedar.objects import extension_call, is_list, members, shown, uid
+
+
+class Values:
+    """Reads values by their types, which stand as in the document; None for a type that is not known."""
+
+    def __init__(self, report):
+        self.report = report
+
+    def value(self, v, t, place):
+        t = t["optional"] if isinstance(t, dict) and "optional" in t else t
+        if isinstance(v, (bool, int)):
+            return v
+        if isinstance(v, str):
+            return self.extension(FUNCTIONS[t], v, place) if isinstance(t, str) and t in FUNCTIONS else v
+        if isinstance(v, list):
+            element = t.get("set") if isinstance(t, dict) else None
+            return [self.value(x, element, place[i]) for i, x in enumerate(v)]
+        if v is None:
+            return self.report.no(place, "`null` is no value")
+        if isinstance(v, Number):
+            return self.report.no(place, f"{v.text} is no whole number of 64 bits")
+        return self.object(v, t, place)
+
+    def object(self, v, t, place):
+        if "__expr" in v:
+            return self.report.no(place, "`__expr` has no counterpart")
+        if "__entity" in v or (isinstance(t, dict) and "entity" in t):
+            return {"id": uid(v, place, self.report)}
+        if "__extn" in v or (isinstance(t, str) and t in FUNCTIONS):
+            call = extension_call(v, place, self.report)
+            return self.extension(*call, place) if call else None
+        of = t.get("record", {}) if isinstance(t, dict) else {}
+        return {"record": self.values(v, of, place)}
+
+    def values(self, given, types, place):
+        """Values under their names; the types are a table of types, or one function of the name."""
+        of = types if callable(types) else types.get
+        return {name: self.value(v, of(name), place[name]) for name, v in given.items()}
+
+    def extension(self, function, text, place):
+        if not stands_for_value(function, text):
+            return self.report.no(place, f"{shown(text)} is no text of `{function}` (docs/FORMAT.md, Values)")
+        return {function: text}
+
+
+def entity(e, place, schema, report):
+    if not members(e, place, report, ("uid",), ("attrs", "parents", "tags")):
+        return None
+    made = {"id": uid(e["uid"], place["uid"], report)}
+    kind = made["id"][0] if made["id"] else None
+    tags = schema.tags.get(kind)
+    for member, types in (("attrs", schema.attributes.get(kind, {})), ("tags", lambda name: tags)):
+        given = e.get(member, {})
+        if not isinstance(given, dict):
+            report.no(place[member], f"an object is due, not {shown(given)}")
+        elif given:
+            made[member] = Values(report).values(given, types, place[member])
+    parents = e.get("parents", [])
+    if is_list(parents, place["parents"], report, "ids") and parents:
+        made["parents"] = [uid(p, place["parents"][i], report) for i, p in enumerate(parents)]
+    return made
+
+
+def store(value, top, schema, report):
+    """The entities, each id once."""
+    if not is_list(value, top, report, "entities"):
+        return []
+    known, made = {}, []
+    for i, e in enumerate(value):
+        found = entity(e, top[i], schema, report)
+        if found and found["id"]:
+            key = tuple(found["id"])
+            if key in known:
+                report.no(top[i]["uid"], f"two entities have this id; the other stands at {known[key].short()}")
+            known.setdefault(key, top[i])
+            made.append(found)
+    return made
+
+
+def with_actions(made, schema, place, report):
+    """The entities and those of actions that the schema puts below others, as Cedar adds them."""
+    there = {tuple(e["id"]) for e in made}
+    added = [{"id": a["id"], "parents": a["memberOf"]} for a in schema.actions if "memberOf" in a and tuple(a["id"]) not in there]
+    if added:
+        names = ", ".join(f"{kind}::{shown(eid)}" for kind, eid in (e["id"] for e in added))
+        report.added(place, f"the entities of the actions that the schema puts below others: {names}")
+    return made + added
+
+
+PARTS = ("principal", "action", "resource")
+
+
+def request(value, top, schema, report):
+    if not members(value, top, report, PARTS, ("context",)):
+        return {}
+    made = {part: uid(value[part], top[part], report, text=True) for part in PARTS}
+    if "context" not in value:
+        report.added(top, "an empty context")
+    made["context"] = context(value.get("context", {}), made["action"], top["context"], schema, report)
+    return made
+
+
+def context(value, action, place, schema, report):
+    if not isinstance(value, dict):
+        return report.no(place, f"an object is due, not {shown(value)}")
+    return Values(report).values(value, schema.contexts.get(tuple(action or ()), {}), place)

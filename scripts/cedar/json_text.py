@@ -1,0 +1,130 @@
+"""JSON with places: reads a file's text, and finds where the value of a path stands in it."""
+import json
+import re
+
+from cedar.places import Place
+
+SPACE = re.compile(r"[ \t\n\r]*")
+LONG = 1 << 63
+DEEPEST = 1000
+SURROGATE = re.compile("[\ud800-\udfff]")
+
+
+class Object(dict):
+    """An object, with the names of the members that stand in it more than once."""
+
+    repeated = ()
+
+
+class Number:
+    """A number that is no whole number of 64 bits."""
+
+    def __init__(self, text):
+        self.text = text
+
+
+def whole(text):
+    if text == "-0" or len(text) > 20 or not -LONG <= int(text) < LONG:
+        return Number(text)
+    return int(text)
+
+
+def members(pairs):
+    made = Object(pairs)
+    if len(made) != len(pairs):
+        names = [name for name, _ in pairs]
+        made.repeated = sorted({name for name in names if names.count(name) > 1})
+    return made
+
+
+def load(source, report):
+    """The value of a JSON text, or None where it is none (then that is refused)."""
+    top = Place(source)
+    try:
+        value = json.loads(source.text, object_pairs_hook=members, parse_int=whole, parse_float=Number, parse_constant=Number)
+    except json.JSONDecodeError as fault:
+        return report.no(Place(source, fault.pos), f"no JSON: {fault.msg}")
+    except RecursionError:
+        return report.no(top, f"JSON that nests deeper than {DEEPEST}")
+    return value if sound(value, "\\u" in source.text) or tested(value, top, report) else None
+
+
+def sound(value, escaped):
+    """Whether `tested` has nothing to say, found out without places; halves of characters stand only where there are escapes."""
+    left, depth = [value], 0
+    while left:
+        depth += 1
+        if escaped or depth > DEEPEST or any(isinstance(x, dict) and x.repeated for x in left):
+            return False
+        parts = (y for x in left if isinstance(x, (dict, list)) for y in (x.values() if isinstance(x, dict) else x))
+        left = [y for y in parts if isinstance(y, (dict, list))]
+    return True
+
+
+def tested(value, top, report):
+    """Tests what Python's reading of JSON lets through: repeated members, halves of characters, any depth."""
+    left, good = [(value, top, 1)], True
+
+    def no(place, why):
+        nonlocal good
+        good = False
+        report.no(place, why)
+
+    while left:
+        x, place, depth = left.pop()
+        if isinstance(x, str) and SURROGATE.search(x):
+            no(place, "a text with half of a surrogate pair")
+        elif isinstance(x, dict):
+            for name in x.repeated:
+                no(place[name], "a member that stands twice")
+            for name in x:
+                if SURROGATE.search(name):
+                    no(place, "a member's name with half of a surrogate pair")
+        if isinstance(x, (dict, list)):
+            if depth > DEEPEST:
+                no(place, f"JSON that nests deeper than {DEEPEST}")
+                continue
+            steps = x.items() if isinstance(x, dict) else enumerate(x)
+            left += [(y, place[step], depth + 1) for step, y in steps if isinstance(y, (str, dict, list))]
+    return good
+
+
+def find(text, path):
+    """The offset of the value at the end of a path, as far as the path goes; a name that stands twice counts where it stands last."""
+    at = SPACE.match(text, 0).end()
+    for step in path:
+        found = None
+        for name, start in parts(text, at):
+            if name == step:
+                found = start
+                if isinstance(step, int):
+                    break
+        if found is None:
+            return at
+        at = found
+    return at
+
+
+DECODER = json.JSONDecoder(parse_int=str, parse_float=str, parse_constant=str)
+
+
+def parts(text, at):
+    """The steps out of the object or list that begins at an offset, each with the offset of its value; nothing where there is no such."""
+    opened = text[at:at + 1]
+    if opened not in ("{", "["):
+        return
+    index = 0
+    at = SPACE.match(text, at + 1).end()
+    while text[at:at + 1] not in ("}", "]", ""):
+        name = index
+        try:
+            if opened == "{":
+                name, at = DECODER.raw_decode(text, at)
+                at = SPACE.match(text, SPACE.match(text, at).end() + 1).end()
+            yield name, at
+            at = SPACE.match(text, DECODER.raw_decode(text, at)[1]).end()
+        except (ValueError, RecursionError):
+            return
+        index += 1
+        if text[at:at + 1] == ",":
+            at = SPACE.match(text, at + 1).end()

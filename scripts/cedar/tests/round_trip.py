@@ -1,0 +1,80 @@
+"""Random documents, to Cedar's JSON and to its text and back: the same document but for places, and the same answers."""
+import json
+
+from cedar import to_command
+from cedar.tests.random_documents import document
+from cedar.tests.shared import COMMANDS, make, plain, run, text_of, without_places
+from cedar.to_text import Unsayable
+
+DOCUMENTS, ANSWERED = 60, 12
+
+
+def to_cedar(d, as_json):
+    """The files that say a document in Cedar's forms."""
+    parts = {part: to_command.PARTS[part](d, as_json) for part in ("schema", "policies", "entities", "request")}
+    if not as_json:
+        parts["links"] = to_command.links(d, False)
+    return parts
+
+
+# What Cedar has no words for: a part, members of the document, and words of what is told.
+UNSAYABLE = (
+    ("policies", {"policies": [{"id": "p", "effect": "permit", "body": [{"when": {"call": ["foo", 1]}}]}]}, "policies[0]: Cedar has no `foo`"),
+    ("policies", {"policies": [{"id": "p", "effect": "permit", "principal": {"==": ["if", "a"]}}]}, "`if` is no name of Cedar"),
+    ("policies", {"policies": [{"id": "p", "effect": "permit"}, {"id": "q"}]}, "policies[1]: not of the document's form"),
+    ("schema", {"schema": {"actions": [{"id": ["Deed", "a"]}]}}, "Deed"),
+    ("schema", {"schema": {"entityTypes": {"in": {}}}}, "`in` is no name of Cedar"),
+    ("entities", {"entities": [{"id": ["U", "a"], "attrs": {"t": {"datetime": 253402300800000}}}]}, "entities[0]: a datetime outside the years"),
+    ("entities", {"entities": [{"id": ["U", "a"], "attrs": {"t": {"record": {"__expr": 1}}}}]}, "means something else"),
+    ("request", {}, "request: an unknown principal"),
+)
+INSTANTS = (0, -1, 1, 86399999, -62167219200000, -62135596800001, -62135596800000, 253402300799999, 951782400000)
+
+
+def unsayable():
+    """What is wrong with what is told of documents that Cedar can't say."""
+    for part, members, words in UNSAYABLE:
+        for as_json in (False, True):
+            d = {"schema": {}, **members}
+            try:
+                yield f"{part} {members}: {to_command.PARTS[part](d, as_json)}"
+            except Unsayable as why:
+                if words not in str(why):
+                    yield f"{part} {members}: {why}"
+
+
+def instants(program):
+    """Datetimes as milliseconds, through their texts: what `slice` writes of them has to be the same."""
+    for milliseconds in INSTANTS:
+        t = {"get": [{"var": "principal"}, "t"]}
+        d = {"schema": {"entityTypes": {"U": {"attributes": {"t": "datetime"}}}, "actions": [{"id": ["Action", "a"], "principals": ["U"], "resources": ["U"]}]},
+             "policies": [{"id": "p", "effect": "permit", "body": [{"when": {"==": [t, t]}}]}], "entities": [{"id": ["U", "a"], "attrs": {"t": {"datetime": milliseconds}}}],
+             "request": {"principal": ["U", "a"], "action": ["Action", "a"], "resource": ["U", "b"], "context": {}}}
+        due, back = run(program, ["slice"], json.dumps(d).encode()), text_of(make(to_cedar(d, True)))
+        if due[0] != 0 or run(program, ["slice"], back) != due:
+            yield f"{milliseconds}: {due}: {back}"
+
+
+def test(program):
+    wrong, decided = [*unsayable(), *instants(program)], 0
+    for seed in range(DOCUMENTS):
+        d = document(seed)
+        back = {form: make(to_cedar(d, form == "JSON")) for form in ("JSON", "text")}
+        for form, made in back.items():
+            wrong += [f"{seed} {form}: {line}" for line in made.lines if ": refused: " in line]
+            if plain(made.document) != plain(d):
+                wrong.append(f"{seed} {form}: another document")
+        if seed >= ANSWERED:
+            continue
+        given = json.dumps(d).encode()
+        for command in COMMANDS:
+            due = run(program, command, given)
+            if command == ["decide"] and due[0] == 0:
+                decided += 1
+            for form, made in back.items():
+                answer = run(program, command, text_of(made))
+                if answer != due and (form == "JSON" or without_places(answer) != without_places(due)):
+                    wrong.append(f"{seed} {form} {' '.join(command)}: {answer}, and {due} is due")
+    if decided < ANSWERED // 3:
+        wrong.append(f"of {ANSWERED} documents no more than {decided} are decided")
+    return DOCUMENTS + len(UNSAYABLE) + len(INSTANTS), wrong

@@ -1,0 +1,97 @@
+"""The words of scripts/to-cedar."""
+import json
+import sys
+
+from cedar import to_json, to_text
+from cedar.json_text import load
+from cedar.places import Report, Source
+from cedar.to_text import Unsayable
+
+HELP = """usage: scripts/to-cedar PART [--json] < document.json
+
+Writes a part of a document (docs/FORMAT.md) in Cedar's form to standard output. PART is one of
+
+  policies   the static policies and templates: Cedar's text, with ids as @id; --json: the whole policy set, with links
+  schema     the schema: Cedar's text; --json: Cedar's JSON
+  links      the links of templates, as the `cedar` command keeps them: JSON
+  entities   the entities: JSON
+  request    the request: JSON
+
+Source locations (`at`) are left away. What Cedar has no words for is told on standard error with its place in the document, and
+nothing is written then. Status: 0 done; 1 no document, or not sayable; 2 usage. Nothing of this is proved.
+"""
+BAD = (AttributeError, IndexError, KeyError, TypeError, ValueError)
+
+
+def policies(document, as_json):
+    found = document.get("policies", [])
+    if as_json:
+        return dumped(to_json.policy_set([told(f"policies[{i}]", checked, p) for i, p in enumerate(found)]))
+    return "\n".join(told(f"policies[{i}]", to_text.policy, p) for i, p in enumerate(found) if "link" not in p)
+
+
+def checked(p):
+    """The policy, once it is seen that it can be said."""
+    to_json.policy_set([p])
+    return p
+
+
+def schema(document, as_json):
+    if as_json:
+        return dumped(told("schema", to_json.schema, document["schema"]))
+    return told("schema", lambda s: to_text.SchemaWriter(s).text(), document["schema"])
+
+
+def links(document, _):
+    return dumped(told("policies", to_json.links, document.get("policies", [])))
+
+
+def entities(document, _):
+    return dumped([told(f"entities[{i}]", to_json.entity, e) for i, e in enumerate(document.get("entities", []))])
+
+
+def request(document, _):
+    return dumped(told("request", to_json.request, document.get("request", {})))
+
+
+def dumped(value):
+    return json.dumps(value, ensure_ascii=False, indent=2) + "\n"
+
+
+def told(place, write, part):
+    try:
+        return write(part)
+    except Unsayable as why:
+        raise Unsayable(f"{place}: {why}") from None
+    except BAD:
+        raise Unsayable(f"{place}: not of the document's form (docs/FORMAT.md)") from None
+    except RecursionError:
+        raise Unsayable(f"{place}: it nests too deep") from None
+
+
+PARTS = {"policies": policies, "schema": schema, "links": links, "entities": entities, "request": request}
+
+
+def main(words):
+    if words in (["--help"], ["-h"], ["help"]):
+        sys.stdout.write(HELP)
+        return 0
+    as_json = "--json" in words
+    part = [word for word in words if word != "--json"]
+    if len(part) != 1 or part[0] not in PARTS:
+        sys.stderr.write("to-cedar: one of policies, schema, links, entities, request is due; scripts/to-cedar --help says more\n")
+        return 2
+    sys.setrecursionlimit(10000)
+    report = Report()
+    try:
+        source = Source("document", sys.stdin.buffer.read().decode("utf-8"))
+        document = load(source, report)
+        if report.refused:
+            raise Unsayable(report.lines()[0])
+        if not isinstance(document, dict) or "schema" not in document:
+            raise Unsayable("document: form")
+        sys.stdout.write(told("document", lambda d: PARTS[part[0]](d, as_json), document))
+    except (Unsayable, UnicodeDecodeError) as why:
+        sys.stderr.write(f"to-cedar: {why}\n")
+        return 1
+    return 0
