@@ -15,19 +15,23 @@ class Made:
 
 
 def opened(name, report):
-    """The text of a file, as a source; None where there is none."""
+    """The text of a file, as a source; None where there is none. What is a source already is one as it stands."""
+    source = name if isinstance(name, Source) else source_of(name, report)
+    if source is not None and source.text.startswith("\ufeff"):
+        return report.no(Place(source, 0), "a byte order mark, which Cedar does not read")
+    return source
+
+
+def source_of(name, report):
     try:
         with (sys.stdin.buffer if name == "-" else open(name, "rb")) as file:
             read = file.read()
-        source = Source("standard input" if name == "-" else name, read.decode("utf-8"))
+        return Source("standard input" if name == "-" else name, read.decode("utf-8"))
     except OSError as fault:
         return report.no(Place(Source(name, "")), f"it can't be read: {fault.strerror}")
     except UnicodeDecodeError as fault:
         front = Source(name, read[:fault.start].decode())
         return report.no(Place(front, len(front.text)), "no UTF-8")
-    if source.text.startswith("\ufeff"):
-        return report.no(Place(source, 0), "a byte order mark, which Cedar does not read")
-    return source
 
 
 def is_json(text):

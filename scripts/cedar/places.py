@@ -105,7 +105,7 @@ def spelled(path):
 
 
 class Report:
-    """What is refused, dropped and added, in the order of reading."""
+    """What is refused, dropped and added, in the order of reading: lines, each with its place and what it says there."""
 
     def __init__(self):
         self.refused, self.notes = {}, {}
@@ -113,15 +113,15 @@ class Report:
     def no(self, place, why):
         """A refusal; its answer is None, in place of what should stand there."""
         if len(self.refused) < TOLD:
-            self.refused[f"{place}: refused: {why}"] = True
+            self.refused[f"{place}: refused: {why}"] = place, why
         else:
-            self.refused[len(self.refused)] = True
+            self.refused[len(self.refused)] = None
 
     def dropped(self, place, what):
-        self.notes[f"{place}: dropped: {what}"] = True
+        self.notes[f"{place}: dropped: {what}"] = place, f"dropped: {what}"
 
     def added(self, place, what):
-        self.notes[f"{place}: added: {what}"] = True
+        self.notes[f"{place}: added: {what}"] = place, f"added: {what}"
 
     def lines(self):
         told = [line for line in self.refused if isinstance(line, str)]

@@ -38,21 +38,21 @@ def ask(program, words, document):
     return ran.returncode, ran.stdout.decode(errors="replace")
 
 
-def findings_of(program, document):
-    """What `check` finds of a document that has its form."""
+def findings_of(program, document, words=("check",), ask=ask):
+    """What `check`, or another command, finds of a document that has its form; `ask` runs the program."""
     token = secrets.token_hex(8) + "x"
     policies, marks = document.get("policies", []), []
     renamed = with_ids(policies, token)
-    status, told = ask(program, ["check"], document | {"policies": with_marks(renamed, marks)})
+    status, told = ask(program, words, document | {"policies": with_marks(renamed, marks)})
     if status in (3, 11):  # with source locations it is nested too deep, or too long
         marks = []
-        status, told = ask(program, ["check"], document | {"policies": renamed})
+        status, told = ask(program, words, document | {"policies": renamed})
     if status not in (0, 1):
-        raise Broken(status, f"check ended with {status}: {told.strip()}")
+        raise Broken(status, f"{words[0]} ended with {status}: {told.strip()}")
     found = list(taken_apart(told, token, [policy["id"] for policy in policies], marks))
     errors = sum(finding.severity == "error" for finding in found)
     if not told.endswith(f"errors {errors}, warnings {len(found) - errors}\n"):
-        raise Broken(125, "what check says could not be taken apart: " + told)
+        raise Broken(125, f"what {words[0]} says could not be taken apart: " + told)
     return found
 
 

@@ -1,0 +1,114 @@
+"""What the page's requests are answered: an answer of the program with all that is told of it, and the same
+document in another of the forms."""
+import json
+
+import habits
+from cedar import to_command
+from cedar.to_text import Unsayable
+
+from playground_page import placing, reading
+
+COMMANDS = ("check", "level", "request", "manifest", "slice", "decide")
+FORMS = ("text", "json", "document")
+
+
+class BadJob(Exception):
+    """What is wrong with what the page has asked."""
+
+
+def checked(job):
+    """The form and the texts of a request, each of which can be written as UTF-8."""
+    if not isinstance(job, dict) or job.get("form") not in FORMS or not isinstance(job.get("parts"), dict):
+        raise BadJob(f"an object is due with `form`, one of {', '.join(FORMS)}, and `parts`, an object")
+    for name, text in job["parts"].items():
+        if name not in reading.PARTS + ("document",) or not isinstance(text, str):
+            raise BadJob(f"`parts` has texts: document, {', '.join(reading.PARTS)}")
+        try:
+            text.encode()
+        except UnicodeEncodeError:
+            raise BadJob(f"{name}: a text holds half of a surrogate pair, which is no character") from None
+    needed = "document" if job["form"] == "document" else "schema"
+    if needed not in job["parts"]:
+        raise BadJob(f"`parts` has no `{needed}`")
+    return job["form"], job["parts"]
+
+
+def words_of(job):
+    """The words of the command."""
+    command, level = job.get("command"), job.get("level", 0)
+    if command not in COMMANDS:
+        raise BadJob(f"`command` is one of {', '.join(COMMANDS)}")
+    if command != "level":
+        return [command]
+    if isinstance(level, bool) or not isinstance(level, int) or not 0 <= level <= 200:
+        raise BadJob("`level` is a whole number from 0 to 200")
+    return ["level", str(level)]
+
+
+def answer(job, program):
+    """The program's answer, what is told of it, and the document that was answered."""
+    form, parts = checked(job)
+    words = words_of(job)
+    read = reading.read(form, parts)
+    told = {"faults": read.faults, "notes": list(read.notes), "findings": [], "warnings": [], "policies": {}}
+    told["answer"] = None
+    told["document"] = read.data.decode() if read.data is not None else None
+    if read.data is None:
+        return told
+    ran = program.run(words, read.data)
+    told["answer"] = ran._asdict() | {"words": words}
+    if read.document is not None and not ran.limit:
+        told["findings"] = findings_in(ran, words, read, program)
+        told["warnings"] = [warned(one, read) for one in habits.habits_of(read.document)]
+        told["policies"] = placing.named_policies(ran, words, read)
+    return told
+
+
+def findings_in(ran, words, read, program):
+    if placing.has_findings(words, ran.status):
+        return placing.with_spans(placing.taken_apart(ran.text) or [], read, program, words)
+    return [placing.broken_rule(ran, read)] if ran.status in (3, 4, 5, 6) else []
+
+
+def warned(one, read):
+    """A warning that is scripts/lint's own."""
+    where = read.span(one.path) if one.path else None
+    told = {"severity": one.severity, "kind": one.kind, "text": one.text, "help": one.help, "policy": one.policy}
+    return told | {"at": None, "spans": [where] if where else []}
+
+
+def converted(job):
+    """The same document in another form; its faults where it has any, or why it can't be said in that form."""
+    form, parts = checked(job)
+    if job.get("to") not in FORMS:
+        raise BadJob(f"`to` is one of {', '.join(FORMS)}")
+    read = reading.read(form, parts)
+    if read.value is None:
+        return {"parts": None, "faults": read.faults}
+    if job["to"] == "document":
+        return {"parts": {"document": read.data.decode()}, "faults": []}
+    try:
+        return {"parts": said(read.value, job["to"] == "json"), "faults": []}
+    except Unsayable as why:
+        return {"parts": None, "faults": [{"text": f"in Cedar's form there is no {why}", "place": "", "spans": []}]}
+
+
+def said(document, as_json):
+    """The parts in Cedar's text, or its JSON."""
+    if not isinstance(document, dict) or not all(
+        isinstance(document.get(p, []), list) for p in ("policies", "entities")
+    ):
+        raise Unsayable("document: form")
+    links = [policy for policy in document.get("policies", []) if isinstance(policy, dict) and "link" in policy]
+    parts = {
+        "schema": to_command.schema({"schema": {}} | document, as_json),
+        "policies": to_command.policies(document, as_json),
+    }
+    parts["links"] = to_command.links(document, as_json) if links and not as_json else ""
+    for part in ("entities", "request"):
+        parts[part] = to_command.PARTS[part](document, as_json) if part in document else ""
+    return parts
+
+
+def told_as_json(told):
+    return json.dumps(told, ensure_ascii=False, separators=(",", ":")).encode()

@@ -1,0 +1,109 @@
+// The entities as a graph, with those of the slice marked: boxes with attributes, lines to parents and kept ancestors;
+// and the same as a table.
+import { counted, el, svg } from "./dom.js";
+import { ancestorsOf } from "./entities.js";
+import { arrange, pathOf, ranks } from "./layout.js";
+import { clipped, printedId } from "./values.js";
+
+const CHARACTER = 7.3, ROW = 18, PAD = 10, WIDEST = 34, MOST_ROWS = 10, MOST_DRAWN = 60;
+const STATES = {
+  kept: ["✓ kept", "kept"],
+  ancestor: ["✓ as an ancestor", "as an ancestor alone"],
+  away: ["✗ fell away", "fell away"],
+  absent: ["not in the store", "not in the store"],
+};
+
+function stateOf(entity) {
+  if (entity.kept) return "kept";
+  if (entity.isAbove) return "ancestor";
+  return entity.listed ? "away" : "absent";
+}
+
+function boxOf(entity, column) {
+  const rows = entity.rows.slice(0, MOST_ROWS).map((row) => ({ ...row, text: clipped(`${row.kept ? "✓" : "✗"} ${row.name}: ${row.value}`, WIDEST) }));
+  if (entity.rows.length > MOST_ROWS) rows.push({ kept: true, text: `… ${entity.rows.length - MOST_ROWS} more, in the table` });
+  const title = clipped(printedId(entity.uid), WIDEST), state = stateOf(entity);
+  const status = [STATES[state][0], ...entity.roles].join(", ");
+  const longest = Math.max(title.length + 1, status.length, ...rows.map((row) => row.text.length));
+  const weight = ["kept", "ancestor", "away", "absent"].indexOf(state) + (entity.roles.length ? 0 : 0.5);
+  return { entity, rows, title, state, status, column, weight, width: longest * CHARACTER + 2 * PAD, height: (2 + rows.length) * ROW + PAD };
+}
+
+function drawnBox(box) {
+  const lines = box.rows.map((row, i) => svg("text", { x: PAD, y: (i + 3) * ROW - 4, class: row.kept ? "row" : "row fallen" }, row.text));
+  return svg("g", { class: `entity ${box.state}`, transform: `translate(${box.x}, ${box.y})`, "data-id": box.entity.key },
+    svg("title", {}, printedId(box.entity.uid)),
+    svg("rect", { width: box.width, height: box.height, rx: 6 }),
+    svg("text", { x: PAD, y: ROW - 2, class: "title" }, box.title),
+    svg("text", { x: PAD, y: 2 * ROW - 3, class: "status" }, box.status),
+    lines);
+}
+
+// The lines: to each ancestor that is kept, and to each parent that fell away.
+function linesOf(boxes) {
+  const lines = [];
+  for (const from of boxes.values()) {
+    const up = new Set(from.entity.ancestors);
+    for (const key of new Set([...from.entity.parents, ...up])) {
+      if (boxes.has(key)) lines.push({ from, to: boxes.get(key), kept: up.has(key) });
+    }
+  }
+  return lines.sort((a, b) => a.kept - b.kept);
+}
+
+function drawnLine(line) {
+  const kind = line.kept ? "kept" : "away";
+  return svg("path", { class: `edge ${kind}`, "marker-end": `url(#${kind}-end)`, d: pathOf(line) });
+}
+
+function arrow(id) {
+  return svg("marker", { id, viewBox: "0 0 8 8", refX: 7, refY: 4, markerWidth: 10, markerHeight: 10, markerUnits: "userSpaceOnUse", orient: "auto" },
+    svg("path", { d: "M 0 0 L 8 4 L 0 8 z" }));
+}
+
+function drawing(all) {
+  const isShort = all.size <= MOST_DRAWN;
+  const shown = [...all.values()].filter((entity) => isShort || entity.kept || entity.isAbove).slice(0, MOST_DRAWN);
+  const keys = new Set(shown.map((entity) => entity.key));
+  const rank = ranks(new Map(shown.map((entity) => [entity.key, [...entity.parents, ...entity.ancestors].filter((key) => keys.has(key))])));
+  const boxes = new Map(shown.map((entity) => [entity.key, boxOf(entity, rank.get(entity.key))]));
+  const lines = linesOf(boxes);
+  const { width, height } = arrange([...boxes.values()], lines);
+  const picture = svg("svg", { class: "graph", width, height, viewBox: `0 0 ${width} ${height}`, role: "img", "aria-labelledby": "graph-title", "aria-describedby": "graph-hint" },
+    svg("defs", {}, arrow("kept-end"), arrow("away-end")), lines.map(drawnLine), [...boxes.values()].map(drawnBox));
+  const left = all.size - shown.length;
+  return [el("div", { class: "scroll", tabindex: "0", role: "region", "aria-label": "The graph of the entities" }, picture),
+    left ? el("p", {}, `${left} more entities are not drawn; the table has them.`) : null];
+}
+
+function cells(entity, all) {
+  const names = (kept) => entity.rows.filter((row) => row.kept === kept).map((row) => (kept ? `${row.name}: ${row.value}` : row.name)).join(", ");
+  const ids = (keys) => [...keys].map((key) => printedId(JSON.parse(key))).join(", ");
+  const up = new Set(entity.ancestors);
+  const fallen = [...ancestorsOf(entity, all)].filter((key) => !up.has(key));
+  return [[printedId(entity.uid), entity.roles.length ? ` (${entity.roles.join(", ")})` : ""].join(""), STATES[stateOf(entity)][1], names(true), names(false), ids(up), ids(fallen)];
+}
+
+function table(all) {
+  const heads = ["entity", "in the slice", "attributes and tags kept", "attributes and tags that fell away", "ancestors kept", "ancestors that fell away"];
+  const shown = [...all.values()].filter((entity) => entity.listed || entity.kept).slice(0, 500);
+  return el("details", { class: "in-words" }, el("summary", {}, "The same as a table"),
+    el("div", { class: "scroll", tabindex: "0", role: "region", "aria-label": "The entities as a table" },
+      el("table", { id: "graph-table" },
+        el("thead", {}, el("tr", {}, heads.map((head) => el("th", { scope: "col" }, head)))),
+        el("tbody", {}, shown.map((entity) => el("tr", { class: entity.kept ? "kept" : "away" },
+          cells(entity, all).map((text, i) => el(i ? "td" : "th", i ? {} : { scope: "row" }, text))))))));
+}
+
+export function entityGraph(all) {
+  const entities = [...all.values()].filter((entity) => entity.listed);
+  const kept = entities.filter((entity) => entity.kept).length;
+  return el("section", { class: "entities" },
+    el("h3", { id: "graph-title" }, `The slice keeps ${kept} of ${counted(entities.length, "entity", "entities")}`),
+    el("p", { class: "quiet", id: "graph-hint" },
+      el("span", { class: "key kept" }, "✓ kept"), " can be read by a policy, ",
+      el("span", { class: "key ancestor" }, "✓ as an ancestor"), " is named as an ancestor of one that is kept, ",
+      el("span", { class: "key away" }, "✗ fell away"), " can’t be read. A full line leads to an ancestor that is kept, ",
+      "a dashed one to a parent that fell away."),
+    drawing(all), table(all));
+}

@@ -1,0 +1,296 @@
+// The page: fields on the left, the answer on the right. Each change asks the server of this page for an answer.
+import { byId, counted, el } from "./dom.js";
+import { Editor } from "./editor.js";
+import { entitiesOf } from "./entities.js";
+import { entityGraph } from "./graph.js";
+import { manifestTrees } from "./manifest.js";
+import { decisionBox, findingList, summary } from "./told.js";
+import { readJson } from "./values.js";
+
+const WAIT = 300;
+const FIRST = "cedar/tinytodo";
+const CEDAR = ["policies", "schema", "entities", "request", "links"];
+const COMMANDS = {
+  check: "what is wrong with the policies",
+  level: "and whether they read more than N steps from the request",
+  request: "whether request and entities conform to the schema",
+  manifest: "what the policies can read, for each type of requests",
+  slice: "the decision, and the entities that are enough for it",
+  decide: "the decision on all entities",
+};
+
+class Page {
+  constructor({ examples, about }) {
+    this.examples = new Map(examples.map((example) => [example.name, example]));
+    this.about = about;
+    this.asked = 0;
+    this.form = "text";
+    this.editors = new Map([...CEDAR, "document"].map((part) => [part, new Editor(part, part, () => this.changed())]));
+  }
+
+  get parts() {
+    const names = this.form === "document" ? ["document"] : CEDAR;
+    return Object.fromEntries(names.map((name) => [name, this.textOf(name)]));
+  }
+
+  get job() {
+    return { form: this.form, parts: this.parts, command: chosen("command"), level: Number(byId("level").value) || 0 };
+  }
+
+  textOf(part) {
+    return this.editors.get(part).text;
+  }
+
+  // The fields.
+
+  fill(form, parts) {
+    this.form = form;
+    byId("tools").elements.form.value = form;
+    for (const [part, editor] of this.editors) editor.text = parts[part] || "";
+    this.edited = false;
+    this.tabs();
+    this.ask();
+  }
+
+  tabs() {
+    const names = this.form === "document" ? ["document"] : CEDAR.filter((part) => part !== "links" || this.textOf("links").trim() || this.part === "links");
+    byId("tabs").replaceChildren(...names.map((part) => el("button", {
+      type: "button", role: "tab", id: `tab-${part}`, "aria-controls": `panel-${part}`, on: { click: () => this.pick(part), keydown: (event) => this.step(event, names) },
+    }, part)));
+    byId("panels").replaceChildren(...names.map((part) => el("div", { role: "tabpanel", id: `panel-${part}`, "aria-labelledby": `tab-${part}` }, this.editors.get(part).box)));
+    this.pick(names.includes(this.part) ? this.part : names[0]);
+  }
+
+  pick(part) {
+    this.part = part;
+    for (const tab of byId("tabs").children) {
+      const isPicked = tab.id === `tab-${part}`;
+      tab.setAttribute("aria-selected", String(isPicked));
+      tab.tabIndex = isPicked ? 0 : -1;
+      byId(tab.getAttribute("aria-controls")).hidden = !isPicked;
+    }
+    this.editors.get(part).follow();
+  }
+
+  // The arrow keys go from tab to tab.
+  step(event, names) {
+    const at = names.indexOf(this.part);
+    const to = { ArrowRight: at + 1, ArrowLeft: at - 1, Home: 0, End: names.length - 1 }[event.key];
+    if (to === undefined) return;
+    event.preventDefault();
+    this.pick(names[(to + names.length) % names.length]);
+    byId(`tab-${this.part}`).focus();
+  }
+
+  show(span) {
+    this.pick(span.part);
+    this.editors.get(span.part).show(span);
+  }
+
+  changed() {
+    this.edited = true;
+    clearTimeout(this.timer);
+    this.timer = setTimeout(() => this.ask(), WAIT);
+  }
+
+  // The examples and the forms.
+
+  async load(name) {
+    const example = this.examples.get(name), wanted = chosen("form");
+    this.example = name;
+    byId("example").value = name;
+    byId("request").replaceChildren(...example.requests.map((request, i) => el("option", { value: i }, request.title)));
+    byId("request-label").hidden = !example.requests.length;
+    this.part = null;
+    notice("");
+    if (example.forms[wanted]) return this.fill(wanted, this.withRequest(example.forms[wanted]));
+    const own = Object.keys(example.forms)[0], parts = this.withRequest(example.forms[own]);
+    const reply = await this.send("/convert", { form: own, parts, to: wanted });
+    return reply && reply.parts ? this.fill(wanted, reply.parts) : this.fill(own, parts);
+  }
+
+  withRequest(parts) {
+    const { requests } = this.examples.get(this.example);
+    return requests.length ? { ...parts, request: requests[Number(byId("request").value)].text } : parts;
+  }
+
+  async turn(to) {
+    const own = this.examples.get(this.example);
+    notice("");
+    if (own && !this.edited && own.forms[to]) return this.fill(to, this.withRequest(own.forms[to]));
+    const reply = await this.send("/convert", { form: this.form, parts: this.parts, to });
+    if (reply && reply.parts) {
+      const { edited } = this;
+      this.fill(to, reply.parts);
+      this.edited = edited;
+      return notice("The same in another form; comments and annotations other than @id are left away.");
+    }
+    byId("tools").elements.form.value = this.form;
+    return notice(reply ? `This can’t be turned: ${reply.faults.map((fault) => fault.text).join("; ")}` : "");
+  }
+
+  // The answer.
+
+  async send(path, job) {
+    try {
+      const sent = await fetch(path, { method: "POST", headers: { "Content-Type": "application/json" }, body: JSON.stringify(job) });
+      const reply = await sent.json();
+      if (sent.ok) return reply;
+      this.fail(reply.refused);
+    } catch {
+      this.fail("scripts/playground has ended, or can’t be reached: start it again.");
+    }
+    return null;
+  }
+
+  fail(text) {
+    byId("summary").className = "summary bad";
+    byId("summary").textContent = text;
+    byId("told").replaceChildren();
+    byId("written").textContent = "";
+  }
+
+  async ask() {
+    clearTimeout(this.timer);
+    const turn = ++this.asked;
+    byId("command-text").textContent = COMMANDS[chosen("command")];
+    byId("level-label").hidden = chosen("command") !== "level";
+    document.body.dataset.busy = "yes";
+    const reply = await this.send("/answer", this.job);
+    if (turn !== this.asked) return;
+    this.reply = reply;
+    if (reply) this.tell(reply);
+    document.body.dataset.busy = "no";
+    document.body.dataset.turn = turn;
+  }
+
+  tell(reply) {
+    const { answer } = reply, command = answer && answer.words[0];
+    const is = (...names) => answer && !answer.limit && answer.status === 0 && names.includes(command);
+    const decision = is("slice", "decide") ? readJson(answer.text) : null;
+    const [kind, text] = summary(reply, decision, this.about);
+    byId("summary").className = `summary ${kind}`;
+    byId("summary").textContent = text;
+    const told = [
+      findingList("Faults", reply.faults, this),
+      findingList("Findings", reply.findings, this),
+      decision ? decisionBox(decision, reply.policies, this) : null,
+      is("slice") ? entityGraph(entitiesOf(readJson(reply.document), decision.slice)) : null,
+      is("manifest") ? manifestTrees(readJson(answer.text), readJson(reply.document)) : null,
+      findingList("Likely mistakes, by scripts/lint", reply.warnings, this),
+      notes(reply.notes, this),
+    ];
+    byId("told").replaceChildren(...told.filter(Boolean));
+    byId("written-title").textContent = answer
+      ? `As the program wrote it: ${answer.words.join(" ")}, status ${answer.status}, ${Math.round(answer.seconds * 1000)} ms`
+      : "The program was not asked";
+    byId("written").textContent = answer ? answer.text : "";
+    this.underline(reply, decision);
+  }
+
+  // Underlines what the answer is about, and says at each tab how much.
+  underline(reply, decision) {
+    const found = [...reply.faults, ...reply.findings, ...reply.warnings].flatMap((one) => one.spans.map((span) => ({ ...span, kind: one.severity || "error" })));
+    const reasons = decision ? decision.reasons.map((id) => reply.policies[id]).filter(Boolean).map((span) => ({ ...span, kind: "reason" })) : [];
+    for (const [part, editor] of this.editors) {
+      const here = found.filter((span) => span.part === part);
+      editor.mark([...here, ...reasons.filter((span) => span.part === part)]);
+      const tab = byId(`tab-${part}`);
+      if (tab) tab.replaceChildren(part, here.length ? el("span", { class: "count" }, ` ${here.length} ⚠`, el("span", { class: "unseen" }, " places to look at")) : "");
+    }
+  }
+}
+
+function notes(found, page) {
+  if (!found.length) return null;
+  return el("details", { class: "notes" }, el("summary", {}, `${counted(found.length, "note", "notes")} on how Cedar’s texts were read`),
+    el("ul", {}, found.map((note) => el("li", {}, note.spans.map((span) =>
+      el("button", { type: "button", class: "go", on: { click: () => page.show(span) } }, `${span.part} ${span.line}:${span.column}`)), " ", note.text))));
+}
+
+const chosen = (name) => document.querySelector(`input[name=${name}]:checked`).value;
+
+function notice(text) {
+  byId("notice").textContent = text;
+}
+
+// Files.
+
+function download(name, text) {
+  const address = URL.createObjectURL(new Blob([text], { type: "application/json" }));
+  el("a", { href: address, download: name }).click();
+  setTimeout(() => URL.revokeObjectURL(address), 1000);
+}
+
+const fileName = (page) => (page.example || "mine").replace(/.*\//, "");
+
+async function copy(page) {
+  if (!page.reply || !page.reply.document) return notice("There is no document to copy: mend the faults first.");
+  await navigator.clipboard.writeText(page.reply.document);
+  return notice("The document is copied: the bytes that the program was given.");
+}
+
+function saveDocument(page) {
+  if (!page.reply || !page.reply.document) return notice("There is no document to save: mend the faults first.");
+  return download(`${fileName(page)}.palvumiose.json`, page.reply.document);
+}
+
+// What was saved here, or a document.
+async function open(page, file) {
+  if (!file) return;
+  const text = await file.text();
+  let saved = {};
+  try {
+    saved = JSON.parse(text);
+  } catch {
+    // No JSON: shown as a document, whose fault is then told.
+  }
+  page.example = null;
+  notice(`${file.name} is opened.`);
+  if (!saved || saved.playground !== 1 || !saved.parts) return page.fill("document", { document: text });
+  const texts = Object.fromEntries(Object.entries(saved.parts).filter(([, one]) => typeof one === "string"));
+  if (COMMANDS[saved.command]) byId("commands").elements.command.value = saved.command;
+  if (Number.isInteger(saved.level)) byId("level").value = saved.level;
+  return page.fill(["text", "json", "document"].includes(saved.form) ? saved.form : "text", texts);
+}
+
+function listen(page) {
+  byId("example").addEventListener("change", (event) => page.load(event.target.value));
+  byId("request").addEventListener("change", () => {
+    page.editors.get("request").text = page.withRequest({}).request;
+    page.ask();
+  });
+  for (const input of byId("tools").elements.form) input.addEventListener("change", () => page.turn(input.value));
+  for (const input of byId("commands").elements.command) input.addEventListener("change", () => page.ask());
+  byId("level").addEventListener("input", () => page.ask());
+  for (const form of document.forms) form.addEventListener("submit", (event) => event.preventDefault());
+  byId("copy").addEventListener("click", () => copy(page));
+  byId("save-document").addEventListener("click", () => saveDocument(page));
+  byId("save").addEventListener("click", () => download(`${fileName(page)}.playground.json`, JSON.stringify({ playground: 1, ...page.job }, null, 1)));
+  byId("open").addEventListener("click", () => byId("file").click());
+  byId("file").addEventListener("change", (event) => { open(page, event.target.files[0]); event.target.value = ""; });
+}
+
+function offer(page) {
+  const groups = new Map();
+  for (const { name, title, group } of page.examples.values()) {
+    if (!groups.has(group)) groups.set(group, el("optgroup", { label: group }));
+    groups.get(group).append(el("option", { value: name }, title));
+  }
+  byId("example").replaceChildren(...groups.values());
+}
+
+function tellAbout({ name, version, note, limits }) {
+  byId("about").textContent = `${name}${version ? `, version ${version},` : ""} answers, in at most ${limits.seconds} s and ${limits.mebibytes} MiB each time. ${note} `
+    + "This page draws what it writes, proves nothing, and keeps nothing.";
+}
+
+async function begin() {
+  const page = new Page(await (await fetch("/examples")).json());
+  offer(page);
+  listen(page);
+  tellAbout(page.about);
+  await page.load(FIRST);
+}
+
+begin();

@@ -1,0 +1,102 @@
+"""What stands in the page's fields, as a document: of Cedar's texts by scripts/cedar, or a document as it is. Each
+has `data`, the document's bytes (None where Cedar's texts make none), `value`, their JSON (None where they have none),
+`document`, the same (None where it has a fault), `faults` and `notes`, each with its span, and finds the span of a
+part of the document."""
+import json
+
+import places
+from cedar import documents, files
+from cedar.places import Place, Source
+from refusals import faults_in
+
+from playground_page.spans import span
+
+PARTS = ("schema", "policies", "links", "entities", "request")
+
+
+class CedarTexts:
+    """Cedar's texts or JSON, part by part; an empty part is absent."""
+
+    def __init__(self, parts):
+        given = {
+            part: Source(part, parts[part])
+            for part in PARTS
+            if part in parts and (part == "schema" or parts[part].strip())
+        }
+        self.made = files.make(given)
+        report = self.made.report
+        self.faults = [told(*one) for one in report.refused.values() if one]
+        more = len(report.refused) - len(self.faults)
+        if more:
+            self.faults.append({"text": f"{more} more", "place": "", "spans": []})
+        self.notes = [told(*one) for one in report.notes.values()]
+        self.document = self.value = None if report.refused else self.made.document
+        self.data = documents.text_of(self.document).encode() if self.document is not None else None
+        self.policies = {policy.name: policy for policy in self.made.policies}
+
+    def span(self, path):
+        """The span of a part of the document; None where it stands in none of the texts."""
+        place = self.place(path)
+        return placed(place) if place else None
+
+    def place(self, path):
+        source = self.made.sources.get(path[0] if path else None)
+        if path[:1] == ("policies",) and len(path) > 1:
+            return self.made.policies[path[1]].place
+        if source is None:
+            return None
+        if path[0] == "entities" and len(path) > 1:
+            return Place(source)[path[1]] if path[1] < self.stored() else None  # behind those stand the actions' own
+        if path[:2] == ("schema", "actions"):
+            kind, eid = self.made.document["schema"]["actions"][path[2]]["id"]
+            return Place(source)[kind[: -len("::Action")]]["actions"][eid]
+        return Place(source)
+
+    def policy_span(self, index):
+        """The span of a policy: its effect and scope, where it stands in Cedar's text."""
+        policy = self.made.policies[index]
+        return span("policies", policy.place.source.text, *policy.head) if policy.head else placed(policy.place)
+
+    def stored(self):
+        """How many entities stand in the entities' text."""
+        return len(json.loads(self.made.sources["entities"].text))
+
+
+class DocumentText:
+    """A document as it stands in the page."""
+
+    notes = ()
+
+    def __init__(self, text):
+        self.text, self.data, self.document, self.value = text, text.encode(), None, None
+        _, found = faults_in(self.data)
+        self.faults = [{"text": what, "place": place, "spans": [self.at(offset)]} for offset, place, what in found]
+        try:
+            self.value, self.top = places.read(text)
+        except places.NoJson:
+            return
+        if not found:
+            self.document = self.value
+
+    def at(self, offset):
+        return span("document", self.text, offset)
+
+    def span(self, path):
+        return self.at(self.top.find(path))
+
+    def policy_span(self, index):
+        return self.span(("policies", index, "id"))
+
+
+def placed(place):
+    return span(place.source.name, place.source.text, place.offset())
+
+
+def told(place, text):
+    """What a report says at a place."""
+    inside = str(place)[len(place.short()) + 2 :]
+    return {"text": text, "place": inside, "spans": [placed(place)]}
+
+
+def read(form, parts):
+    return DocumentText(parts.get("document", "")) if form == "document" else CedarTexts(parts)

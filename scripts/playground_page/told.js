@@ -1,0 +1,98 @@
+// What is told of an answer: one sentence, the findings with their lines, the decision with its reasons.
+import { counted, el } from "./dom.js";
+
+const STATUS = {
+  2: "The program did not take the command.",
+  3: "This is no document.",
+  4: "The request breaks a rule of the schema.",
+  5: "An entity breaks a rule of the schema.",
+  6: "The request has an unknown entry, so nothing is decided.",
+  11: "The document is longer than the program reads.",
+};
+const LIMITS = {
+  time: ({ seconds }) => `Stopped: the answer took more than ${seconds} s, the limit of this page.`,
+  memory: ({ mebibytes }) => `Stopped: the answer needed more than ${mebibytes} MiB, the limit of this page; nothing was written.`,
+  length: () => "Stopped: the answer is longer than this page shows; below stands its beginning.",
+};
+
+// How it is: good, bad or a Deny; and the sentence.
+export function summary(reply, decision, about) {
+  const { answer, faults, findings } = reply;
+  if (!answer) return ["bad", `Not read: ${counted(faults.length, "place has", "places have")} a fault.`];
+  if (answer.limit) return ["bad", LIMITS[answer.limit](about.limits)];
+  if (answer.status < 0) return ["bad", `The program ended by signal ${-answer.status}, and wrote nothing.`];
+  if (answer.status === 0) return [decision && decision.decision === "Deny" ? "deny" : "good", accepted(reply, decision)];
+  if (answer.status !== 1) return ["bad", STATUS[answer.status] || `The program ended with status ${answer.status}.`];
+  const errors = findings.filter((finding) => finding.severity === "error").length;
+  const told = findings.length ? `: ${counted(errors, "error", "errors")}${warned(findings.length - errors)}` : "";
+  return ["bad", `The policies are refused${told}.`];
+}
+
+const warned = (count) => (count ? `, ${counted(count, "warning", "warnings")}` : "");
+
+function accepted({ answer, findings }, decision) {
+  const command = answer.words[0];
+  if (command === "check") return `The policies are accepted: no errors${warned(findings.length)}.`;
+  if (command === "level") return `The policies are accepted at level ${answer.words[1]}: no errors${warned(findings.length)}.`;
+  if (command === "request") return "The request and the entities conform to the schema.";
+  if (command === "manifest") return "What the policies can read, for each type of requests:";
+  return decided(decision);
+}
+
+function decided({ decision, reasons, errors }) {
+  const by = reasons.length ? `, by ${reasons.join("; ")}` : ": no permit is true";
+  const failed = errors.length ? ` ${counted(errors.length, "policy", "policies")} failed and did not count.` : "";
+  return `${decision}${by}.${failed}`;
+}
+
+const partName = (span) => `${span.part} ${span.line}:${span.column}`;
+
+function lineOf(span, text) {
+  const start = text.lastIndexOf("\n", span.start - 1) + 1;
+  const newline = text.indexOf("\n", span.start);
+  const end = newline < 0 ? text.length : newline;
+  const from = Math.max(start, span.start - 60);
+  const to = Math.min(end, Math.max(span.end, span.start) + 60);
+  return el("code", { class: "line" },
+    el("span", { class: "number" }, `${span.line} `), from > start ? "…" : "", text.slice(from, span.start),
+    el("mark", { class: span.kind }, text.slice(span.start, Math.min(span.end, end))),
+    text.slice(Math.min(span.end, end), Math.max(to, span.end)).split("\n")[0], to < end ? "…" : "");
+}
+
+function places(spans, page) {
+  return spans.map((span) => el("div", { class: "place" },
+    el("button", { type: "button", class: "go", on: { click: () => page.show(span) } }, partName(span)),
+    lineOf(span, page.textOf(span.part))));
+}
+
+function item(finding, page) {
+  const spans = finding.spans.map((span) => ({ ...span, kind: finding.severity || "error" }));
+  return el("li", { class: `finding ${finding.severity || "error"}` },
+    el("p", {}, el("strong", {}, finding.severity || "fault"), " ",
+      finding.kind ? el("span", { class: "kind" }, finding.kind) : null, finding.kind ? ": " : "", finding.place ? `${finding.place}: ` : "",
+      finding.text),
+    finding.help ? el("p", { class: "help" }, "help: ", finding.help) : null,
+    places(spans, page));
+}
+
+// A list with its title; nothing where the list is empty.
+export function findingList(title, found, page) {
+  if (!found.length) return null;
+  return el("section", {}, el("h3", {}, title), el("ol", { class: "findings" }, found.map((finding) => item(finding, page))));
+}
+
+function policyItem(id, page, spans, text) {
+  const span = spans[id];
+  const name = el("code", {}, id);
+  return el("li", {}, span ? el("button", { type: "button", class: "go", on: { click: () => page.show(span) } }, name) : name, text);
+}
+
+// The policies behind a decision, and those that failed.
+export function decisionBox({ decision, reasons, errors }, spans, page) {
+  const said = decision === "Allow" ? "permits that are true" : "forbids that are true";
+  return el("section", { class: "decision" },
+    reasons.length ? el("p", {}, `Reasons, the ${said}:`) : el("p", {}, "No permit is true, and no forbid: what nothing permits is denied."),
+    el("ul", { class: "reasons" }, reasons.map((id) => policyItem(id, page, spans, ""))),
+    errors.length ? el("p", {}, "Policies that failed, and did not count:") : null,
+    errors.length ? el("ul", {}, errors.map(([id, text]) => policyItem(id, page, spans, `: ${text}`))) : null);
+}
