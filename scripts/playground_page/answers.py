@@ -1,7 +1,5 @@
 """What the page's requests are answered: an answer of the program with all that is told of it, and the same
 document in another of the forms."""
-import json
-
 import habits
 from cedar import to_command
 from cedar.to_text import Unsayable
@@ -59,14 +57,15 @@ def answer(job, program):
     told["answer"] = ran._asdict() | {"words": words}
     if read.document is not None and not ran.limit:
         told["findings"] = findings_in(ran, words, read, program)
-        told["warnings"] = [warned(one, read) for one in habits.habits_of(read.document)]
+        told["warnings"] = [warned(one, read) for one in habits.habits_of(read.document)[: placing.MOST]]
         told["policies"] = placing.named_policies(ran, words, read)
     return told
 
 
 def findings_in(ran, words, read, program):
     if placing.has_findings(words, ran.status):
-        return placing.with_spans(placing.taken_apart(ran.text) or [], read, program, words)
+        found = (placing.taken_apart(ran.text) or [])[: placing.MOST]
+        return placing.with_spans(found, read, program, words)
     return [placing.broken_rule(ran, read)] if ran.status in (3, 4, 5, 6) else []
 
 
@@ -77,7 +76,7 @@ def warned(one, read):
     return told | {"at": None, "spans": [where] if where else []}
 
 
-def converted(job):
+def converted(job, _):
     """The same document in another form; its faults where it has any, or why it can't be said in that form."""
     form, parts = checked(job)
     if job.get("to") not in FORMS:
@@ -108,7 +107,3 @@ def said(document, as_json):
     for part in ("entities", "request"):
         parts[part] = to_command.PARTS[part](document, as_json) if part in document else ""
     return parts
-
-
-def told_as_json(told):
-    return json.dumps(told, ensure_ascii=False, separators=(",", ":")).encode()

@@ -5,7 +5,7 @@ import { ancestorsOf } from "./entities.js";
 import { arrange, pathOf, ranks } from "./layout.js";
 import { clipped, printedId } from "./values.js";
 
-const CHARACTER = 7.3, ROW = 18, PAD = 10, WIDEST = 34, MOST_ROWS = 10, MOST_DRAWN = 60;
+const CHARACTER = 7.3, ROW = 18, PAD = 10, WIDEST = 40, MOST_ROWS = 10, MOST_DRAWN = 60;
 const STATES = {
   kept: ["✓ kept", "kept"],
   ancestor: ["✓ as an ancestor", "as an ancestor alone"],
@@ -76,9 +76,14 @@ function drawing(all) {
     left ? el("p", {}, `${left} more entities are not drawn; the table has them.`) : null];
 }
 
+function listed(items, text) {
+  const told = items.slice(0, 30).map(text).join(", ");
+  return items.length > 30 ? `${told} and ${items.length - 30} more` : told;
+}
+
 function cells(entity, all) {
-  const names = (kept) => entity.rows.filter((row) => row.kept === kept).map((row) => (kept ? `${row.name}: ${row.value}` : row.name)).join(", ");
-  const ids = (keys) => [...keys].map((key) => printedId(JSON.parse(key))).join(", ");
+  const names = (kept) => listed(entity.rows.filter((row) => row.kept === kept), (row) => (kept ? `${row.name}: ${row.value}` : row.name));
+  const ids = (keys) => listed([...keys], (key) => printedId(all.get(key).uid));
   const up = new Set(entity.ancestors);
   const fallen = [...ancestorsOf(entity, all)].filter((key) => !up.has(key));
   return [[printedId(entity.uid), entity.roles.length ? ` (${entity.roles.join(", ")})` : ""].join(""), STATES[stateOf(entity)][1], names(true), names(false), ids(up), ids(fallen)];
@@ -86,7 +91,7 @@ function cells(entity, all) {
 
 function table(all) {
   const heads = ["entity", "in the slice", "attributes and tags kept", "attributes and tags that fell away", "ancestors kept", "ancestors that fell away"];
-  const shown = [...all.values()].filter((entity) => entity.listed || entity.kept).slice(0, 500);
+  const shown = [...all.values()].filter((entity) => entity.listed || entity.kept).sort((a, b) => b.kept - a.kept).slice(0, 500);
   return el("details", { class: "in-words" }, el("summary", {}, "The same as a table"),
     el("div", { class: "scroll", tabindex: "0", role: "region", "aria-label": "The entities as a table" },
       el("table", { id: "graph-table" },

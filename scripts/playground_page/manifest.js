@@ -3,6 +3,7 @@
 import { counted, el } from "./dom.js";
 import { keyOf, memberName, printedId } from "./values.js";
 
+const MOST = 200;
 const plain = (type) => (type && type.optional !== undefined ? type.optional : type);
 
 class Types {
@@ -78,10 +79,11 @@ export function manifestTrees(manifest, document) {
   const isOwn = (kind) => Boolean(principal && action && resource) && keyOf(kind.action) === keyOf(action)
     && kind.principal === principal[0] && kind.resource === resource[0];
   const has = manifest.perAction.some(([kind]) => isOwn(kind));
-  const trees = manifest.perAction.map((entry, i) => requestType(entry, types, has ? isOwn(entry[0]) : i < 2, isOwn(entry[0])));
+  const shown = manifest.perAction.slice(0, MOST), left = manifest.perAction.length - shown.length;
+  const trees = shown.map((entry, i) => requestType(entry, types, has ? isOwn(entry[0]) : i < 2, isOwn(entry[0])));
   return el("section", { class: "manifest" },
     el("h3", {}, `${counted(manifest.perAction.length, "type", "types")} of requests`),
     el("p", { class: "quiet" }, "A level says how many steps from the request the entities are that have to be fetched: ",
       [0, 1, 2, 3].map((level) => [badge(level), " "]).flat(), badge(null), " an id that a policy names."),
-    trees);
+    trees, left ? el("p", {}, `${left} more stand below, as the program wrote them.`) : null);
 }

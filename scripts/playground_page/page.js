@@ -168,15 +168,16 @@ class Page {
     const { answer } = reply, command = answer && answer.words[0];
     const is = (...names) => answer && !answer.limit && answer.status === 0 && names.includes(command);
     const decision = is("slice", "decide") ? readJson(answer.text) : null;
-    const [kind, text] = summary(reply, decision, this.about);
+    const document = is("request", "slice", "manifest") ? readJson(reply.document) : null;
+    const [kind, text] = summary(reply, decision, document, this.about);
     byId("summary").className = `summary ${kind}`;
     byId("summary").textContent = text;
     const told = [
       findingList("Faults", reply.faults, this),
       findingList("Findings", reply.findings, this),
       decision ? decisionBox(decision, reply.policies, this) : null,
-      is("slice") ? entityGraph(entitiesOf(readJson(reply.document), decision.slice)) : null,
-      is("manifest") ? manifestTrees(readJson(answer.text), readJson(reply.document)) : null,
+      is("slice") ? entityGraph(entitiesOf(document, decision.slice)) : null,
+      is("manifest") ? manifestTrees(readJson(answer.text), document) : null,
       findingList("Likely mistakes, by scripts/lint", reply.warnings, this),
       notes(reply.notes, this),
     ];

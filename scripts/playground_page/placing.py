@@ -10,6 +10,10 @@ from playground_page.reading import DocumentText, placed
 from playground_page.spans import span
 
 LAST = re.compile(r"errors (\d+), warnings (\d+)")
+ENTRY = re.compile(r"request: (?:request's )?(principal|action|resource|context) ")
+MEMBER = re.compile(r": (attribute|tag|ancestor) `(.*?)` ")
+MEMBERS = {"attribute": "attrs", "tag": "tags"}
+MOST = 200  # so many findings are told, and so many places of one
 PART = re.compile(r"document: (schema|policies|entities|request)(?:\[(\d+)\])?")
 
 
@@ -66,14 +70,14 @@ def placed_in_document(found, reading, program, words):
         marked = findings.findings_of(program.path, reading.document, tuple(words), program.ask) if found else []
     except findings.Broken:
         marked = []
-    spans, policies = {}, {}
+    keys = [(f["severity"], f["kind"], f["text"], f["help"]) for f in found]
+    spans, policies, known = {}, {}, set(keys)
     for one in marked:
         key = one.severity, one.kind, one.text, one.help
-        where = reading.span(one.path)
         policies[key] = one.policy
-        if where not in spans.setdefault(key, []):
-            spans[key].append(where)
-    keys = [(f["severity"], f["kind"], f["text"], f["help"]) for f in found]
+        if key in known and len(spans.setdefault(key, [])) < MOST:
+            where = reading.span(one.path)
+            spans[key] += [where] if where not in spans[key] else []
     return [f | {"policy": policies.get(key), "spans": spans.get(key, [])} for f, key in zip(found, keys)]
 
 
@@ -97,10 +101,22 @@ def named_policies(ran, words, reading):
 
 
 def rule_path(status, text, document):
+    """The path of the part of the document that a text of a status is about; None where there is none."""
     if status == 5:
         path = findings.entity_path(text, document.get("entities", []))
-        return path if len(path) > 1 else None
+        return path + member_path(text[len("entity: ") :]) if len(path) > 1 else None
     part = PART.match(text)
     if status == 3 and part:
         return (part[1], int(part[2])) if part[2] else (part[1],)
-    return ("request",) if status in (4, 6) and "request" in document else None
+    if status not in (4, 6) or "request" not in document:
+        return None
+    entry = ENTRY.match(text)
+    return ("request", entry[1]) if entry else ("request",)
+
+
+def member_path(text):
+    """The member of an entity that a text is about."""
+    member = MEMBER.search(text)
+    if member is None:
+        return ()
+    return ("parents",) if member[1] == "ancestor" else (MEMBERS[member[1]], member[2])

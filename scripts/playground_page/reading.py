@@ -45,12 +45,15 @@ class CedarTexts:
             return self.made.policies[path[1]].place
         if source is None:
             return None
-        if path[0] == "entities" and len(path) > 1:
-            return Place(source)[path[1]] if path[1] < self.stored() else None  # behind those stand the actions' own
+        if path[0] == "entities" and len(path) > 1 and path[1] >= self.stored():
+            return None  # of an action, which stands in no text
         if path[:2] == ("schema", "actions"):
             kind, eid = self.made.document["schema"]["actions"][path[2]]["id"]
             return Place(source)[kind[: -len("::Action")]]["actions"][eid]
-        return Place(source)
+        place = Place(source)
+        for step in path[1:]:
+            place = place[step]
+        return place
 
     def policy_span(self, index):
         """The span of a policy: its effect and scope, where it stands in Cedar's text."""

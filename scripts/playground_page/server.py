@@ -2,16 +2,16 @@
 import json
 import pathlib
 import sys
-import threading
 from http.server import BaseHTTPRequestHandler, ThreadingHTTPServer
 
-from playground_page.answers import BadJob, answer, converted, told_as_json
 from playground_page.examples import examples
+from playground_page.workers import Workers
 
 HERE = pathlib.Path(__file__).resolve().parent
 ADDRESS = "127.0.0.1"
 LONGEST_BODY = 1 << 20
-AT_ONCE = 3
+LONGEST_READ = 64 << 20  # so much of a body that is too long is read, and thrown away, before it is refused
+WORK = ("/answer", "/convert")
 KINDS = {
     ".html": "text/html; charset=utf-8",
     ".css": "text/css; charset=utf-8",
@@ -38,7 +38,7 @@ class Server(ThreadingHTTPServer):
 
     def __init__(self, port, program):
         super().__init__((ADDRESS, port), Handler)
-        self.program, self.turns = program, threading.BoundedSemaphore(AT_ONCE)
+        self.program, self.workers = program, Workers(program)
         names = [f"{name}:{self.server_port}" for name in (ADDRESS, "localhost")]
         self.hosts, self.origins = set(names), {f"http://{name}" for name in names}
 
@@ -62,16 +62,11 @@ class Handler(BaseHTTPRequestHandler):
         """Answers by what `work` makes, or says why not."""
         try:
             self.from_here()
-            status, kind, body = (200, *work())
+            status, kind, body = work()
         except Refused as why:
-            status, kind, body = why.args[0], "application/json", told_as_json({"refused": why.args[1]})
+            status, kind, body = why.args[0], "application/json", as_json({"refused": why.args[1]})
             self.close_connection = True
-        except (RecursionError, MemoryError):
-            status, kind, body = (
-                422,
-                "application/json",
-                told_as_json({"refused": "this nests too deep, or is too large"}),
-            )
+            self.pass_over()
         self.send(status, kind, body)
 
     def send(self, status, kind, body):
@@ -99,41 +94,49 @@ class Handler(BaseHTTPRequestHandler):
     def get(self):
         path = self.path.partition("?")[0]
         if path in FILES:
-            return KINDS[FILES[path].suffix], FILES[path].read_bytes()
+            return 200, KINDS[FILES[path].suffix], FILES[path].read_bytes()
         if path == "/examples":
-            return "application/json", told_as_json({"examples": examples(), "about": self.server.program.about()})
+            return 200, "application/json", as_json({"examples": examples(), "about": self.server.program.about()})
         raise Refused(404, "there is no such page")
 
     def post(self):
-        work = {"/answer": lambda job: answer(job, self.server.program), "/convert": converted}.get(self.path)
-        if work is None:
+        if self.path not in WORK:
             raise Refused(404, "there is no such page")
-        job = self.job()
-        with self.server.turns:
-            try:
-                return "application/json", told_as_json(work(job))
-            except BadJob as why:
-                raise Refused(400, str(why)) from None
+        status, body = self.server.workers.ask(self.path, self.body())
+        return status, "application/json", body
 
-    def job(self):
-        """The body, as JSON."""
+    def body(self):
+        """The body, which has to be said to be JSON."""
         if self.headers.get_content_type() != "application/json":
             raise Refused(415, "the body has to be application/json")
-        length = self.headers.get("Content-Length", "")
-        if not (length.isascii() and length.isdigit()) or "Transfer-Encoding" in self.headers:
+        length = self.length()
+        if length is None:
             raise Refused(411, "the body's length has to be said")
-        if len(length) > 9 or int(length) > LONGEST_BODY:
+        if length > LONGEST_BODY:
             raise Refused(
-                413, f"more than {LONGEST_BODY} bytes are not read here; scripts/palvumiose reads longer documents"
+                413, f"This page reads at most {LONGEST_BODY} bytes; scripts/palvumiose reads longer documents."
             )
-        try:
-            return json.loads(self.rfile.read(int(length)))
-        except ValueError:
-            raise Refused(400, "the body is no JSON") from None
+        return self.rfile.read(length)
+
+    def length(self):
+        """The length of the body; None where it is not said."""
+        length = self.headers.get("Content-Length", "")
+        is_said = length.isascii() and length.isdigit() and len(length) < 16 and "Transfer-Encoding" not in self.headers
+        return int(length) if is_said else None
+
+    def pass_over(self):
+        """Reads the body of a request that is refused, so that who sends it gets the answer."""
+        left = min(self.length() or 0, LONGEST_READ)
+        while left > 0 and self.rfile.read(min(left, 1 << 16)):
+            left -= 1 << 16
 
     def send_error(self, code, message=None, explain=None):
         self.close_connection = True
-        self.send(code, "application/json", told_as_json({"refused": message or f"status {code}"}))
+        self.send(code, "application/json", as_json({"refused": message or f"status {code}"}))
 
     def log_message(self, format, *args):
         pass
+
+
+def as_json(told):
+    return json.dumps(told, ensure_ascii=False, separators=(",", ":")).encode()

@@ -1,6 +1,7 @@
 // What is told of an answer: one sentence, the findings with their lines, the decision with its reasons.
 import { counted, el } from "./dom.js";
 
+const MOST = 200;
 const STATUS = {
   2: "The program did not take the command.",
   3: "This is no document.",
@@ -16,12 +17,12 @@ const LIMITS = {
 };
 
 // How it is: good, bad or a Deny; and the sentence.
-export function summary(reply, decision, about) {
+export function summary(reply, decision, document, about) {
   const { answer, faults, findings } = reply;
   if (!answer) return ["bad", `Not read: ${counted(faults.length, "place has", "places have")} a fault.`];
   if (answer.limit) return ["bad", LIMITS[answer.limit](about.limits)];
   if (answer.status < 0) return ["bad", `The program ended by signal ${-answer.status}, and wrote nothing.`];
-  if (answer.status === 0) return [decision && decision.decision === "Deny" ? "deny" : "good", accepted(reply, decision)];
+  if (answer.status === 0) return [decision && decision.decision === "Deny" ? "deny" : "good", accepted(reply, decision, document)];
   if (answer.status !== 1) return ["bad", STATUS[answer.status] || `The program ended with status ${answer.status}.`];
   const errors = findings.filter((finding) => finding.severity === "error").length;
   const told = findings.length ? `: ${counted(errors, "error", "errors")}${warned(findings.length - errors)}` : "";
@@ -30,13 +31,20 @@ export function summary(reply, decision, about) {
 
 const warned = (count) => (count ? `, ${counted(count, "warning", "warnings")}` : "");
 
-function accepted({ answer, findings }, decision) {
+function accepted({ answer, findings }, decision, document) {
   const command = answer.words[0];
   if (command === "check") return `The policies are accepted: no errors${warned(findings.length)}.`;
   if (command === "level") return `The policies are accepted at level ${answer.words[1]}: no errors${warned(findings.length)}.`;
-  if (command === "request") return "The request and the entities conform to the schema.";
+  if (command === "request") return conforms(document.request || {});
   if (command === "manifest") return "What the policies can read, for each type of requests:";
   return decided(decision);
+}
+
+function conforms(request) {
+  const known = ["principal", "action", "resource", "context"].filter((entry) => request[entry]).length;
+  if (known === 4) return "The request and the entities conform to the schema.";
+  if (known === 0) return "The entities conform to the schema; there is no request to test.";
+  return "The entities conform to the schema, and so does what is known of the request.";
 }
 
 function decided({ decision, reasons, errors }) {
@@ -60,7 +68,7 @@ function lineOf(span, text) {
 }
 
 function places(spans, page) {
-  return spans.map((span) => el("div", { class: "place" },
+  return spans.slice(0, 20).map((span) => el("div", { class: "place" },
     el("button", { type: "button", class: "go", on: { click: () => page.show(span) } }, partName(span)),
     lineOf(span, page.textOf(span.part))));
 }
@@ -78,7 +86,8 @@ function item(finding, page) {
 // A list with its title; nothing where the list is empty.
 export function findingList(title, found, page) {
   if (!found.length) return null;
-  return el("section", {}, el("h3", {}, title), el("ol", { class: "findings" }, found.map((finding) => item(finding, page))));
+  return el("section", {}, el("h3", {}, title), el("ol", { class: "findings" }, found.map((finding) => item(finding, page))),
+    found.length >= MOST ? el("p", {}, `The first ${found.length} are told; all stand below, as the program wrote them.`) : null);
 }
 
 function policyItem(id, page, spans, text) {
