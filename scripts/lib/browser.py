@@ -85,13 +85,23 @@ class Browser:
             raise Fault(told["exceptionDetails"].get("exception", {}).get("description", "an exception"))
         return told["result"].get("value")
 
-    def wait(self, script, seconds=20):
-        """Waits until an expression is true."""
+    def until(self, is_so, what, seconds=20):
+        """Waits until something is so outside of the page."""
         end = time.monotonic() + seconds
-        while not self.run(script):
+        while not is_so():
             if time.monotonic() > end:
-                raise Fault(f"not within {seconds} s: {script}")
+                raise Fault(f"not within {seconds} s: {what}")
             time.sleep(0.05)
+
+    def wait(self, script, seconds=20):
+        """Waits until an expression of the page is true."""
+        self.until(lambda: self.run(script), script, seconds)
+
+    def give(self, selector, path):
+        """Gives a file to the page's field for files."""
+        root = self.call("DOM.getDocument")["root"]["nodeId"]
+        node = self.call("DOM.querySelector", nodeId=root, selector=selector)["nodeId"]
+        self.call("DOM.setFileInputFiles", files=[str(path)], nodeId=node)
 
     def dark(self, is_dark):
         feature = {"name": "prefers-color-scheme", "value": "dark" if is_dark else "light"}

@@ -106,9 +106,9 @@ export function entityGraph(all) {
   return el("section", { class: "entities" },
     el("h3", { id: "graph-title" }, `The slice keeps ${kept} of ${counted(entities.length, "entity", "entities")}`),
     el("p", { class: "quiet", id: "graph-hint" },
-      el("span", { class: "key kept" }, "✓ kept"), " can be read by a policy, ",
-      el("span", { class: "key ancestor" }, "✓ as an ancestor"), " is named as an ancestor of one that is kept, ",
-      el("span", { class: "key away" }, "✗ fell away"), " can’t be read. A full line leads to an ancestor that is kept, ",
-      "a dashed one to a parent that fell away."),
+      el("span", { class: "key kept" }, "✓ kept"), " is in the slice, ",
+      el("span", { class: "key ancestor" }, "✓ as an ancestor"), " is named there as an ancestor, ",
+      el("span", { class: "key away" }, "✗ fell away"), " is not in it: each policy comes out the same without. ",
+      "A full line leads to an ancestor that is kept, a dashed one to a parent that fell away."),
     drawing(all), table(all));
 }

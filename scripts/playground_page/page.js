@@ -227,8 +227,12 @@ const fileName = (page) => (page.example || "mine").replace(/.*\//, "");
 
 async function copy(page) {
   if (!page.reply || !page.reply.document) return notice("There is no document to copy: mend the faults first.");
-  await navigator.clipboard.writeText(page.reply.document);
-  return notice("The document is copied: the bytes that the program was given.");
+  try {
+    await navigator.clipboard.writeText(page.reply.document);
+  } catch {
+    return notice("The browser does not let it be copied; save it.");
+  }
+  return notice("The document is copied, as the program was given it.");
 }
 
 function saveDocument(page) {
@@ -291,6 +295,7 @@ async function begin() {
   offer(page);
   listen(page);
   tellAbout(page.about);
+  window.playground = page; // for a look from the browser's console, and for tests
   await page.load(FIRST);
 }
 
