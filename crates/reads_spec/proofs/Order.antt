@@ -14,7 +14,8 @@ use Rattle.reads_spec.specs.Paths.{Step, along, any_tag, Chain, steps_of, Access
 use Rattle.reads_spec.specs.Restrict.{Keep, cut, cut_fields, cut_entity, part, same_step, is_prefix, is_id, root_value, step, keeps, kept_steps, kept_chain, kept_tag, kept_ancestor, needed}
 use Rattle.reads_spec.specs.Cover.{IsPartOf}
 pub use Rattle.reads_spec.specs.Among.{IsClosed, IsWellFormed}
-use Rattle.reads_spec.proofs.Lists.{same_text, text_self, same_uid, uid_self, IsIn, in_filter}
+use Rattle.reads_spec.proofs.Lists.{same_text, same_uid, uid_self, IsIn, in_filter}
+use Rattle.type_relations.proofs.UnionLaws.{own_text}
 use Rattle.plain_lemmas.proofs.Booleans.{or_left_true, or_right_true, or_weaker}
 use Rattle.reads_spec.proofs.Cuts.{field_at-cut, entity_at-part, cut_fields_all}
 use Rattle.plain_lemmas.proofs.Lists.{any_weaker}
@@ -59,7 +60,7 @@ field_at-gone (field m v fs) k n h = here (is_eq (text_cmp n m)) refl (k (m ∷ 
     here false e false f ih = ih
 
 field_at-first : (m : List ℕ) (v : Val) (fs : Fields) → field_at (field m v fs) m ≡ Some v
-field_at-first m v fs = rw (text_self m) refl
+field_at-first m v fs = rw (own_text m) refl
 
 pub closed_below : (n : Chains) (m : List ℕ) → IsClosed n → IsClosed (λ c. n (m ∷ c))
 closed_below n m h = record { first = λ l c rest k. h.first m (l ∷ c) rest k }

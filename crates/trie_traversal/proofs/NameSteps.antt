@@ -28,6 +28,7 @@ use Rattle.plain_lemmas.proofs.Booleans.{or_left_true, or_right_true}
 use Rattle.reads_spec.proofs.Words.{any_out}
 use Rattle.trie_traversal.specs.Names.{IsNamed, Names, SomeNames, Adds}
 use Rattle.plain_lemmas.proofs.Lists.{within_of_is_some}
+use Rattle.access_tries.specs.SameLaws.{edge_is}
 
 -- ---- sets that grow
 
@@ -207,11 +208,8 @@ through_more n a (Field m) w cs t = record { below = t.below; among = inr t.amon
 through_more n a AnyTag w cs t = t
 through_more n a (Root r) w cs t = t
 
-same_edge : (a b : Edge) → edge_eq a b ≡ true → a ≡ b
-same_edge a b h = exact_edge a b (equal_of (edge_cmp a b) h)
-
 through_first : (n : List ℕ) (a : Address) (e : Edge) (w : ViewData) (cs : List (List ℕ × ViewData)) → edge_eq e (Field n) ≡ true → view_marks w a ≡ true → Through n a (with_child e w cs)
-through_first n a e w cs h m = rw (same_edge e (Field n) h) (record { below = w; among = inl refl; marked = m })
+through_first n a e w cs h m = rw (edge_is e (Field n) h) (record { below = w; among = inl refl; marked = m })
 
 through_some : (ns : Table) (n : List ℕ) (a : Address) (ls : List Link) → list_any (λ l. edge_eq l.edge (Field n) && at_path has_mark ns l.number a) ls ≡ true → Through n a (children_in ns ls)
 through_some ns n a [] h = absurd (cc)
@@ -395,7 +393,7 @@ root_more r a AnyTag w rs t = t
 root_more r a (Root p) w rs t = record { below = t.below; among = inr t.among; marked = t.marked }
 
 root_first : (r : EntityRoot) (a : Address) (e : Edge) (w : ViewData) (rs : List (EntityRoot × ViewData)) → edge_eq e (Root r) ≡ true → view_marks w a ≡ true → ThroughRoot r a (with_root e w rs)
-root_first r a e w rs h m = rw (same_edge e (Root r) h) (record { below = w; among = inl refl; marked = m })
+root_first r a e w rs h m = rw (edge_is e (Root r) h) (record { below = w; among = inl refl; marked = m })
 
 root_some : (ns : Table) (r : EntityRoot) (a : Address) (ls : List Link) → list_any (λ l. edge_eq l.edge (Root r) && at_path has_mark ns l.number a) ls ≡ true → ThroughRoot r a (roots_in ns ls)
 root_some ns r a [] h = absurd (cc)
