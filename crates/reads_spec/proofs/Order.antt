@@ -367,6 +367,3 @@ part_twice n k (e ∷ es) f g h = here (k.chains e.uid []) refl (n.chains e.uid 
     here true d false o r = rw o r
     here false d false o r = r
     here false d true o r = let u = f e.uid [] o in absurd (cc)
-
-pub between_back : (n k : Keep) (whole : Store) → ((x : EntityUID) (c : Chain) → n.chains x c ≡ true → k.chains x c ≡ true) → ((x y : EntityUID) → n.ancestors x y ≡ true → k.ancestors x y ≡ true) → ((x : EntityUID) (c : Chain) → n.tags x c ≡ true → k.tags x c ≡ true) → IsPartOf (part n whole) (part k whole)
-between_back n k whole f g h = (n, sym (part_twice n k whole f g h))
