@@ -18,10 +18,11 @@ use policy_values::push_entry;
 use schema_types::TypeKind;
 use std::alloc::AllocError;
 use std::collections::BTreeMap;
+use typecheck_branches::{and_sides, if_parts, or_sides};
 use typecheck_operators::{
-    Told, and_sides, attr_told, binary_told, call_told, expect, has_told, if_parts, is_told,
-    like_told, literal_told, or_sides, record_told, set_told, skipped, slot_told, unary_told,
-    undefined_told, variable_told,
+    Access, Operator, Told, attr_told, binary_told, call_told, expect, has_told, is_told,
+    like_told, literal_told, record_told, set_told, skipped, slot_told, unary_told, undefined_told,
+    variable_told,
 };
 use typecheck_rules::Expected;
 
@@ -246,8 +247,17 @@ fn walk_binary<'a>(
 {
     let v = walk(at, caps, x)?;
     let known = knows_tag(caps, op, x, y);
+    let operator = Operator {
+        schema: at.schema,
+        env: at.env,
+        op,
+        known,
+        left: x,
+        right: y,
+        loc,
+    };
     match walk(at, caps, y) {
-        Ok(w) => binary_told(at.alloc, at.schema, at.env, op, known, x, y, loc, v, w),
+        Ok(w) => binary_told(at.alloc, &operator, v, w),
         Err(error) => {
             drop(v);
             Err(error)
@@ -267,16 +277,14 @@ fn walk_attr<'a>(
 {
     let known = knows_attribute(caps, x, n)?;
     let v = walk(at, caps, x)?;
-    attr_told(
-        at.alloc,
-        at.schema,
-        at.env,
+    let access = Access {
+        schema: at.schema,
+        env: at.env,
         known,
-        n,
+        name: n,
         loc,
-        x.source_loc(),
-        v,
-    )
+    };
+    attr_told(at.alloc, &access, x.source_loc(), v)
 }
 
 #[cycle(walk)]

@@ -1,3 +1,4 @@
 pub mod Arguments
+pub mod BinaryLaws
 pub mod PartLaws
 pub mod PartSteps

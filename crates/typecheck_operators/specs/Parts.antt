@@ -37,6 +37,9 @@ argument_walked t x w = w
 abbrev pub set_by : Mark (Unit {0}) → Trees (Mark (Option Ty)) → List Ty → Option Typing
 set_by m xs ts = option_map (λ t. typing t [] (set xs (at t m))) (set_type ts)
 
+abbrev pub set_by_type : Mark (Unit {0}) → Bool → Option Ty → Trees (Mark (Option Ty)) → List Finding → Walked
+set_by_type m ok t xs fs = ended ok (option_map (λ u. typing u [] (set xs (at u m))) t) (set xs (lends None m)) fs
+
 abbrev pub set_in_parts : Mark (Unit {0}) → Bool → Option (List Ty) → Trees (Mark (Option Ty)) → List Finding → Walked
 set_in_parts m ok ts xs fs = ended ok (option_and_then (set_by m xs) ts) (set xs (lends None m)) (fs ++ option_map_or (set_found m.loc) ts [])
 
@@ -51,5 +54,8 @@ record_in_parts m ok ts xs fs = ended ok (option_map (record_by m xs) ts) (rec x
 abbrev pub call_by : List ℕ → Mark (Unit {0}) → Trees (Mark (Option Ty)) → Ty → Typing
 call_by f m ys t = typing t [] (call f ys (at t m))
 
+abbrev pub call_by_type : List ℕ → ExtensionFunction → Mark (Unit {0}) → Bool → Option Ty → Trees (Mark (Option Ty)) → List Finding → Walked
+call_by_type f g m ok t ys fs = ended ok (option_map (call_by f m ys) t) (call f ys (lends (Some (signature_of g).result) m)) fs
+
 abbrev pub call_in_parts : List ℕ → ExtensionFunction → Trees (Mark (Unit {0})) → Mark (Unit {0}) → Bool → Option (List Ty) → Trees (Mark (Option Ty)) → List Finding → Walked
-call_in_parts f g xs m ok ts ys fs = ended ok (option_map (call_by f m ys) (option_and_then (call_type (Some g) xs) ts)) (call f ys (lends (Some (signature_of g).result) m)) fs
+call_in_parts f g xs m ok ts ys fs = call_by_type f g m ok (option_and_then (call_type (Some g) xs) ts) ys fs

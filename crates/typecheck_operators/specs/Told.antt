@@ -1,14 +1,16 @@
 -- What the walk answers in code, as the definitions' answer.
-use Rattle.std.specs.Prelude.{ℕ, List, Option, map, option_map}
+use Rattle.std.specs.Prelude.{ℕ, Bool, List, Option, map, option_map}
 use Rattle.policy_expressions.specs.declared.kinds.Loc.{Loc}
 use Rattle.policy_expressions.specs.Tree.{Mark}
 use Rattle.schema_types.specs.Ty.{Ty}
 use Rattle.capabilities.specs.Capability.{Capability}
 use Rattle.typing_spec.specs.Typing as definition
 use Rattle.typing_spec.specs.Typing.{Typed, typing}
+use Rattle.findings.specs.Finding.{Finding}
 use Rattle.typecheck_spec.specs.Walked.{Walked, Success, Fail}
 use Rattle.typecheck_rules.specs.Found.{findings_from}
 use Rattle.typecheck_operators.specs.declared.told.Typing.{Typing}
+use Rattle.typecheck_operators.specs.declared.told.Part.{Part}
 use Rattle.typecheck_operators.specs.declared.told.Told.{Told}
 use Rattle.typecheck_operators.specs.declared.told.Told.TheVariants as told
 
@@ -33,3 +35,18 @@ field_of e = (e.0, walked_of e.1)
 -- what is lent by a part of this type, with these capabilities and this expression
 abbrev pub lent_as : Option Ty → List Capability → Typed → Option definition.Typing
 lent_as o cs t = option_map (λ u. typing u cs t) o
+
+-- an operand taken apart: whether there is a typing, the type that is lent, what is known, the expression, what is found
+pub record Operand : Type 0 where
+  pub ok : Bool
+  pub of : Option Ty
+  pub caps : List Capability
+  pub tree : Typed
+  pub found : List Finding
+
+abbrev pub operand_of : Part → Operand
+operand_of p = record { ok = p.ok; of = p.of; caps = p.caps; tree = p.tree; found = findings_from p.found.items }
+
+-- what it lends
+abbrev pub lent : Operand → Option definition.Typing
+lent a = lent_as a.of a.caps a.tree

@@ -1,14 +1,11 @@
 //! Operators of two operands, both of which are walked.
 
-ghost use Rattle.std.specs.Prelude.{◌≡◌, ◌++◌, ◌&&◌, IfOk};
-ghost use Rattle.policy_expressions.specs.Tree.{binary};
-ghost use Rattle.schema_core.specs.RequestEnvs.{env_data_of};
+ghost use Rattle.std.specs.Prelude.{◌≡◌, ◌++◌, IfOk, Some};
 ghost use Rattle.typing_spec.specs.Typing as typing;
 ghost use Rattle.typecheck_spec.specs.Walked as walked;
-ghost use Rattle.typecheck_spec.specs.Walked.{ended, lends, both};
-ghost use Rattle.typecheck_spec.specs.Operators as definition;
 ghost use Rattle.typecheck_rules.specs.Found.{findings_from};
-ghost use Rattle.typecheck_operators.specs.Told.{mark, walked_of, lent_as};
+ghost use Rattle.typecheck_operators.specs.Operands as definition;
+ghost use Rattle.typecheck_operators.specs.Told.{operand_of, walked_of};
 
 use crate::told::{Part, Told, Typing, expect_if, parted, rest_of};
 use capabilities::{Capability, CapabilitySet};
@@ -18,119 +15,144 @@ use schema_types::Type;
 use std::alloc::{AllocError, Global};
 use typecheck_rules::{Finding, binary_lent, binary_own, binary_type, joined, left_of, right_of};
 
-/// An operator of two operands, by what these come to, and whether the tag that they name is known to be there.
+/// An operator of two operands, where it stands in a policy.
+#[derive(Clone, Copy)]
+pub struct Operator<'b, 'a> {
+    /// The schema.
+    pub schema: &'b ValidatorSchema,
+    /// The environment.
+    pub env: &'b RequestEnv<'a>,
+    /// Which operator.
+    pub op: BinaryOp,
+    /// Whether the tag that the operands name is known to be there.
+    pub known: bool,
+    /// The left operand.
+    pub left: &'a Expr<()>,
+    /// The right operand.
+    pub right: &'a Expr<()>,
+    /// Where it stands.
+    pub loc: Option<Loc>,
+}
+
+/// An operator of two operands, by what these come to.
 pub fn binary_told<'a>(
     alloc: Global,
-    schema: &ValidatorSchema,
-    env: &RequestEnv<'a>,
-    op: BinaryOp,
-    known: bool,
-    x: &'a Expr<()>,
-    y: &'a Expr<()>,
-    loc: Option<Loc>,
+    o: &Operator<'_, 'a>,
     v: Told<'a>,
     w: Told<'a>,
 ) -> Result<Told<'a>, BuildError>
-    ensures { IfOk result (λ r. walked_of r ≡ definition.binary_walked schema.now (env_data_of env.now) op known x.now y.now (mark loc) (walked_of v.entry) (walked_of w.entry)) }
+    ensures { IfOk result (λ r. walked_of r ≡
+        definition.binary_walked o.now (walked_of v.entry) (walked_of w.entry)) }
 {
-    let v = or_drop!(expect_if(alloc, left_of(op), x.source_loc(), v), w);
-    let w = or_drop!(expect_if(alloc, right_of(op), y.source_loc(), w), v);
-    binary_fitting(alloc, schema, env, op, known, x, y, loc, v, w)
+    let v = or_drop!(expect_if(alloc, left_of(o.op), o.left.source_loc(), v), w);
+    let w = or_drop!(expect_if(alloc, right_of(o.op), o.right.source_loc(), w), v);
+    binary_fitting(alloc, o, v, w)
 }
 
 fn binary_fitting<'a>(
     alloc: Global,
-    schema: &ValidatorSchema,
-    env: &RequestEnv<'a>,
-    op: BinaryOp,
-    known: bool,
-    x: &'a Expr<()>,
-    y: &'a Expr<()>,
-    loc: Option<Loc>,
+    o: &Operator<'_, 'a>,
     v: Told<'a>,
     w: Told<'a>,
 ) -> Result<Told<'a>, BuildError>
-    ensures { IfOk result (λ r. walked_of r ≡ definition.binary_fitting schema.now (env_data_of env.now) op known x.now y.now (mark loc) (walked_of v.entry) (walked_of w.entry)) }
+    ensures { IfOk result (λ r. walked_of r ≡
+        definition.binary_fitting o.now (walked_of v.entry) (walked_of w.entry)) }
 {
     let v = or_drop!(parted(alloc, v), w);
     let w = or_drop!(parted(alloc, w), v);
-    binary_ended(alloc, schema, env, op, known, x, y, loc, v, w)
+    binary_ended(alloc, o, v, w)
 }
 
+#[tactic(auto, using(crate::proofs::BinaryLaws::binary_by_type))]
 fn binary_ended<'a>(
     alloc: Global,
-    schema: &ValidatorSchema,
-    env: &RequestEnv<'a>,
-    op: BinaryOp,
-    known: bool,
-    x: &'a Expr<()>,
-    y: &'a Expr<()>,
-    loc: Option<Loc>,
+    o: &Operator<'_, 'a>,
     v: Part<'a>,
     w: Part<'a>,
 ) -> Result<Told<'a>, BuildError>
-    ensures { IfOk result (λ r. walked_of r ≡ ended (v.entry.ok && w.entry.ok) (both (definition.binary_typing schema.now (env_data_of env.now) op known x.now y.now (mark loc)) (lent_as v.entry.of v.entry.caps v.entry.tree) (lent_as w.entry.of w.entry.caps w.entry.tree)) (binary op v.entry.tree w.entry.tree (lends (definition.binary_lent schema.now (env_data_of env.now) op x.now y.now v.entry.of) (mark loc))) (findings_from v.entry.found.items ++ (findings_from w.entry.found.items ++ definition.binary_own schema.now (env_data_of env.now) op known x.now y.now (mark loc) v.entry.of w.entry.of))) }
+    ensures { IfOk result (λ r. walked_of r ≡
+        definition.binary_of o.now (operand_of v.entry) (operand_of w.entry)) }
 {
-    let found = or_drop!(
-        binary_own(alloc, schema, env, op, known, x, y, loc, &v.of, &w.of),
-        v,
-        w
-    );
-    match &v.of {
-        Some(t) => match &w.of {
-            Some(u) => match or_drop!(
-                binary_type(alloc, schema, env, op, known, x, y, t, u),
-                found,
-                v,
-                w
-            ) {
-                Some(own) => {
-                    if v.ok && w.ok {
-                        drop(found);
-                        binary_success(alloc, op, x, y, loc, own, v, w)
-                    } else {
-                        binary_failure(alloc, op, Some(own), loc, v, w, found)
-                    }
-                }
-                None => {
-                    let lent = binary_lent(schema, env, op, x, y, &v.of);
-                    binary_failure(alloc, op, lent, loc, v, w, found)
-                }
-            },
-            None => {
-                let lent = binary_lent(schema, env, op, x, y, &v.of);
-                binary_failure(alloc, op, lent, loc, v, w, found)
-            }
+    let found = or_drop!(own_found(alloc, o, &v.of, &w.of), v, w);
+    let own = or_drop!(own_type(alloc, o, &v.of, &w.of), found, v, w);
+    binary_by(alloc, o, own, v, w, found)
+}
+
+fn own_found<'a>(
+    alloc: Global,
+    o: &Operator<'_, 'a>,
+    t: &Option<Type>,
+    u: &Option<Type>,
+) -> Result<Vec<Finding>, AllocError>
+    ensures { IfOk result (λ r. findings_from r.items ≡ definition.binary_own o.now t.now u.now) }
+{
+    binary_own(
+        alloc, o.schema, o.env, o.op, o.known, o.left, o.right, o.loc, t, u,
+    )
+}
+
+// The type by the rule, of the types that are lent.
+fn own_type<'a>(
+    alloc: Global,
+    o: &Operator<'_, 'a>,
+    t: &Option<Type>,
+    u: &Option<Type>,
+) -> Result<Option<Type>, AllocError>
+    ensures { IfOk result (λ own. own ≡ definition.binary_type o.now t.now u.now) }
+{
+    match t {
+        Some(t) => match u {
+            Some(u) => binary_type(alloc, o.schema, o.env, o.op, o.known, o.left, o.right, t, u),
+            None => Ok(None),
         },
+        None => Ok(None),
+    }
+}
+
+fn binary_by<'a>(
+    alloc: Global,
+    o: &Operator<'_, 'a>,
+    own: Option<Type>,
+    v: Part<'a>,
+    w: Part<'a>,
+    found: Vec<Finding>,
+) -> Result<Told<'a>, BuildError>
+    ensures { IfOk result (λ r. walked_of r ≡
+        definition.binary_by o.now own (operand_of v.entry) (operand_of w.entry)
+        (findings_from found.items)) }
+{
+    match own {
+        Some(own) => {
+            if v.ok && w.ok {
+                drop(found);
+                binary_success(alloc, o, own, v, w)
+            } else {
+                binary_failure(alloc, o, Some(own), v, w, found)
+            }
+        }
         None => {
-            let lent = binary_lent(schema, env, op, x, y, &v.of);
-            binary_failure(alloc, op, lent, loc, v, w, found)
+            let lent = binary_lent(o.schema, o.env, o.op, o.left, o.right, &v.of);
+            binary_failure(alloc, o, lent, v, w, found)
         }
     }
 }
 
 fn binary_success<'a>(
     alloc: Global,
-    op: BinaryOp,
-    x: &'a Expr<()>,
-    y: &'a Expr<()>,
-    loc: Option<Loc>,
+    o: &Operator<'_, 'a>,
     own: Type,
     v: Part<'a>,
     w: Part<'a>,
 ) -> Result<Told<'a>, BuildError>
-    ensures { IfOk result (λ r. walked_of r ≡ walked.Success (typing.typing own (typing.binary_caps op x.now y.now) (binary op v.entry.tree w.entry.tree (typing.at own (mark loc))))) }
+    ensures { IfOk result (λ r. walked_of r ≡
+        walked.Success (definition.binary_own_typing o.now own v.entry.tree w.entry.tree)) }
 {
     let (left, found) = rest_of(v);
     drop(found);
     let (right, found) = rest_of(w);
     drop(found);
-    let note = or_drop!(own.try_clone(alloc), own, left, right);
-    let tree = or_drop!(
-        Expr::binary_app(alloc, op, left, right, Some(note), loc),
-        own
-    );
-    let caps = or_drop!(binary_caps(alloc, op, x, y), own, tree);
+    let tree = or_drop!(binary_tree(alloc, o, &own, left, right), own);
+    let caps = or_drop!(binary_caps(alloc, o.op, o.left, o.right), own, tree);
     Ok(Told::Success(Typing {
         of: own,
         caps,
@@ -138,28 +160,51 @@ fn binary_success<'a>(
     }))
 }
 
+fn binary_tree<'a>(
+    alloc: Global,
+    o: &Operator<'_, 'a>,
+    own: &Type,
+    left: Expr<Option<Type>>,
+    right: Expr<Option<Type>>,
+) -> Result<Expr<Option<Type>>, BuildError>
+    ensures { IfOk result (λ t. t ≡ definition.binary_tree o.now left right (Some own.now)) }
+{
+    let note = or_drop!(own.try_clone(alloc), left, right);
+    Expr::binary_app(alloc, o.op, left, right, Some(note), o.loc)
+}
+
 fn binary_failure<'a>(
     alloc: Global,
-    op: BinaryOp,
+    o: &Operator<'_, 'a>,
     lent: Option<Type>,
-    loc: Option<Loc>,
     v: Part<'a>,
     w: Part<'a>,
     own: Vec<Finding>,
 ) -> Result<Told<'a>, BuildError>
-    ensures { IfOk result (λ r. walked_of r ≡ walked.Fail (binary op v.entry.tree w.entry.tree (lends lent (mark loc))) (findings_from v.entry.found.items ++ (findings_from w.entry.found.items ++ findings_from own.items))) }
+    ensures { IfOk result (λ r. walked_of r ≡
+        definition.binary_failed o.now lent (operand_of v.entry) (operand_of w.entry)
+        (findings_from own.items)) }
 {
     let (left, found) = rest_of(v);
     let (right, more) = rest_of(w);
+    let found = or_drop!(joined_all(found, more, own), lent, left, right);
     let tree = or_drop!(
-        Expr::binary_app(alloc, op, left, right, lent, loc),
-        found,
-        more,
-        own
+        Expr::binary_app(alloc, o.op, left, right, lent, o.loc),
+        found
     );
-    let more = or_drop!(joined(more, own), found, tree);
-    let found = or_drop!(joined(found, more), tree);
     Ok(Told::Fail(tree, found))
+}
+
+fn joined_all(
+    found: Vec<Finding>,
+    more: Vec<Finding>,
+    own: Vec<Finding>,
+) -> Result<Vec<Finding>, AllocError>
+    ensures { IfOk result (λ r. findings_from r.items ≡
+        findings_from found.items ++ (findings_from more.items ++ findings_from own.items)) }
+{
+    let more = or_drop!(joined(more, own), found);
+    joined(found, more)
 }
 
 // `hasTag` makes the tag known.

@@ -10,10 +10,10 @@ ghost use Rattle.typecheck_spec.specs.Walked as failed;
 ghost use Rattle.typecheck_spec.specs.Walked.{lends, one};
 ghost use Rattle.typecheck_spec.specs.Operators as definition;
 ghost use Rattle.typecheck_rules.specs.Found.{findings_from};
-ghost use Rattle.typecheck_operators.specs.Parts.{argument_walked, call_in_parts};
+ghost use Rattle.typecheck_operators.specs.Parts.{argument_walked, call_by_type};
 ghost use Rattle.typecheck_operators.specs.Told.{mark, walked_of, all_of};
 
-use crate::parts::{are_typed, rest_of_all, types_lent};
+use crate::parts::{Rest, are_typed, rest_of_all, types_lent};
 use crate::told::{Told, Typing, ended_typed, expect};
 use capabilities::CapabilitySet;
 use policy_expressions::{BuildError, Expr, Loc};
@@ -27,14 +27,17 @@ use typecheck_rules::{
 
 /// A call of an undefined function, whose arguments are not looked at. Errs where memory runs out.
 pub fn undefined_told<'a>(alloc: Global, f: &Name, loc: Option<Loc>) -> Result<Told<'a>, BuildError>
-    ensures { IfOk result (λ r. walked_of r ≡ failed.Fail (call f.now no_trees (lends None (mark loc))) (one (finding.UndefinedFunction f.now) loc)) }
+    ensures { IfOk result (λ r. walked_of r ≡
+        failed.Fail (call f.now no_trees (lends None (mark loc)))
+        (one (finding.UndefinedFunction f.now) loc)) }
 {
     let found = undefined_found(alloc, f, loc)?;
     let tree = Expr::extension_function_app(f.try_clone()?, Vec::new(alloc), None, loc)?;
     Ok(Told::Fail(tree, found))
 }
 
-/// A call, by what its arguments come to. Errs where memory runs out, or the expression would be nested too deep.
+/// A call, by what its arguments come to. Errs where memory runs out, or the expression would be
+/// nested too deep.
 pub fn call_told<'a>(
     alloc: Global,
     f: &Name,
@@ -43,7 +46,9 @@ pub fn call_told<'a>(
     loc: Option<Loc>,
     ws: Vec<Told<'a>>,
 ) -> Result<Told<'a>, BuildError>
-    ensures { IfOk result (λ r. walked_of r ≡ definition.call_walked f.now (Some g.entry.function) (trees_of xs.now.items) (mark loc) (all_of ws.entry.items)) }
+    ensures { IfOk result (λ r. walked_of r ≡
+        definition.call_walked f.now (Some g.entry.function) (trees_of xs.now.items) (mark loc)
+        (all_of ws.entry.items)) }
 {
     let own = call_found(alloc, g, xs.as_slice(), loc)?;
     let ws = arguments_told(alloc, &own, argument_types(g), xs, ws)?;
@@ -58,7 +63,9 @@ fn arguments_told<'a>(
     xs: &Vec<Expr<()>>,
     ws: Vec<Told<'a>>,
 ) -> Result<Vec<Told<'a>>, AllocError>
-    ensures { IfOk result (λ r. all_of r.items ≡ definition.arguments_walked (findings_from own.now.items) types.now (trees_of xs.now.items) (all_of ws.entry.items)) }
+    ensures { IfOk result (λ r. all_of r.items ≡
+        definition.arguments_walked (findings_from own.now.items) types.now (trees_of xs.now.items)
+        (all_of ws.entry.items)) }
 {
     match own.as_slice() {
         [] => arguments_fitting(alloc, types, xs, ws),
@@ -73,7 +80,8 @@ fn arguments_fitting<'a>(
     xs: &Vec<Expr<()>>,
     ws: Vec<Told<'a>>,
 ) -> Result<Vec<Told<'a>>, AllocError>
-    ensures { IfOk result (λ r. all_of r.items ≡ definition.arguments_fitting types.now (trees_of xs.now.items) (all_of ws.entry.items)) }
+    ensures { IfOk result (λ r. all_of r.items ≡
+        definition.arguments_fitting types.now (trees_of xs.now.items) (all_of ws.entry.items)) }
 {
     let mut fitted = Vec::new(alloc);
     for w in ws {
@@ -102,7 +110,8 @@ fn argument_told<'a>(
     x: Option<&Expr<()>>,
     w: Told<'a>,
 ) -> Result<Told<'a>, AllocError>
-    ensures { IfOk result (λ r. walked_of r ≡ argument_walked (option_copied t.entry) (option_copied x.entry) (walked_of w.entry)) }
+    ensures { IfOk result (λ r. walked_of r ≡
+        argument_walked (option_copied t.entry) (option_copied x.entry) (walked_of w.entry)) }
 {
     match t {
         Some(t) => match x {
@@ -123,29 +132,33 @@ fn call_fitting<'a>(
     own: Vec<Finding>,
     ws: Vec<Told<'a>>,
 ) -> Result<Told<'a>, BuildError>
-    ensures { IfOk result (λ r. walked_of r ≡ definition.call_fitting f.now g.entry.function (trees_of xs.now.items) (mark loc) (findings_from own.items) (all_of ws.entry.items)) }
+    ensures { IfOk result (λ r. walked_of r ≡
+        definition.call_fitting f.now g.entry.function (trees_of xs.now.items) (mark loc)
+        (findings_from own.items) (all_of ws.entry.items)) }
 {
     let ok = are_typed(&ws);
     let types = types_lent(alloc, &ws)?;
     let rest = rest_of_all(alloc, ws)?;
     let found = joined(own, rest.found)?;
-    call_ended(alloc, f, g, xs, loc, ok, types, rest.trees, found)
+    let of = call_own(alloc, g, xs, types)?;
+    let trees = rest.trees;
+    call_ended(alloc, f, g, loc, ok, of, Rest { trees, found })
 }
 
 fn call_ended<'a>(
     alloc: Global,
     f: &Name,
     g: CalledFunction<'_>,
-    xs: &Vec<Expr<()>>,
     loc: Option<Loc>,
     ok: bool,
-    types: Option<Vec<Type>>,
-    trees: Vec<Expr<Option<Type>>>,
-    found: Vec<Finding>,
+    of: Option<Type>,
+    rest: Rest,
 ) -> Result<Told<'a>, BuildError>
-    ensures { IfOk result (λ r. walked_of r ≡ call_in_parts f.now g.entry.function (trees_of xs.now.items) (mark loc) ok (option_map (λ v. v.items) types) (trees_of trees.items) (findings_from found.items)) }
+    ensures { IfOk result (λ r. walked_of r ≡
+        call_by_type f.now g.entry.function (mark loc) ok of (trees_of rest.trees.items)
+        (findings_from rest.found.items)) }
 {
-    let of = call_own(alloc, g, xs, types)?;
+    let Rest { trees, found } = rest;
     match of {
         Some(of) => {
             let note = of.try_clone(alloc)?;
@@ -168,7 +181,9 @@ fn call_own(
     xs: &Vec<Expr<()>>,
     types: Option<Vec<Type>>,
 ) -> Result<Option<Type>, AllocError>
-    ensures { IfOk result (λ o. o ≡ option_and_then (call_type (Some g.entry.function) (trees_of xs.now.items)) (option_map (λ v. v.items) types)) }
+    ensures { IfOk result (λ o. o ≡
+        option_and_then (call_type (Some g.entry.function) (trees_of xs.now.items))
+        (option_map (λ v. v.items) types)) }
 {
     match types {
         Some(types) => {

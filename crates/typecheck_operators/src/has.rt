@@ -1,15 +1,14 @@
 //! `has`.
 
-ghost use Rattle.std.specs.Prelude.{◌≡◌, ◌++◌, [], IfOk, Some, cond};
-ghost use Rattle.std.specs.Option.{option_and_then};
+ghost use Rattle.std.specs.Prelude.{◌≡◌, IfOk, Some};
 ghost use Rattle.policy_expressions.specs.Tree.{has};
 ghost use Rattle.typing_spec.specs.Signatures.{bool_type};
-ghost use Rattle.typing_spec.specs.Typing.{typing, at, has_caps};
-ghost use Rattle.typecheck_spec.specs.Walked as walked;
-ghost use Rattle.typecheck_spec.specs.Walked.{ended, lends};
+ghost use Rattle.typing_spec.specs.Typing.{has_caps};
+ghost use Rattle.typecheck_spec.specs.Walked.{lends};
 ghost use Rattle.typecheck_spec.specs.Operators as definition;
 ghost use Rattle.typecheck_rules.specs.Found.{findings_from};
-ghost use Rattle.typecheck_operators.specs.Told.{mark, walked_of, lent_as};
+ghost use Rattle.typecheck_operators.specs.Operands.{ended_as, has_of};
+ghost use Rattle.typecheck_operators.specs.Told.{mark, operand_of, walked_of};
 
 use crate::told::{Part, Told, Typing, ended_typed, expect, parted};
 use capabilities::{Capability, CapabilitySet};
@@ -20,8 +19,8 @@ use schema_types::Type;
 use std::alloc::{AllocError, Global};
 use typecheck_rules::{Expected, Finding, attribute_of, has_type};
 
-/// `has`, by what its operand comes to, and whether the attribute is known to be there. Errs where memory runs out, or the
-/// expression would be nested too deep.
+/// `has`, by what its operand comes to, and whether the attribute is known to be there. Errs where
+/// memory runs out, or the expression would be nested too deep.
 pub fn has_told<'a>(
     alloc: Global,
     schema: &ValidatorSchema,
@@ -31,7 +30,8 @@ pub fn has_told<'a>(
     loc: Option<Loc>,
     v: Told<'a>,
 ) -> Result<Told<'a>, BuildError>
-    ensures { IfOk result (λ r. walked_of r ≡ definition.has_walked schema.now known x.now n.now (mark loc) (walked_of v.entry)) }
+    ensures { IfOk result (λ r. walked_of r ≡
+        definition.has_walked schema.now known x.now n.now (mark loc) (walked_of v.entry)) }
 {
     let v = expect(alloc, Expected::OwnerOfHas, x.source_loc(), v)?;
     has_fitting(alloc, schema, known, x, n, loc, v)
@@ -46,7 +46,8 @@ fn has_fitting<'a>(
     loc: Option<Loc>,
     v: Told<'a>,
 ) -> Result<Told<'a>, BuildError>
-    ensures { IfOk result (λ r. walked_of r ≡ definition.has_fitting schema.now known x.now n.now (mark loc) (walked_of v.entry)) }
+    ensures { IfOk result (λ r. walked_of r ≡
+        definition.has_fitting schema.now known x.now n.now (mark loc) (walked_of v.entry)) }
 {
     let v = parted(alloc, v)?;
     has_ended(alloc, schema, known, x, n, loc, v)
@@ -61,7 +62,8 @@ fn has_ended<'a>(
     loc: Option<Loc>,
     v: Part<'a>,
 ) -> Result<Told<'a>, BuildError>
-    ensures { IfOk result (λ r. walked_of r ≡ ended v.entry.ok (option_and_then (definition.has_typing_of schema.now known x.now n.now (mark loc)) (lent_as v.entry.of v.entry.caps v.entry.tree)) (has v.entry.tree n.now (lends (Some bool_type) (mark loc))) (findings_from v.entry.found.items ++ [])) }
+    ensures { IfOk result (λ r. walked_of r ≡
+        has_of schema.now known x.now n.now (mark loc) (operand_of v.entry)) }
 {
     let Part {
         ok,
@@ -81,7 +83,7 @@ fn has_ended<'a>(
             match own {
                 Some(of) => {
                     let caps = or_drop!(has_caps(alloc, declared, x, n), of, tree, found);
-                    has_typed(alloc, n, loc, ok, of, caps, tree, found)
+                    has_typed(alloc, n, loc, ok, Typing { of, caps, tree }, found)
                 }
                 None => {
                     let tree = or_drop!(has_lending(alloc, tree, n, loc), found);
@@ -101,13 +103,14 @@ fn has_typed<'a>(
     n: &Text,
     loc: Option<Loc>,
     ok: bool,
-    of: Type,
-    caps: CapabilitySet<'a>,
-    tree: Expr<Option<Type>>,
+    a: Typing<'a>,
     found: Vec<Finding>,
 ) -> Result<Told<'a>, BuildError>
-    ensures { IfOk result (λ r. walked_of r ≡ cond ok (walked.Success (typing of caps.entry (has tree n.now (at of (mark loc))))) (walked.Fail (has tree n.now (at of (mark loc))) (findings_from found.items))) }
+    ensures { IfOk result (λ r. walked_of r ≡
+        ended_as ok a.entry.of a.entry.caps (has a.entry.tree n.now) (mark loc)
+        (findings_from found.items)) }
 {
+    let Typing { of, caps, tree } = a;
     let note = or_drop!(of.try_clone(alloc), of, caps, tree, found);
     let n = or_drop!(n.try_clone(), of, caps, note, tree, found);
     let tree = or_drop!(

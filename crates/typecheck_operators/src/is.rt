@@ -1,13 +1,12 @@
 //! `is`.
 
-ghost use Rattle.std.specs.Prelude.{◌≡◌, ◌++◌, [], IfOk, Some};
-ghost use Rattle.std.specs.Option.{option_and_then};
+ghost use Rattle.std.specs.Prelude.{◌≡◌, IfOk, Some};
 ghost use Rattle.policy_expressions.specs.Tree.{is_type};
 ghost use Rattle.typing_spec.specs.Signatures.{bool_type};
-ghost use Rattle.typecheck_spec.specs.Walked.{ended, lends};
+ghost use Rattle.typecheck_spec.specs.Walked.{lends};
 ghost use Rattle.typecheck_spec.specs.Operators as definition;
-ghost use Rattle.typecheck_rules.specs.Found.{findings_from};
-ghost use Rattle.typecheck_operators.specs.Told.{mark, walked_of, lent_as};
+ghost use Rattle.typecheck_operators.specs.Operands.{is_of};
+ghost use Rattle.typecheck_operators.specs.Told.{mark, operand_of, walked_of};
 
 use crate::told::{Part, Told, Typing, ended_typed, expect, parted};
 use capabilities::CapabilitySet;
@@ -17,7 +16,8 @@ use schema_types::Type;
 use std::alloc::Global;
 use typecheck_rules::{Expected, is_type};
 
-/// `is`, by what its operand comes to. Errs where memory runs out, or the expression would be nested too deep.
+/// `is`, by what its operand comes to. Errs where memory runs out, or the expression would be
+/// nested too deep.
 pub fn is_told<'a>(
     alloc: Global,
     name: &EntityType,
@@ -25,7 +25,8 @@ pub fn is_told<'a>(
     place: Option<Loc>,
     v: Told<'a>,
 ) -> Result<Told<'a>, BuildError>
-    ensures { IfOk result (λ r. walked_of r ≡ definition.is_walked name.now (mark loc) place (walked_of v.entry)) }
+    ensures { IfOk result (λ r. walked_of r ≡
+        definition.is_walked name.now (mark loc) place (walked_of v.entry)) }
 {
     let v = expect(alloc, Expected::EntityOfIs, place, v)?;
     is_fitting(alloc, name, loc, v)
@@ -37,7 +38,8 @@ fn is_fitting<'a>(
     loc: Option<Loc>,
     v: Told<'a>,
 ) -> Result<Told<'a>, BuildError>
-    ensures { IfOk result (λ r. walked_of r ≡ definition.is_fitting name.now (mark loc) (walked_of v.entry)) }
+    ensures { IfOk result (λ r. walked_of r ≡
+        definition.is_fitting name.now (mark loc) (walked_of v.entry)) }
 {
     let v = parted(alloc, v)?;
     is_ended(alloc, name, loc, v)
@@ -49,7 +51,7 @@ fn is_ended<'a>(
     loc: Option<Loc>,
     v: Part<'a>,
 ) -> Result<Told<'a>, BuildError>
-    ensures { IfOk result (λ r. walked_of r ≡ ended v.entry.ok (option_and_then (definition.is_typing name.now (mark loc)) (lent_as v.entry.of v.entry.caps v.entry.tree)) (is_type v.entry.tree name.now (lends (Some bool_type) (mark loc))) (findings_from v.entry.found.items ++ [])) }
+    ensures { IfOk result (λ r. walked_of r ≡ is_of name.now (mark loc) (operand_of v.entry)) }
 {
     let Part {
         ok,

@@ -1,11 +1,9 @@
 //! Literals, variables and slots.
 
-ghost use Rattle.std.specs.Prelude.{◌≡◌, [], IfOk};
+ghost use Rattle.std.specs.Prelude.{◌≡◌, IfOk, Some};
 ghost use Rattle.schema_core.specs.RequestEnvs.{env_data_of};
 ghost use Rattle.policy_expressions.specs.Tree.{lit, var, slot};
 ghost use Rattle.typing_spec.specs.Environment as environment;
-ghost use Rattle.typing_spec.specs.Typing.{typing, at};
-ghost use Rattle.typecheck_spec.specs.Walked as definition;
 ghost use Rattle.typecheck_spec.specs.Operators.{leaf_walked};
 ghost use Rattle.typecheck_operators.specs.Told.{mark, walked_of};
 
@@ -24,7 +22,8 @@ pub fn literal_told<'a>(
     l: &Literal,
     loc: Option<Loc>,
 ) -> Result<Told<'a>, BuildError>
-    ensures { IfOk result (λ r. walked_of r ≡ leaf_walked (lit l.now) (mark loc) (environment.type_of_literal schema.now l.now)) }
+    ensures { IfOk result (λ r. walked_of r ≡
+        leaf_walked (lit l.now) (mark loc) (environment.type_of_literal schema.now l.now)) }
 {
     match literal_type(alloc, schema, l)? {
         Some(of) => {
@@ -49,7 +48,9 @@ pub fn variable_told<'a>(
     v: Var,
     loc: Option<Loc>,
 ) -> Result<Told<'a>, BuildError>
-    ensures { IfOk result (λ r. walked_of r ≡ leaf_walked (var v) (mark loc) (environment.type_of_variable schema.now (env_data_of env.now) v)) }
+    ensures { IfOk result (λ r. walked_of r ≡
+        leaf_walked (var v) (mark loc) (environment.type_of_variable schema.now
+        (env_data_of env.now) v)) }
 {
     match variable_type(alloc, schema, env, v)? {
         Some(of) => {
@@ -72,7 +73,9 @@ pub fn slot_told<'a>(
     id: SlotId,
     loc: Option<Loc>,
 ) -> Result<Told<'a>, BuildError>
-    ensures { IfOk result (λ r. walked_of r ≡ definition.Success (typing (environment.type_of_slot (env_data_of env.now) id) [] (slot id (at (environment.type_of_slot (env_data_of env.now) id) (mark loc))))) }
+    ensures { IfOk result (λ r. walked_of r ≡
+        leaf_walked (slot id) (mark loc) (Some (environment.type_of_slot (env_data_of env.now)
+        id))) }
 {
     let of = slot_type(alloc, env, id)?;
     let note = or_drop!(of.try_clone(alloc), of);

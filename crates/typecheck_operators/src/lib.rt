@@ -1,8 +1,10 @@
-//! The operators of the typechecker: what each comes to, by what its operands come to.
+//! The operators of the typechecker whose operands are all reached: what each comes to, by what its
+//! operands come to.
 #![tactic(auto)]
 
-// What an operation gives; where it fails, what is held is dropped by calls, and the error goes up. A value that is
-// dropped on its own is taken apart by cases in the proof.
+/// What an operation gives; where it fails, what is held is dropped by calls, and the error goes
+/// up. A value that is dropped on its own is taken apart by cases in the proof.
+#[macro_export]
 macro_rules! or_drop {
     ($fallible:expr, $($held:ident),*) => {
         match $fallible {
@@ -15,33 +17,27 @@ macro_rules! or_drop {
     };
 }
 
-mod and;
 mod attr;
 mod binary;
 mod call;
-mod conditional;
 mod has;
 mod is;
 mod leaf;
 mod like;
-mod or;
 mod parts;
 mod record;
 mod set;
 mod told;
 mod unary;
 
-pub use and::and_sides;
-pub use attr::attr_told;
-pub use binary::binary_told;
+pub use attr::{Access, attr_told};
+pub use binary::{Operator, binary_told};
 pub use call::{call_told, undefined_told};
-pub use conditional::if_parts;
 pub use has::has_told;
 pub use is::is_told;
 pub use leaf::{literal_told, slot_told, variable_told};
 pub use like::like_told;
-pub use or::or_sides;
 pub use record::record_told;
 pub use set::set_told;
-pub use told::{Told, Typing, expect, skipped};
+pub use told::{Part, Told, Typing, ended_typed, expect, parted, rest_of, skipped, unreached};
 pub use unary::unary_told;

@@ -1,13 +1,12 @@
 //! `like`.
 
-ghost use Rattle.std.specs.Prelude.{◌≡◌, ◌++◌, [], IfOk, Some};
-ghost use Rattle.std.specs.Option.{option_and_then};
+ghost use Rattle.std.specs.Prelude.{◌≡◌, IfOk, Some};
 ghost use Rattle.policy_expressions.specs.Tree.{like};
 ghost use Rattle.typing_spec.specs.Signatures.{bool_type};
-ghost use Rattle.typecheck_spec.specs.Walked.{ended, lends};
+ghost use Rattle.typecheck_spec.specs.Walked.{lends};
 ghost use Rattle.typecheck_spec.specs.Operators as definition;
-ghost use Rattle.typecheck_rules.specs.Found.{findings_from};
-ghost use Rattle.typecheck_operators.specs.Told.{mark, walked_of, lent_as};
+ghost use Rattle.typecheck_operators.specs.Operands.{like_of};
+ghost use Rattle.typecheck_operators.specs.Told.{mark, operand_of, walked_of};
 
 use crate::told::{Part, Told, Typing, ended_typed, expect, parted};
 use capabilities::CapabilitySet;
@@ -16,7 +15,8 @@ use schema_types::Type;
 use std::alloc::Global;
 use typecheck_rules::{Expected, like_type};
 
-/// `like`, by what its operand comes to. Errs where memory runs out, or the expression would be nested too deep.
+/// `like`, by what its operand comes to. Errs where memory runs out, or the expression would be
+/// nested too deep.
 pub fn like_told<'a>(
     alloc: Global,
     pattern: &Pattern,
@@ -24,7 +24,8 @@ pub fn like_told<'a>(
     place: Option<Loc>,
     v: Told<'a>,
 ) -> Result<Told<'a>, BuildError>
-    ensures { IfOk result (λ r. walked_of r ≡ definition.like_walked pattern.now (mark loc) place (walked_of v.entry)) }
+    ensures { IfOk result (λ r. walked_of r ≡
+        definition.like_walked pattern.now (mark loc) place (walked_of v.entry)) }
 {
     let v = expect(alloc, Expected::StringOfLike, place, v)?;
     like_fitting(alloc, pattern, loc, v)
@@ -36,7 +37,8 @@ fn like_fitting<'a>(
     loc: Option<Loc>,
     v: Told<'a>,
 ) -> Result<Told<'a>, BuildError>
-    ensures { IfOk result (λ r. walked_of r ≡ definition.like_fitting pattern.now (mark loc) (walked_of v.entry)) }
+    ensures { IfOk result (λ r. walked_of r ≡
+        definition.like_fitting pattern.now (mark loc) (walked_of v.entry)) }
 {
     let v = parted(alloc, v)?;
     like_ended(alloc, pattern, loc, v)
@@ -48,7 +50,7 @@ fn like_ended<'a>(
     loc: Option<Loc>,
     v: Part<'a>,
 ) -> Result<Told<'a>, BuildError>
-    ensures { IfOk result (λ r. walked_of r ≡ ended v.entry.ok (option_and_then (definition.like_typing pattern.now (mark loc)) (lent_as v.entry.of v.entry.caps v.entry.tree)) (like v.entry.tree pattern.now (lends (Some bool_type) (mark loc))) (findings_from v.entry.found.items ++ [])) }
+    ensures { IfOk result (λ r. walked_of r ≡ like_of pattern.now (mark loc) (operand_of v.entry)) }
 {
     let Part {
         ok,

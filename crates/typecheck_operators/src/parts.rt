@@ -55,7 +55,8 @@ pub(crate) fn told_rest(alloc: Global, w: Told<'_>) -> (Expr<Option<Type>>, Vec<
 
 // Puts more findings behind these.
 pub(crate) fn add_found(found: &mut Vec<Finding>, mut more: Vec<Finding>) -> Result<(), AllocError>
-    ensures { IfOk result (λ _. findings_from found.new.items ≡ findings_from found.old.items ++ findings_from more.items) }
+    ensures { IfOk result (λ _. findings_from found.new.items ≡
+        findings_from found.old.items ++ findings_from more.items) }
 {
     found.append(&mut more)?;
     Ok(())
@@ -96,7 +97,8 @@ pub(crate) struct Rest {
 
 pub(crate) fn rest_of_all(alloc: Global, ws: Vec<Told<'_>>) -> Result<Rest, AllocError>
     ensures trees { IfOk result (λ r. r.trees.items ≡ map tree_of (all_of ws.entry.items)) }
-    ensures found { IfOk result (λ r. findings_from r.found.items ≡ findings_of_all (all_of ws.entry.items)) }
+    ensures found { IfOk result (λ r. findings_from r.found.items ≡
+        findings_of_all (all_of ws.entry.items)) }
 {
     let mut trees = Vec::new(alloc);
     let mut found = Vec::new(alloc);

@@ -21,14 +21,16 @@ use std::alloc::{AllocError, Global};
 use std::collections::BTreeMap;
 use typecheck_rules::{Finding, record_type};
 
-/// A record literal, by what its fields come to. Errs where memory runs out, or the expression would be nested too deep.
+/// A record literal, by what its fields come to. Errs where memory runs out, or the expression
+/// would be nested too deep.
 #[tactic(auto, using(crate::proofs::PartLaws::record_by_parts))]
 pub fn record_told<'a>(
     alloc: Global,
     loc: Option<Loc>,
     fs: BTreeMap<Text, Told<'a>>,
 ) -> Result<Told<'a>, BuildError>
-    ensures { IfOk result (λ r. walked_of r ≡ definition.record_walked (mark loc) (map field_of fs.entry.entries)) }
+    ensures { IfOk result (λ r. walked_of r ≡
+        definition.record_walked (mark loc) (map field_of fs.entry.entries)) }
 {
     let ok = are_fields_typed(&fs);
     let types = fields_lent(alloc, &fs)?;
@@ -53,7 +55,8 @@ fn fields_lent(
     alloc: Global,
     fs: &BTreeMap<Text, Told<'_>>,
 ) -> Result<Option<BTreeMap<Text, Type>>, AllocError>
-    ensures { IfOk result (λ o. option_map (λ m. m.entries) o ≡ fields_lent (map field_of fs.now.entries)) }
+    ensures { IfOk result (λ o. option_map (λ m. m.entries) o ≡
+        fields_lent (map field_of fs.now.entries)) }
 {
     let mut types = BTreeMap::new(alloc);
     for (key, w) in fs.iter() {
@@ -76,8 +79,10 @@ struct Rest {
 }
 
 fn rest_of_fields(alloc: Global, fs: BTreeMap<Text, Told<'_>>) -> Result<Rest, AllocError>
-    ensures trees { IfOk result (λ r. r.trees.entries ≡ trees_in_fields (map field_of fs.entry.entries)) }
-    ensures found { IfOk result (λ r. findings_from r.found.items ≡ findings_of_all (parts_of (map field_of fs.entry.entries))) }
+    ensures trees { IfOk result (λ r. r.trees.entries ≡
+        trees_in_fields (map field_of fs.entry.entries)) }
+    ensures found { IfOk result (λ r. findings_from r.found.items ≡
+        findings_of_all (parts_of (map field_of fs.entry.entries))) }
 {
     let mut trees = BTreeMap::new(alloc);
     let mut found = Vec::new(alloc);
@@ -97,7 +102,9 @@ fn record_ended<'a>(
     trees: BTreeMap<Text, Expr<Option<Type>>>,
     found: Vec<Finding>,
 ) -> Result<Told<'a>, BuildError>
-    ensures { IfOk result (λ r. walked_of r ≡ record_in_parts (mark loc) ok (option_map (λ m. m.entries) types) (named_of trees.entries) (findings_from found.items)) }
+    ensures { IfOk result (λ r. walked_of r ≡
+        record_in_parts (mark loc) ok (option_map (λ m. m.entries) types) (named_of trees.entries)
+        (findings_from found.items)) }
 {
     match types {
         Some(types) => {

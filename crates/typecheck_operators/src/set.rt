@@ -1,12 +1,10 @@
 //! Set literals.
 
-ghost use Rattle.std.specs.Prelude.{◌≡◌, [], IfOk, None, option_map};
-ghost use Rattle.policy_expressions.specs.Tree.{set, trees_of};
-ghost use Rattle.typing_spec.specs.Typing.{typing, at};
-ghost use Rattle.typecheck_spec.specs.Walked.{ended, lends};
+ghost use Rattle.std.specs.Prelude.{◌≡◌, IfOk, option_map};
+ghost use Rattle.policy_expressions.specs.Tree.{trees_of};
 ghost use Rattle.typecheck_spec.specs.Operators as definition;
 ghost use Rattle.typecheck_rules.specs.Found.{findings_from};
-ghost use Rattle.typecheck_operators.specs.Parts.{set_in_parts};
+ghost use Rattle.typecheck_operators.specs.Parts.{set_by_type, set_in_parts};
 ghost use Rattle.typecheck_operators.specs.Told.{mark, walked_of, all_of};
 
 use crate::parts::{are_typed, rest_of_all, types_lent};
@@ -17,14 +15,16 @@ use schema_types::Type;
 use std::alloc::Global;
 use typecheck_rules::{Finding, joined, set_found, set_type};
 
-/// A set literal, by what its elements come to. Errs where memory runs out, or the expression would be nested too deep.
+/// A set literal, by what its elements come to. Errs where memory runs out, or the expression would
+/// be nested too deep.
 #[tactic(auto, using(crate::proofs::PartLaws::set_by_parts))]
 pub fn set_told<'a>(
     alloc: Global,
     loc: Option<Loc>,
     ws: Vec<Told<'a>>,
 ) -> Result<Told<'a>, BuildError>
-    ensures { IfOk result (λ r. walked_of r ≡ definition.set_walked (mark loc) (all_of ws.entry.items)) }
+    ensures { IfOk result (λ r. walked_of r ≡
+        definition.set_walked (mark loc) (all_of ws.entry.items)) }
 {
     let ok = are_typed(&ws);
     let types = types_lent(alloc, &ws)?;
@@ -40,7 +40,9 @@ fn set_ended<'a>(
     trees: Vec<Expr<Option<Type>>>,
     found: Vec<Finding>,
 ) -> Result<Told<'a>, BuildError>
-    ensures { IfOk result (λ r. walked_of r ≡ set_in_parts (mark loc) ok (option_map (λ v. v.items) types) (trees_of trees.items) (findings_from found.items)) }
+    ensures { IfOk result (λ r. walked_of r ≡
+        set_in_parts (mark loc) ok (option_map (λ v. v.items) types) (trees_of trees.items)
+        (findings_from found.items)) }
 {
     match types {
         Some(types) => {
@@ -64,7 +66,8 @@ fn set_typed<'a>(
     trees: Vec<Expr<Option<Type>>>,
     found: Vec<Finding>,
 ) -> Result<Told<'a>, BuildError>
-    ensures { IfOk result (λ r. walked_of r ≡ ended ok (option_map (λ t. typing t [] (set (trees_of trees.items) (at t (mark loc)))) of) (set (trees_of trees.items) (lends None (mark loc))) (findings_from found.items)) }
+    ensures { IfOk result (λ r. walked_of r ≡
+        set_by_type (mark loc) ok of (trees_of trees.items) (findings_from found.items)) }
 {
     match of {
         Some(of) => {

@@ -16,7 +16,8 @@ use schema_types::Type;
 use std::alloc::{AllocError, Global};
 use typecheck_rules::{Expected, Finding, fits, joined, unexpected};
 
-/// A type, what is known once the expression is true, and the expression with the types of its parts.
+/// A type, what is known once the expression is true, and the expression with the types of its
+/// parts.
 #[derive(Drop)]
 pub struct Typing<'a> {
     /// The type.
@@ -32,26 +33,34 @@ pub struct Typing<'a> {
 pub enum Told<'a> {
     /// The typing.
     Success(Typing<'a>),
-    /// The expression with the types that are known, of which its own is lent to the operator above; and what is found.
+    /// The expression with the types that are known, of which its own is lent to the operator
+    /// above; and what is found.
     Fail(Expr<Option<Type>>, Vec<Finding>),
 }
 
-// An answer taken apart: whether there is a typing, the type that is lent, what is known, the expression, what is found.
+/// An operand taken apart.
 #[derive(Drop)]
-pub(crate) struct Part<'a> {
-    pub(crate) ok: bool,
-    pub(crate) of: Option<Type>,
-    pub(crate) caps: CapabilitySet<'a>,
-    pub(crate) tree: Expr<Option<Type>>,
-    pub(crate) found: Vec<Finding>,
+pub struct Part<'a> {
+    /// Whether there is a typing.
+    pub ok: bool,
+    /// The type that is lent.
+    pub of: Option<Type>,
+    /// What is known.
+    pub caps: CapabilitySet<'a>,
+    /// The expression.
+    pub tree: Expr<Option<Type>>,
+    /// What is found.
+    pub found: Vec<Finding>,
 }
 
-pub(crate) fn parted<'a>(alloc: Global, v: Told<'a>) -> Result<Part<'a>, AllocError>
+/// Takes an operand apart.
+pub fn parted<'a>(alloc: Global, v: Told<'a>) -> Result<Part<'a>, AllocError>
     ensures ok { IfOk result (λ p. p.ok ≡ has_typing (walked_of v.entry)) }
     ensures lent { IfOk result (λ p. lent_as p.of p.caps p.tree ≡ lent_by (walked_of v.entry)) }
     ensures of { IfOk result (λ p. p.of ≡ type_lent (walked_of v.entry)) }
     ensures tree { IfOk result (λ p. p.tree ≡ tree_of (walked_of v.entry)) }
-    ensures found { IfOk result (λ p. findings_from p.found.items ≡ findings_of (walked_of v.entry)) }
+    ensures found { IfOk result (λ p. findings_from p.found.items ≡
+        findings_of (walked_of v.entry)) }
 {
     match v {
         Told::Success(a) => {
@@ -81,9 +90,9 @@ pub(crate) fn parted<'a>(alloc: Global, v: Told<'a>) -> Result<Part<'a>, AllocEr
     }
 }
 
-// The expression, and what is found. What is left is dropped here, by calls, for a goal of a function that drops a type on its
-// own has a case for each kind of type.
-pub(crate) fn rest_of(v: Part<'_>) -> (Expr<Option<Type>>, Vec<Finding>)
+/// The expression, and what is found. What is left is dropped here, by calls, for a goal of a
+/// function that drops a type on its own has a case for each kind of type.
+pub fn rest_of(v: Part<'_>) -> (Expr<Option<Type>>, Vec<Finding>)
     ensures tree { result.0 ≡ v.entry.tree }
     ensures found { result.1 ≡ v.entry.found }
 {
@@ -109,9 +118,10 @@ fn lent(alloc: Global, tree: &Expr<Option<Type>>) -> Result<Option<Type>, AllocE
     }
 }
 
-// The end of an operator that has a typing of its own over what its operands lend.
-pub(crate) fn ended_typed<'a>(ok: bool, a: Typing<'a>, found: Vec<Finding>) -> Told<'a>
-    ensures { walked_of result ≡ cond ok (Success (typing_from a.entry)) (definition.Fail a.entry.tree (findings_from found.items)) }
+/// The end of an operator that has a typing of its own over what its operands lend.
+pub fn ended_typed<'a>(ok: bool, a: Typing<'a>, found: Vec<Finding>) -> Told<'a>
+    ensures { walked_of result ≡ cond ok (Success (typing_from a.entry))
+        (definition.Fail a.entry.tree (findings_from found.items)) }
 {
     if ok {
         drop(found);
@@ -132,7 +142,7 @@ fn untyped(mut tree: Expr<Option<Type>>) -> Expr<Option<Type>>
 }
 
 /// What stands in the place of a part that is not reached.
-pub(crate) fn unreached() -> Expr<Option<Type>>
+pub fn unreached() -> Expr<Option<Type>>
     ensures { result ≡ typing.unreached }
 {
     Expr::lit(Literal::Bool(true), None, None)
@@ -156,7 +166,8 @@ pub fn expect<'a>(
     loc: Option<Loc>,
     v: Told<'a>,
 ) -> Result<Told<'a>, AllocError>
-    ensures { IfOk result (λ r. walked_of r ≡ definition.expect (expected_of x.entry) loc (walked_of v.entry)) }
+    ensures { IfOk result (λ r. walked_of r ≡
+        definition.expect (expected_of x.entry) loc (walked_of v.entry)) }
 {
     match v {
         Told::Success(a) => {
@@ -181,7 +192,8 @@ pub(crate) fn expect_if<'a>(
     loc: Option<Loc>,
     v: Told<'a>,
 ) -> Result<Told<'a>, AllocError>
-    ensures { IfOk result (λ r. walked_of r ≡ definition.expect_if (option_map expected_of x.entry) loc (walked_of v.entry)) }
+    ensures { IfOk result (λ r. walked_of r ≡
+        definition.expect_if (option_map expected_of x.entry) loc (walked_of v.entry)) }
 {
     match x {
         Some(x) => expect(alloc, x, loc, v),
@@ -196,7 +208,9 @@ fn expect_lent<'a>(
     tree: Expr<Option<Type>>,
     found: Vec<Finding>,
 ) -> Result<Told<'a>, AllocError>
-    ensures { IfOk result (λ r. walked_of r ≡ definition.expect_lent (expected_of x.entry) loc (mark_of tree).note tree (findings_from found.items)) }
+    ensures { IfOk result (λ r. walked_of r ≡
+        definition.expect_lent (expected_of x.entry) loc (mark_of tree).note tree
+        (findings_from found.items)) }
 {
     match tree.data() {
         None => Ok(Told::Fail(tree, found)),

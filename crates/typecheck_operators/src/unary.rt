@@ -1,12 +1,9 @@
 //! Operators of one operand.
 
-ghost use Rattle.std.specs.Prelude.{◌≡◌, [], ◌++◌, IfOk, Some};
-ghost use Rattle.std.specs.Option.{option_and_then};
-ghost use Rattle.policy_expressions.specs.Tree.{unary};
-ghost use Rattle.typecheck_spec.specs.Walked.{ended, lends};
-ghost use Rattle.typecheck_spec.specs.Operators.{unary_lent, unary_typing, unary_fitting, unary_walked};
-ghost use Rattle.typecheck_rules.specs.Found.{findings_from};
-ghost use Rattle.typecheck_operators.specs.Told.{mark, walked_of, lent_as};
+ghost use Rattle.std.specs.Prelude.{◌≡◌, IfOk};
+ghost use Rattle.typecheck_spec.specs.Operators.{unary_lent, unary_fitting, unary_walked};
+ghost use Rattle.typecheck_operators.specs.Operands.{unary_of};
+ghost use Rattle.typecheck_operators.specs.Told.{mark, operand_of, walked_of};
 
 use crate::told::{Part, Told, Typing, ended_typed, expect, parted};
 use capabilities::CapabilitySet;
@@ -32,7 +29,8 @@ pub fn unary_told<'a>(
     place: Option<Loc>,
     v: Told<'a>,
 ) -> Result<Told<'a>, BuildError>
-    ensures { IfOk result (λ r. walked_of r ≡ unary_walked op (mark loc) place (walked_of v.entry)) }
+    ensures { IfOk result (λ r. walked_of r ≡
+        unary_walked op (mark loc) place (walked_of v.entry)) }
 {
     let v = expect(alloc, of_unary(op), place, v)?;
     unary_fitting(alloc, op, loc, v)
@@ -56,7 +54,7 @@ fn unary_ended<'a>(
     loc: Option<Loc>,
     v: Part<'a>,
 ) -> Result<Told<'a>, BuildError>
-    ensures { IfOk result (λ r. walked_of r ≡ ended v.entry.ok (option_and_then (unary_typing op (mark loc)) (lent_as v.entry.of v.entry.caps v.entry.tree)) (unary op v.entry.tree (lends (Some (unary_lent op)) (mark loc))) (findings_from v.entry.found.items ++ [])) }
+    ensures { IfOk result (λ r. walked_of r ≡ unary_of op (mark loc) (operand_of v.entry)) }
 {
     let Part {
         ok,

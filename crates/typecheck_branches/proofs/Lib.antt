@@ -1,0 +1,2 @@
+mod BranchLaws
+mod SideLaws

@@ -1,0 +1,168 @@
+"""What the program finds of a document, taken apart: each finding with its severity, kind, policy, place,
+source location, text and help.
+
+Ids of policies may hold any text, also one that looks like a finding. So the program is given the document
+with other ids, which nobody can have foreseen, and the true ones are put back into what it says. It is also
+given a source location for each expression, by which a finding tells what part of the document it is about.
+So findings that differ in nothing but that part are told once each."""
+import json
+import re
+import secrets
+import subprocess
+
+
+ESCAPES = str.maketrans({"\\": "\\\\", '"': '\\"', "\n": "\\n", "\r": "\\r", "\t": "\\t", "\0": "\\0"})
+
+
+class Broken(Exception):
+    """The status with which the program ended, and why there are no findings."""
+
+
+class Finding:
+    """What is found: `path` is that of the part of the document that it is about, `at` the source location that
+    the document gives, or None."""
+
+    def __init__(self, severity, kind, text, path, policy=None, at=None, help=None):
+        self.severity, self.kind, self.text, self.help = severity, kind, text, help
+        self.path, self.policy, self.at = path, policy, at
+
+
+def ask(program, words, document):
+    """The status and the text that the program answers with."""
+    try:
+        ran = subprocess.run(
+            [program, *words], input=json.dumps(document, ensure_ascii=False).encode(), capture_output=True
+        )
+    except OSError as fault:
+        raise Broken(125, f"{program} can't be run: {fault.strerror}") from None
+    return ran.returncode, ran.stdout.decode(errors="replace")
+
+
+def findings_of(program, document):
+    """What `check` finds of a document that has its form."""
+    token = secrets.token_hex(8) + "x"
+    policies, marks = document.get("policies", []), []
+    renamed = with_ids(policies, token)
+    status, told = ask(program, ["check"], document | {"policies": with_marks(renamed, marks)})
+    if status in (3, 11):  # with source locations it is nested too deep, or too long
+        marks = []
+        status, told = ask(program, ["check"], document | {"policies": renamed})
+    if status not in (0, 1):
+        raise Broken(status, f"check ended with {status}: {told.strip()}")
+    found = list(taken_apart(told, token, [policy["id"] for policy in policies], marks))
+    errors = sum(finding.severity == "error" for finding in found)
+    if not told.endswith(f"errors {errors}, warnings {len(found) - errors}\n"):
+        raise Broken(125, "what check says could not be taken apart: " + told)
+    return found
+
+
+def with_ids(policies, token):
+    """The policies with their places in the list as ids."""
+    new = {policy["id"]: f"{token}{i}" for i, policy in enumerate(policies)}
+    return [
+        policy | {"id": new[policy["id"]]} | ({"link": new[policy["link"]]} if "link" in policy else {})
+        for policy in policies
+    ]
+
+
+def with_marks(policies, marks):
+    """The policies with a number as source location of each expression; `marks` gets, for each number, the path
+    and the location that was there."""
+    made = []
+    for i, policy in enumerate(policies):
+        body = [
+            {kind: marked(inner, ("policies", i, "body", j, kind), None, marks) for kind, inner in clause.items()}
+            for j, clause in enumerate(policy.get("body", []))
+        ]
+        made.append(policy | {"body": body} if body else policy)
+    return made
+
+
+def marked(expression, path, at, marks):
+    if isinstance(expression, dict) and "of" in expression:
+        return marked(expression["of"], path + ("of",), at or expression["at"], marks)
+    marks.append((path, at))
+    number = len(marks) - 1
+    return {"at": [number, number], "of": with_marked_operands(expression, path, marks)}
+
+
+def with_marked_operands(expression, path, marks):
+    def each(parts, path, first=0, last=None):
+        return [
+            marked(part, path + (i,), None, marks) if first <= i and (last is None or i < last) else part
+            for i, part in enumerate(parts)
+        ]
+
+    if isinstance(expression, list):
+        return each(expression, path)
+    if not isinstance(expression, dict):
+        return expression
+    kind, inner = next(iter(expression.items()))
+    path += (kind,)
+    if kind in ("id", "var"):
+        return expression
+    if kind == "record":
+        return {kind: {name: marked(part, path + (name,), None, marks) for name, part in inner.items()}}
+    if kind in ("get", "has", "like", "is"):
+        return {kind: each(inner, path, last=1)}
+    if kind == "call":
+        return {kind: each(inner, path, first=1)}
+    return {
+        kind: each(inner, path)
+        if isinstance(inner, list) and kind not in ("not", "neg", "isEmpty")
+        else marked(inner, path, None, marks)
+    }
+
+
+def taken_apart(told, token, ids, marks):
+    """The findings of a text, in the order of the list of policies."""
+    name = rf"for policy `{token}([0-9]+)`"
+    head = r"(?:error|warning) \w+(?: at \d+\.\.\d+)?: "
+    begins = rf"{head}(?:for policy `{token}|the types )"
+    pattern = (
+        rf"^(error|warning) (\w+)(?: at (\d+)\.\.\d+)?: (?:({name}[,:] .*?)|(the types .*? are not compatible))"
+        rf"(?:\n  help: (.*?))?\n(?={begins}|errors \d+, warnings \d+\n\Z)"
+    )
+    found = []
+    for match in re.finditer(pattern, told, re.MULTILINE | re.DOTALL):
+        severity, kind, mark, own, index, types, help_ = match.groups()
+        named = re.match(name, help_ or "") if own is None else None
+        if own is None and not named:
+            continue
+        index = int(index if named is None else named[1])
+        path, at = marks[int(mark)] if mark and marks else (("policies", index), None)
+        text, help_ = (put_back(part, token, ids) for part in (own or types, help_))
+        found.append(Finding(severity, kind, text, path, ids[index], at, help_))
+    return sorted(found, key=lambda finding: finding.path[1])
+
+
+def put_back(text, token, ids):
+    return re.sub(rf"{token}([0-9]+)", lambda match: ids[int(match[1])], text) if text else text
+
+
+def conformance_of(program, document):
+    """What `request` says against the request and the entities of a document: at most one finding."""
+    status, told = ask(program, ["request"], document)
+    if status == 0:
+        return []
+    if status not in (4, 5):
+        raise Broken(status, f"request ended with {status}: {told.strip()}")
+    if status == 5:
+        return [Finding("error", "InvalidEntity", told.rstrip("\n"), entity_path(told, document.get("entities", [])))]
+    text, _, help_ = told.rstrip("\n").partition("\n  help: ")
+    return [Finding("error", "InvalidRequest", text, ("request",), help=help_ or None)]
+
+
+def uid(id_):
+    """An id as the program prints it."""
+    return f'{id_[0]}::"{id_[1].translate(ESCAPES)}"'
+
+
+def entity_path(told, entities):
+    """Where the entity stands that a text begins with."""
+    named = [
+        (len(uid(entity["id"])), i)
+        for i, entity in enumerate(entities)
+        if told.startswith(f"entity: {uid(entity['id'])}: ")
+    ]
+    return ("entities", max(named)[1]) if named else ("entities",)

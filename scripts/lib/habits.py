@@ -1,0 +1,129 @@
+"""What is legal in a document and likely wrong: findings of these scripts' own, of which the program says
+nothing."""
+import json
+
+from findings import Finding, uid
+
+
+def habits_of(document):
+    """The findings of a document that has its form."""
+    policies, actions = document.get("policies", []), document["schema"].get("actions", [])
+    found = unlisted_actions(document, actions, policies) + unknown_entries(document)
+    return found + unlinked_templates(policies) + without_permit(policies) + idle_actions(actions)
+
+
+def warning(kind, text, path, help=None, policy=None):
+    return Finding("warning", kind, text, path, help=help, policy=policy)
+
+
+def above(id_, direct):
+    """The groups of an action, of any number of steps."""
+    found, left = [], list(direct.get(id_, []))
+    while left:
+        group = left.pop(0)
+        if group not in found:
+            found.append(group)
+            left += direct.get(group, [])
+    return found
+
+
+def unlisted_actions(document, actions, policies):
+    """Actions that are no entities here, so that they are in no group, though policies name a group of theirs."""
+    if not document.get("entities") and not document.get("request"):
+        return []
+    direct = {tuple(action["id"]): [tuple(group) for group in action.get("memberOf", [])] for action in actions}
+    stored = {tuple(entity["id"]) for entity in document.get("entities", [])}
+    named = {}
+    for policy in policies:
+        for id_ in set(ids_in([policy.get("action"), policy.get("body")])):
+            named.setdefault(id_, policy["id"])
+    found = []
+    for i, action in enumerate(actions):
+        groups = above(tuple(action["id"]), direct)
+        meant = [group for group in groups if group in named]
+        if meant and tuple(action["id"]) not in stored:
+            text = (
+                f"action `{uid(action['id'])}` is not among the entities, so it is in no group when policies are "
+                f"evaluated: `in` with `{uid(meant[0])}` is false of it, as in policy `{named[meant[0]]}`"
+            )
+            entity = compact({"id": action["id"], "parents": [list(group) for group in groups]})
+            found.append(warning("UnlistedAction", text, ("schema", "actions", i), f"add to the entities {entity}"))
+    return found
+
+
+def compact(value):
+    return json.dumps(value, ensure_ascii=False, separators=(",", ":"))
+
+
+def ids_in(part):
+    """All ids that stand in a scope of actions or a body, as pairs."""
+    if isinstance(part, list):
+        if len(part) == 2 and all(isinstance(text, str) for text in part):
+            yield tuple(part)
+        for inner in part:
+            yield from ids_in(inner)
+    elif isinstance(part, dict):
+        for inner in part.values():
+            yield from ids_in(inner)
+
+
+def unknown_entries(document):
+    """Entries of the request that are unknown, so that neither they are tested nor a decision is made."""
+    if "request" not in document:
+        text = "there is no request: `request` tests the entities alone, and `slice` and `decide` end with status 6"
+        return [warning("UnknownRequest", text, ())] if document.get("entities") else []
+    request = document["request"]
+    unknown = [entry for entry in ("principal", "action", "resource", "context") if request.get(entry) is None]
+    if not unknown:
+        return []
+    text = (
+        f"of the request {', '.join(unknown)} {'is' if len(unknown) == 1 else 'are'} unknown: `request` does not test "
+        "what is unknown, and `slice` and `decide` end with status 6"
+    )
+    help_ = 'an empty context is "context":{}' if unknown == ["context"] else None
+    return [warning("UnknownRequest", text, ("request",), help_)]
+
+
+def is_template(policy):
+    return "link" not in policy and any("?" in policy.get(part, {}).values() for part in ("principal", "resource"))
+
+
+def unlinked_templates(policies):
+    linked = {policy["link"] for policy in policies if "link" in policy}
+    return [
+        warning(
+            "UnlinkedTemplate",
+            f"template `{policy['id']}` has no link, so it says nothing",
+            ("policies", i),
+            policy=policy["id"],
+        )
+        for i, policy in enumerate(policies)
+        if is_template(policy) and policy["id"] not in linked
+    ]
+
+
+def without_permit(policies):
+    """Policies of which none permits: no request can be allowed."""
+    effects = {policy["id"]: policy["effect"] for policy in policies if "link" not in policy}
+    deciding = [
+        effects[policy["link"]] if "link" in policy else policy["effect"]
+        for policy in policies
+        if not is_template(policy)
+    ]
+    if not deciding or "permit" in deciding:
+        return []
+    return [warning("NoPermit", "no policy and no link permits, so that each request is denied", ("policies",))]
+
+
+def idle_actions(actions):
+    """Actions that apply to nothing and that are no groups."""
+    groups = {tuple(group) for action in actions for group in action.get("memberOf", [])}
+    found = []
+    for i, action in enumerate(actions):
+        lacks = [part for part in ("principals", "resources") if not action.get(part)]
+        if lacks and tuple(action["id"]) not in groups:
+            text = (
+                f"action `{uid(action['id'])}` has no {' and no '.join(lacks)}, and is no group: it applies to nothing"
+            )
+            found.append(warning("IdleAction", text, ("schema", "actions", i)))
+    return found

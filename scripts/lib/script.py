@@ -1,0 +1,62 @@
+"""How a script begins and ends: its help, a file or standard input, the program, and no traceback where a
+reader goes away."""
+import os
+import pathlib
+import subprocess
+import sys
+
+TOP = pathlib.Path(__file__).resolve().parents[2]
+RELEASE = TOP / "release/palvumiose-x86_64-linux"
+
+
+def run(main, doc):
+    """Ends the process with the status that `main` gives for the words of the command line; -h, --help prints the
+    script's own text."""
+    words = sys.argv[1:]
+    try:
+        if words[:1] in (["-h"], ["--help"]):
+            print(doc.strip())
+            status = 0
+        else:
+            status = main(words)
+        sys.stdout.flush()
+    except BrokenPipeError:
+        os.dup2(os.open(os.devnull, os.O_WRONLY), sys.stdout.fileno())
+        status = 9
+    except KeyboardInterrupt:
+        status = 130
+    sys.exit(status)
+
+
+def complain(text, status):
+    print(f"{pathlib.Path(sys.argv[0]).name}: {text}", file=sys.stderr)
+    return status
+
+
+def bytes_of(name):
+    """The bytes of the file, or of standard input where there is no name; or what is wrong with it."""
+    try:
+        return (pathlib.Path(name).read_bytes() if name else sys.stdin.buffer.read()), None
+    except OSError as fault:
+        return None, f"{name or 'standard input'} can't be read: {fault.strerror}"
+
+
+def taken_out(words, option="--program"):
+    """What stands behind an option, or None, and the other words."""
+    if option not in words[:-1]:
+        return None, words
+    i = words.index(option)
+    return words[i + 1], words[:i] + words[i + 2 :]
+
+
+def program_at(name):
+    """The program with this name, or without a name the one that scripts/palvumiose chooses; None where there is
+    none, which is then said."""
+    if name:
+        path = pathlib.Path(name).resolve()
+        if path.is_file() and os.access(path, os.X_OK):
+            return str(path)
+        complain(f"{name} is no program", 125)
+        return None
+    ran = subprocess.run([str(TOP / "scripts/palvumiose"), "--path"], stdout=subprocess.PIPE)
+    return ran.stdout.decode().strip() if ran.returncode == 0 else None
