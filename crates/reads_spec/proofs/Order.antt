@@ -279,13 +279,7 @@ prefix_shorter (c ∷ cs) rest (n ∷ ns) h =
 
 and_keep : (a b c : Bool) → (b ≡ true → c ≡ true) → (a && b) ≡ true → (a && c) ≡ true
 and_keep true b c f h = f h
-
-or_weaker : (a b c d : Bool) → (a ≡ true → c ≡ true) → (b ≡ true → d ≡ true) → (a || b) ≡ true → (c || d) ≡ true
-or_weaker true b c d f g h = or_left_true c d (f refl)
-
-any_weaker : {A : Type 0} (f g : A → Bool) (xs : List A) → ((x : A) → f x ≡ true → g x ≡ true) → list_any f xs ≡ true → list_any g xs ≡ true
-any_weaker f g [] h k = k
-any_weaker f g (x ∷ xs) h k = or_weaker (f x) (list_any f xs) (g x) (list_any g xs) (h x) (any_weaker f g xs h) k
+and_keep false b c f h = h
 
 keeps_shorter : (s : Store) (x : EntityUID) (cs rest ns : List Step) (v : Val) → keeps s x (cs ++ rest) ns v ≡ true → keeps s x cs ns v ≡ true
 keeps_shorter s x cs rest [] v h = and_keep (is_id x v) (is_prefix (cs ++ rest) []) (is_prefix cs []) (prefix_shorter cs rest []) h

@@ -439,10 +439,7 @@ root_first_names q s r w rs y = (λ n. by n.root n.below n.among n.names, back)
 pub no_root_names : (q : Request) (s : Store) (y : EntityUID) → RootNames q s [] y → ⊥
 no_root_names q s y n = n.among
 
-within_of_is_some : {X : Type 0} (xs : List X) (i : ℕ) → is_some (slice_get xs i) ≡ true → i < length xs
-within_of_is_some [] i h = cc
-within_of_is_some (x ∷ xs) zero h = omega arith
-within_of_is_some (x ∷ xs) (suc i) h = omega (arith, within_of_is_some xs i h)
+-- ---- later nodes
 
 pub fewer_below : (e : Edge) (v w : ViewData) → LeadsTo e v w → length w.nodes - w.number < length v.nodes - v.number
 fewer_below e v w l = let h = within_of_is_some w.nodes w.number l.there in let k = l.later in let same = ap length l.table in omega (arith, h, k, same)
