@@ -29,7 +29,7 @@ use Rattle.conformance_errors.specs.declared.store_rule.StoreRule.{StoreRule}
 use Rattle.conformance_errors.specs.declared.store_rule.StoreRule.TheVariants.{TypeNotDeclared, IdNotListed, AttributeNotDeclared, AttributeOfAnotherType, AttributeHoldsUnlistedId, RequiredAttributeMissing, TagsNotAllowed, TagOfAnotherType, TagHoldsUnlistedId, AncestorNotAllowed, AncestorNotListed, ActionNotDeclared, ActionHasAttributes, ActionHasTags, ActionAncestorsDiffer}
 use Rattle.conformance.specs.Laws.{StoreRulesAreExact}
 use Rattle.conformance.proofs.Options.{none_first, none_rest, neither, kept, keeps, no_fault, none_inside, all_more, all_pass, pass_all}
-use Rattle.plain_lemmas.proofs.Booleans.{and_parts_of, equal_by_both_ways}
+use Rattle.plain_lemmas.proofs.Booleans.{and_parts_of, equal_by_both_ways, or_right_true}
 use Rattle.conformance.proofs.Members.{all_there, all_required, required_all, member_of, of_member}
 
 -- the value is of the type exactly where it is a member
@@ -156,16 +156,12 @@ has_passed p (x ∷ us) h u k = by (is_eq (uid_cmp u x)) refl (has_passed p us (
     by true e rest j = ap p (tells_apart exact_uid u x e) ∙ (and_parts_of (p x) (list_all p us) h).0
     by false e rest j = rest j
 
-or_right : (a b : Bool) → b ≡ true → (a || b) ≡ true
-or_right true b h = refl
-or_right false b h = h
-
 -- each element is in its list
 pub each_has : (us : List EntityUID) → AllByRecursion (λ u. has uid_cmp us u ≡ true) us
 each_has [] = tt
 each_has (x ∷ us) = (
   ap (λ o. is_eq o || has uid_cmp us x) (tied_itself uid_cmp_total x),
-  all_more (λ u. has uid_cmp us u ≡ true) (λ u. has uid_cmp (x ∷ us) u ≡ true) (λ u h. or_right (is_eq (uid_cmp u x)) (has uid_cmp us u) h) us (each_has us),
+  all_more (λ u. has uid_cmp us u ≡ true) (λ u. has uid_cmp (x ∷ us) u ≡ true) (λ u h. or_right_true (is_eq (uid_cmp u x)) (has uid_cmp us u) h) us (each_has us),
 )
 
 -- what is found for an id has it, and is of the list

@@ -37,6 +37,7 @@ use Rattle.store_slices.specs.Blocked.{IsBlockedInStore}
 use Rattle.entity_manifest.specs.Declared.{is_of_ids, IsDeclaredTrie}
 use Rattle.entity_manifest.proofs.Below.{is_plain}
 use Rattle.entity_manifest.proofs.Having.{Has, HaveAll, HaveOne, EntityHas, have_cut, one_cut, walk_has}
+use Rattle.store_slices.proofs.LeastSteps.{map_append}
 
 -- ---- a value that is neither an id nor a record
 
@@ -145,10 +146,6 @@ module _ (d : SchemaData) where
       never_tags (declared_tags d e.uid.entity_type) e.tags (behind AnyTag t) u h.1 (behind_fits (Some (entity (e.uid.entity_type ∷ []))) any_tag t f) s
 
 -- ---- tests below paths
-
-map_append : (ms ns : List Step) → map edge_of (ms ++ ns) ≡ map edge_of ms ++ map edge_of ns
-map_append [] ns = refl
-map_append (m ∷ ms) ns = ap (λ es. edge_of m ∷ es) (map_append ms ns)
 
 module _ (d : SchemaData) (g : EnvData) (ns : Table) (trie : IsDeclaredTrie d g ns) where
   -- a path of the trie that goes on is declared

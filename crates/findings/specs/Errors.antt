@@ -71,26 +71,6 @@ error_place (error.EmptySetForbidden e) = e.source_loc
 error_place (error.NonLitExtConstructor e) = e.source_loc
 error_place (error.TooDeep e) = e.source_loc
 
--- of which policy it is
-abbrev pub error_policy : ValidationError → List ℕ
-error_policy (error.UnrecognizedEntityType e) = e.policy_id
-error_policy (error.UnrecognizedActionId e) = e.policy_id
-error_policy (error.InvalidEnumEntity e) = e.policy_id
-error_policy (error.InvalidActionApplication e) = e.policy_id
-error_policy (error.UnexpectedType e) = e.policy_id
-error_policy (error.IncompatibleTypes e) = e.policy_id
-error_policy (error.UnsafeAttributeAccess e) = e.policy_id
-error_policy (error.UnsafeOptionalAttributeAccess e) = e.policy_id
-error_policy (error.UnsafeTagAccess e) = e.policy_id
-error_policy (error.NoTagsAllowed e) = e.policy_id
-error_policy (error.UndefinedFunction e) = e.policy_id
-error_policy (error.WrongNumberArguments e) = e.policy_id
-error_policy (error.FunctionArgumentValidation e) = e.policy_id
-error_policy (error.EntityDerefLevelViolation e) = e.policy_id
-error_policy (error.EmptySetForbidden e) = e.policy_id
-error_policy (error.NonLitExtConstructor e) = e.policy_id
-error_policy (error.TooDeep e) = e.policy_id
-
 -- what kind of error it is
 abbrev pub error_kind : ValidationError → List ℕ
 error_kind (error.UnrecognizedEntityType e) = codes "UnrecognizedEntityType"

@@ -17,13 +17,11 @@ use Rattle.access_tries.proofs.Unions.{IsUniting}
 use Rattle.access_tries.proofs.Merging.{IsMerging, merging_step, before_own}
 use Rattle.access_tries.proofs.Making.{any_more, here_at_end, below_at_end}
 use Rattle.plain_lemmas.proofs.Booleans.{and_false, or_false}
+use Rattle.access_tries.specs.SameLaws.{edge_is}
 
 -- what the links lead to, and what is left of the others, is what all lead to, as far as the test passes
 pub record IsKept (f : Option NodeData → Bool) (d : Address → Bool) (ns : Table) (links : List Link) (x : Table) (left xs : List Link) : Type 0 where
   pub all : (e : Edge) (es : Address) → (any_link f ns e es links || (any_link f x e es left && d (e ∷ es))) ≡ (any_link f x e es xs && d (e ∷ es))
-
-same_edge : (a b : Edge) → edge_eq a b ≡ true → a ≡ b
-same_edge a b h = exact_edge a b (equal_of (edge_cmp a b) h)
 
 -- the first of what is left
 pub next_is : (xs : List Link) (p : ℕ) (l : Link) → p < length xs → l ≡ get_or xs p l → drop p xs ≡ l ∷ drop (p + 1) xs
@@ -50,7 +48,7 @@ module _ (f : Option NodeData → Bool) (d : Address → Bool) (x : Table) (xs :
   kept_without ns links none k = record {
     all = λ e es.
         sym (ap (λ ls. any_link f ns e es links || (any_link f x e es ls && d (e ∷ es))) (next_is xs p l lt is)
-        ∙ ap (λ b. any_link f ns e es links || b) (skipped (edge_eq l.edge e) (at_path f x l.number es) (any_link f x e es (drop (p + 1) xs)) (d (e ∷ es)) (λ s. subst (λ a. d (a ∷ es) ≡ false) (same_edge l.edge e s) (none es))))
+        ∙ ap (λ b. any_link f ns e es links || b) (skipped (edge_eq l.edge e) (at_path f x l.number es) (any_link f x e es (drop (p + 1) xs)) (d (e ∷ es)) (λ s. subst (λ a. d (a ∷ es) ≡ false) (edge_is l.edge e s) (none es))))
         ∙ k.all e es;
   }
 
@@ -60,7 +58,7 @@ module _ (f : Option NodeData → Bool) (d : Address → Bool) (x : Table) (xs :
   kept_with at old ns ms links n u uniting keeps below behind k = record {
     all = λ e es.
         ap (λ b. b || (any_link f x e es (drop (p + 1) xs) && d (e ∷ es))) (any_more f at old ns ms links l.edge n uniting keeps e es)
-        ∙ taken (any_link f ns e es links) (edge_eq l.edge e) (at_path f x l.number es) (at_path f ms n es) (any_link f x e es (drop (p + 1) xs)) (d (e ∷ es)) (u es) (below es) (λ s. subst (λ a. d (a ∷ es) ≡ u es) (same_edge l.edge e s) (behind es))
+        ∙ taken (any_link f ns e es links) (edge_eq l.edge e) (at_path f x l.number es) (at_path f ms n es) (any_link f x e es (drop (p + 1) xs)) (d (e ∷ es)) (u es) (below es) (λ s. subst (λ a. d (a ∷ es) ≡ u es) (edge_is l.edge e s) (behind es))
         ∙ sym (ap (λ ls. any_link f ns e es links || (any_link f x e es ls && d (e ∷ es))) (next_is xs p l lt is))
         ∙ k.all e es;
   }

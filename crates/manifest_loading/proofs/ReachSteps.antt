@@ -27,7 +27,8 @@ use Rattle.reads_spec.specs.Merge.{IsBelowAll, IsOrdered, AreOrdered, IsEntityOr
 use Rattle.reads_spec.specs.Paths.{Step, along, any_tag}
 use Rattle.reads_spec.specs.Restrict.{values_in, root_value, step, walk}
 use Rattle.reads_spec.proofs.Cuts.{walk_on}
-use Rattle.reads_spec.proofs.Lists.{IsIn, any_in, in_flat_map, flat_map_out, same_uid, uid_self, text_self, same_text}
+use Rattle.reads_spec.proofs.Lists.{IsIn, any_in, in_flat_map, flat_map_out, same_uid, uid_self, same_text}
+use Rattle.type_relations.proofs.UnionLaws.{own_text}
 use Rattle.plain_lemmas.proofs.Booleans.{or_left_true, or_right_true}
 use Rattle.reads_spec.proofs.Words.{any_out}
 use Rattle.trie_traversal.specs.Begun.{root_points, roots_point}
@@ -37,14 +38,13 @@ use Rattle.store_slices.specs.Reached.{IsReached}
 use Rattle.store_slices.proofs.Fronts.{front_leads as front_there}
 use Rattle.manifest_loading.proofs.PointSteps.{points_more, in_fields}
 use Rattle.plain_lemmas.proofs.Lists.{any_weaker}
+use Rattle.store_slices.proofs.LeastSteps.{map_append}
+use Rattle.access_tries.specs.SameLaws.{edge_is}
 
 -- ---- addresses
 
 pub edge_self : (e : Edge) → edge_eq e e ≡ true
 edge_self e = rw (tied_itself nat_cmp_total (rank e), tied_itself nat_list_cmp_total (first_text e), tied_itself nat_list_cmp_total (second_text e)) refl
-
-pub same_edge : (a b : Edge) → edge_eq a b ≡ true → a ≡ b
-same_edge a b h = exact_edge a b (equal_of (edge_cmp a b) h)
 
 -- a front of what is seen leads somewhere
 pub front_leads : (b : Bool) (ns : Table) (i : ℕ) (es a : Address) → sees b (record { nodes = ns; number = i }) (es ++ a) ≡ true → sees false (record { nodes = ns; number = i }) es ≡ true
@@ -66,15 +66,11 @@ begins : (b : Bool) (ns : Table) (e : Edge) (a : Address) → sees b (whole ns) 
 begins true ns e a h =
     let r = any_out (λ l. edge_eq l.edge e && at_path has_mark ns l.number a) (links_at ns 0) h in
     let c = and_parts (edge_eq r.0.edge e) (at_path has_mark ns r.0.number a) r.2 in
-    record { link = r.0; among = r.1; edge = same_edge r.0.edge e c.0; rest = c.1 }
+    record { link = r.0; among = r.1; edge = edge_is r.0.edge e c.0; rest = c.1 }
 begins false ns e a h =
     let r = any_out (λ l. edge_eq l.edge e && at_path is_some ns l.number a) (links_at ns 0) h in
     let c = and_parts (edge_eq r.0.edge e) (at_path is_some ns r.0.number a) r.2 in
-    record { link = r.0; among = r.1; edge = same_edge r.0.edge e c.0; rest = c.1 }
-
-map_append : (ms ks : List Step) → map edge_of (ms ++ ks) ≡ map edge_of ms ++ map edge_of ks
-map_append [] ks = refl
-map_append (m ∷ ms) ks = ap (λ es. edge_of m ∷ es) (map_append ms ks)
+    record { link = r.0; among = r.1; edge = edge_is r.0.edge e c.0; rest = c.1 }
 
 -- ---- walks
 
@@ -122,7 +118,7 @@ mutual
   fields_lead s (field m v fs) t x a o h = by (or_cases (points v (λ b. t (Field m ∷ b)) x a) (fields_point fs t x a) h) (value_leads s v (λ b. t (Field m ∷ b)) x a o.1) (fields_lead s fs t x a o.2)
     where
       by : (points v (λ b. t (Field m ∷ b)) x a ≡ true) ⊎ (fields_point fs t x a ≡ true) → (points v (λ b. t (Field m ∷ b)) x a ≡ true → Leads s v (λ b. t (Field m ∷ b)) x a) → (fields_point fs t x a ≡ true → FieldLeads s fs t x a) → FieldLeads s (field m v fs) t x a
-      by (inl i) f g = record { name = m; value = v; has = rw (text_self m) refl; rest = f i }
+      by (inl i) f g = record { name = m; value = v; has = rw (own_text m) refl; rest = f i }
       by (inr i) f g = let r = g i in record { name = r.name; value = r.value; has = past_field m r.name v r.value fs o.0 r.has; rest = r.rest }
 
 -- some tag leads there

@@ -29,7 +29,8 @@ use Rattle.manifest_loading.specs.Ordered.{HasOrder}
 use Rattle.store_slices.specs.Reached.{IsReached}
 use Rattle.manifest_loading.specs.Rounds.{AsksFor, AreAnswers, IsRound, IsComplete, IsSound}
 use Rattle.std.specs.Option.{option_map}
-use Rattle.manifest_loading.specs.KeptPart.{IsState, IsBegun, IsLoaded, AreAlike, bare, along}
+use Rattle.manifest_loading.specs.KeptPart.{IsState, IsBegun, IsLoaded, AreAlike, along}
+use Rattle.entity_store.specs.FromParents.{without_links}
 use Rattle.manifest_loading.proofs.KeptSteps.{kept_more, kept_start}
 use Rattle.manifest_loading.proofs.PointSteps.{entity_or, entity_any, fields_kept, tags_kept, fields_cut, tags_cut}
 use Rattle.manifest_loading.proofs.ReachSteps.{front_leads, start_reached, entity_leads, further_reached, reached_asked}
@@ -159,7 +160,7 @@ state_start exact ns q s start old begun none = record {
 pub loaded : (exact : Bool) (ns : Table) (q : Request) (s found : Store) (asked : List Place) (kept : Found) → IsState exact ns q s asked [] kept → AreAlike (entity_at found) kept → IsLoaded exact ns q s found
 loaded exact ns q s found asked kept t alike = record {
   choice = t.part.choice;
-  is = λ x. alike x ∙ ap (option_map bare) (t.part.is x);
+  is = λ x. alike x ∙ ap (option_map without_links) (t.part.is x);
   chains = λ x c r. t.part.chains x c (asked_reached ns q s asked t.complete false x (along c) r);
   tags = λ x n c r. t.part.tags x n c (asked_reached ns q s asked t.complete false x (AnyTag ∷ along c) r);
   only_chains = λ e x c h. t.sound.reached false x (along c) (or_left_true (wants false ns asked x (along c)) (wants false ns [] x (along c)) (t.part.only_chains e x c h));

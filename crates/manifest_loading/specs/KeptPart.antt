@@ -2,6 +2,7 @@
 use Rattle.std.specs.Prelude.{◌≡◌, ℕ, Bool, true, false, List, [], ◌∷◌, map, Option, None, if◌then◌else◌}
 use Rattle.std.specs.Option.{option_map}
 use Rattle.policy_names.specs.declared.entity_uid.EntityUID.{EntityUID}
+use Rattle.entity_store.specs.FromParents.{without_links}
 use Rattle.entity_store.specs.declared.request.Request.{Request}
 use Rattle.entity_store.specs.Store.{StoredEntity, Store, entity_at}
 use Rattle.access_tries.specs.declared.edge.Edge.TheVariants.{AnyTag}
@@ -51,13 +52,9 @@ pub record IsBegun (ns : Table) (q : Request) (s : Store) (start : List Place) :
   pub order : HasOrder s
   pub context : (r : EntityRoot) → IsOrdered (root_value q r)
 
--- an entity without its ancestors
-abbrev pub bare : StoredEntity → StoredEntity
-bare e = record e { ancestors = [] }
-
 -- the same entities with the same attributes and tags
 abbrev pub AreAlike : Found → Found → Type 0
-AreAlike f g = (x : EntityUID) → option_map bare (f x) ≡ option_map bare (g x)
+AreAlike f g = (x : EntityUID) → option_map without_links (f x) ≡ option_map without_links (g x)
 
 -- what is found has, but for ancestors, what a choice leaves of the store: at least what paths of the trie reach; where the loader is exact,
 -- just that

@@ -16,7 +16,8 @@ ghost use Rattle.entity_store.specs.Store.{Store};
 ghost use Rattle.manifest_loading.specs.Answering.{AreUnderIds};
 ghost use Rattle.manifest_loading.specs.Causes.{CauseOf, IsRight};
 ghost use Rattle.manifest_loading.specs.Joining.{lists, asks, brings, IsAskedFor, AreAscending, HasMore, IsJoined};
-ghost use Rattle.manifest_loading.specs.KeptPart.{bare, AreAlike};
+ghost use Rattle.entity_store.specs.FromParents.{without_links};
+ghost use Rattle.manifest_loading.specs.KeptPart.{AreAlike};
 
 use crate::error::EntitySliceError;
 use crate::lent::lent_tries;
@@ -167,7 +168,7 @@ fn add_ancestors(
 }
 
 fn with_more(alloc: Global, entity: &Entity, ids: Vec<EntityUID>) -> Result<Entity, AllocError>
-    ensures alike { IfOk result (λ e. bare e ≡ bare entity.now) }
+    ensures alike { IfOk result (λ e. without_links e ≡ without_links entity.now) }
     ensures more { IfOk result (λ e. (y : EntityUID) → above (Some e) y ≡ (above (Some entity.now) y || lists ids.items y)) }
     ensures ascending { IfOk result (λ e. IsStrictlySortedBy uid_cmp e.ancestors) }
 {

@@ -31,7 +31,7 @@ use Rattle.serde_json.specs.Written.{compact_text}
 use Rattle.manifest_core.specs.Manifest.{Manifest}
 use Rattle.manifest_core.specs.ManifestJson.{manifest_data}
 use Rattle.manifest_computation.specs.Computed.{IsManifestOf}
-use Rattle.json_response.specs.SliceJson.{slice_text, response_text}
+use Rattle.json_response.specs.SliceJson.{decision_text, slice_text, response_text}
 use Rattle.policy_gate.specs.Reply.{Answer, answer}
 use Rattle.policy_gate.specs.declared.command.Command.{Command}
 use Rattle.policy_gate.specs.declared.command.Command.TheVariants.{Check, Level, Request as Conformance, Manifest as Reads, Slice, Decide, Sample}
@@ -119,13 +119,9 @@ unfoldable pub manifest_text : Manifest → List ℕ
 manifest_text m = compact_text (manifest_data m) ++ codes "\n"
 
 -- the line on a slice: of how many entities the store is made, how many are kept, and the decision
-abbrev pub decision_word : Decision → List ℕ
-decision_word Allow = codes "Allow"
-decision_word Deny = codes "Deny"
-
 abbrev pub sample_text : ℕ → ℕ → Decision → List ℕ
 sample_text size kept decision =
-    codes "entities " ++ (decimal size ++ (codes " kept " ++ (decimal kept ++ (codes " decision " ++ (decision_word decision ++ codes "\n")))))
+    codes "entities " ++ (decimal size ++ (codes " kept " ++ (decimal kept ++ (codes " decision " ++ (decision_text decision ++ codes "\n")))))
 
 -- the text is that of the command's work: the findings; that all conforms; the manifest of the policies; the restricted store, with the response on it; the response on
 -- the whole store; the line on the restricted store

@@ -7,7 +7,8 @@ ghost use Rattle.conformance.specs.Misfits.{knows};
 ghost use Rattle.conformance.specs.RequestRules.{first_request_fault};
 ghost use Rattle.conformance_errors.specs.Written.{request_text};
 ghost use Rattle.finding_messages.specs.Written.{findings_text};
-ghost use Rattle.policy_gate.specs.Answer.{IsAnswer, IsAnswerFor, IsAnswerTo, IsRefusedOr, IsWellMade, IsWork, found_at, found_in, decision_word, manifest_text, refused_data, refused_decision, refused_policies, refused_request, refused_store, refused_with, request_fault, sample_text, slice_of, status_of, store_fault};
+ghost use Rattle.json_response.specs.SliceJson.{decision_text};
+ghost use Rattle.policy_gate.specs.Answer.{IsAnswer, IsAnswerFor, IsAnswerTo, IsRefusedOr, IsWellMade, IsWork, found_at, found_in, manifest_text, refused_data, refused_decision, refused_policies, refused_request, refused_store, refused_with, request_fault, sample_text, slice_of, status_of, store_fault};
 ghost use Rattle.policy_gate.specs.Headline.{KeepsRules};
 ghost use Rattle.policy_gate.specs.Reply.{reply_view};
 
@@ -232,7 +233,7 @@ fn sample_reply(alloc: Global, document: &Document, size: u64) -> Result<Reply, 
 }
 
 fn decision_word(decision: Decision) -> &'static str
-    ensures { result.now ≡ decision_word decision }
+    ensures { result.now ≡ decision_text decision }
 {
     match decision {
         Decision::Allow => "Allow",

@@ -13,9 +13,15 @@ pub use byte_streams::{
     WriteAnswer,
 };
 pub use command::{Command, command_of};
+pub use conformance::{EntityDoesNotConform, RequestValidationError, conforms, validate_request};
 pub use json_document::{Document, DocumentFault, Place, read_document, read_schema, read_value};
 pub use json_expressions::{Bounded, read_expr};
 pub use json_response::write_value;
 pub use json_values::parse_json;
+pub use manifest_computation::compute_entity_manifest;
+pub use policy_scope::{ValidationResult, findings_text};
+pub use policy_set::{Decision, Response, decide};
+pub use policy_validate::{ValidationMode, Validator};
+pub use request_slices::slice_for_request;
 pub use runner::run;
 pub use status::Status;

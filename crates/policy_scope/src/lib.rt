@@ -15,8 +15,7 @@ pub use findings::{
     ValidationWarning, WrongNumberArguments, partition_nonempty,
 };
 pub use names::{
-    unknown_actions_in, unknown_types_in, unlisted_ids_in, unrecognized_action_id_help,
-    validate_action_ids, validate_entity_types, validate_entity_types_in_slots,
-    validate_enum_entity,
+    unrecognized_action_id_help, validate_action_ids, validate_entity_types,
+    validate_entity_types_in_slots, validate_enum_entity,
 };
 pub use scope::{validate_linked_action_application, validate_template_action_application};

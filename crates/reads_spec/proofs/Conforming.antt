@@ -23,7 +23,7 @@ use Rattle.schema_core.specs.Schema.{SchemaData, type_at, action_at}
 use Rattle.typing_spec.specs.Conforms.{AreTags, TypedConforms, ActionConforms, ConformsAs, EntityConforms, StoreConforms, Applies, RequestConforms, IsOf}
 use Rattle.reads_spec.specs.PathTypes.{root_type}
 use Rattle.reads_spec.specs.Cover.{IsOf as IsOfOption, AreOf, HasTypes, KeepsTypes}
-use Rattle.reads_spec.proofs.Lists.{text_self}
+use Rattle.type_relations.proofs.UnionLaws.{own_text}
 use Rattle.plain_lemmas.proofs.Booleans.{or_left_true}
 
 tags_of : (o : Option Ty) (fs : Fields) → AreTags o fs → AreOf o fs
@@ -59,7 +59,7 @@ store_types d [] h = tt
 store_types d (e ∷ es) h = (entity_types d e h.0, store_types d es h.1)
 
 has_itself : (n m : List ℕ) → m ≡ n → IsTrue (has_name (n ∷ []) m)
-has_itself n m e = rw e (or_left_true _ _ (text_self n))
+has_itself n m e = rw e (or_left_true _ _ (own_text n))
 
 action_typed : (d : SchemaData) (u w : EntityUID) → u ≡ w → IsSomeAnd (action_at d w) (λ a. Unit {0}) → IsOfOption (literal_type d w) (Rattle.policy_values.specs.Value.entity u)
 action_typed d u w e h =

@@ -15,13 +15,11 @@ use Rattle.reads_spec.specs.Restrict.{same_step, is_prefix}
 use Rattle.plain_lemmas.proofs.Lists.{append_empty}
 use Rattle.plain_lemmas.proofs.Booleans.{or_left_true, or_right_true}
 use Rattle.policy_names.proofs.Ties.{equal_of}
+use Rattle.type_relations.proofs.UnionLaws.{own_text}
 pub use Rattle.reads_spec.specs.Among.{IsIn}
 
 pub same_text : (a b : List ℕ) → is_eq (text_cmp a b) ≡ true → a ≡ b
 same_text a b h = exact_bytes a b (equal_of (text_cmp a b) h)
-
-pub text_self : (a : List ℕ) → is_eq (text_cmp a a) ≡ true
-text_self a = ap is_eq (tied_itself nat_list_cmp_total a)
 
 pub same_uid : (x y : EntityUID) → uid_eq x y ≡ true → x ≡ y
 same_uid x y h = exact_uid x y (equal_of (uid_cmp x y) h)
@@ -69,7 +67,7 @@ any_in f x (z ∷ xs) (inl e) k = or_left_true (f z) (list_any f xs) (rw e k)
 any_in f x (z ∷ xs) (inr h) k = or_right_true (f z) (list_any f xs) (any_in f x xs h k)
 
 same_step-self : (c : Step) → same_step c c ≡ true
-same_step-self (along n) = text_self n
+same_step-self (along n) = own_text n
 same_step-self any_tag = refl
 
 pub is_prefix-append : (cs more : List Step) → is_prefix cs (cs ++ more) ≡ true

@@ -14,7 +14,8 @@ use Rattle.reads_spec.specs.Paths.{Step, along, any_tag, Chain, steps_of, Access
 use Rattle.reads_spec.specs.Restrict.{Keep, cut, cut_fields, cut_entity, part, same_step, is_prefix, is_id, root_value, step, keeps, kept_steps, kept_chain, kept_tag, kept_ancestor, needed}
 use Rattle.reads_spec.specs.Cover.{IsPartOf}
 pub use Rattle.reads_spec.specs.Among.{IsClosed, IsWellFormed}
-use Rattle.reads_spec.proofs.Lists.{same_text, text_self, same_uid, uid_self, IsIn, in_filter}
+use Rattle.reads_spec.proofs.Lists.{same_text, same_uid, uid_self, IsIn, in_filter}
+use Rattle.type_relations.proofs.UnionLaws.{own_text}
 use Rattle.plain_lemmas.proofs.Booleans.{or_left_true, or_right_true, or_weaker}
 use Rattle.reads_spec.proofs.Cuts.{field_at-cut, entity_at-part, cut_fields_all}
 use Rattle.plain_lemmas.proofs.Lists.{any_weaker}
@@ -59,7 +60,7 @@ field_at-gone (field m v fs) k n h = here (is_eq (text_cmp n m)) refl (k (m ∷ 
     here false e false f ih = ih
 
 field_at-first : (m : List ℕ) (v : Val) (fs : Fields) → field_at (field m v fs) m ≡ Some v
-field_at-first m v fs = rw (text_self m) refl
+field_at-first m v fs = rw (own_text m) refl
 
 pub closed_below : (n : Chains) (m : List ℕ) → IsClosed n → IsClosed (λ c. n (m ∷ c))
 closed_below n m h = record { first = λ l c rest k. h.first m (l ∷ c) rest k }
@@ -279,13 +280,7 @@ prefix_shorter (c ∷ cs) rest (n ∷ ns) h =
 
 and_keep : (a b c : Bool) → (b ≡ true → c ≡ true) → (a && b) ≡ true → (a && c) ≡ true
 and_keep true b c f h = f h
-
-or_weaker : (a b c d : Bool) → (a ≡ true → c ≡ true) → (b ≡ true → d ≡ true) → (a || b) ≡ true → (c || d) ≡ true
-or_weaker true b c d f g h = or_left_true c d (f refl)
-
-any_weaker : {A : Type 0} (f g : A → Bool) (xs : List A) → ((x : A) → f x ≡ true → g x ≡ true) → list_any f xs ≡ true → list_any g xs ≡ true
-any_weaker f g [] h k = k
-any_weaker f g (x ∷ xs) h k = or_weaker (f x) (list_any f xs) (g x) (list_any g xs) (h x) (any_weaker f g xs h) k
+and_keep false b c f h = h
 
 keeps_shorter : (s : Store) (x : EntityUID) (cs rest ns : List Step) (v : Val) → keeps s x (cs ++ rest) ns v ≡ true → keeps s x cs ns v ≡ true
 keeps_shorter s x cs rest [] v h = and_keep (is_id x v) (is_prefix (cs ++ rest) []) (is_prefix cs []) (prefix_shorter cs rest []) h
@@ -372,6 +367,3 @@ part_twice n k (e ∷ es) f g h = here (k.chains e.uid []) refl (n.chains e.uid 
     here true d false o r = rw o r
     here false d false o r = r
     here false d true o r = let u = f e.uid [] o in absurd (cc)
-
-pub between_back : (n k : Keep) (whole : Store) → ((x : EntityUID) (c : Chain) → n.chains x c ≡ true → k.chains x c ≡ true) → ((x y : EntityUID) → n.ancestors x y ≡ true → k.ancestors x y ≡ true) → ((x : EntityUID) (c : Chain) → n.tags x c ≡ true → k.tags x c ≡ true) → IsPartOf (part n whole) (part k whole)
-between_back n k whole f g h = (n, sym (part_twice n k whole f g h))

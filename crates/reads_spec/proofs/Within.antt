@@ -128,10 +128,8 @@ record PathNames (c : Setting) (ps : List AccessPath) (y : EntityUID) : Type 0 w
   named : names_id y value ≡ true
 
 id_of : (v : Val) (y : EntityUID) → is_id y v ≡ true → v ≡ entity y
-
-or_weaker_right : (a b c : Bool) → (b ≡ true → c ≡ true) → (a || b) ≡ true → (a || c) ≡ true
-or_weaker_right true b c f h = refl
-or_weaker_right false b c f h = f h
+id_of (entity x) y h = ap entity (sym (same_uid y x h))
+id_of v y h = absurd (cc)
 
 -- a set lists what the list had of which it was made
 insert_lists : (y : EntityUID) (v : Val) (ws : Vals) → lists_id y (insert_val v ws) ≡ true → (is_id y v || lists_id y ws) ≡ true

@@ -113,6 +113,3 @@ module _ (ps rs : List AccessPath) (q : Request) (s : Store) (reads : (p : Acces
       where
         asks : Keep → Demand → Bool
         asks k d = list_any (is_id x) (reach s q d.0) && list_any (names_id y) (reach (part k s) q d.1)
-
-    pub same_restrict : restrict ps ds q s ≡ restrict rs es q s
-    same_restrict = ap (λ k. part k s) (λ i. record { chains = λ x c. chains_same x c i; ancestors = λ x y. chains_same x [] i && ancestor_same x y i; tags = λ x c. tags_same x c i })

@@ -34,7 +34,8 @@ use Rattle.policy_validate.specs.Typed.{typed_conditions}
 use Rattle.request_slices.specs.Enough.{Covers, AreAllowedBetween, IsEnough, OutcomesAreAllowed, SlicesAreEnough}
 use Rattle.request_slices.specs.Rules.{KeepRules}
 use Rattle.request_slices.specs.Slice.{slice, slice_in}
-use Rattle.request_slices.proofs.Same.{part_of_itself, response_same}
+use Rattle.request_slices.proofs.Same.{response_same}
+use Rattle.reads_spec.proofs.Order.{part_of_itself}
 use Rattle.request_slices.proofs.Typed.{Pairs, all_typed_here, pairs_of}
 
 -- ---- outcomes on the whole store

@@ -8,6 +8,7 @@ use Rattle.policy_set.specs.Data.{PolicyData}
 use Rattle.policy_set.specs.Response.{outcome, outcomes, true_permits, true_forbids, failures, decided, response}
 use Rattle.reads_spec.specs.Cover.{IsPartOf}
 use Rattle.reads_spec.specs.Restrict.{Keep, cut, cut_fields, part}
+use Rattle.reads_spec.proofs.Order.{part_of_itself}
 
 -- the response is made of the outcomes
 permits_same : (q : Request) (s w : Store) (ps : List PolicyData) → outcomes ps q s ≡ outcomes ps q w → true_permits q s ps ≡ true_permits q w ps
@@ -55,6 +56,3 @@ part_all : (s : Store) → s ≡ part all_kept s
 unfolding all_kept
 part_all [] = refl
 part_all (e ∷ es) = λ i. record { uid = e.uid; attrs = sym (cut_fields_all e.attrs) i; ancestors = sym (filter_all e.ancestors) i; tags = sym (cut_fields_all e.tags) i } ∷ part_all es i
-
-pub part_of_itself : (s : Store) → IsPartOf s s
-part_of_itself s = (all_kept, part_all s)

@@ -15,7 +15,8 @@ use Rattle.reads_spec.proofs.Lists.{in_map, in_filter, in_flat_map}
 use Rattle.reads_spec.proofs.Words.{any_out}
 use Rattle.store_slices.specs.Tries.{IsTrieOf, EveryTrieIsOfSome}
 use Rattle.store_slices.proofs.Fronts.{front_leads}
-use Rattle.store_slices.proofs.LeastSteps.{same_edge, first_path, behind_first, first_then, rest_then, path_alone, demand, map_append, in_filter_out, whole_path}
+use Rattle.store_slices.proofs.LeastSteps.{first_path, behind_first, first_then, rest_then, path_alone, demand, map_append, in_filter_out, whole_path}
+use Rattle.access_tries.specs.SameLaws.{edge_is}
 
 -- ---- addresses along links
 
@@ -45,7 +46,7 @@ begins f ns c i e es h =
     record {
       link = a.0;
       among = a.1;
-      same = same_edge a.0.edge e b.0;
+      same = edge_is a.0.edge e b.0;
       on = b.1;
       later = each_of (λ l. (i < l.number) × (l.number < length ns)) a.0 (links_at ns i) (c.each i (omega arith)) a.1;
     }

@@ -76,6 +76,8 @@ pub put_over : {X : Type 0} (b : Bool) (o m n : Option X) → m ≡ cond b None 
 put_over true o m n h = refl
 put_over false o m n h = h
 
+-- ---- nodes that are there
+
 and_true : (a b : Bool) → b ≡ true → a ≡ (a && b)
 and_true true b h = sym h
 and_true false b h = refl

@@ -30,14 +30,13 @@ use Rattle.reads_spec.specs.Among.{IsFrontOfRead}
 use Rattle.reads_spec.proofs.Words.{any_out}
 use Rattle.reads_spec.proofs.DeclaredPaths.{declared_read}
 use Rattle.store_slices.specs.Tries.{IsTrieOf, LeastTriesFit}
+use Rattle.reads_spec.proofs.Lists.{in_map_out}
+use Rattle.access_tries.specs.SameLaws.{edge_is}
 
 -- ---- addresses
 
 edge_self : (e : Edge) → edge_eq e e ≡ true
 edge_self e = rw (tied_itself nat_cmp_total (rank e), tied_itself nat_list_cmp_total (first_text e), tied_itself nat_list_cmp_total (second_text e)) refl
-
-pub same_edge : (a b : Edge) → edge_eq a b ≡ true → a ≡ b
-same_edge a b h = exact_edge a b (equal_of (edge_cmp a b) h)
 
 same_address : (es fs : Address) → is_same es fs ≡ true → es ≡ fs
 same_address [] [] h = refl
@@ -45,7 +44,7 @@ same_address [] (f ∷ fs) h = absurd (cc)
 same_address (e ∷ es) [] h = absurd (cc)
 same_address (e ∷ es) (f ∷ fs) h =
     let b = and_parts (edge_eq f e) (is_same es fs) h in
-    λ i. sym (same_edge f e b.0) i ∷ same_address es fs b.1 i
+    λ i. sym (edge_is f e b.0) i ∷ same_address es fs b.1 i
 
 address_self : (es : Address) → is_same es es ≡ true
 address_self [] = refl
@@ -128,20 +127,20 @@ front_alone (m ∷ ms) [] h = absurd (cc)
 front_alone (m ∷ ms) (n ∷ ns) h =
     let b = and_parts (edge_eq (edge_of n) (edge_of m)) (is_front (map edge_of ms) (map edge_of ns)) h in
     let r = front_alone ms ns b.1 in
-    (r.0, λ i. edge_step n m (same_edge (edge_of n) (edge_of m) b.0) i ∷ r.1 i)
+    (r.0, λ i. edge_step n m (edge_is (edge_of n) (edge_of m) b.0) i ∷ r.1 i)
 
 front_before : (ms ns : List Step) (r : AccessPath) → is_front (map edge_of ms) (map edge_of ns ++ address_of r) ≡ true → (rest : List Step) × (ns ≡ ms ++ rest)
 front_before [] ns r h = (ns, refl)
 front_before (m ∷ ms) [] r h =
     let b = and_parts (edge_eq (Root r.root) (edge_of m)) (is_front (map edge_of ms) (map edge_of r.steps)) h in
-    absurd (no_step_root m r.root (same_edge (Root r.root) (edge_of m) b.0))
+    absurd (no_step_root m r.root (edge_is (Root r.root) (edge_of m) b.0))
 front_before (m ∷ ms) (n ∷ ns) r h =
     let b = and_parts (edge_eq (edge_of n) (edge_of m)) (is_front (map edge_of ms) (map edge_of ns ++ address_of r)) h in
     let k = front_before ms ns r b.1 in
-    (k.0, λ i. edge_step n m (same_edge (edge_of n) (edge_of m) b.0) i ∷ k.1 i)
+    (k.0, λ i. edge_step n m (edge_is (edge_of n) (edge_of m) b.0) i ∷ k.1 i)
 
 root_same : (r k : EntityRoot) → edge_eq (Root k) (Root r) ≡ true → k ≡ r
-root_same r k h = let same = same_edge (Root k) (Root r) h in cc
+root_same r k h = let same = edge_is (Root k) (Root r) h in cc
 
 -- the path is a front of the other
 abbrev Front : AccessPath → AccessPath → Type 0
@@ -165,11 +164,6 @@ map_append (m ∷ ms) ns = ap (λ es. edge_of m ∷ es) (map_append ms ns)
 
 front_beyond : (p : AccessPath) (rest : List Step) → is_front (address_of p) (address_of (beyond p rest)) ≡ true
 front_beyond p rest = subst (λ es. is_front (address_of p) (Root p.root ∷ es) ≡ true) (sym (map_append p.steps rest)) (front_self (address_of p) (map edge_of rest))
-
-in_map_out : {A B : Type 0} (f : A → B) (y : B) (xs : List A) → IsIn y (map f xs) → (x : A) × IsIn x xs × (f x ≡ y)
-in_map_out f y [] h = absurd h
-in_map_out f y (x ∷ xs) (inl e) = (x, inl refl, e)
-in_map_out f y (x ∷ xs) (inr h) = let r = in_map_out f y xs h in (r.0, inr r.1, r.2)
 
 longer : (p z : AccessPath) (more rest : List Step) → z ≡ beyond p more → beyond z rest ≡ beyond p (more ++ rest)
 longer p z more rest is = ap (λ y. beyond y rest) is ∙ (λ i. record { root = p.root; steps = append_assoc p.steps more rest i })

@@ -14,15 +14,7 @@ use Rattle.plain_lemmas.proofs.Booleans.{and_over_or, or_exchange, or_left_true,
 use Rattle.std.specs.Prelude.{ℕ, Some, if◌then◌else◌}
 use Rattle.std.specs.Ordering.{is_eq}
 use Rattle.trie_traversal.specs.Wants.{Test, points, fields_point, entity_points}
-
-pub or_weaker : (a b c d : Bool) → (a ≡ true → c ≡ true) → (b ≡ true → d ≡ true) → (a || b) ≡ true → (c || d) ≡ true
-or_weaker true b c d f g h = or_left_true c d (f refl)
-
-or_exchange : (a b c d : Bool) → ((a || b) || (c || d)) ≡ ((a || c) || (b || d))
-or_exchange true b c d = refl
-or_exchange false true true d = refl
-or_exchange false true false d = refl
-or_exchange false false c d = refl
+use Rattle.trie_traversal.proofs.PointSteps.{points_none, fields_point_none, any_point_none}
 
 -- ---- more addresses pass
 
@@ -38,9 +30,7 @@ mutual
       or_weaker (points v (λ b. t (Field n ∷ b)) x a) (fields_point fs t x a) (points v (λ b. u (Field n ∷ b)) x a) (fields_point fs u x a)
       (λ i. points_more v (λ b. t (Field n ∷ b)) (λ b. u (Field n ∷ b)) (λ b. h (Field n ∷ b)) x a i) (λ i. fields_point_more fs t u h x a i) p
 
-and_over_or : (a b c : Bool) → (a && (b || c)) ≡ ((a && b) || (a && c))
-and_over_or true b c = refl
-and_over_or false b c = refl
+-- ---- tests made of tests
 
 mutual
   points_or : (v : Val) (t u : Test) (x : EntityUID) (a : Address) → points v (λ b. t b || u b) x a ≡ (points v t x a || points v u x a)

@@ -24,7 +24,7 @@ use Rattle.policy_names.proofs.Ties.{equal_of}
 use Rattle.reads_spec.specs.Paths.{Step, along, any_tag, AccessPath, beyond}
 use Rattle.reads_spec.specs.Restrict.{root_value, values_in, step, step_in_entity, step_in_record, walk}
 use Rattle.reads_spec.proofs.Lists.{IsIn, any_in, same_uid, uid_self, in_flat_map, flat_map_out}
-use Rattle.plain_lemmas.proofs.Booleans.{or_false, or_left_true, or_right_true, true_of_or_false}
+use Rattle.plain_lemmas.proofs.Booleans.{or_false, or_left_true, or_right_true, or_weaker, true_of_or_false}
 use Rattle.reads_spec.proofs.Words.{any_out}
 use Rattle.reads_spec.proofs.Cuts.{walk_on}
 use Rattle.trie_traversal.specs.declared.place.Place.{Place}
@@ -37,13 +37,7 @@ use Rattle.trie_traversal.proofs.PlaceSteps.{exact_place}
 use Rattle.trie_traversal.specs.Places.{place_cmp, IsPlaced, IsBelowSome, node_of}
 use Rattle.trie_traversal.specs.Wants.{Test, sees, wants, points, fields_point, entity_points, Adds}
 use Rattle.store_slices.specs.Reached.{IsReached, either_wants, IsExplored, IsAnswerLed, AreReached, AreThere}
-
-true_of_or_false : (a : Bool) → (a || false) ≡ true → a ≡ true
-true_of_or_false true h = refl
-
-or_false : (a : Bool) → (a || false) ≡ a
-or_false true = refl
-or_false false = refl
+use Rattle.store_slices.proofs.PointSteps.{points_more, points_any, field_points, entity_points_or, entity_points_none, entity_points_when}
 
 -- the edges behind a path
 pub behind_path : (p : AccessPath) (ns : List Step) (a : Address) → address_of (beyond p ns) ++ a ≡ address_of p ++ (map edge_of ns ++ a)
@@ -84,7 +78,7 @@ module _ (ns : Table) (q : Request) (s : Store) where
     explored_again there = record {
       begun = λ b r x a h. still b x a (t.begun b r x a h);
       followed = λ b y e at x a h. still b x a (t.followed b y e at x a h);
-      sound = λ b x a h. t.sound b x a (or_both (wants b ns reached x a) (wants b ns (rest ++ next) x a) (wants b ns reached x a) (wants b ns ((p ∷ rest) ++ next) x a) (λ i. i) (or_right_true (uid_eq p.uid x && sees b (node_of ns p) a) (wants b ns (rest ++ next) x a)) h);
+      sound = λ b x a h. t.sound b x a (or_weaker (wants b ns reached x a) (wants b ns (rest ++ next) x a) (wants b ns reached x a) (wants b ns ((p ∷ rest) ++ next) x a) (λ i. i) (or_right_true (uid_eq p.uid x && sees b (node_of ns p) a) (wants b ns (rest ++ next) x a)) h);
     }
       where
         by : (b : Bool) (x : EntityUID) (a : Address) → ((uid_eq p.uid x && sees b (node_of ns p) a) ≡ true) ⊎ (wants b ns (rest ++ next) x a ≡ true) → either_wants b ns reached (rest ++ next) x a ≡ true

@@ -21,7 +21,8 @@ use Rattle.access_tries.specs.Table.{Table, NodeData, at_path, has_mark}
 use Rattle.access_tries.specs.Views.{ViewData, LeadsTo, LeadsNowhere}
 use Rattle.reads_spec.specs.Paths.{Step, along, any_tag}
 use Rattle.reads_spec.specs.Restrict.{values_in, step, step_in_entity, step_in_record, walk}
-use Rattle.reads_spec.proofs.Lists.{IsIn, text_self, same_uid, in_flat_map}
+use Rattle.reads_spec.proofs.Lists.{IsIn, same_uid, in_flat_map}
+use Rattle.type_relations.proofs.UnionLaws.{own_text}
 use Rattle.trie_traversal.specs.Begun.{root_points}
 use Rattle.trie_traversal.specs.Leads.{Leads, FieldsLead, EntityLeads, SomeLeads, RootLeads, IsLed, IsEdgeLed}
 use Rattle.trie_traversal.specs.Wants.{Test, sees, points, fields_point, entity_points}
@@ -40,7 +41,7 @@ of_key P (e ∷ es) all n v (inr h) = of_key P es all.1 n v h
 pub key_found : (es : List (List ℕ × Val)) → IsStrictlySortedBy text_cmp (keys_of es) → (n : List ℕ) (v : Val) → IsIn (entry n v) es → field_at (fields_of es) n ≡ Some v
 unfolding IsStrictlySortedBy
 key_found [] up n v h = absurd h
-key_found (e ∷ es) up n v (inl same) = subst (λ p. field_at (field p.0 p.1 (fields_of es)) n ≡ Some v) (sym same) (rw (text_self n) refl)
+key_found (e ∷ es) up n v (inl same) = subst (λ p. field_at (field p.0 p.1 (fields_of es)) n ≡ Some v) (sym same) (rw (own_text n) refl)
 key_found (e ∷ es) up n v (inr h) =
     let before : text_cmp e.0 n ≡ Less = of_key (λ k. text_cmp e.0 k ≡ Less) es up.0 n v h in
     let other : is_eq (text_cmp n e.0) ≡ false = ap is_eq (nat_list_cmp_total.antisymm n e.0 ∙ ap ordering_reverse before) in

@@ -28,6 +28,7 @@ use Rattle.plain_lemmas.proofs.Booleans.{or_left_true, or_right_true}
 use Rattle.reads_spec.proofs.Words.{any_out}
 use Rattle.trie_traversal.specs.Names.{IsNamed, Names, SomeNames, Adds}
 use Rattle.plain_lemmas.proofs.Lists.{within_of_is_some}
+use Rattle.access_tries.specs.SameLaws.{edge_is}
 
 -- ---- sets that grow
 
@@ -207,11 +208,8 @@ through_more n a (Field m) w cs t = record { below = t.below; among = inr t.amon
 through_more n a AnyTag w cs t = t
 through_more n a (Root r) w cs t = t
 
-same_edge : (a b : Edge) → edge_eq a b ≡ true → a ≡ b
-same_edge a b h = exact_edge a b (equal_of (edge_cmp a b) h)
-
 through_first : (n : List ℕ) (a : Address) (e : Edge) (w : ViewData) (cs : List (List ℕ × ViewData)) → edge_eq e (Field n) ≡ true → view_marks w a ≡ true → Through n a (with_child e w cs)
-through_first n a e w cs h m = rw (same_edge e (Field n) h) (record { below = w; among = inl refl; marked = m })
+through_first n a e w cs h m = rw (edge_is e (Field n) h) (record { below = w; among = inl refl; marked = m })
 
 through_some : (ns : Table) (n : List ℕ) (a : Address) (ls : List Link) → list_any (λ l. edge_eq l.edge (Field n) && at_path has_mark ns l.number a) ls ≡ true → Through n a (children_in ns ls)
 through_some ns n a [] h = absurd (cc)
@@ -395,7 +393,7 @@ root_more r a AnyTag w rs t = t
 root_more r a (Root p) w rs t = record { below = t.below; among = inr t.among; marked = t.marked }
 
 root_first : (r : EntityRoot) (a : Address) (e : Edge) (w : ViewData) (rs : List (EntityRoot × ViewData)) → edge_eq e (Root r) ≡ true → view_marks w a ≡ true → ThroughRoot r a (with_root e w rs)
-root_first r a e w rs h m = rw (same_edge e (Root r) h) (record { below = w; among = inl refl; marked = m })
+root_first r a e w rs h m = rw (edge_is e (Root r) h) (record { below = w; among = inl refl; marked = m })
 
 root_some : (ns : Table) (r : EntityRoot) (a : Address) (ls : List Link) → list_any (λ l. edge_eq l.edge (Root r) && at_path has_mark ns l.number a) ls ≡ true → ThroughRoot r a (roots_in ns ls)
 root_some ns r a [] h = absurd (cc)
@@ -439,10 +437,7 @@ root_first_names q s r w rs y = (λ n. by n.root n.below n.among n.names, back)
 pub no_root_names : (q : Request) (s : Store) (y : EntityUID) → RootNames q s [] y → ⊥
 no_root_names q s y n = n.among
 
-within_of_is_some : {X : Type 0} (xs : List X) (i : ℕ) → is_some (slice_get xs i) ≡ true → i < length xs
-within_of_is_some [] i h = cc
-within_of_is_some (x ∷ xs) zero h = omega arith
-within_of_is_some (x ∷ xs) (suc i) h = omega (arith, within_of_is_some xs i h)
+-- ---- later nodes
 
 pub fewer_below : (e : Edge) (v w : ViewData) → LeadsTo e v w → length w.nodes - w.number < length v.nodes - v.number
 fewer_below e v w l = let h = within_of_is_some w.nodes w.number l.there in let k = l.later in let same = ap length l.table in omega (arith, h, k, same)

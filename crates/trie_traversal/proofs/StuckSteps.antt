@@ -24,6 +24,7 @@ use Rattle.trie_traversal.specs.Begun.{SomeRootSticks}
 use Rattle.trie_traversal.specs.Stuck.{Tests, tests_of, behind, is_step, GoesOn, MarksSome, Demands, Sticks, FieldsStick, SomeSticks, EntitySticks, IsStuck}
 use Rattle.trie_traversal.proofs.FollowSteps.{tests_behind}
 use Rattle.trie_traversal.proofs.PointSteps.{no_mark}
+use Rattle.access_tries.specs.SameLaws.{edge_is}
 
 -- ---- nothing sticks where nothing leads
 
@@ -78,9 +79,6 @@ no_other_root q (Var Resource) t u h = absurd h
 no_other_root q (Var Context) t u h = refl
 
 -- ---- links, one after another
-
-pub same_edge : (a b : Edge) → edge_eq a b ≡ true → a ≡ b
-same_edge a b h = exact_edge a b (equal_of (edge_cmp a b) h)
 
 -- a test that some link passes, and the first of those that are left does not, is passed by one behind it
 pub later_link : (g : Link → Bool) (links : List Link) (k : ℕ) (l : Link) → k < length links → l ≡ get_or links k l → (g l ≡ true → ⊥) → list_any g (drop k links) ≡ true → list_any g (drop (k + 1) links) ≡ true

@@ -23,12 +23,11 @@ pub use booleans::{and_type, like_type, or_type, possible, unary_type};
 pub use calls::{
     CalledFunction, argument_types, call_found, call_type, called_function, result_type,
 };
-pub use compared::are_one;
-pub use environment::{known_id, listed_ids, literal_type, slot_type, truth_type, variable_type};
+pub use environment::{literal_type, slot_type, variable_type};
 pub use error::error_of;
 pub use expected::{Expected, fits, left_of, of_unary, right_of, unexpected};
 pub use finding::{Finding, FindingKind, joined, one, undefined_found};
-pub use joins::{joined_type, no_join, strict_join};
+pub use joins::{no_join, strict_join};
 pub use operators::{binary_lent, binary_type};
 pub use own::binary_own;
 pub use sets::{record_type, set_found, set_type};

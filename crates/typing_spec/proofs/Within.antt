@@ -35,18 +35,12 @@ use Rattle.typing_spec.specs.Signatures.{bool_type}
 use Rattle.typing_spec.specs.Sound.{IsOfType}
 use Rattle.typing_spec.proofs.Access.{possible_truth}
 use Rattle.typing_spec.proofs.Ids.{IsKnownAs, same_uid, text_itself}
-use Rattle.plain_lemmas.proofs.Booleans.{and_parts_of, false_of_not_true, or_false_left, or_false_right}
+use Rattle.plain_lemmas.proofs.Booleans.{and_parts_of, false_of_not_true, not_both, or_false_left, or_false_right}
 use Rattle.typing_spec.proofs.Kept.{same_text}
 use Rattle.typing_spec.proofs.Basics.{mapped}
 use Rattle.typing_spec.proofs.Lists.{EachIs, AllIs, ordered_all}
 use Rattle.typing_spec.proofs.Operators.{two, id_member}
-
-or_false_left : (a b : Bool) → (a || b) ≡ false → a ≡ false
-or_false_left true b h = cc
-
-or_false_right : (a b : Bool) → (a || b) ≡ false → b ≡ false
-or_false_right true b h = cc
-or_false_right false b h = h
+use Rattle.typing_spec.proofs.Stored.{FoundAt, found_at, typed_found, action_found, declared_is_no_action, action_is_one, undeclared_found}
 
 and_not : (a b : Bool) → (a && b) ≡ false → a ≡ true → b ≡ false
 and_not true b h e = h
@@ -66,9 +60,6 @@ allowed schema e u (y ∷ ys) h i = by (uid_eq u y) refl (allowed schema e u ys 
     by true f rest j = subst (λ z. type_below schema e.uid.entity_type z.entity_type ≡ true) (sym (same_uid u y f)) h.0.below
     by false f rest j = rest j
 
-clash : (b : Bool) → b ≡ true → b ≡ false → ⊥
-clash b h i = let f : true ≡ false = sym h ∙ i in cc
-
 module _ (schema : SchemaData) (ok : IsSchema schema) (s : Store) (stored : StoreConforms schema s) where
   -- the entity is not in what its type can't be in
   out_by_type : (x u : EntityUID) → is_action_type x.entity_type ≡ false → is_type_within schema x.entity_type u.entity_type ≡ false → within x u s ≡ false
@@ -78,7 +69,7 @@ module _ (schema : SchemaData) (ok : IsSchema schema) (s : Store) (stored : Stor
       both b c e f = λ i. e i || f i
 
       itself : uid_eq x u ≡ false
-      itself = false_of_not_true (uid_eq x u) (λ e. clash (text_eq x.entity_type u.entity_type) (ap (λ z. text_eq x.entity_type z.entity_type) (sym (same_uid x u e)) ∙ text_itself x.entity_type) (or_false_left (text_eq x.entity_type u.entity_type) (type_below schema x.entity_type u.entity_type) h))
+      itself = false_of_not_true (uid_eq x u) (λ e. not_both (text_eq x.entity_type u.entity_type) (ap (λ z. text_eq x.entity_type z.entity_type) (sym (same_uid x u e)) ∙ text_itself x.entity_type) (or_false_left (text_eq x.entity_type u.entity_type) (type_below schema x.entity_type u.entity_type) h))
 
       by : (r : Option StoredEntity) → IfSome r (FoundAt schema ok x) → above r u ≡ false
       by None f = refl
@@ -88,7 +79,7 @@ module _ (schema : SchemaData) (ok : IsSchema schema) (s : Store) (stored : Stor
           found (Some t) p i =
               let c = typed_found schema ok x e t f p in
               let b : type_below schema x.entity_type u.entity_type ≡ true = subst (λ y. type_below schema y.entity_type u.entity_type ≡ true) (sym f.uid) (allowed schema e u e.ancestors c.ancestors i) in
-              clash (type_below schema x.entity_type u.entity_type) b (or_false_right (text_eq x.entity_type u.entity_type) (type_below schema x.entity_type u.entity_type) h)
+              not_both (type_below schema x.entity_type u.entity_type) b (or_false_right (text_eq x.entity_type u.entity_type) (type_below schema x.entity_type u.entity_type) h)
           found None p i = undeclared_found schema ok x e f a p
 
   -- the action is not in what it can't be in
@@ -105,14 +96,14 @@ module _ (schema : SchemaData) (ok : IsSchema schema) (s : Store) (stored : Stor
     where
       by : (o : Option ActionData) → (is_some o ≡ true → is_action_type u.entity_type ≡ true) → option_map_or (λ b. has uid_cmp b.descendants x) o false ≡ false
       by None h = refl
-      by (Some b) h = absurd (clash (is_action_type u.entity_type) (h refl) a)
+      by (Some b) h = absurd (not_both (is_action_type u.entity_type) (h refl) a)
 
   no_type_above : (n m : List ℕ) → is_action_type m ≡ true → type_below schema n m ≡ false
   no_type_above n m a = by (type_at schema m) (declared_is_no_action schema ok m)
     where
       by : (o : Option TypeData) → (is_some o ≡ true → is_action_type m ≡ false) → option_map_or (λ t. has text_cmp t.descendants n) o false ≡ false
       by None h = refl
-      by (Some t) h = absurd (clash (is_action_type m) a (h refl))
+      by (Some t) h = absurd (not_both (is_action_type m) a (h refl))
 
   -- ids of two types, of which one is of actions, differ
   kinds_differ : (x u : EntityUID) (b : Bool) → is_action_type x.entity_type ≡ b → is_action_type u.entity_type ≡ not b → uid_eq x u ≡ false
@@ -123,7 +114,7 @@ module _ (schema : SchemaData) (ok : IsSchema schema) (s : Store) (stored : Stor
       differ false h = cc
 
   types_differ : (x u : EntityUID) → is_action_type x.entity_type ≡ false → is_action_type u.entity_type ≡ true → text_eq x.entity_type u.entity_type ≡ false
-  types_differ x u a b = false_of_not_true (text_eq x.entity_type u.entity_type) (λ e. clash (is_action_type u.entity_type) b (ap is_action_type (sym (same_text x.entity_type u.entity_type e)) ∙ a))
+  types_differ x u a b = false_of_not_true (text_eq x.entity_type u.entity_type) (λ e. not_both (is_action_type u.entity_type) b (ap is_action_type (sym (same_text x.entity_type u.entity_type e)) ∙ a))
 
   -- the id is in none of them
   abbrev IsOut : EntityUID → List EntityUID → Type 0

@@ -5,7 +5,8 @@ use Rattle.std.specs.Option.{option_map}
 use Rattle.policy_names.specs.Uid.{uid_cmp}
 use Rattle.reads_spec.specs.Restrict.{part}
 use Rattle.manifest_loading.specs.Joining.{IsAskedFor, IsJoined}
-use Rattle.manifest_loading.specs.KeptPart.{IsState, IsBegun, bare}
+use Rattle.manifest_loading.specs.KeptPart.{IsState, IsBegun}
+use Rattle.entity_store.specs.FromParents.{without_links}
 use Rattle.manifest_loading.specs.Causes.{IsRight}
 use Rattle.manifest_loading.specs.Right.{IsStuck, SticksAt}
 use Rattle.manifest_loading.proofs.BetweenSteps.{part_at, left_ascends, loaded_between}
@@ -60,7 +61,7 @@ returns-clause-honest g c = λ s told order context.
     let state = subst (λ t. IsState exact t q s c.in_ok-loaded.loaded.asked.keys [] (get uid_cmp c.in_ok-loaded.loaded.kept)) c.nodes.ensures.nodes
     (c.in_ok-loaded.ensures.honest s told q (subst (λ t. IsBegun t q s c.in-Ok.start.keys) (sym c.nodes.ensures.nodes) begun)) in
     loaded exact ns q s c.in_ok-store_of.field-0 c.in_ok-loaded.loaded.asked.keys (get uid_cmp c.in_ok-loaded.loaded.kept) state
-    (λ x. ap (option_map bare) (c.in_ok-store_of.ensures.at x) ∙ c.in_ok-kept.ensures.alike x)
+    (λ x. ap (option_map without_links) (c.in_ok-store_of.ensures.at x) ∙ c.in_ok-kept.ensures.alike x)
 
 pub returns-clause-between : goal.returns-clause-between
 returns-clause-between g c = λ s told order ids context reads demands fit.

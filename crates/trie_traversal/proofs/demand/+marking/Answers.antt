@@ -7,7 +7,8 @@ use Rattle.access_tries.specs.Table.{links_at, at_path, has_mark}
 use Rattle.std.specs.List.{list_any}
 use Rattle.trie_traversal.specs.Stuck.{tests_of, is_step, MarksSome}
 use Rattle.trie_traversal.proofs.DemandSteps.{link_marks}
-use Rattle.trie_traversal.proofs.StuckSteps.{later_link, none_later, same_edge, step_edge, no_marks}
+use Rattle.trie_traversal.proofs.StuckSteps.{later_link, none_later, step_edge, no_marks}
+use Rattle.access_tries.specs.SameLaws.{edge_is}
 use Rattle.trie_traversal.proofs.demand.+marking.Goals as goal
 use Rattle.trie_traversal.proofs.demand.+marking.Goals.{then-is_step+else-marks_some, else-is_step}
 
@@ -34,7 +35,7 @@ loop-link-preserved t c = λ n ns h.
           let some = w.marks_some.ensures.1 (subst (λ u. MarksSome (tests_of u)) (sym same) (ns, b.1)) in
           cc (some, w.if-marks_some.false)
       | else-is_step w ↦
-          let step : is_step l.edge ≡ true = ap is_step (same_edge l.edge (edge_of n) b.0) ∙ step_edge n in
+          let step : is_step l.edge ≡ true = ap is_step (edge_is l.edge (edge_of n) b.0) ∙ step_edge n in
           cc (step, c.is_step.ensures, w.if-is_step.false)
     ])
     (c.loop-link.invariant n ns h)

@@ -7,7 +7,8 @@ use Rattle.access_tries.specs.Table.{links_at, at_path}
 use Rattle.std.specs.List.{list_any}
 use Rattle.trie_traversal.specs.Stuck.{is_step}
 use Rattle.trie_traversal.proofs.DemandSteps.{link_goes_on}
-use Rattle.trie_traversal.proofs.StuckSteps.{later_link, none_later, same_edge, step_edge}
+use Rattle.trie_traversal.proofs.StuckSteps.{later_link, none_later, step_edge}
+use Rattle.access_tries.specs.SameLaws.{edge_is}
 use Rattle.trie_traversal.proofs.demand.goes_on.Goals as goal
 
 pub returns-then-is_step : goal.returns-then-is_step
@@ -25,7 +26,7 @@ loop-link-preserved c = λ n h.
     let l = c.link-item.result in
     later_link (λ (k : Link). edge_eq k.edge (edge_of n) && at_path is_some v.nodes k.number []) c.links_of-link-items.result.now c.loop-link.link-index l c.loop-link-test.true c.link-item.is
     (λ p. let b = and_parts (edge_eq l.edge (edge_of n)) (at_path is_some v.nodes l.number []) p in
-    let step : is_step l.edge ≡ true = ap is_step (same_edge l.edge (edge_of n) b.0) ∙ step_edge n in
+    let step : is_step l.edge ≡ true = ap is_step (edge_is l.edge (edge_of n) b.0) ∙ step_edge n in
     cc (step, c.is_step.ensures, c.if-is_step.false))
     (c.loop-link.invariant n h)
 

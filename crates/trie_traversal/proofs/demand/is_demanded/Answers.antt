@@ -8,7 +8,8 @@ use Rattle.access_tries.specs.Table.{links_at, at_path, has_mark}
 use Rattle.std.specs.List.{list_any}
 use Rattle.trie_traversal.specs.Stuck.{tests_of, is_step, MarksSome}
 use Rattle.trie_traversal.proofs.DemandSteps.{link_demands}
-use Rattle.trie_traversal.proofs.StuckSteps.{later_link, none_later, same_edge, root_edge}
+use Rattle.trie_traversal.proofs.StuckSteps.{later_link, none_later, root_edge}
+use Rattle.access_tries.specs.SameLaws.{edge_is}
 use Rattle.trie_traversal.proofs.demand.is_demanded.Goals as goal
 use Rattle.trie_traversal.proofs.demand.is_demanded.Goals.{then-not-is_step+else-marks_some, else-not-is_step}
 
@@ -37,7 +38,7 @@ loop-link-preserved c = λ r ns h.
           let some = w.marks_some.ensures.1 (subst (λ u. MarksSome (tests_of u)) (sym same) (ns, b.1)) in
           cc (some, w.if-marks_some.false)
       | else-not-is_step w ↦
-          let no_step : is_step l.edge ≡ false = ap is_step (same_edge l.edge (Root r) b.0) in
+          let no_step : is_step l.edge ≡ false = ap is_step (edge_is l.edge (Root r) b.0) in
           let step : is_step l.edge ≡ true = search rules in
           cc (step, no_step)
     ])
