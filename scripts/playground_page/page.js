@@ -261,6 +261,12 @@ async function open(page, file) {
 
 function listen(page) {
   byId("example").addEventListener("change", (event) => page.load(event.target.value));
+  for (const button of byId("starts").querySelectorAll("button")) {
+    button.addEventListener("click", () => {
+      byId("commands").elements.command.value = button.dataset.command;
+      page.load(button.dataset.example);
+    });
+  }
   byId("request").addEventListener("change", () => {
     page.editors.get("request").text = page.withRequest({}).request;
     page.ask();
