@@ -1,1 +1,1 @@
-"""The page of scripts/playground: a server for it on this machine, and what it answers with. Nothing of it is proved."""
+"""The page of scripts/playground: its server on this machine, and what that answers. Nothing of it is proved."""

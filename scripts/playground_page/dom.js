@@ -16,4 +16,10 @@ function made(element, properties, children) {
 export const el = (tag, properties, ...children) => made(document.createElement(tag), properties, children);
 export const svg = (tag, properties, ...children) => made(document.createElementNS(SVG, tag), properties, children);
 export const byId = (id) => document.getElementById(id);
+export const chosen = (name) => document.querySelector(`input[name=${name}]:checked`).value;
 export const counted = (number, one, many) => `${number} ${number === 1 ? one : many}`;
+
+// Says something beside the answer.
+export function notice(text) {
+  byId("notice").textContent = text;
+}

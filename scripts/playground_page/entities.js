@@ -18,7 +18,8 @@ const allRows = (values, kept, label) =>
 
 class Entity {
   constructor(uid) {
-    Object.assign(this, { uid, key: keyOf(uid), listed: false, kept: false, rows: [], parents: [], roles: [], ancestors: [], isAbove: false });
+    Object.assign(this, { uid, key: keyOf(uid), listed: false, kept: false, isAbove: false });
+    Object.assign(this, { rows: [], parents: [], roles: [], ancestors: [] });
   }
 }
 
@@ -31,7 +32,10 @@ export function entitiesOf(document, slice) {
     here.listed = true;
     here.kept = Boolean(of);
     here.parents = (entity.parents || []).map((uid) => at(uid).key);
-    here.rows = [...allRows(entity.attrs, of && of.attrs, memberName), ...allRows(entity.tags, of && of.tags, (name) => `tag ${memberName(name)}`)];
+    here.rows = [
+      ...allRows(entity.attrs, of && of.attrs, memberName),
+      ...allRows(entity.tags, of && of.tags, (name) => `tag ${memberName(name)}`),
+    ];
   }
   for (const entity of slice) {
     const here = at(entity.id);

@@ -5,7 +5,7 @@ import { ancestorsOf } from "./entities.js";
 import { arrange, pathOf, ranks } from "./layout.js";
 import { clipped, printedId } from "./values.js";
 
-const CHARACTER = 7.3, ROW = 18, PAD = 10, WIDEST = 40, MOST_ROWS = 10, MOST_DRAWN = 60;
+const CHARACTER = 7.3, ROW = 18, PAD = 10, WIDEST = 40, MOST_ROWS = 10, MOST_DRAWN = 60, MOST_LISTED = 500;
 const STATES = {
   kept: ["✓ kept", "kept"],
   ancestor: ["✓ as an ancestor", "as an ancestor alone"],
@@ -20,18 +20,23 @@ function stateOf(entity) {
 }
 
 function boxOf(entity, column) {
-  const rows = entity.rows.slice(0, MOST_ROWS).map((row) => ({ ...row, text: clipped(`${row.kept ? "✓" : "✗"} ${row.name}: ${row.value}`, WIDEST) }));
-  if (entity.rows.length > MOST_ROWS) rows.push({ kept: true, text: `… ${entity.rows.length - MOST_ROWS} more, in the table` });
+  const told = (row) => clipped(`${row.kept ? "✓" : "✗"} ${row.name}: ${row.value}`, WIDEST);
+  const rows = entity.rows.slice(0, MOST_ROWS).map((row) => ({ kept: row.kept, text: told(row) }));
+  const left = entity.rows.length - rows.length;
+  if (left) rows.push({ kept: true, text: `… ${left} more, in the table` });
   const title = clipped(printedId(entity.uid), WIDEST), state = stateOf(entity);
   const status = [STATES[state][0], ...entity.roles].join(", ");
   const longest = Math.max(title.length + 1, status.length, ...rows.map((row) => row.text.length));
   const weight = ["kept", "ancestor", "away", "absent"].indexOf(state) + (entity.roles.length ? 0 : 0.5);
-  return { entity, rows, title, state, status, column, weight, width: longest * CHARACTER + 2 * PAD, height: (2 + rows.length) * ROW + PAD };
+  const width = longest * CHARACTER + 2 * PAD, height = (2 + rows.length) * ROW + PAD;
+  return { entity, rows, title, state, status, column, weight, width, height };
 }
 
 function drawnBox(box) {
-  const lines = box.rows.map((row, i) => svg("text", { x: PAD, y: (i + 3) * ROW - 4, class: row.kept ? "row" : "row fallen" }, row.text));
-  return svg("g", { class: `entity ${box.state}`, transform: `translate(${box.x}, ${box.y})`, "data-id": box.entity.key },
+  const lines = box.rows.map((row, i) =>
+    svg("text", { x: PAD, y: (i + 3) * ROW - 4, class: row.kept ? "row" : "row fallen" }, row.text));
+  const place = `translate(${box.x}, ${box.y})`;
+  return svg("g", { class: `entity ${box.state}`, transform: place, "data-id": box.entity.key },
     svg("title", {}, printedId(box.entity.uid)),
     svg("rect", { width: box.width, height: box.height, rx: 6 }),
     svg("text", { x: PAD, y: ROW - 2, class: "title" }, box.title),
@@ -57,24 +62,30 @@ function drawnLine(line) {
 }
 
 function arrow(id) {
-  return svg("marker", { id, viewBox: "0 0 8 8", refX: 7, refY: 4, markerWidth: 10, markerHeight: 10, markerUnits: "userSpaceOnUse", orient: "auto" },
+  const size = { markerWidth: 10, markerHeight: 10, markerUnits: "userSpaceOnUse" };
+  return svg("marker", { id, viewBox: "0 0 8 8", refX: 7, refY: 4, orient: "auto", ...size },
     svg("path", { d: "M 0 0 L 8 4 L 0 8 z" }));
 }
 
 function drawing(all) {
   const isShort = all.size <= MOST_DRAWN;
-  const shown = [...all.values()].filter((entity) => isShort || entity.kept || entity.isAbove).slice(0, MOST_DRAWN);
+  const shown = [...all.values()].filter((one) => isShort || one.kept || one.isAbove).slice(0, MOST_DRAWN);
   const keys = new Set(shown.map((entity) => entity.key));
-  const rank = ranks(new Map(shown.map((entity) => [entity.key, [...entity.parents, ...entity.ancestors].filter((key) => keys.has(key))])));
+  const above = (entity) => [...entity.parents, ...entity.ancestors].filter((key) => keys.has(key));
+  const rank = ranks(new Map(shown.map((entity) => [entity.key, above(entity)])));
   const boxes = new Map(shown.map((entity) => [entity.key, boxOf(entity, rank.get(entity.key))]));
   const lines = linesOf(boxes);
   const { width, height } = arrange([...boxes.values()], lines);
-  const picture = svg("svg", { class: "graph", width, height, viewBox: `0 0 ${width} ${height}`, role: "img", "aria-labelledby": "graph-title", "aria-describedby": "graph-hint" },
+  const names = { role: "img", "aria-labelledby": "graph-title", "aria-describedby": "graph-hint" };
+  const picture = svg("svg", { class: "graph", width, height, viewBox: `0 0 ${width} ${height}`, ...names },
     svg("defs", {}, arrow("kept-end"), arrow("away-end")), lines.map(drawnLine), [...boxes.values()].map(drawnBox));
   const left = all.size - shown.length;
-  return [el("div", { class: "scroll", tabindex: "0", role: "region", "aria-label": "The graph of the entities" }, picture),
+  return [scrolled("The graph of the entities", picture),
     left ? el("p", {}, `${left} more entities are not drawn; the table has them.`) : null];
 }
+
+const scrolled = (name, inner) =>
+  el("div", { class: "scroll", tabindex: "0", role: "region", "aria-label": name }, inner);
 
 function listed(items, text) {
   const told = items.slice(0, 30).map(text).join(", ");
@@ -82,22 +93,27 @@ function listed(items, text) {
 }
 
 function cells(entity, all) {
-  const names = (kept) => listed(entity.rows.filter((row) => row.kept === kept), (row) => (kept ? `${row.name}: ${row.value}` : row.name));
+  const told = (row) => (row.kept ? `${row.name}: ${row.value}` : row.name);
+  const names = (kept) => listed(entity.rows.filter((row) => row.kept === kept), told);
   const ids = (keys) => listed([...keys], (key) => printedId(all.get(key).uid));
   const up = new Set(entity.ancestors);
   const fallen = [...ancestorsOf(entity, all)].filter((key) => !up.has(key));
-  return [[printedId(entity.uid), entity.roles.length ? ` (${entity.roles.join(", ")})` : ""].join(""), STATES[stateOf(entity)][1], names(true), names(false), ids(up), ids(fallen)];
+  const roles = entity.roles.length ? ` (${entity.roles.join(", ")})` : "";
+  return [printedId(entity.uid) + roles, STATES[stateOf(entity)][1], names(true), names(false), ids(up), ids(fallen)];
 }
 
 function table(all) {
-  const heads = ["entity", "in the slice", "attributes and tags kept", "attributes and tags that fell away", "ancestors kept", "ancestors that fell away"];
-  const shown = [...all.values()].filter((entity) => entity.listed || entity.kept).sort((a, b) => b.kept - a.kept).slice(0, 500);
-  return el("details", { class: "in-words" }, el("summary", {}, "The same as a table"),
-    el("div", { class: "scroll", tabindex: "0", role: "region", "aria-label": "The entities as a table" },
-      el("table", { id: "graph-table" },
-        el("thead", {}, el("tr", {}, heads.map((head) => el("th", { scope: "col" }, head)))),
-        el("tbody", {}, shown.map((entity) => el("tr", { class: entity.kept ? "kept" : "away" },
-          cells(entity, all).map((text, i) => el(i ? "td" : "th", i ? {} : { scope: "row" }, text))))))));
+  const heads = ["entity", "in the slice", "attributes and tags kept", "fell away", "ancestors kept", "fell away"];
+  const listed = [...all.values()].filter((entity) => entity.listed || entity.kept);
+  const shown = listed.sort((a, b) => b.kept - a.kept).slice(0, MOST_LISTED);
+  const row = (entity) => el("tr", { class: entity.kept ? "kept" : "away" },
+    cells(entity, all).map((text, i) => el(i ? "td" : "th", i ? {} : { scope: "row" }, text)));
+  const whole = el("table", { id: "graph-table" },
+    el("thead", {}, el("tr", {}, heads.map((head) => el("th", { scope: "col" }, head)))),
+    el("tbody", {}, shown.map(row)));
+  const left = listed.length - shown.length;
+  return el("details", {}, el("summary", {}, "The same as a table"), scrolled("The entities as a table", whole),
+    left ? el("p", {}, `${left} more stand in the entities alone.`) : null);
 }
 
 export function entityGraph(all) {

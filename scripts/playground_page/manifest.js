@@ -20,8 +20,9 @@ class Types {
   }
 
   field(type, name) {
-    const members = type && type.record ? type.record : type && type.entity ? (this.types[type.entity] || {}).attributes : null;
-    return members ? plain(members[name]) : null;
+    if (!type || !(type.record || type.entity)) return null;
+    const members = type.record || (this.types[type.entity] || {}).attributes || {};
+    return plain(members[name]) || null;
   }
 
   tags(type) {
@@ -54,23 +55,25 @@ function branch(label, node, type, level, types) {
   const children = [
     ...node.children.map(([name, child]) => branch(memberName(name), child, types.field(type, name), deeper, types)),
     ...(node.tags || []).map((tag) => branch("any tag", tag, types.tags(type), deeper, types)),
-    ...asked.map((path) => el("li", { class: "ancestor" }, el("span", { class: "in" }, "in "), el("code", {}, path), " ", badge(deeper))),
+    ...asked.map((path) => el("li", {}, el("span", { class: "in" }, "in "), el("code", {}, path), " ", badge(deeper))),
   ];
   return el("li", {}, el("code", {}, label), " ", badge(level), children.length ? el("ul", {}, children) : null);
 }
 
 function deepest(tree) {
-  const levels = [...tree.querySelectorAll(".level:not(.none)")].map((one) => Number(one.textContent.slice("level ".length)));
-  return Math.max(0, ...levels);
+  const badges = [...tree.querySelectorAll(".level:not(.none)")];
+  return Math.max(0, ...badges.map((one) => Number(one.textContent.slice("level ".length))));
 }
 
 function requestType([kind, root], types, isOpen, isOwn) {
-  const tree = el("ul", { class: "tree" }, root.trie.map(([key, node]) =>
-    branch(key.literal ? printedId(key.literal) : key.var, node, types.ofKey(key, kind), key.literal ? null : 0, types)));
+  const begun = ([key, node]) =>
+    branch(key.literal ? printedId(key.literal) : key.var, node, types.ofKey(key, kind), key.literal ? null : 0, types);
+  const tree = el("ul", { class: "tree" }, root.trie.map(begun));
   const name = `${printedId(kind.action)}: ${kind.principal} on ${kind.resource}`;
   const told = root.trie.length ? `reads to level ${deepest(tree)}` : "reads nothing";
   return el("details", { class: "kind-of-request", open: isOpen },
-    el("summary", {}, el("code", {}, name), " ", el("span", { class: "quiet" }, told + (isOwn ? ", the request’s own type" : ""))),
+    el("summary", {}, el("code", {}, name), " ",
+      el("span", { class: "quiet" }, told + (isOwn ? ", the request’s own type" : ""))),
     root.trie.length ? tree : el("p", { class: "quiet" }, "The policies read nothing here."));
 }
 
@@ -80,10 +83,11 @@ export function manifestTrees(manifest, document) {
     && kind.principal === principal[0] && kind.resource === resource[0];
   const has = manifest.perAction.some(([kind]) => isOwn(kind));
   const shown = manifest.perAction.slice(0, MOST), left = manifest.perAction.length - shown.length;
-  const trees = shown.map((entry, i) => requestType(entry, types, has ? isOwn(entry[0]) : i < 2, isOwn(entry[0])));
+  const isOpen = (kind, i) => (has ? isOwn(kind) : i < 2);
+  const trees = shown.map((entry, i) => requestType(entry, types, isOpen(entry[0], i), isOwn(entry[0])));
   return el("section", { class: "manifest" },
     el("h3", {}, `${counted(manifest.perAction.length, "type", "types")} of requests`),
-    el("p", { class: "quiet" }, "A level says how many steps from the request the entities are that have to be fetched: ",
+    el("p", { class: "quiet" }, "A level says how many steps from the request the entities are that are read: ",
       [0, 1, 2, 3].map((level) => [badge(level), " "]).flat(), badge(null), " an id that a policy names."),
     trees, left ? el("p", {}, `${left} more stand below, as the program wrote them.`) : null);
 }

@@ -1,10 +1,11 @@
 // The page: fields on the left, the answer on the right. Each change asks the server of this page for an answer.
-import { byId, counted, el } from "./dom.js";
+import { byId, chosen, el, notice } from "./dom.js";
 import { Editor } from "./editor.js";
 import { entitiesOf } from "./entities.js";
+import { copy, open, saveAll, saveDocument } from "./files.js";
 import { entityGraph } from "./graph.js";
 import { manifestTrees } from "./manifest.js";
-import { decisionBox, findingList, summary } from "./told.js";
+import { decisionBox, findingList, noteList, summary } from "./told.js";
 import { readJson } from "./values.js";
 
 const WAIT = 300;
@@ -53,11 +54,15 @@ class Page {
   }
 
   tabs() {
-    const names = this.form === "document" ? ["document"] : CEDAR.filter((part) => part !== "links" || this.textOf("links").trim() || this.part === "links");
-    byId("tabs").replaceChildren(...names.map((part) => el("button", {
-      type: "button", role: "tab", id: `tab-${part}`, "aria-controls": `panel-${part}`, on: { click: () => this.pick(part), keydown: (event) => this.step(event, names) },
-    }, part)));
-    byId("panels").replaceChildren(...names.map((part) => el("div", { role: "tabpanel", id: `panel-${part}`, "aria-labelledby": `tab-${part}` }, this.editors.get(part).box)));
+    const names = this.form === "document" ? ["document"] : CEDAR;
+    const tab = (part) => el("button", {
+      type: "button", role: "tab", id: `tab-${part}`, "aria-controls": `panel-${part}`,
+      on: { click: () => this.pick(part), keydown: (event) => this.step(event, names) },
+    }, part);
+    const panel = (part) => el("div", { role: "tabpanel", id: `panel-${part}`, "aria-labelledby": `tab-${part}` },
+      this.editors.get(part).box);
+    byId("tabs").replaceChildren(...names.map(tab));
+    byId("panels").replaceChildren(...names.map(panel));
     this.pick(names.includes(this.part) ? this.part : names[0]);
   }
 
@@ -133,7 +138,8 @@ class Page {
 
   async send(path, job) {
     try {
-      const sent = await fetch(path, { method: "POST", headers: { "Content-Type": "application/json" }, body: JSON.stringify(job) });
+      const headers = { "Content-Type": "application/json" };
+      const sent = await fetch(path, { method: "POST", headers, body: JSON.stringify(job) });
       const reply = await sent.json();
       if (sent.ok) return reply;
       this.fail(reply.refused);
@@ -179,85 +185,37 @@ class Page {
       is("slice") ? entityGraph(entitiesOf(document, decision.slice)) : null,
       is("manifest") ? manifestTrees(readJson(answer.text), document) : null,
       findingList("Likely mistakes, by scripts/lint", reply.warnings, this),
-      notes(reply.notes, this),
+      noteList(reply.notes, this),
     ];
     byId("told").replaceChildren(...told.filter(Boolean));
-    byId("written-title").textContent = answer
-      ? `As the program wrote it: ${answer.words.join(" ")}, status ${answer.status}, ${Math.round(answer.seconds * 1000)} ms`
-      : "The program was not asked";
-    byId("written").textContent = answer ? answer.text : "";
+    this.write(answer);
     this.underline(reply, decision);
+  }
+
+  // The answer as it was written.
+  write(answer) {
+    byId("written").textContent = answer ? answer.text : "";
+    byId("written-title").textContent = answer ? `As the program wrote it: ${told(answer)}` : "The program was not asked";
   }
 
   // Underlines what the answer is about, and says at each tab how much.
   underline(reply, decision) {
-    const found = [...reply.faults, ...reply.findings, ...reply.warnings].flatMap((one) => one.spans.map((span) => ({ ...span, kind: one.severity || "error" })));
-    const reasons = decision ? decision.reasons.map((id) => reply.policies[id]).filter(Boolean).map((span) => ({ ...span, kind: "reason" })) : [];
+    const told = [...reply.faults, ...reply.findings, ...reply.warnings];
+    const found = told.flatMap((one) => one.spans.map((span) => ({ ...span, kind: one.severity || "error" })));
+    const reasons = (decision ? decision.reasons : []).map((id) => reply.policies[id]).filter(Boolean);
+    const marked = [...found, ...reasons.map((span) => ({ ...span, kind: "reason" }))];
     for (const [part, editor] of this.editors) {
-      const here = found.filter((span) => span.part === part);
-      editor.mark([...here, ...reasons.filter((span) => span.part === part)]);
-      const tab = byId(`tab-${part}`);
-      if (tab) tab.replaceChildren(part, here.length ? el("span", { class: "count" }, ` ${here.length} ⚠`, el("span", { class: "unseen" }, " places to look at")) : "");
+      editor.mark(marked.filter((span) => span.part === part));
+      const tab = byId(`tab-${part}`), count = found.filter((span) => span.part === part).length;
+      if (tab) tab.replaceChildren(part, count ? counter(count) : "");
     }
   }
 }
 
-function notes(found, page) {
-  if (!found.length) return null;
-  return el("details", { class: "notes" }, el("summary", {}, `${counted(found.length, "note", "notes")} on how Cedar’s texts were read`),
-    el("ul", {}, found.map((note) => el("li", {}, note.spans.map((span) =>
-      el("button", { type: "button", class: "go", on: { click: () => page.show(span) } }, `${span.part} ${span.line}:${span.column}`)), " ", note.text))));
-}
+const told = ({ words, status, seconds }) => `${words.join(" ")}, status ${status}, ${Math.round(seconds * 1000)} ms`;
 
-const chosen = (name) => document.querySelector(`input[name=${name}]:checked`).value;
-
-function notice(text) {
-  byId("notice").textContent = text;
-}
-
-// Files.
-
-function download(name, text) {
-  const address = URL.createObjectURL(new Blob([text], { type: "application/json" }));
-  el("a", { href: address, download: name }).click();
-  setTimeout(() => URL.revokeObjectURL(address), 1000);
-}
-
-const fileName = (page) => (page.example || "mine").replace(/.*\//, "");
-
-async function copy(page) {
-  if (!page.reply || !page.reply.document) return notice("There is no document to copy: mend the faults first.");
-  try {
-    await navigator.clipboard.writeText(page.reply.document);
-  } catch {
-    return notice("The browser does not let it be copied; save it.");
-  }
-  return notice("The document is copied, as the program was given it.");
-}
-
-function saveDocument(page) {
-  if (!page.reply || !page.reply.document) return notice("There is no document to save: mend the faults first.");
-  return download(`${fileName(page)}.palvumiose.json`, page.reply.document);
-}
-
-// What was saved here, or a document.
-async function open(page, file) {
-  if (!file) return;
-  const text = await file.text();
-  let saved = {};
-  try {
-    saved = JSON.parse(text);
-  } catch {
-    // No JSON: shown as a document, whose fault is then told.
-  }
-  page.example = null;
-  notice(`${file.name} is opened.`);
-  if (!saved || saved.playground !== 1 || !saved.parts) return page.fill("document", { document: text });
-  const texts = Object.fromEntries(Object.entries(saved.parts).filter(([, one]) => typeof one === "string"));
-  if (COMMANDS[saved.command]) byId("commands").elements.command.value = saved.command;
-  if (Number.isInteger(saved.level)) byId("level").value = saved.level;
-  return page.fill(["text", "json", "document"].includes(saved.form) ? saved.form : "text", texts);
-}
+const counter = (count) =>
+  el("span", { class: "count" }, ` ${count} ⚠`, el("span", { class: "unseen" }, " places to look at"));
 
 function listen(page) {
   byId("example").addEventListener("change", (event) => page.load(event.target.value));
@@ -277,7 +235,7 @@ function listen(page) {
   for (const form of document.forms) form.addEventListener("submit", (event) => event.preventDefault());
   byId("copy").addEventListener("click", () => copy(page));
   byId("save-document").addEventListener("click", () => saveDocument(page));
-  byId("save").addEventListener("click", () => download(`${fileName(page)}.playground.json`, JSON.stringify({ playground: 1, ...page.job }, null, 1)));
+  byId("save").addEventListener("click", () => saveAll(page));
   byId("open").addEventListener("click", () => byId("file").click());
   byId("file").addEventListener("change", (event) => { open(page, event.target.files[0]); event.target.value = ""; });
 }
@@ -292,12 +250,16 @@ function offer(page) {
 }
 
 function tellAbout({ name, version, note, limits }) {
-  byId("about").textContent = `${name}${version ? `, version ${version},` : ""} answers, in at most ${limits.seconds} s and ${limits.mebibytes} MiB each time. ${note} `
+  const program = `${name}${version ? `, version ${version},` : ""}`;
+  const most = `in at most ${limits.seconds} s and ${limits.mebibytes} MiB each time`;
+  byId("about").textContent = `${program} answers, ${most}. ${note} `
     + "This page draws what it writes, proves nothing, and keeps nothing.";
 }
 
 async function begin() {
-  const page = new Page(await (await fetch("/examples")).json());
+  const sent = await fetch("/examples"), given = await sent.json();
+  if (!sent.ok) throw new Error(given.refused);
+  const page = new Page(given);
   offer(page);
   listen(page);
   tellAbout(page.about);
@@ -305,4 +267,7 @@ async function begin() {
   await page.load(FIRST);
 }
 
-begin();
+begin().catch((fault) => {
+  byId("summary").className = "summary bad";
+  byId("summary").textContent = `The page can’t begin: ${fault.message}`;
+});

@@ -1,6 +1,7 @@
 """The server of the page: on the loopback address alone, for its own page alone, with bounded requests."""
 import json
 import pathlib
+import socket
 import sys
 from http.server import BaseHTTPRequestHandler, ThreadingHTTPServer
 
@@ -16,11 +17,12 @@ KINDS = {
     ".html": "text/html; charset=utf-8",
     ".css": "text/css; charset=utf-8",
     ".js": "text/javascript; charset=utf-8",
+    ".svg": "image/svg+xml",
 }
 FILES = {f"/{path.name}": path for path in HERE.iterdir() if path.suffix in KINDS} | {"/": HERE / "index.html"}
 HEADERS = {
     "Content-Security-Policy": "default-src 'none'; script-src 'self'; style-src 'self'; connect-src 'self'; "
-    "base-uri 'none'; form-action 'none'; frame-ancestors 'none'",
+    "img-src 'self'; base-uri 'none'; form-action 'none'; frame-ancestors 'none'",
     "X-Content-Type-Options": "nosniff",
     "Referrer-Policy": "no-referrer",
     "Cross-Origin-Opener-Policy": "same-origin",
@@ -45,7 +47,7 @@ class Server(ThreadingHTTPServer):
     def handle_error(self, request, client_address):
         """Of a connection that breaks nothing is said; of a fault one line, without a trace."""
         fault = sys.exc_info()[1]
-        if not isinstance(fault, (ConnectionError, TimeoutError)):
+        if not isinstance(fault, (ConnectionError, TimeoutError, socket.timeout)):
             print(f"playground: a request ended with a fault of the page: {type(fault).__name__}", file=sys.stderr)
 
 
@@ -67,6 +69,11 @@ class Handler(BaseHTTPRequestHandler):
             status, kind, body = why.args[0], "application/json", as_json({"refused": why.args[1]})
             self.close_connection = True
             self.pass_over()
+        except (ConnectionError, TimeoutError, socket.timeout):
+            raise
+        except Exception as fault:  # whatever it is, the page is told
+            status, kind = 500, "application/json"
+            body = as_json({"refused": f"this page has a fault of its own: {type(fault).__name__}"})
         self.send(status, kind, body)
 
     def send(self, status, kind, body):

@@ -12,7 +12,8 @@ const STATUS = {
 };
 const LIMITS = {
   time: ({ seconds }) => `Stopped: the answer took more than ${seconds} s, the limit of this page.`,
-  memory: ({ mebibytes }) => `Stopped: the answer needed more than ${mebibytes} MiB, the limit of this page; nothing was written.`,
+  memory: ({ mebibytes }) =>
+    `Stopped: the answer needed more than ${mebibytes} MiB, the limit of this page; nothing was written.`,
   length: () => "Stopped: the answer is longer than this page shows; below stands its beginning.",
 };
 
@@ -22,7 +23,9 @@ export function summary(reply, decision, document, about) {
   if (!answer) return ["bad", `Not read: ${counted(faults.length, "place has", "places have")} a fault.`];
   if (answer.limit) return ["bad", LIMITS[answer.limit](about.limits)];
   if (answer.status < 0) return ["bad", `The program ended by signal ${-answer.status}, and wrote nothing.`];
-  if (answer.status === 0) return [decision && decision.decision === "Deny" ? "deny" : "good", accepted(reply, decision, document)];
+  if (answer.status === 0) {
+    return [decision && decision.decision === "Deny" ? "deny" : "good", accepted(reply, decision, document)];
+  }
   if (answer.status !== 1) return ["bad", STATUS[answer.status] || `The program ended with status ${answer.status}.`];
   const errors = findings.filter((finding) => finding.severity === "error").length;
   const told = findings.length ? `: ${counted(errors, "error", "errors")}${warned(findings.length - errors)}` : "";
@@ -33,8 +36,10 @@ const warned = (count) => (count ? `, ${counted(count, "warning", "warnings")}` 
 
 function accepted({ answer, findings }, decision, document) {
   const command = answer.words[0];
-  if (command === "check") return `The policies are accepted: no errors${warned(findings.length)}.`;
-  if (command === "level") return `The policies are accepted at level ${answer.words[1]}: no errors${warned(findings.length)}.`;
+  if (command === "check" || command === "level") {
+    const level = command === "level" ? ` at level ${answer.words[1]}` : "";
+    return `The policies are accepted${level}: no errors${warned(findings.length)}.`;
+  }
   if (command === "request") return conforms(document.request || {});
   if (command === "manifest") return "What the policies can read, for each type of requests:";
   return decided(decision);
@@ -67,18 +72,21 @@ function lineOf(span, text) {
     text.slice(Math.min(span.end, end), Math.max(to, span.end)).split("\n")[0], to < end ? "…" : "");
 }
 
+// A button that leads to a place in a text.
+const goTo = (span, page, label) =>
+  el("button", { type: "button", class: "go", on: { click: () => page.show(span) } }, label || partName(span));
+
 function places(spans, page) {
-  return spans.slice(0, 20).map((span) => el("div", { class: "place" },
-    el("button", { type: "button", class: "go", on: { click: () => page.show(span) } }, partName(span)),
-    lineOf(span, page.textOf(span.part))));
+  return spans.slice(0, 20).map((span) =>
+    el("div", { class: "place" }, goTo(span, page), lineOf(span, page.textOf(span.part))));
 }
 
 function item(finding, page) {
   const spans = finding.spans.map((span) => ({ ...span, kind: finding.severity || "error" }));
+  const kind = finding.kind ? [el("span", { class: "kind" }, finding.kind), ": "] : [];
+  const place = finding.place ? `${finding.place}: ` : "";
   return el("li", { class: `finding ${finding.severity || "error"}` },
-    el("p", {}, el("strong", {}, finding.severity || "fault"), " ",
-      finding.kind ? el("span", { class: "kind" }, finding.kind) : null, finding.kind ? ": " : "", finding.place ? `${finding.place}: ` : "",
-      finding.text),
+    el("p", {}, el("strong", {}, finding.severity || "fault"), " ", kind, place, finding.text),
     finding.help ? el("p", { class: "help" }, "help: ", finding.help) : null,
     places(spans, page));
 }
@@ -86,21 +94,33 @@ function item(finding, page) {
 // A list with its title; nothing where the list is empty.
 export function findingList(title, found, page) {
   if (!found.length) return null;
-  return el("section", {}, el("h3", {}, title), el("ol", { class: "findings" }, found.map((finding) => item(finding, page))),
-    found.length >= MOST ? el("p", {}, `The first ${found.length} are told; all stand below, as the program wrote them.`) : null);
+  const left = `The first ${found.length} are told; all stand below, as the program wrote them.`;
+  return el("section", {}, el("h3", {}, title),
+    el("ol", { class: "findings" }, found.map((finding) => item(finding, page))),
+    found.length >= MOST ? el("p", {}, left) : null);
 }
 
 function policyItem(id, page, spans, text) {
   const span = spans[id];
   const name = el("code", {}, id);
-  return el("li", {}, span ? el("button", { type: "button", class: "go", on: { click: () => page.show(span) } }, name) : name, text);
+  return el("li", {}, span ? goTo(span, page, name) : name, text);
+}
+
+// What was left away or added where Cedar's texts were read.
+export function noteList(found, page) {
+  if (!found.length) return null;
+  const told = (note) => el("li", {}, note.spans.map((span) => goTo(span, page)), " ", note.text);
+  return el("details", { class: "notes" },
+    el("summary", {}, `${counted(found.length, "note", "notes")} on how Cedar’s texts were read`),
+    el("ul", {}, found.map(told)));
 }
 
 // The policies behind a decision, and those that failed.
 export function decisionBox({ decision, reasons, errors }, spans, page) {
-  const said = decision === "Allow" ? "permits that are true" : "forbids that are true";
+  const said = `Reasons, the ${decision === "Allow" ? "permits" : "forbids"} that are true:`;
+  const none = "No permit is true, and no forbid: what nothing permits is denied.";
   return el("section", { class: "decision" },
-    reasons.length ? el("p", {}, `Reasons, the ${said}:`) : el("p", {}, "No permit is true, and no forbid: what nothing permits is denied."),
+    el("p", {}, reasons.length ? said : none),
     el("ul", { class: "reasons" }, reasons.map((id) => policyItem(id, page, spans, ""))),
     errors.length ? el("p", {}, "Policies that failed, and did not count:") : null,
     errors.length ? el("ul", {}, errors.map(([id, text]) => policyItem(id, page, spans, `: ${text}`))) : null);
