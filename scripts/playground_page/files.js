@@ -42,6 +42,8 @@ export async function open(page, file) {
     // No JSON: shown as a document, whose fault is then told.
   }
   page.example = null;
+  byId("example").selectedIndex = -1;
+  byId("request-label").hidden = true;
   notice(`${file.name} is opened.`);
   if (!saved || saved.playground !== 1 || !saved.parts) return page.fill("document", { document: text });
   const texts = Object.fromEntries(Object.entries(saved.parts).filter(([, one]) => typeof one === "string"));

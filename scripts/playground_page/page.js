@@ -100,12 +100,13 @@ class Page {
 
   // The examples and the forms.
 
-  async load(name) {
+  async load(name, request = 0) {
     const example = this.examples.get(name), wanted = chosen("form");
     this.example = name;
     byId("example").value = name;
-    byId("request").replaceChildren(...example.requests.map((request, i) => el("option", { value: i }, request.title)));
+    byId("request").replaceChildren(...example.requests.map(({ title }, i) => el("option", { value: i }, title)));
     byId("request-label").hidden = !example.requests.length;
+    byId("request").value = request;
     this.part = null;
     notice("");
     if (example.forms[wanted]) return this.fill(wanted, this.withRequest(example.forms[wanted]));
@@ -117,6 +118,13 @@ class Page {
   withRequest(parts) {
     const { requests } = this.examples.get(this.example);
     return requests.length ? { ...parts, request: requests[Number(byId("request").value)].text } : parts;
+  }
+
+  // Another request of the example: in Cedar's forms the other texts stay as they are.
+  chooseRequest() {
+    if (this.form === "document") return this.load(this.example, byId("request").value);
+    this.editors.get("request").text = this.withRequest({}).request;
+    return this.ask();
   }
 
   async turn(to) {
@@ -195,7 +203,7 @@ class Page {
   // The answer as it was written.
   write(answer) {
     byId("written").textContent = answer ? answer.text : "";
-    byId("written-title").textContent = answer ? `As the program wrote it: ${told(answer)}` : "The program was not asked";
+    byId("written-title").textContent = answer ? `As the program wrote it: ${howRun(answer)}` : "The program was not asked";
   }
 
   // Underlines what the answer is about, and says at each tab how much.
@@ -212,7 +220,7 @@ class Page {
   }
 }
 
-const told = ({ words, status, seconds }) => `${words.join(" ")}, status ${status}, ${Math.round(seconds * 1000)} ms`;
+const howRun = ({ words, status, seconds }) => `${words.join(" ")}, status ${status}, ${Math.round(seconds * 1000)} ms`;
 
 const counter = (count) =>
   el("span", { class: "count" }, ` ${count} ⚠`, el("span", { class: "unseen" }, " places to look at"));
@@ -225,10 +233,7 @@ function listen(page) {
       page.load(button.dataset.example);
     });
   }
-  byId("request").addEventListener("change", () => {
-    page.editors.get("request").text = page.withRequest({}).request;
-    page.ask();
-  });
+  byId("request").addEventListener("change", () => page.chooseRequest());
   for (const input of byId("tools").elements.form) input.addEventListener("change", () => page.turn(input.value));
   for (const input of byId("commands").elements.command) input.addEventListener("change", () => page.ask());
   byId("level").addEventListener("input", () => page.ask());
