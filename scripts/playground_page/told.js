@@ -61,7 +61,8 @@ function decided({ decision, reasons, errors }) {
 const partName = (span) => `${span.part} ${span.line}:${span.column}`;
 
 function lineOf(span, text) {
-  const start = text.lastIndexOf("\n", span.start - 1) + 1;
+  const line = text.lastIndexOf("\n", span.start - 1) + 1;
+  const start = Math.min(span.start, line + text.slice(line).search(/\S|$/));
   const newline = text.indexOf("\n", span.start);
   const end = newline < 0 ? text.length : newline;
   const from = Math.max(start, span.start - 60);
