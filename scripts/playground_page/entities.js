@@ -1,12 +1,14 @@
 // The entities of a document beside those of a slice: what is kept of each, and what fell away. All of it is read from
 // the document and from the answer.
-import { keyOf, memberName, printed } from "./values.js";
+import { keyOf, memberName, own, printed } from "./values.js";
 
 // A row for each attribute, or for each field where a record was kept in part.
 function rows(name, value, kept, found) {
   const inner = value && value.record;
   if (inner && kept && kept.record && Object.keys(inner).length) {
-    for (const [field, v] of Object.entries(inner)) rows(`${name}.${memberName(field)}`, v, kept.record[field], found);
+    for (const [field, v] of Object.entries(inner)) {
+      rows(`${name}.${memberName(field)}`, v, own(kept.record, field), found);
+    }
   } else {
     found.push({ name, value: printed(kept === undefined ? value : kept), kept: kept !== undefined });
   }
@@ -14,7 +16,7 @@ function rows(name, value, kept, found) {
 }
 
 const allRows = (values, kept, label) =>
-  Object.entries(values || {}).flatMap(([name, v]) => rows(label(name), v, kept ? kept[name] : undefined, []));
+  Object.entries(values || {}).flatMap(([name, v]) => rows(label(name), v, own(kept, name), []));
 
 class Entity {
   constructor(uid) {

@@ -1,7 +1,7 @@
 // A manifest as a tree for each type of requests. What is read has its level: how many steps from the request the
 // entity is that has it, counted along the path by the schema's types, as docs/FORMAT.md says under Levels.
 import { counted, el } from "./dom.js";
-import { keyOf, memberName, printedId } from "./values.js";
+import { keyOf, memberName, own, printedId } from "./values.js";
 
 const MOST = 200;
 const plain = (type) => (type && type.optional !== undefined ? type.optional : type);
@@ -21,12 +21,12 @@ class Types {
 
   field(type, name) {
     if (!type || !(type.record || type.entity)) return null;
-    const members = type.record || (this.types[type.entity] || {}).attributes || {};
-    return plain(members[name]) || null;
+    const members = type.record || (own(this.types, type.entity) || {}).attributes;
+    return plain(own(members, name)) || null;
   }
 
   tags(type) {
-    return type && type.entity ? plain((this.types[type.entity] || {}).tags) : null;
+    return type && type.entity ? plain((own(this.types, type.entity) || {}).tags) : null;
   }
 }
 

@@ -6,7 +6,7 @@ import { copy, open, saveAll, saveDocument } from "./files.js";
 import { entityGraph } from "./graph.js";
 import { manifestTrees } from "./manifest.js";
 import { decisionBox, findingList, noteList, summary } from "./told.js";
-import { readJson } from "./values.js";
+import { own, readJson } from "./values.js";
 
 const WAIT = 300;
 const FIRST = "cedar/tinytodo";
@@ -203,14 +203,14 @@ class Page {
   // The answer as it was written.
   write(answer) {
     byId("written").textContent = answer ? answer.text : "";
-    byId("written-title").textContent = answer ? `As the program wrote it: ${howRun(answer)}` : "The program was not asked";
+    byId("written-title").textContent = answer ? howRun(answer) : "The program was not asked";
   }
 
   // Underlines what the answer is about, and says at each tab how much.
   underline(reply, decision) {
     const told = [...reply.faults, ...reply.findings, ...reply.warnings];
     const found = told.flatMap((one) => one.spans.map((span) => ({ ...span, kind: one.severity || "error" })));
-    const reasons = (decision ? decision.reasons : []).map((id) => reply.policies[id]).filter(Boolean);
+    const reasons = (decision ? decision.reasons : []).map((id) => own(reply.policies, id)).filter(Boolean);
     const marked = [...found, ...reasons.map((span) => ({ ...span, kind: "reason" }))];
     for (const [part, editor] of this.editors) {
       editor.mark(marked.filter((span) => span.part === part));
@@ -220,7 +220,8 @@ class Page {
   }
 }
 
-const howRun = ({ words, status, seconds }) => `${words.join(" ")}, status ${status}, ${Math.round(seconds * 1000)} ms`;
+const howRun = ({ words, status, seconds }) =>
+  `As the program wrote it: ${words.join(" ")}, status ${status}, ${Math.round(seconds * 1000)} ms`;
 
 const counter = (count) =>
   el("span", { class: "count" }, ` ${count} ⚠`, el("span", { class: "unseen" }, " places to look at"));

@@ -1,5 +1,6 @@
 // What is told of an answer: one sentence, the findings with their lines, the decision with its reasons.
 import { counted, el } from "./dom.js";
+import { own } from "./values.js";
 
 const MOST = 200;
 const STATUS = {
@@ -102,7 +103,7 @@ export function findingList(title, found, page) {
 }
 
 function policyItem(id, page, spans, text) {
-  const span = spans[id];
+  const span = own(spans, id);
   const name = el("code", {}, id);
   return el("li", {}, span ? goTo(span, page, name) : name, text);
 }

@@ -11,6 +11,9 @@ export const quoted = (text) => `"${text.replace(/[\\"\n\r\t\0]/g, (c) => ESCAPE
 export const printedId = ([type, eid]) => `${type}::${quoted(eid)}`;
 export const keyOf = (uid) => JSON.stringify(uid);
 
+// A member of an object of JSON; undefined where there is none, whatever its name.
+export const own = (object, name) => (object && Object.hasOwn(object, name) ? object[name] : undefined);
+
 const isName = (text) => /^[A-Za-z_]\w*$/.test(text);
 export const memberName = (name) => (isName(name) ? name : quoted(name));
 
