@@ -75,7 +75,7 @@ class ExpressionReader(Reader):
         return names
 
     def attribute(self):
-        return self.name("an attribute's name (a reserved word stands in quotes, as in e[\"in\"])")
+        return self.name('an attribute\'s name (a reserved word stands in quotes, as in e["in"])')
 
     def sum(self):
         start = self.next.start
@@ -104,7 +104,12 @@ class ExpressionReader(Reader):
                 raise Stop(signs[-1], "`!` and `-` don't stand side by side: parentheses are due")
             if len(signs) > 4:
                 raise Stop(signs[-1], f"more than four `{signs[0].text}` in a row")
-        if self.next.kind == "number" and signs and signs[0].text == "-" and self.tokens[self.index + 1].text not in (".", "[", "("):
+        if (
+            self.next.kind == "number"
+            and signs
+            and signs[0].text == "-"
+            and self.tokens[self.index + 1].text not in (".", "[", "(")
+        ):
             made = self.number(self.take(), signs.pop())
         else:
             made = self.member()
@@ -182,12 +187,14 @@ class ExpressionReader(Reader):
         if name in nodes.VARIABLES and not self.at("("):
             return self.node("var", (name,), token.start)
         if not self.took("("):
-            raise Stop(token, f"`{name}` is no variable; an entity is written Type::\"id\", and a text stands in quotes")
+            raise Stop(token, f'`{name}` is no variable; an entity is written Type::"id", and a text stands in quotes')
         arguments = self.separated(")", self.expr)
         if name in nodes.METHODS or name in nodes.OPERATOR_METHODS:
             self.no(token, f"`{name}` is a method: e.{name}(..)")
         elif name not in nodes.CONSTRUCTORS:
-            self.no(token, "unknown values have no counterpart" if name == "unknown" else f"Cedar has no function `{name}`")
+            self.no(
+                token, "unknown values have no counterpart" if name == "unknown" else f"Cedar has no function `{name}`"
+            )
         return self.node("call", (name, *arguments), token.start)
 
     def record(self, opening):
@@ -195,7 +202,11 @@ class ExpressionReader(Reader):
 
         def one():
             token = self.next
-            name = self.unescaped(self.take()) if token.kind == "text" else self.name("a member's name (a reserved word stands in quotes)")
+            name = (
+                self.unescaped(self.take())
+                if token.kind == "text"
+                else self.name("a member's name (a reserved word stands in quotes)")
+            )
             if name in known:
                 self.no(token, f"the record has two members `{name}`")
             known.add(name)

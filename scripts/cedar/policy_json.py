@@ -1,4 +1,5 @@
-"""Reads policies in Cedar's JSON: a policy set (static policies, templates, links), one policy, or the links of the `cedar` command."""
+"""Reads policies in Cedar's JSON: a policy set (static policies, templates, links), one policy, or the
+links of the `cedar` command."""
 from cedar import nodes
 from cedar.json_text import Number
 from cedar.nodes import Node
@@ -131,7 +132,11 @@ class PolicyReader:
             if own == "action" or s["slot"] != f"?{own}":
                 self.no(place["slot"], f"the slot {shown(s['slot'])} has no place in the part of {own}")
             return "?"
-        return self.action(s["entity"], place["entity"]) if own == "action" else uid(s["entity"], place["entity"], self.report)
+        return (
+            self.action(s["entity"], place["entity"])
+            if own == "action"
+            else uid(s["entity"], place["entity"], self.report)
+        )
 
     def action(self, u, place):
         made = uid(u, place, self.report)
@@ -143,14 +148,18 @@ class PolicyReader:
 
     def expr(self, e, place):
         self.depth += 1
-        made = self.no(place, f"an expression that nests deeper than {DEEPEST}") if self.depth > DEEPEST else self.one(e, place)
+        made = (
+            self.no(place, f"an expression that nests deeper than {DEEPEST}")
+            if self.depth > DEEPEST
+            else self.one(e, place)
+        )
         self.depth -= 1
         return made or Node("literal", (True,))
 
     def one(self, e, place):
         if not isinstance(e, dict) or len(e) != 1:
             return self.no(place, f"no expression, which is an object with one member: {shown(e)}")
-        (op, x), = e.items()
+        ((op, x),) = e.items()
         place = place[op]
         if op == "Value":
             return self.value(x, place)
@@ -159,7 +168,11 @@ class PolicyReader:
         if op == "Slot":
             return self.no(place, "a slot stands in the scope alone")
         if op in ("!", "neg", "isEmpty"):
-            return Node("not" if op == "!" else op, (self.expr(x["arg"], place["arg"]),)) if members(x, place, self.report, ("arg",)) else None
+            return (
+                Node("not" if op == "!" else op, (self.expr(x["arg"], place["arg"]),))
+                if members(x, place, self.report, ("arg",))
+                else None
+            )
         if op in ("&&", "||") or op in BINARY or op in nodes.NEGATED:
             if not members(x, place, self.report, ("left", "right")):
                 return None
@@ -167,7 +180,11 @@ class PolicyReader:
             return nodes.comparison(word, self.expr(x["left"], place["left"]), self.expr(x["right"], place["right"]))
         if op == "if-then-else":
             parts = ("if", "then", "else")
-            return Node("if", tuple(self.expr(x[p], place[p]) for p in parts)) if members(x, place, self.report, parts) else None
+            return (
+                Node("if", tuple(self.expr(x[p], place[p]) for p in parts))
+                if members(x, place, self.report, parts)
+                else None
+            )
         return self.other(op, x, place)
 
     def other(self, op, x, place):
@@ -182,7 +199,9 @@ class PolicyReader:
         if op == "is":
             if not members(x, place, self.report, ("left", "entity_type"), ("in",)):
                 return None
-            left, kind = self.expr(x["left"], place["left"]), type_name(x["entity_type"], place["entity_type"], self.report)
+            left, kind = self.expr(x["left"], place["left"]), type_name(
+                x["entity_type"], place["entity_type"], self.report
+            )
             return nodes.is_in(left, kind, self.expr(x["in"], place["in"])) if "in" in x else Node("is", (left, kind))
         if op == "Set" and isinstance(x, list):
             return Node("set", tuple(self.expr(y, place[i]) for i, y in enumerate(x)))
@@ -193,14 +212,20 @@ class PolicyReader:
         return self.no(place, f"`{op}` has no counterpart")
 
     def value(self, v, place):
-        """A value that stands in an expression: sets and records are literals of their parts, extension values are calls."""
+        """A value that stands in an expression: sets and records are literals of their parts, extension
+        values are calls."""
         made = None
         if isinstance(v, (bool, int, str)):
             made = Node("literal", (v,))
         elif isinstance(v, list):
             made = Node("set", tuple(self.value(x, place[i]) for i, x in enumerate(v)))
         elif not isinstance(v, dict) or "__expr" in v:
-            self.no(place, f"{v.text} is no whole number of 64 bits" if isinstance(v, Number) else f"no value of Cedar: {shown(v)}")
+            self.no(
+                place,
+                f"{v.text} is no whole number of 64 bits"
+                if isinstance(v, Number)
+                else f"no value of Cedar: {shown(v)}",
+            )
         elif "__entity" in v:
             made = Node("id", (uid(v, place, self.report),))
         elif "__extn" in v:
@@ -212,7 +237,7 @@ class PolicyReader:
 
     def pattern(self, p, place):
         if not isinstance(p, list):
-            return self.no(place, "a pattern is a list of \"Wildcard\" and {\"Literal\":text}")
+            return self.no(place, 'a pattern is a list of "Wildcard" and {"Literal":text}')
         made = []
         for i, q in enumerate(p):
             if q == "Wildcard":
@@ -223,6 +248,5 @@ class PolicyReader:
                 elif q["Literal"]:
                     made.append(q["Literal"])
             else:
-                self.no(place[i], f"\"Wildcard\" or {{\"Literal\":text}} is due, not {shown(q)}")
+                self.no(place[i], f'"Wildcard" or {{"Literal":text}} is due, not {shown(q)}')
         return made
-

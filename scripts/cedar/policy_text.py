@@ -115,7 +115,7 @@ class PolicyReader(ExpressionReader):
         token = self.next
         kind, text = self.path("an entity")
         if text is None:
-            raise Stop(token, f"an entity as Type::\"id\" is due, not `{kind}`")
+            raise Stop(token, f'an entity as Type::"id" is due, not `{kind}`')
         uid = [kind, self.unescaped(text)]
         self.named_in_scope += [(printed, (token.start, self.last_end)) for printed in (kind, nodes.printed(uid))]
         return uid

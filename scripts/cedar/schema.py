@@ -1,4 +1,5 @@
-"""Makes the document's schema of Cedar's JSON schema: names are resolved, common types are written out."""
+"""Makes the document's schema of Cedar's JSON schema: names are resolved, common types are written
+out."""
 from cedar.extensions import FUNCTIONS
 from cedar.nodes import is_action_type
 from cedar.objects import is_list, is_name, is_text, members, shown
@@ -16,22 +17,29 @@ def qualified(name, space):
 
 
 def measured(value, known):
-    """How many parts JSON has and how deep it nests; a part that is shared is counted at each place, and looked at once."""
+    """How many parts JSON has and how deep it nests; a part that is shared is counted at each place,
+    and looked at once."""
     if not isinstance(value, (dict, list)):
         return 1, 0
     if id(value) not in known:
         inner = [measured(x, known) for x in (value.values() if isinstance(value, dict) else value)]
-        known[id(value)] = 1 + sum(parts for parts, _ in inner), 1 + max([height for _, height in inner], default=0), value
+        known[id(value)] = (
+            1 + sum(parts for parts, _ in inner),
+            1 + max([height for _, height in inner], default=0),
+            value,
+        )
     return known[id(value)][:2]
 
 
 def candidates(name, space):
-    """What a name may stand for, the nearest first: one of its own namespace, then one of the empty namespace."""
+    """What a name may stand for, the nearest first: one of its own namespace, then one of the empty
+    namespace."""
     return [f"{space}::{name}", name] if space and "::" not in name else [name]
 
 
 class Schema:
-    """What is declared, and what it means here. `attributes`, `tags` and `contexts` are the types of what entities and requests hold."""
+    """What is declared, and what it means here. `attributes`, `tags` and `contexts` are the types of
+    what entities and requests hold."""
 
     def __init__(self, report):
         self.report = report
@@ -65,7 +73,10 @@ class Schema:
         if measured([self.types, self.actions], self.measures)[0] > MOST:
             self.no(top, f"with its common types written out the schema has more than {MOST} parts")
         if self.annotated:
-            self.report.dropped(next(iter(self.annotated.values())), "annotations of the schema: " + " ".join(f"@{name}" for name in self.annotated))
+            self.report.dropped(
+                next(iter(self.annotated.values())),
+                "annotations of the schema: " + " ".join(f"@{name}" for name in self.annotated),
+            )
 
     def declare(self, space, part, place):
         """Notes what a namespace declares."""
@@ -94,15 +105,25 @@ class Schema:
         for table in (self.commons, self.entities):
             for name, (_, space, place) in table.items():
                 if space and name.rsplit("::", 1)[-1] in empty:
-                    self.no(place, f"`{name}` hides `{name.rsplit('::', 1)[-1]}` of the empty namespace, which Cedar refuses")
+                    self.no(
+                        place,
+                        f"`{name}` hides `{name.rsplit('::', 1)[-1]}` of the empty namespace, which Cedar refuses",
+                    )
         for (kind, name), place in self.action_ids.items():
             if kind != "Action" and ("Action", name) in self.action_ids:
-                self.no(place, f"the action {kind}::{shown(name)} hides Action::{shown(name)} of the empty namespace, which Cedar refuses")
+                self.no(
+                    place,
+                    f"the action {kind}::{shown(name)} hides Action::{shown(name)} of the empty namespace, which Cedar refuses",
+                )
 
     # Types.
 
     def entity_name(self, name, space, place):
-        found = next((full for full in candidates(name, space) if full in self.entities), None) if isinstance(name, str) else None
+        found = (
+            next((full for full in candidates(name, space) if full in self.entities), None)
+            if isinstance(name, str)
+            else None
+        )
         return found or self.no(place, f"the entity type {shown(name)} is not declared")
 
     def entity_names(self, names, space, place):
@@ -128,7 +149,11 @@ class Schema:
         if kind == "Entity":
             return {"entity": self.entity_name(t["name"], space, place["name"])}
         if kind == "Extension":
-            return t["name"] if t["name"] in FUNCTIONS else self.no(place["name"], f"there is no extension type {shown(t['name'])}")
+            return (
+                t["name"]
+                if t["name"] in FUNCTIONS
+                else self.no(place["name"], f"there is no extension type {shown(t['name'])}")
+            )
         if kind in PRIMITIVE and kind != "Bool":
             return PRIMITIVE[kind]
         return self.named(t["name"] if more else kind, space, place["name" if more else "type"], bool(more))
@@ -139,7 +164,7 @@ class Schema:
                 return self.common(full, place)
             if entities_too and full in self.entities:
                 return {"entity": full}
-        own = name[len("__cedar::"):] if name.startswith("__cedar::") else name
+        own = name[len("__cedar::") :] if name.startswith("__cedar::") else name
         if own in PRIMITIVE and own != "Boolean":
             return PRIMITIVE[own]
         return own if own in FUNCTIONS else self.no(place, f"there is no type `{name}`")

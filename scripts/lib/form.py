@@ -1,5 +1,5 @@
-"""The form of a document: what in a value is not as docs/schema/document.schema.json has it, each fault with
-its place."""
+"""The form of a document: what in a value is not as docs/schema/document.schema.json has it, each fault
+with its place."""
 import json
 import pathlib
 import re
@@ -54,7 +54,8 @@ class Fault:
 
 
 def form_faults(value, schema=SCHEMA, path=(), definition=None):
-    """The faults of a value against a schema; `definition` is the name of the definition that the schema is."""
+    """The faults of a value against a schema; `definition` is the name of the definition that the
+    schema is."""
     if "$ref" in schema:
         name = schema["$ref"].rsplit("/", 1)[1]
         return form_faults(value, SCHEMA["$defs"][name], path, name)
@@ -132,7 +133,8 @@ def is_at(fault, path):
 
 
 def resembles(value, schema):
-    """Whether a form may be the one that was meant: of the value's kind, and for an object with a member in common."""
+    """Whether a form may be the one that was meant: of the value's kind, and for an object with a
+    member in common."""
     if "$ref" in schema:
         return resembles(value, SCHEMA["$defs"][schema["$ref"].rsplit("/", 1)[1]])
     if "anyOf" in schema:
