@@ -103,12 +103,16 @@ def unfit(value, path, definition, schema):
 
 def nearest(value, schema, path, definition):
     """None where one of the options fits; else the faults of the option that was most likely meant."""
+    if definition in ("value", "expression") and isinstance(value, dict) and set(value) == {"type", "id"}:
+        return [unfit(value, path, definition, schema)]  # an id, as Cedar's JSON has it
     meant = []
     for option in schema["anyOf"]:
         if resembles(value, option):
             meant.append(form_faults(value, option, path, definition))
             if not meant[-1]:
                 return []
+    if not meant and definition is None and isinstance(value, dict):
+        return form_faults(value, schema["anyOf"][0], path)  # a type of entities
     if not meant:
         return [unfit(value, path, definition, schema)] + operand_faults(value, schema, path, definition)
     return min(meant, key=lambda faults: (sum(is_at(fault, path) for fault in faults), len(faults)))
