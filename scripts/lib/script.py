@@ -58,6 +58,16 @@ def bytes_of(name):
         return None, f"{name or 'standard input'} can't be read: {why}"
 
 
+def tell_tests(found):
+    """Prints what is wrong of the tests that were tried, None for each that holds, and how many; the
+    status."""
+    for wrong in filter(None, found):
+        print(f"FAILED  {wrong}")
+    failed = sum(map(bool, found))
+    print(f"{len(found) - failed} passed, {failed} failed")
+    return 1 if failed else 0
+
+
 def taken_out(words, option="--program"):
     """What stands behind an option, or None, and the other words."""
     if option not in words[:-1]:
