@@ -77,15 +77,15 @@ def parsed(words):
         if word == "--explain":
             command, left = left, []
             if not command:
-                return "--explain wants a command, as check", None
+                return "--explain needs a command, as check", None
             continue
         name, equals, value = word.partition("=")
         if name not in WORDS:
-            return f"{word} is no word of it", None
+            return f"{word} is no option", None
         if not equals and not left:
-            return f"{word} wants a word behind it", None
+            return f"{word} needs a value", None
         if WORDS[name] in given:
-            return f"{word} stands twice", None
+            return f"{word} is given twice", None
         given[WORDS[name]] = value if equals else left.pop(0)
     return wrong(given) or given, command
 
@@ -95,9 +95,9 @@ def wrong(given):
     if "schema" not in given:
         return "--schema is missing"
     if of_words and "request" in given:
-        return f"--request and --{of_words[0]} don't stand together"
+        return f"--request and --{of_words[0]} exclude each other"
     if of_words and not {"principal", "action", "resource"} <= set(given):
-        return "--principal, --action and --resource stand together"
+        return "--principal, --action and --resource are given together"
     if list(given.values()).count("-") > 1:
         return "standard input is read once"
     return None

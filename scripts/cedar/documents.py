@@ -114,7 +114,7 @@ def policies(static, links, report):
             continue
         if template.slots() != set(l.values):
             due = ", ".join(f"`?{s}`" for s in sorted(template.slots()))
-            report.no(l.place, f"values for {due} are due, the slots of the template `{l.template}`")
+            report.no(l.place, f"expected values for {due}, the slots of the template `{l.template}`")
         made.append({"id": l.name, "link": template.name, **l.values})
     return made
 

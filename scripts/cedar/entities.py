@@ -57,7 +57,7 @@ def entity(e, place, schema, report):
     for member, types in (("attrs", schema.attributes.get(kind, {})), ("tags", lambda name: tags)):
         given = e.get(member, {})
         if not isinstance(given, dict):
-            report.no(place[member], f"an object is due, not {shown(given)}")
+            report.no(place[member], f"expected an object, found {shown(given)}")
         elif given:
             made[member] = Values(report).values(given, types, place[member])
     parents = e.get("parents", [])
@@ -111,5 +111,5 @@ def request(value, top, schema, report):
 
 def context(value, action, place, schema, report):
     if not isinstance(value, dict):
-        return report.no(place, f"an object is due, not {shown(value)}")
+        return report.no(place, f"expected an object, found {shown(value)}")
     return Values(report).values(value, schema.contexts.get(tuple(action or ()), {}), place)

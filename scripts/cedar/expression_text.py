@@ -42,7 +42,7 @@ class ExpressionReader(Reader):
         left = self.sum()
         word = self.next
         if self.at("="):
-            raise Stop(word, "`==` is due, not `=`")
+            raise Stop(word, "expected `==`, found `=`")
         if self.took(*COMPARISONS):
             right = self.sum()
             left = nodes.comparison(word.text, left, right, (start, self.last_end))
@@ -61,7 +61,8 @@ class ExpressionReader(Reader):
         else:
             return left
         if self.at("=", "has", "like", "is", *COMPARISONS):
-            raise Stop(self.next, f"`{word.text}` and `{self.next.text}` don't follow one another: parentheses are due")
+            both = f"`{word.text}` and `{self.next.text}`"
+            raise Stop(self.next, f"{both} don't follow one another: parentheses are needed")
         return left
 
     def has_names(self):
@@ -101,7 +102,7 @@ class ExpressionReader(Reader):
         while self.at("!", "-"):
             signs.append(self.take())
             if signs[-1].text != signs[0].text:
-                raise Stop(signs[-1], "`!` and `-` don't stand side by side: parentheses are due")
+                raise Stop(signs[-1], "`!` and `-` don't stand side by side: parentheses are needed")
             if len(signs) > 4:
                 raise Stop(signs[-1], f"more than four `{signs[0].text}` in a row")
         if (
@@ -176,7 +177,7 @@ class ExpressionReader(Reader):
         if self.took("true", "false"):
             return self.node("literal", (token.text == "true",), token.start)
         if self.at("if"):
-            raise Stop(token, "`if` inside an operator: parentheses are due")
+            raise Stop(token, "`if` inside an operator: parentheses are needed")
         return self.named_primary(token)
 
     def named_primary(self, token):
@@ -219,5 +220,5 @@ class ExpressionReader(Reader):
         token = self.next
         kind, text = self.path("a type")
         if text is not None:
-            raise Stop(token, "a type is due, not an entity")
+            raise Stop(token, "expected a type, found an entity")
         return kind

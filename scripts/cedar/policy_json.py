@@ -22,7 +22,7 @@ def read(value, top, report):
     for part in SET_PARTS[:2]:
         here = value.get(part, {})
         if not isinstance(here, dict):
-            report.no(top[part], "an object is due: policies by their ids")
+            report.no(top[part], "expected an object: policies by their ids")
             continue
         found += [PolicyReader(report).policy(key, p, top[part][key]) for key, p in here.items()]
     return [p for p in found if p], links(value.get("templateLinks", []), top["templateLinks"], report)
@@ -33,7 +33,7 @@ def links(value, top, report):
     if isinstance(value, dict) and set(value) == {"templateLinks"}:
         value, top = value["templateLinks"], top["templateLinks"]
     if not isinstance(value, list):
-        report.no(top, "a list of links is due")
+        report.no(top, "expected a list of links")
         return []
     made = [one_link(v, top[i], report) for i, v in enumerate(value)]
     return [l for l in made if l]
@@ -45,7 +45,7 @@ def one_link(value, place, report):
     if not members(value, place, report, (template, name, values)) or not is_text(value, place, report, template, name):
         return None
     if not isinstance(value[values], dict):
-        return report.no(place[values], "an object is due: ids by slots")
+        return report.no(place[values], "expected an object: ids by slots")
     made = {}
     for slot, u in value[values].items():
         if slot not in ("?principal", "?resource"):
@@ -66,7 +66,7 @@ class PolicyReader:
         if not members(p, place, self.report, ("effect", *parts), ("conditions", "annotations")):
             return None
         if p["effect"] not in ("permit", "forbid"):
-            self.no(place["effect"], "`permit` or `forbid` is due")
+            self.no(place["effect"], "expected `permit` or `forbid`")
         scope = {}
         for own in parts:
             part = self.scope(p[own], own, place[own])
@@ -77,7 +77,7 @@ class PolicyReader:
 
     def named(self, key, annotations, place):
         if not isinstance(annotations, dict):
-            self.no(place["annotations"], "an object is due")
+            self.no(place["annotations"], "expected an object")
             return key
         lost = " ".join(f"@{name}" for name in annotations if name != "id")
         if lost:
@@ -87,13 +87,13 @@ class PolicyReader:
 
     def clauses(self, conditions, place):
         if not isinstance(conditions, list):
-            self.no(place, "a list of conditions is due")
+            self.no(place, "expected a list of conditions")
             return []
         found = []
         for i, c in enumerate(conditions):
             if members(c, place[i], self.report, ("kind", "body")):
                 if c["kind"] not in ("when", "unless"):
-                    self.no(place[i]["kind"], "`when` or `unless` is due")
+                    self.no(place[i]["kind"], "expected `when` or `unless`")
                 body = self.expr(c["body"], place[i]["body"])
                 found.append(("unless" if c["kind"] == "unless" else "when", body))
         return found
@@ -108,7 +108,7 @@ class PolicyReader:
             return {"==": self.reference(s, own, place)}
         if op == "in" and own == "action" and "entities" in s and members(s, place, self.report, ("op", "entities")):
             if not isinstance(s["entities"], list):
-                return self.no(place["entities"], "a list of entities is due")
+                return self.no(place["entities"], "expected a list of entities")
             return {"in": [self.action(u, place["entities"][i]) for i, u in enumerate(s["entities"])]}
         if op == "in" and self.one_of(s, place, "op", "entity", "slot"):
             reference = self.reference(s, own, place)
@@ -124,7 +124,7 @@ class PolicyReader:
         """An object with just one of these members."""
         there = [name for name in names if isinstance(s, dict) and name in s]
         if len(there) != 1:
-            return self.no(place, "`entity` or `slot` is due")
+            return self.no(place, "expected `entity` or `slot`")
         return members(s, place, self.report, tuple(there) + ((also,) if also else ()))
 
     def reference(self, s, own, place):
@@ -248,5 +248,5 @@ class PolicyReader:
                 elif q["Literal"]:
                     made.append(q["Literal"])
             else:
-                self.no(place[i], f'"Wildcard" or {{"Literal":text}} is due, not {shown(q)}')
+                self.no(place[i], f'expected "Wildcard" or {{"Literal":text}}, found {shown(q)}')
         return made

@@ -86,7 +86,7 @@ class Schema:
             return False
         for member in ("commonTypes", "entityTypes", "actions"):
             if not isinstance(part.get(member, {}), dict):
-                return bool(self.no(place[member], f"an object is due, not {shown(part[member])}"))
+                return bool(self.no(place[member], f"expected an object, found {shown(part[member])}"))
         for member, table in (("commonTypes", self.commons), ("entityTypes", self.entities)):
             for name, t in part.get(member, {}).items():
                 at = place[member][name]
@@ -111,10 +111,8 @@ class Schema:
                     )
         for (kind, name), place in self.action_ids.items():
             if kind != "Action" and ("Action", name) in self.action_ids:
-                self.no(
-                    place,
-                    f"the action {kind}::{shown(name)} hides Action::{shown(name)} of the empty namespace, which Cedar refuses",
-                )
+                hidden = f"the action {kind}::{shown(name)} hides Action::{shown(name)}"
+                self.no(place, f"{hidden} of the empty namespace, which Cedar refuses")
 
     # Types.
 
@@ -135,7 +133,7 @@ class Schema:
     def type(self, t, space, place, also=()):
         """The document's type, or None with a refusal."""
         if not isinstance(t, dict) or not isinstance(t.get("type"), str):
-            return self.no(place, f"a type is due, not {shown(t)}")
+            return self.no(place, f"expected a type, found {shown(t)}")
         kind = t["type"]
         if kind == "Record":
             return {"record": self.record(t, space, place, also)}
@@ -191,13 +189,13 @@ class Schema:
             self.no(place["additionalAttributes"], "records are closed here")
         given, made = t.get("attributes", {}), {}
         if not isinstance(given, dict):
-            return self.no(place["attributes"], f"an object is due, not {shown(given)}") or {}
+            return self.no(place["attributes"], f"expected an object, found {shown(given)}") or {}
         for name, a in given.items():
             at = place["attributes"][name]
             found = self.type(a, space, at, also=("required",))
             required = a.get("required", True) if isinstance(a, dict) else True
             if not isinstance(required, bool):
-                self.no(at["required"], f"true or false is due, not {shown(required)}")
+                self.no(at["required"], f"expected true or false, found {shown(required)}")
             made[name] = found if required else {"optional": found}
         return made
 
@@ -208,7 +206,7 @@ class Schema:
         found = self.type(t, space, place)
         if isinstance(found, dict) and "record" in found:
             return found["record"]
-        return (found is not None and self.no(place, "a record type is due")) or {}
+        return (found is not None and self.no(place, "expected a record type")) or {}
 
     # Declarations.
 
@@ -216,7 +214,7 @@ class Schema:
         if isinstance(e, dict) and "enum" in e:
             if self.has(e, place, ("enum",)) and is_list(e["enum"], place["enum"], self.report, "texts"):
                 if not e["enum"] or not all(isinstance(x, str) for x in e["enum"]):
-                    self.no(place["enum"], "one text or more are due")
+                    self.no(place["enum"], "expected one text or more")
                 self.types[full] = {"enum": e["enum"]}
             return
         if not self.has(e, place, (), ("memberOfTypes", "shape", "tags")):

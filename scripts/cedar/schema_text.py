@@ -52,7 +52,7 @@ class SchemaReader(Reader):
         token = self.next
         space, text = self.path("a namespace")
         if text is not None:
-            raise Stop(token, "a namespace is due, not an entity")
+            raise Stop(token, "expected a namespace, found an entity")
         if space in self.spaces:
             self.no(token, f"the namespace `{space}` stands twice")
         self.spaces.add(space)
@@ -171,7 +171,7 @@ class SchemaReader(Reader):
                     self.no(token, f"no type of actions: `{kind}`")
                 return {"type": kind, "id": self.unescaped(text)}
             if "::" in kind:
-                raise Stop(token, f'an action as {kind}::"id" is due')
+                raise Stop(token, f'expected an action as {kind}::"id"')
             return {"id": kind}
 
         return self.separated("]", one) if self.took("[") else [one()]
@@ -217,7 +217,7 @@ class SchemaReader(Reader):
         token = self.next
         name, text = self.path("a type")
         if text is not None:
-            raise Stop(token, "a type is due, not an entity")
+            raise Stop(token, "expected a type, found an entity")
         return name
 
     def type_of(self, paths):

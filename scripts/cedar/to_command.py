@@ -81,7 +81,7 @@ def main(words):
     as_json = "--json" in words
     part = [word for word in words if word != "--json"]
     if len(part) != 1 or part[0] not in PARTS:
-        return complain("one of policies, schema, links, entities, request is due; --help says more", 2)
+        return complain("expected one of policies, schema, links, entities, request; --help says more", 2)
     sys.setrecursionlimit(10000)
     data, fault = bytes_of(None)
     if fault:

@@ -205,7 +205,8 @@ def instant(milliseconds):
         raise Unsayable("a datetime outside the years 0000 to 9999")
     date = datetime.date.fromordinal(day + 719163 + (ERA if shift else 0))
     second, thousandth = divmod(rest, 1000)
-    return f"{date.year - shift:04}-{date.month:02}-{date.day:02}T{second // 3600:02}:{second // 60 % 60:02}:{second % 60:02}.{thousandth:03}Z"
+    day = f"{date.year - shift:04}-{date.month:02}-{date.day:02}"
+    return f"{day}T{second // 3600:02}:{second // 60 % 60:02}:{second % 60:02}.{thousandth:03}Z"
 
 
 def value(v):

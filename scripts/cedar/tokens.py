@@ -80,7 +80,7 @@ class Reader:
         return None
 
     def due(self, what):
-        raise Stop(self.next, f"{what} is due, not {shown(self.next)}")
+        raise Stop(self.next, f"expected {what}, found {shown(self.next)}")
 
     def expect(self, text):
         return self.took(text) or self.due(f"`{text}`")
@@ -90,7 +90,7 @@ class Reader:
         if self.next.kind != "name":
             self.due(what)
         if self.next.text in known_reserved:
-            raise Stop(self.next, f"`{self.next.text}` is a reserved word of Cedar, and {what} is due")
+            raise Stop(self.next, f"`{self.next.text}` is a reserved word of Cedar; expected {what}")
         return self.take().text
 
     def path(self, what):
