@@ -65,7 +65,7 @@ their_lookups (field m v fs) (field l w gs) h k same = by (text_cmp m l) refl (t
     by Equal e rest =
         let is : l ≡ m = sym (exact_bytes m l e) in
         let alike : (q : List ℕ) → field_at (field m v fs) q ≡ field_at (field m w gs) q =
-            λ q. same q ∙ ap (λ n. field_at (field n w gs) q) is in
+        λ q. same q ∙ ap (λ n. field_at (field n w gs) q) is in
         let value : v ≡ w = some_injective (sym (first_found m v fs) ∙ alike m ∙ first_found m w gs) in
         let tails = rest (behind_first m v w fs gs h.0 (subst (λ n. IsBelowAll n gs) is k.0) alike) in
         λ i. field (sym is i) (value i) (tails i)

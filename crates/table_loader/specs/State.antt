@@ -1,5 +1,5 @@
 -- What contracts see of rows, and what the tables have for an id, a key or a pair of ids.
-use Rattle.std.specs.Prelude.{◌≡◌, ◌≤◌, ℕ, Bool, true, false, List, Option, Some, Result, Ok, Err, Contains, IsSomeAnd, is_some}
+use Rattle.std.specs.Prelude.{◌≡◌, ◌≤◌, ℕ, Bool, true, false, List, Option, Some, Result, Err, Contains, IsSomeAnd, is_some}
 use Rattle.std.specs.Option.{option_and_then, option_map_or}
 use Rattle.byte_streams.specs.Steps.{Rose}
 use Rattle.policy_names.specs.declared.entity_uid.EntityUID.{EntityUID}

@@ -1,8 +1,10 @@
 //! The rows of a store in memory, whose calls fail where a list says so.
 
-ghost use Rattle.std.specs.Prelude.{◌≡◌, ◌↔◌, IfOk, IsTrue, Contains};
-ghost use Rattle.table_loader.specs.State.{RowsContinue, IsCounted};
-ghost use Rattle.table_loader.specs.Memory.{memory_state};
+ghost use Rattle.std.specs.Prelude.{◌≡◌, ◌↔◌, Some, IfOk, IsTrue};
+ghost use Rattle.policy_values.specs.Value.{fields_of};
+ghost use Rattle.table_loader.specs.Tables.{Tables};
+ghost use Rattle.table_loader.specs.State.{RowsContinue, IsCounted, has_failed, has_entity, attribute_at, tags_at, HasAncestor};
+ghost use Rattle.table_loader.specs.Memory.{memory_state, IsCall};
 
 use crate::lookups::{attribute_of, has_ancestor, has_entity, tags_of};
 use crate::rows::{Rows, RowsError};
@@ -46,7 +48,7 @@ impl<'a> MemoryRows<'a> {
 
     // Counts a call, and returns whether it is to fail.
     fn count_call(&mut self) -> bool
-        ensures listed { IsTrue result ↔ Contains self.old.failing.items self.old.calls }
+        ensures call { IsCall self.old self.new result }
         ensures goes_on { RowsContinue (memory_state self.old) (memory_state self.new) }
         ensures counted { IsCounted result (memory_state self.old) (memory_state self.new) }
     {
@@ -65,7 +67,12 @@ impl Rows for MemoryRows<'_> {
 
     ghost state = { memory_state };
 
-    fn entity(&mut self, uid: &EntityUID) -> Result<bool, RowsError> {
+    fn entity(&mut self, uid: &EntityUID) -> Result<bool, RowsError>
+        ensures call { IsCall self.old self.new (has_failed result) }
+        ensures goes_on { RowsContinue (memory_state self.old) (memory_state self.new) }
+        ensures counted { IsCounted (has_failed result) (memory_state self.old) (memory_state self.new) }
+        ensures answer { (t : Tables) → (memory_state self.new).told ≡ Some t → IfOk result (λ b. b ≡ has_entity t uid.now) }
+    {
         if self.count_call() {
             return Err(RowsError::Failed);
         }
@@ -77,7 +84,12 @@ impl Rows for MemoryRows<'_> {
         alloc: Global,
         uid: &EntityUID,
         key: &Text,
-    ) -> Result<Option<Value>, RowsError> {
+    ) -> Result<Option<Value>, RowsError>
+        ensures call { IsCall self.old self.new (has_failed result) }
+        ensures goes_on { RowsContinue (memory_state self.old) (memory_state self.new) }
+        ensures counted { IsCounted (has_failed result) (memory_state self.old) (memory_state self.new) }
+        ensures answer { (t : Tables) → (memory_state self.new).told ≡ Some t → IfOk result (λ o. o ≡ attribute_at t uid.now key.now) }
+    {
         if self.count_call() {
             return Err(RowsError::Failed);
         }
@@ -87,7 +99,12 @@ impl Rows for MemoryRows<'_> {
         }
     }
 
-    fn tags(&mut self, alloc: Global, uid: &EntityUID) -> Result<Vec<(Text, Value)>, RowsError> {
+    fn tags(&mut self, alloc: Global, uid: &EntityUID) -> Result<Vec<(Text, Value)>, RowsError>
+        ensures call { IsCall self.old self.new (has_failed result) }
+        ensures goes_on { RowsContinue (memory_state self.old) (memory_state self.new) }
+        ensures counted { IsCounted (has_failed result) (memory_state self.old) (memory_state self.new) }
+        ensures answer { (t : Tables) → (memory_state self.new).told ≡ Some t → IfOk result (λ ts. fields_of ts.items ≡ tags_at t uid.now) }
+    {
         if self.count_call() {
             return Err(RowsError::Failed);
         }
@@ -97,7 +114,12 @@ impl Rows for MemoryRows<'_> {
         }
     }
 
-    fn ancestor(&mut self, uid: &EntityUID, ancestor: &EntityUID) -> Result<bool, RowsError> {
+    fn ancestor(&mut self, uid: &EntityUID, ancestor: &EntityUID) -> Result<bool, RowsError>
+        ensures call { IsCall self.old self.new (has_failed result) }
+        ensures goes_on { RowsContinue (memory_state self.old) (memory_state self.new) }
+        ensures counted { IsCounted (has_failed result) (memory_state self.old) (memory_state self.new) }
+        ensures answer { (t : Tables) → (memory_state self.new).told ≡ Some t → IfOk result (λ b. IsTrue b ↔ HasAncestor t uid.now ancestor.now) }
+    {
         if self.count_call() {
             return Err(RowsError::Failed);
         }
