@@ -130,7 +130,7 @@ fn unlisted_id<'a>(schema: &ValidatorSchema, uid: &'a EntityUID) -> Option<&'a E
 }
 
 #[cycle(ids)]
-#[tactic(auto, using(crate::proofs::Sizes::size_in))]
+#[tactic(auto, using(type_relations::proofs::MemberSteps::size_in))]
 fn unlisted_in_set<'a>(schema: &ValidatorSchema, items: &'a Vec<Value>) -> Option<&'a EntityUID>
     ensures { option_copied result ≡ unlisted_in_all schema.now (vals_of items.now.items) }
 {

@@ -159,7 +159,7 @@ fn kind_misfit(extensions: &ExtensionSchemas<'_>, k: &EntityRecordKind, v: &Valu
 }
 
 #[cycle(walk)]
-#[tactic(auto, using(crate::proofs::Sizes::size_in))]
+#[tactic(auto, using(type_relations::proofs::MemberSteps::size_in))]
 fn misfit_in_set(extensions: &ExtensionSchemas<'_>, t: &Type, items: &Vec<Value>) -> Option<Misfit>
     ensures { result ≡ misfit_all (knows extensions.now) t.now (vals_of items.now.items) }
 {
@@ -265,7 +265,7 @@ pub(crate) fn first_missing<'a>(
     None
 }
 
-#[tactic(auto, using(crate::proofs::Sizes::lookup_field))]
+#[tactic(auto, using(type_relations::proofs::MemberSteps::lookup_field))]
 fn has_field(fields: &BTreeMap<Text, Value>, key: &Text) -> bool
     ensures { result ≡ has_field (fields_of fields.now.entries) key.now }
 {

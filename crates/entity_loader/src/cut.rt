@@ -33,12 +33,8 @@ pub fn cut_entity(
     Ok(Entity::new(uid, attrs, ancestors, tags))
 }
 
-// The entity with what stands there along the trie, and without ancestors.
-pub(crate) fn cut_along(
-    alloc: Global,
-    entity: &Entity,
-    trie: &TrieRef<'_>,
-) -> Result<Entity, AllocError>
+/// The entity with what stands there along the trie, and without ancestors: just what a request for it asks.
+pub fn cut_along(alloc: Global, entity: &Entity, trie: &TrieRef<'_>) -> Result<Entity, AllocError>
     ensures { IfOk result (λ e. e ≡ cut_entity (asked trie.now) entity.now) }
 {
     let numbers = [trie.number()];

@@ -8,7 +8,7 @@ mod loader;
 mod slicer;
 mod values;
 
-pub use cut::cut_entity;
+pub use cut::{cut_along, cut_entity};
 pub use entities::merge_entities;
 pub use kept::{KeepError, keep};
 pub use loader::{AncestorsRequest, EntityAnswer, EntityLoader, EntityRequest, LoadError};

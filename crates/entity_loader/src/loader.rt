@@ -12,15 +12,37 @@ ghost use Rattle.entity_loader.specs.State.{LoaderState, Continues, Ticks};
 use access_tries::TrieRef;
 use entity_store::Entity;
 use policy_names::EntityUID;
-use std::alloc::Global;
+use std::alloc::{AllocError, AllocFailed, Global};
 
-/// Why nothing was loaded.
+/// Why nothing was loaded. It carries nothing: a loader keeps what its database said itself.
 #[derive(Clone, Copy, Debug, PartialEq, Eq)]
 pub enum LoadError {
     /// The loader failed.
     Failed,
     /// There is no memory left.
     OutOfMemory,
+}
+
+impl From<AllocError> for LoadError {
+    ghost use Rattle.std.specs.Prelude.{◌≡◌};
+    ghost use Rattle.entity_loader.specs.declared.loader.LoadError.TheVariants.{OutOfMemory};
+
+    ghost from_gives = { λ _ e. e ≡ OutOfMemory };
+
+    fn from(_error: AllocError) -> LoadError {
+        LoadError::OutOfMemory
+    }
+}
+
+impl<T: Drop> From<AllocFailed<T>> for LoadError {
+    ghost use Rattle.std.specs.Prelude.{◌≡◌};
+    ghost use Rattle.entity_loader.specs.declared.loader.LoadError.TheVariants.{OutOfMemory};
+
+    ghost from_gives = { λ _ e. e ≡ OutOfMemory };
+
+    fn from(_error: AllocFailed<T>) -> LoadError {
+        LoadError::OutOfMemory
+    }
 }
 
 /// An entity that is asked for, with its attributes, its tags and the fields of records there along the trie, and nothing
@@ -47,7 +69,9 @@ pub struct AncestorsRequest {
 
 /// What gives entities of a store.
 ///
-/// A loader that tells its store is honest: it answers at least what is asked, and at most what the store has.
+/// A loader that tells its store is honest: it answers at least what is asked, and at most what the store has. An entity
+/// that is there is answered also where none of its attributes is asked for. A trie goes on below ids, and its nodes have
+/// no types, so a loader may answer whole attributes. All rounds of one load have to see one state of the data.
 pub trait EntityLoader {
     // The store that it stands for, where it tells it, and counts of what has happened so far.
     ghost state: { Self → LoaderState };
@@ -55,7 +79,7 @@ pub trait EntityLoader {
     /// An answer for each request, in their order. Each id is asked for once, and they ascend.
     ///
     /// `Failed` comes only where the count of faults rises; another number of answers, or an entity with another id than
-    /// the one that was asked for, only where the count of strays does.
+    /// the one that was asked for, only where the count of strays does. Each call counts a round, also one that fails.
     fn load_entities(
         &mut self,
         alloc: Global,
@@ -68,8 +92,8 @@ pub trait EntityLoader {
         ensures fit { IfOk result (λ found. AllZip Fits requests.now.items found.items ⊎ Rose (state self.old).strays (state self.new).strays) }
         ensures honest { (s : Store) → (state self.old).store ≡ Some s → IfOk result (λ found. AllZip (IsHonest (state self.old).exact s) requests.now.items found.items) };
 
-    /// For each request, in their order, those of its ids that are ancestors of its entity. Each entity is asked for once, and
-    /// their ids ascend.
+    /// For each request, in their order, those of its ids that are ancestors of its entity, its parents and all that are
+    /// reached by parents of these. Each entity is asked for once, and their ids ascend.
     ///
     /// `Failed` comes only where the count of faults rises; another number of answers only where the count of strays does.
     fn load_ancestors(

@@ -7,7 +7,7 @@ pub mod laws;
 pub use access_tries::{AccessPath, AccessTrie, EntityRoot, RootAccessTrie, RootTrieRef, TrieRef};
 pub use entity_loader::{
     AncestorsRequest, EntityAnswer, EntityLoader, EntityRequest, EntitySlicer, LoadError,
-    cut_entity, merge_entities, merge_values,
+    cut_along, cut_entity, merge_entities, merge_values,
 };
 pub use manifest_computation::{EntityManifestError, compute_entity_manifest};
 pub use manifest_core::{

@@ -1,5 +1,7 @@
-//! How a service calls the library: the slice of a document in memory.
+//! How a service calls the library: the slice of a document in memory, and a loader over a database.
 #![tactic(auto)]
+
+pub mod loader;
 
 ghost use Rattle.std.specs.Prelude.{◌≡◌, ◌∷◌, [], IfOk, codes, map, string_bytes};
 ghost use Rattle.json_document.specs.declared.document.Document.{Document};

@@ -142,7 +142,7 @@ fn type_of_tags(
     }
 }
 
-#[tactic(auto, using(crate::proofs::TagSteps::tags_of_one))]
+#[tactic(auto, using(typecheck_rules::proofs::TagSteps::tags_of_one))]
 fn tags_of_one(
     alloc: Global,
     schema: &ValidatorSchema,
