@@ -3,7 +3,8 @@
 ghost use Rattle.row_loader.specs.Answers.{RowAnswersAreHonest};
 ghost use Rattle.row_loader.specs.FromRows.{EntitiesFromRowsAreHonest};
 
-/// The attributes with which a trie goes on, whole, and all tags where it goes on with any tag, are an honest answer.
+/// The attributes with which a trie goes on, whole, and all tags where it goes on with any tag, are
+/// an honest answer.
 pub fn row_answers_are_honest()
     ensures { RowAnswersAreHonest }
 {}

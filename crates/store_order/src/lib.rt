@@ -1,7 +1,7 @@
 //! Keys and ids ascend in values, entities, stores and contexts: what stands in maps stands in order.
 //!
-//! A caller that needs this order calls a function of this crate and has it as the function's clause. The functions
-//! walk through what they are given and take no memory.
+//! A caller that needs this order calls a function of this crate and has it as the function's clause.
+//! The functions walk through what they are given and take no memory.
 #![tactic(auto)]
 
 pub mod laws;

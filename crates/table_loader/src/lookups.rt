@@ -74,7 +74,8 @@ fn tables_stand_for(entities: &Entities)
 
 // The attribute of the entity, where there is one.
 fn find_attribute<'a>(entities: &'a Entities, uid: &EntityUID, key: &Text) -> Option<&'a Value>
-    ensures { option_copied result ≡ option_and_then (λ e. field_at e.attrs key.now) (entity_at entities.now uid.now) }
+    ensures { option_copied result ≡
+        option_and_then (λ e. field_at e.attrs key.now) (entity_at entities.now uid.now) }
 {
     match entities.entity(uid) {
         Some(entity) => entity.get(key),

@@ -71,7 +71,8 @@ impl Rows for MemoryRows<'_> {
         ensures call { IsCall self.old self.new (has_failed result) }
         ensures goes_on { RowsContinue (memory_state self.old) (memory_state self.new) }
         ensures counted { IsCounted (has_failed result) (memory_state self.old) (memory_state self.new) }
-        ensures answer { (t : Tables) → (memory_state self.new).told ≡ Some t → IfOk result (λ b. b ≡ has_entity t uid.now) }
+        ensures answer { (t : Tables) → (memory_state self.new).told ≡ Some t →
+            IfOk result (λ b. b ≡ has_entity t uid.now) }
     {
         if self.count_call() {
             return Err(RowsError::Failed);
@@ -88,7 +89,8 @@ impl Rows for MemoryRows<'_> {
         ensures call { IsCall self.old self.new (has_failed result) }
         ensures goes_on { RowsContinue (memory_state self.old) (memory_state self.new) }
         ensures counted { IsCounted (has_failed result) (memory_state self.old) (memory_state self.new) }
-        ensures answer { (t : Tables) → (memory_state self.new).told ≡ Some t → IfOk result (λ o. o ≡ attribute_at t uid.now key.now) }
+        ensures answer { (t : Tables) → (memory_state self.new).told ≡ Some t →
+            IfOk result (λ o. o ≡ attribute_at t uid.now key.now) }
     {
         if self.count_call() {
             return Err(RowsError::Failed);
@@ -103,7 +105,8 @@ impl Rows for MemoryRows<'_> {
         ensures call { IsCall self.old self.new (has_failed result) }
         ensures goes_on { RowsContinue (memory_state self.old) (memory_state self.new) }
         ensures counted { IsCounted (has_failed result) (memory_state self.old) (memory_state self.new) }
-        ensures answer { (t : Tables) → (memory_state self.new).told ≡ Some t → IfOk result (λ ts. fields_of ts.items ≡ tags_at t uid.now) }
+        ensures answer { (t : Tables) → (memory_state self.new).told ≡ Some t →
+            IfOk result (λ ts. fields_of ts.items ≡ tags_at t uid.now) }
     {
         if self.count_call() {
             return Err(RowsError::Failed);
@@ -118,7 +121,8 @@ impl Rows for MemoryRows<'_> {
         ensures call { IsCall self.old self.new (has_failed result) }
         ensures goes_on { RowsContinue (memory_state self.old) (memory_state self.new) }
         ensures counted { IsCounted (has_failed result) (memory_state self.old) (memory_state self.new) }
-        ensures answer { (t : Tables) → (memory_state self.new).told ≡ Some t → IfOk result (λ b. IsTrue b ↔ HasAncestor t uid.now ancestor.now) }
+        ensures answer { (t : Tables) → (memory_state self.new).told ≡ Some t →
+            IfOk result (λ b. IsTrue b ↔ HasAncestor t uid.now ancestor.now) }
     {
         if self.count_call() {
             return Err(RowsError::Failed);
