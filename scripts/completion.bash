@@ -1,5 +1,6 @@
 # shellcheck shell=bash
-# Completion of palvumiose for bash: `. scripts/completion.bash`. First the commands and options of the help, then files.
+# Completion of palvumiose for bash: `. scripts/completion.bash`. First the commands and options of
+# the help, then files.
 _palvumiose_words=$("${BASH_SOURCE[0]%/*}/palvumiose" --help | sed -n 's/^  \([a-z-]\{1,\}\) .*/\1/p')
 
 _palvumiose() {

@@ -10,7 +10,8 @@ class TooDeep(Exception):
 
 
 class Writer:
-    """Writes one policy's expressions. PLACES: each has its `at`; CHAINS: those inside `.` and `if` chains have none; PLAIN: none has."""
+    """Writes one policy's expressions. PLACES: each has its `at`; CHAINS: those inside `.` and `if`
+    chains have none; PLAIN: none has."""
 
     def __init__(self, source, mode):
         self.source, self.mode = source, mode
@@ -58,7 +59,8 @@ class Writer:
         return [self.expression(x, room) for x in nodes]
 
     def spine(self, node, side, flat):
-        """What a chain of nodes of one form begins (or ends) with, and its nodes from the outermost; of one node alone where it isn't flat."""
+        """What a chain of nodes of one form begins (or ends) with, and its nodes from the outermost; of
+        one node alone where it isn't flat."""
         form, found = node.form, [node]
         node = node.parts[side]
         while flat and node.form == form:
@@ -76,19 +78,27 @@ def policy(p, report):
         except TooDeep:
             continue
         if mode == PLAIN and any(node.span for _, node in p.clauses):
-            report.dropped(p.place, f"the places of policy `{p.name}`: with them its JSON would nest deeper than {NESTED}")
+            report.dropped(
+                p.place, f"the places of policy `{p.name}`: with them its JSON would nest deeper than {NESTED}"
+            )
         return {"id": p.name, "effect": p.effect, **p.scope, **({"body": body} if body else {})}
-    return report.no(p.place, f"policy `{p.name}` has an expression whose JSON would nest deeper than {NESTED}, which is not read "
-                     "(chains of `&&`, of `||`, of `.` and of `if` nest no deeper than one of them)")
+    return report.no(
+        p.place,
+        f"policy `{p.name}` has an expression whose JSON would nest deeper than {NESTED}, which is not read "
+        "(chains of `&&`, of `||`, of `.` and of `if` nest no deeper than one of them)",
+    )
 
 
 def policies(static, links, report):
-    """The document's policies: static ones and templates, then links; each id once, each slot of a template once."""
+    """The document's policies: static ones and templates, then links; each id once, each slot of a
+    template once."""
     made, known = [], {}
 
     def note(one):
         if one.name in known:
-            report.no(one.place, f"two policies have the id `{one.name}`; the other stands at {known[one.name].place.short()}")
+            report.no(
+                one.place, f"two policies have the id `{one.name}`; the other stands at {known[one.name].place.short()}"
+            )
         known.setdefault(one.name, one)
 
     for p in static:
@@ -104,7 +114,7 @@ def policies(static, links, report):
             continue
         if template.slots() != set(l.values):
             due = ", ".join(f"`?{s}`" for s in sorted(template.slots()))
-            report.no(l.place, f"values for {due} are due, the slots of the template `{l.template}`")
+            report.no(l.place, f"expected values for {due}, the slots of the template `{l.template}`")
         made.append({"id": l.name, "link": template.name, **l.values})
     return made
 
@@ -122,6 +132,7 @@ def depth(value):
 
 def text_of(document):
     """The document's text, with a line for each entity type, action, policy and entity."""
+
     def compact(value):
         return json.dumps(value, ensure_ascii=False, separators=(",", ":"))
 
@@ -130,8 +141,14 @@ def text_of(document):
 
     schema = document["schema"]
     types = lines("{", [f"{compact(name)}:{compact(t)}" for name, t in schema["entityTypes"].items()], "}")
-    parts = [f'{{"schema":{{"entityTypes":{types},\n"actions":{lines("[", map_list(compact, schema["actions"]), "]")}}}']
-    parts += [f'"{member}":{lines("[", map_list(compact, document[member]), "]")}' for member in ("policies", "entities") if member in document]
+    parts = [
+        f'{{"schema":{{"entityTypes":{types},\n"actions":{lines("[", map_list(compact, schema["actions"]), "]")}}}'
+    ]
+    parts += [
+        f'"{member}":{lines("[", map_list(compact, document[member]), "]")}'
+        for member in ("policies", "entities")
+        if member in document
+    ]
     parts += [f'"request":{compact(document["request"])}'] if "request" in document else []
     return ",\n".join(parts) + "}\n"
 

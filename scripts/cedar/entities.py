@@ -5,7 +5,8 @@ from cedar.objects import extension_call, is_list, members, shown, uid
 
 
 class Values:
-    """Reads values by their types, which stand as in the document; None for a type that is not known."""
+    """Reads values by their types, which stand as in the document; None for a type that is not
+    known."""
 
     def __init__(self, report):
         self.report = report
@@ -56,7 +57,7 @@ def entity(e, place, schema, report):
     for member, types in (("attrs", schema.attributes.get(kind, {})), ("tags", lambda name: tags)):
         given = e.get(member, {})
         if not isinstance(given, dict):
-            report.no(place[member], f"an object is due, not {shown(given)}")
+            report.no(place[member], f"expected an object, found {shown(given)}")
         elif given:
             made[member] = Values(report).values(given, types, place[member])
     parents = e.get("parents", [])
@@ -84,7 +85,11 @@ def store(value, top, schema, report):
 def with_actions(made, schema, place, report):
     """The entities and those of actions that the schema puts below others, as Cedar adds them."""
     there = {tuple(e["id"]) for e in made}
-    added = [{"id": a["id"], "parents": a["memberOf"]} for a in schema.actions if "memberOf" in a and tuple(a["id"]) not in there]
+    added = [
+        {"id": a["id"], "parents": a["memberOf"]}
+        for a in schema.actions
+        if "memberOf" in a and tuple(a["id"]) not in there
+    ]
     if added:
         names = ", ".join(f"{kind}::{shown(eid)}" for kind, eid in (e["id"] for e in added))
         report.added(place, f"the entities of the actions that the schema puts below others: {names}")
@@ -106,5 +111,5 @@ def request(value, top, schema, report):
 
 def context(value, action, place, schema, report):
     if not isinstance(value, dict):
-        return report.no(place, f"an object is due, not {shown(value)}")
+        return report.no(place, f"expected an object, found {shown(value)}")
     return Values(report).values(value, schema.contexts.get(tuple(action or ()), {}), place)

@@ -16,7 +16,7 @@ def carets(source, start, end):
     text = source.line_text(line)
     width = max(1, min(end - start, len(text) - column + 1))
     margin = f"{line:5} | "
-    under = "".join("\t" if c == "\t" else " " for c in text[:column - 1])
+    under = "".join("\t" if c == "\t" else " " for c in text[: column - 1])
     return [margin + text, " " * 5 + " | " + under + "^" * width]
 
 
@@ -40,15 +40,17 @@ def explained(line, made, policies):
 
 
 def in_scope(policy, text):
-    """The span of what a finding without a place is about: a type or an id in the scope, else the policy's head; None of JSON."""
+    """The span of what a finding without a place is about: a type or an id in the scope, else the
+    policy's head; None of JSON."""
     for name, span in policy.named_in_scope if policy.head else ():
-        if f"`{name}`" in text[text.index(policy.name) + len(policy.name):]:
+        if f"`{name}`" in text[text.index(policy.name) + len(policy.name) :]:
             return span
     return policy.head
 
 
 def placed(line, made):
-    """A line that says what is wrong with the document, the store or the request, with its place in front."""
+    """A line that says what is wrong with the document, the store or the request, with its place in
+    front."""
     part = re.fullmatch(r"document: (schema|policies|entities|request)(?:\[(\d+)\])?.*", line)
     if part:
         index = int(part[2] or 0)

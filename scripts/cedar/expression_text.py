@@ -42,7 +42,7 @@ class ExpressionReader(Reader):
         left = self.sum()
         word = self.next
         if self.at("="):
-            raise Stop(word, "`==` is due, not `=`")
+            raise Stop(word, "expected `==`, found `=`")
         if self.took(*COMPARISONS):
             right = self.sum()
             left = nodes.comparison(word.text, left, right, (start, self.last_end))
@@ -61,7 +61,8 @@ class ExpressionReader(Reader):
         else:
             return left
         if self.at("=", "has", "like", "is", *COMPARISONS):
-            raise Stop(self.next, f"`{word.text}` and `{self.next.text}` don't follow one another: parentheses are due")
+            both = f"`{word.text}` and `{self.next.text}`"
+            raise Stop(self.next, f"{both} don't follow one another: parentheses are needed")
         return left
 
     def has_names(self):
@@ -75,7 +76,7 @@ class ExpressionReader(Reader):
         return names
 
     def attribute(self):
-        return self.name("an attribute's name (a reserved word stands in quotes, as in e[\"in\"])")
+        return self.name('an attribute\'s name (a reserved word stands in quotes, as in e["in"])')
 
     def sum(self):
         start = self.next.start
@@ -101,10 +102,15 @@ class ExpressionReader(Reader):
         while self.at("!", "-"):
             signs.append(self.take())
             if signs[-1].text != signs[0].text:
-                raise Stop(signs[-1], "`!` and `-` don't stand side by side: parentheses are due")
+                raise Stop(signs[-1], "`!` and `-` don't stand side by side: parentheses are needed")
             if len(signs) > 4:
                 raise Stop(signs[-1], f"more than four `{signs[0].text}` in a row")
-        if self.next.kind == "number" and signs and signs[0].text == "-" and self.tokens[self.index + 1].text not in (".", "[", "("):
+        if (
+            self.next.kind == "number"
+            and signs
+            and signs[0].text == "-"
+            and self.tokens[self.index + 1].text not in (".", "[", "(")
+        ):
             made = self.number(self.take(), signs.pop())
         else:
             made = self.member()
@@ -171,7 +177,7 @@ class ExpressionReader(Reader):
         if self.took("true", "false"):
             return self.node("literal", (token.text == "true",), token.start)
         if self.at("if"):
-            raise Stop(token, "`if` inside an operator: parentheses are due")
+            raise Stop(token, "`if` inside an operator: parentheses are needed")
         return self.named_primary(token)
 
     def named_primary(self, token):
@@ -182,12 +188,14 @@ class ExpressionReader(Reader):
         if name in nodes.VARIABLES and not self.at("("):
             return self.node("var", (name,), token.start)
         if not self.took("("):
-            raise Stop(token, f"`{name}` is no variable; an entity is written Type::\"id\", and a text stands in quotes")
+            raise Stop(token, f'`{name}` is no variable; an entity is written Type::"id", and a text stands in quotes')
         arguments = self.separated(")", self.expr)
         if name in nodes.METHODS or name in nodes.OPERATOR_METHODS:
             self.no(token, f"`{name}` is a method: e.{name}(..)")
         elif name not in nodes.CONSTRUCTORS:
-            self.no(token, "unknown values have no counterpart" if name == "unknown" else f"Cedar has no function `{name}`")
+            self.no(
+                token, "unknown values have no counterpart" if name == "unknown" else f"Cedar has no function `{name}`"
+            )
         return self.node("call", (name, *arguments), token.start)
 
     def record(self, opening):
@@ -195,7 +203,11 @@ class ExpressionReader(Reader):
 
         def one():
             token = self.next
-            name = self.unescaped(self.take()) if token.kind == "text" else self.name("a member's name (a reserved word stands in quotes)")
+            name = (
+                self.unescaped(self.take())
+                if token.kind == "text"
+                else self.name("a member's name (a reserved word stands in quotes)")
+            )
             if name in known:
                 self.no(token, f"the record has two members `{name}`")
             known.add(name)
@@ -208,5 +220,5 @@ class ExpressionReader(Reader):
         token = self.next
         kind, text = self.path("a type")
         if text is not None:
-            raise Stop(token, "a type is due, not an entity")
+            raise Stop(token, "expected a type, found an entity")
         return kind

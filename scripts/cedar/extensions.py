@@ -6,7 +6,9 @@ TYPES = {"ip": "ipaddr", "decimal": "decimal", "datetime": "datetime", "duration
 FUNCTIONS = {kind: function for function, kind in TYPES.items()}
 LONG = 1 << 63
 UNITS = (("d", 86400000), ("h", 3600000), ("m", 60000), ("s", 1000), ("ms", 1))
-DURATION = re.compile("(-?)" + "".join(f"(?:([0-9]+){unit}(?!s))?" if unit == "m" else f"(?:([0-9]+){unit})?" for unit, _ in UNITS))
+DURATION = re.compile(
+    "(-?)" + "".join(f"(?:([0-9]+){unit}(?!s))?" if unit == "m" else f"(?:([0-9]+){unit})?" for unit, _ in UNITS)
+)
 DATETIME = re.compile(r"(\d{4})-(\d\d)-(\d\d)(?:T(\d\d):(\d\d):(\d\d)(?:\.\d{3})?(?:Z|[+-](\d\d)(\d\d)))?", re.A)
 
 
@@ -16,7 +18,11 @@ def fits(sign, number):
 
 def is_decimal(text):
     found = re.fullmatch(r"(-?)([0-9]+)\.([0-9]{1,4})", text)
-    return bool(found) and len(found[2].lstrip("0")) < 20 and fits(found[1], int(found[2].lstrip("0") + found[3].ljust(4, "0")))
+    return (
+        bool(found)
+        and len(found[2].lstrip("0")) < 20
+        and fits(found[1], int(found[2].lstrip("0") + found[3].ljust(4, "0")))
+    )
 
 
 def is_duration(text):

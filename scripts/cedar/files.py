@@ -1,4 +1,5 @@
 """The files of one call: reads each in its form, which what it holds tells, and makes the document."""
+import errno
 import sys
 
 from cedar import documents, entities, json_text, policy_json, policy_text, schema_text
@@ -14,16 +15,24 @@ class Made:
         self.document, self.sources, self.policies, self.report = {}, {}, [], Report()
 
 
+def bytes_in(name):
+    if name != "-":
+        with open(name, "rb") as file:
+            return file.read()
+    if sys.stdin is None:
+        raise OSError(errno.EBADF, "it is closed")
+    return sys.stdin.buffer.read()
+
+
 def opened(name, report):
     """The text of a file, as a source; None where there is none."""
     try:
-        with (sys.stdin.buffer if name == "-" else open(name, "rb")) as file:
-            read = file.read()
+        read = bytes_in(name)
         source = Source("standard input" if name == "-" else name, read.decode("utf-8"))
     except OSError as fault:
         return report.no(Place(Source(name, "")), f"it can't be read: {fault.strerror}")
     except UnicodeDecodeError as fault:
-        front = Source(name, read[:fault.start].decode())
+        front = Source(name, read[: fault.start].decode())
         return report.no(Place(front, len(front.text)), "no UTF-8")
     if source.text.startswith("\ufeff"):
         return report.no(Place(source, 0), "a byte order mark, which Cedar does not read")
@@ -35,7 +44,8 @@ def is_json(text):
 
 
 def load(word, given, made):
-    """The JSON value of a file, with the place of its whole; (None, None) where it is absent or none."""
+    """The JSON value of a file, with the place of its whole; (None, None) where it is absent or
+    none."""
     source = opened(given[word], made.report) if word in given else None
     if source is None:
         return None, None
@@ -107,7 +117,8 @@ def read_request(given, made, schema):
 
 
 def make(given):
-    """The document of the files that are given by their words; it stands only where the report refuses nothing."""
+    """The document of the files that are given by their words; it stands only where the report refuses
+    nothing."""
     made = Made()
     schema = read_schema(given, made)
     document = {"schema": schema.document()}
@@ -127,7 +138,14 @@ def make(given):
 
 def tell_depth(made):
     """Refuses what would nest deeper than the program reads; policies are cut to fit before."""
-    parts = {"schema": made.document["schema"], "entities": made.document.get("entities"), "request": made.document.get("request")}
+    parts = {
+        "schema": made.document["schema"],
+        "entities": made.document.get("entities"),
+        "request": made.document.get("request"),
+    }
     for word, part in parts.items():
         if part is not None and documents.depth(part) + 1 > documents.NESTED and word in made.sources:
-            made.report.no(Place(made.sources[word]), f"its part of the document nests deeper than {documents.NESTED}, which is not read")
+            made.report.no(
+                Place(made.sources[word]),
+                f"its part of the document nests deeper than {documents.NESTED}, which is not read",
+            )

@@ -41,7 +41,9 @@ def load(source, report):
     """The value of a JSON text, or None where it is none (then that is refused)."""
     top = Place(source)
     try:
-        value = json.loads(source.text, object_pairs_hook=members, parse_int=whole, parse_float=Number, parse_constant=Number)
+        value = json.loads(
+            source.text, object_pairs_hook=members, parse_int=whole, parse_float=Number, parse_constant=Number
+        )
     except json.JSONDecodeError as fault:
         return report.no(Place(source, fault.pos), f"no JSON: {fault.msg}")
     except RecursionError:
@@ -50,7 +52,8 @@ def load(source, report):
 
 
 def sound(value, escaped):
-    """Whether `tested` has nothing to say, found out without places; halves of characters stand only where there are escapes."""
+    """Whether `tested` has nothing to say, found out without places; halves of characters stand only
+    where there are escapes."""
     left, depth = [value], 0
     while left:
         depth += 1
@@ -62,7 +65,8 @@ def sound(value, escaped):
 
 
 def tested(value, top, report):
-    """Tests what Python's reading of JSON lets through: repeated members, halves of characters, any depth."""
+    """Tests what Python's reading of JSON lets through: repeated members, halves of characters, any
+    depth."""
     left, good = [(value, top, 1)], True
 
     def no(place, why):
@@ -90,7 +94,8 @@ def tested(value, top, report):
 
 
 def find(text, path):
-    """The offset of the value at the end of a path, as far as the path goes; a name that stands twice counts where it stands last."""
+    """The offset of the value at the end of a path, as far as the path goes; a name that stands twice
+    counts where it stands last."""
     at = SPACE.match(text, 0).end()
     for step in path:
         found = None
@@ -109,13 +114,14 @@ DECODER = json.JSONDecoder(parse_int=str, parse_float=str, parse_constant=str)
 
 
 def parts(text, at):
-    """The steps out of the object or list that begins at an offset, each with the offset of its value; nothing where there is no such."""
-    opened = text[at:at + 1]
+    """The steps out of the object or list that begins at an offset, each with the offset of its value;
+    nothing where there is no such."""
+    opened = text[at : at + 1]
     if opened not in ("{", "["):
         return
     index = 0
     at = SPACE.match(text, at + 1).end()
-    while text[at:at + 1] not in ("}", "]", ""):
+    while text[at : at + 1] not in ("}", "]", ""):
         name = index
         try:
             if opened == "{":
@@ -126,5 +132,5 @@ def parts(text, at):
         except (ValueError, RecursionError):
             return
         index += 1
-        if text[at:at + 1] == ",":
+        if text[at : at + 1] == ",":
             at = SPACE.match(text, at + 1).end()

@@ -1,19 +1,31 @@
-"""Policies between their readers and the document: expressions as trees, each with its span in the text, if it has one."""
+"""Policies between their readers and the document: expressions as trees, each with its span in the
+text, if it has one."""
 
 VARIABLES = ("principal", "action", "resource", "context")
 CONSTRUCTORS = ("ip", "decimal", "datetime", "duration")
-METHODS = frozenset("""lessThan lessThanOrEqual greaterThan greaterThanOrEqual isIpv4 isIpv6 isLoopback isMulticast isInRange
-offset durationSince toDate toTime toMilliseconds toSeconds toMinutes toHours toDays""".split())
-OPERATOR_METHODS = {"contains": 1, "containsAll": 1, "containsAny": 1, "isEmpty": 0, "getTag": 1, "hasTag": 1}  # with their arguments
+METHODS = frozenset(
+    """lessThan lessThanOrEqual greaterThan greaterThanOrEqual isIpv4 isIpv6 isLoopback isMulticast isInRange
+offset durationSince toDate toTime toMilliseconds toSeconds toMinutes toHours toDays""".split()
+)
+OPERATOR_METHODS = {
+    "contains": 1,
+    "containsAll": 1,
+    "containsAny": 1,
+    "isEmpty": 0,
+    "getTag": 1,
+    "hasTag": 1,
+}  # with their arguments
 NEGATED = {"!=": "==", ">": "<=", ">=": "<"}  # as Cedar reads them: a > b is !(a <= b)
 LONG = 1 << 63
 
 
 class Node:
-    """An expression: its form (the document's word for it, or `literal`, `set`), its parts, and its span or None.
+    """An expression: its form (the document's word for it, or `literal`, `set`), its parts, and its
+    span or None.
 
-    literal: a value. id: an entity's id. var: a name. all, any: two nodes. if: three. not, neg, isEmpty: one. get, has, is: a node
-    and a name. like: a node and a pattern. set: nodes. record: pairs of a name and a node. call: a name, then nodes. Else: two nodes."""
+    literal: a value. id: an entity's id. var: a name. all, any: two nodes. if: three. not, neg,
+    isEmpty: one. get, has, is: a node and a name. like: a node and a pattern. set: nodes. record: pairs
+    of a name and a node. call: a name, then nodes. Else: two nodes."""
 
     __slots__ = ("form", "parts", "span")
 
@@ -22,10 +34,11 @@ class Node:
 
 
 class Policy:
-    """A static policy or a template: its scope's parts stand as in the document, absent ones are not there.
+    """A static policy or a template: its scope's parts stand as in the document, absent ones are not
+    there.
 
-    `key` is its key in a policy set; of text `head` is the span from its effect to its scope's end, and `named_in_scope` has the
-    spans of types and ids in the scope, by what the program prints of them."""
+    `key` is its key in a policy set; of text `head` is the span from its effect to its scope's end, and
+    `named_in_scope` has the spans of types and ids in the scope, by what the program prints of them."""
 
     head, named_in_scope = None, ()
 
@@ -47,7 +60,8 @@ class Link:
 
 
 def comparison(operator, left, right, span=None):
-    """The node of a binary operator of Cedar, also of those that the document writes with another one."""
+    """The node of a binary operator of Cedar, also of those that the document writes with another
+    one."""
     if operator in NEGATED:
         return Node("not", (Node(NEGATED[operator], (left, right), span),), span)
     return Node(operator, (left, right), span)

@@ -1,4 +1,5 @@
-"""What the readers of Cedar's JSON share: objects with known members, names, ids of entities, extension values."""
+"""What the readers of Cedar's JSON share: objects with known members, names, ids of entities, extension
+values."""
 import json
 import re
 
@@ -16,9 +17,10 @@ def shown(value):
 
 
 def members(value, place, report, needed=(), known=()):
-    """Whether it is an object with the members that are needed; others than the known ones are refused."""
+    """Whether it is an object with the members that are needed; others than the known ones are
+    refused."""
     if not isinstance(value, dict):
-        return bool(report.no(place, f"an object is due, not {shown(value)}"))
+        return bool(report.no(place, f"expected an object, found {shown(value)}"))
     missing = [name for name in needed if name not in value]
     for name in missing:
         report.no(place, f"the member `{name}` is missing")
@@ -32,12 +34,12 @@ def is_text(value, place, report, *names):
     """Whether these members of an object are texts."""
     wrong = [name for name in names if not isinstance(value[name], str)]
     for name in wrong:
-        report.no(place[name], f"a text is due, not {shown(value[name])}")
+        report.no(place[name], f"expected a text, found {shown(value[name])}")
     return not wrong
 
 
 def is_list(value, place, report, what):
-    return isinstance(value, list) or bool(report.no(place, f"a list of {what} is due, not {shown(value)}"))
+    return isinstance(value, list) or bool(report.no(place, f"expected a list of {what}, found {shown(value)}"))
 
 
 def is_name(text, single=False):
@@ -61,7 +63,7 @@ def uid(u, place, report, text=False):
     if isinstance(u, dict) and "__expr" in u:
         return report.no(place, "`__expr` has no counterpart")
     if not isinstance(u, dict):
-        return report.no(place, f"an entity's id is due, {{\"type\":..,\"id\":..}}, not {shown(u)}")
+        return report.no(place, f'expected an entity\'s id, {{"type":..,"id":..}}, found {shown(u)}')
     if members(u, place, report, ("type", "id")) and is_text(u, place, report, "id"):
         name = type_name(u["type"], place["type"], report)
         return [name, u["id"]] if name else None
@@ -69,7 +71,8 @@ def uid(u, place, report, text=False):
 
 
 def uid_of_text(text, place, report):
-    """An entity's id in Cedar's text, as User::"alice"; a fault inside is told at the place of the whole."""
+    """An entity's id in Cedar's text, as User::"alice"; a fault inside is told at the place of the
+    whole."""
     inner = Report()
     reader = Reader(Source("", text), inner)
     if SURROGATE.search(text):
@@ -82,7 +85,7 @@ def uid_of_text(text, place, report):
                 return [kind, eid]
     except Stop:
         pass
-    return report.no(place, f"an entity's id is due, as User::\"alice\", not {shown(text)}")
+    return report.no(place, f'expected an entity\'s id, as User::"alice", found {shown(text)}')
 
 
 def extension_call(call, place, report):
@@ -92,10 +95,18 @@ def extension_call(call, place, report):
             return None
         call, place = call["__extn"], place["__extn"]
     if not isinstance(call, dict) or "fn" not in call:
-        return report.no(place, f"a call of an extension function is due, {{\"fn\":..,\"arg\":..}}, not {shown(call)}")
+        return report.no(place, f'expected a call of an extension function, {{"fn":..,"arg":..}}, found {shown(call)}')
     argument = call.get("arg")
     if set(call) == {"fn", "args"} and isinstance(call["args"], list) and len(call["args"]) == 1:
         argument = call["args"][0]
-    if len(call) != 2 or not isinstance(call["fn"], str) or call["fn"] not in extensions.TYPES or not isinstance(argument, str):
-        return report.no(place, f"the call {shown(call)} is no value here: `ip`, `decimal`, `datetime` or `duration` of one text is due")
+    if (
+        len(call) != 2
+        or not isinstance(call["fn"], str)
+        or call["fn"] not in extensions.TYPES
+        or not isinstance(argument, str)
+    ):
+        return report.no(
+            place,
+            f"the call {shown(call)} is no value here: expected `ip`, `decimal`, `datetime` or `duration` of one text",
+        )
     return call["fn"], argument

@@ -1,14 +1,16 @@
 """Files with places, and the list of what is refused, dropped and added.
 
-A place is FILE:LINE:COLUMN; lines and columns count from 1, columns in characters (code points, a tab is one). Inside this
-program places are offsets in characters; `at` in a document counts bytes of the file, which is UTF-8."""
+A place is FILE:LINE:COLUMN; lines and columns count from 1, columns in characters (code points, a tab
+is one). Inside this program places are offsets in characters; `at` in a document counts bytes of the
+file, which is UTF-8."""
 import bisect
 
 TOLD = 100  # so many refusals are told one by one
 
 
 class Source:
-    """A file that was read: its name, its text, and where its lines and the steps of its paths stand."""
+    """A file that was read: its name, its text, and where its lines and the steps of its paths
+    stand."""
 
     def __init__(self, name, text):
         self.name, self.text = name, text
@@ -40,7 +42,7 @@ class Source:
         if self.is_ascii:
             return offset
         line = self.line_of(offset)
-        return self.line_bytes[line] + len(self.text[self.lines[line]:offset].encode())
+        return self.line_bytes[line] + len(self.text[self.lines[line] : offset].encode())
 
     def offset(self, byte):
         """The character at which a byte stands, or the text's end."""
@@ -51,7 +53,7 @@ class Source:
         line = bisect.bisect_right(self.line_bytes, byte) - 1
         start = self.lines[line]
         inside = self.text[start:].split("\n", 1)[0].encode() + b"\n"
-        return min(start + len(inside[:byte - self.line_bytes[line]].decode(errors="ignore")), len(self.text))
+        return min(start + len(inside[: byte - self.line_bytes[line]].decode(errors="ignore")), len(self.text))
 
     def line_text(self, line):
         """The text of a line, from 1."""
@@ -60,7 +62,8 @@ class Source:
 
 
 class Place:
-    """A place in a source: an offset of its text, or steps (members' names and indices) into its JSON."""
+    """A place in a source: an offset of its text, or steps (members' names and indices) into its
+    JSON."""
 
     __slots__ = ("source", "at", "parent", "step")
 
@@ -91,7 +94,8 @@ class Place:
 
 
 def spelled(path):
-    """Steps as `staticPolicies.policy0.conditions[0]`; a name that is no identifier stands in brackets and quotes."""
+    """Steps as `staticPolicies.policy0.conditions[0]`; a name that is no identifier stands in brackets
+    and quotes."""
     text = ""
     for step in path:
         if isinstance(step, int):

@@ -1,4 +1,5 @@
-"""Reads policies in Cedar's JSON: a policy set (static policies, templates, links), one policy, or the links of the `cedar` command."""
+"""Reads policies in Cedar's JSON: a policy set (static policies, templates, links), one policy, or the
+links of the `cedar` command."""
 from cedar import nodes
 from cedar.json_text import Number
 from cedar.nodes import Node
@@ -21,7 +22,7 @@ def read(value, top, report):
     for part in SET_PARTS[:2]:
         here = value.get(part, {})
         if not isinstance(here, dict):
-            report.no(top[part], "an object is due: policies by their ids")
+            report.no(top[part], "expected an object: policies by their ids")
             continue
         found += [PolicyReader(report).policy(key, p, top[part][key]) for key, p in here.items()]
     return [p for p in found if p], links(value.get("templateLinks", []), top["templateLinks"], report)
@@ -32,7 +33,7 @@ def links(value, top, report):
     if isinstance(value, dict) and set(value) == {"templateLinks"}:
         value, top = value["templateLinks"], top["templateLinks"]
     if not isinstance(value, list):
-        report.no(top, "a list of links is due")
+        report.no(top, "expected a list of links")
         return []
     made = [one_link(v, top[i], report) for i, v in enumerate(value)]
     return [l for l in made if l]
@@ -44,7 +45,7 @@ def one_link(value, place, report):
     if not members(value, place, report, (template, name, values)) or not is_text(value, place, report, template, name):
         return None
     if not isinstance(value[values], dict):
-        return report.no(place[values], "an object is due: ids by slots")
+        return report.no(place[values], "expected an object: ids by slots")
     made = {}
     for slot, u in value[values].items():
         if slot not in ("?principal", "?resource"):
@@ -65,7 +66,7 @@ class PolicyReader:
         if not members(p, place, self.report, ("effect", *parts), ("conditions", "annotations")):
             return None
         if p["effect"] not in ("permit", "forbid"):
-            self.no(place["effect"], "`permit` or `forbid` is due")
+            self.no(place["effect"], "expected `permit` or `forbid`")
         scope = {}
         for own in parts:
             part = self.scope(p[own], own, place[own])
@@ -76,7 +77,7 @@ class PolicyReader:
 
     def named(self, key, annotations, place):
         if not isinstance(annotations, dict):
-            self.no(place["annotations"], "an object is due")
+            self.no(place["annotations"], "expected an object")
             return key
         lost = " ".join(f"@{name}" for name in annotations if name != "id")
         if lost:
@@ -86,13 +87,13 @@ class PolicyReader:
 
     def clauses(self, conditions, place):
         if not isinstance(conditions, list):
-            self.no(place, "a list of conditions is due")
+            self.no(place, "expected a list of conditions")
             return []
         found = []
         for i, c in enumerate(conditions):
             if members(c, place[i], self.report, ("kind", "body")):
                 if c["kind"] not in ("when", "unless"):
-                    self.no(place[i]["kind"], "`when` or `unless` is due")
+                    self.no(place[i]["kind"], "expected `when` or `unless`")
                 body = self.expr(c["body"], place[i]["body"])
                 found.append(("unless" if c["kind"] == "unless" else "when", body))
         return found
@@ -107,7 +108,7 @@ class PolicyReader:
             return {"==": self.reference(s, own, place)}
         if op == "in" and own == "action" and "entities" in s and members(s, place, self.report, ("op", "entities")):
             if not isinstance(s["entities"], list):
-                return self.no(place["entities"], "a list of entities is due")
+                return self.no(place["entities"], "expected a list of entities")
             return {"in": [self.action(u, place["entities"][i]) for i, u in enumerate(s["entities"])]}
         if op == "in" and self.one_of(s, place, "op", "entity", "slot"):
             reference = self.reference(s, own, place)
@@ -123,7 +124,7 @@ class PolicyReader:
         """An object with just one of these members."""
         there = [name for name in names if isinstance(s, dict) and name in s]
         if len(there) != 1:
-            return self.no(place, "`entity` or `slot` is due")
+            return self.no(place, "expected `entity` or `slot`")
         return members(s, place, self.report, tuple(there) + ((also,) if also else ()))
 
     def reference(self, s, own, place):
@@ -131,7 +132,11 @@ class PolicyReader:
             if own == "action" or s["slot"] != f"?{own}":
                 self.no(place["slot"], f"the slot {shown(s['slot'])} has no place in the part of {own}")
             return "?"
-        return self.action(s["entity"], place["entity"]) if own == "action" else uid(s["entity"], place["entity"], self.report)
+        return (
+            self.action(s["entity"], place["entity"])
+            if own == "action"
+            else uid(s["entity"], place["entity"], self.report)
+        )
 
     def action(self, u, place):
         made = uid(u, place, self.report)
@@ -143,14 +148,18 @@ class PolicyReader:
 
     def expr(self, e, place):
         self.depth += 1
-        made = self.no(place, f"an expression that nests deeper than {DEEPEST}") if self.depth > DEEPEST else self.one(e, place)
+        made = (
+            self.no(place, f"an expression that nests deeper than {DEEPEST}")
+            if self.depth > DEEPEST
+            else self.one(e, place)
+        )
         self.depth -= 1
         return made or Node("literal", (True,))
 
     def one(self, e, place):
         if not isinstance(e, dict) or len(e) != 1:
             return self.no(place, f"no expression, which is an object with one member: {shown(e)}")
-        (op, x), = e.items()
+        ((op, x),) = e.items()
         place = place[op]
         if op == "Value":
             return self.value(x, place)
@@ -159,7 +168,11 @@ class PolicyReader:
         if op == "Slot":
             return self.no(place, "a slot stands in the scope alone")
         if op in ("!", "neg", "isEmpty"):
-            return Node("not" if op == "!" else op, (self.expr(x["arg"], place["arg"]),)) if members(x, place, self.report, ("arg",)) else None
+            return (
+                Node("not" if op == "!" else op, (self.expr(x["arg"], place["arg"]),))
+                if members(x, place, self.report, ("arg",))
+                else None
+            )
         if op in ("&&", "||") or op in BINARY or op in nodes.NEGATED:
             if not members(x, place, self.report, ("left", "right")):
                 return None
@@ -167,7 +180,11 @@ class PolicyReader:
             return nodes.comparison(word, self.expr(x["left"], place["left"]), self.expr(x["right"], place["right"]))
         if op == "if-then-else":
             parts = ("if", "then", "else")
-            return Node("if", tuple(self.expr(x[p], place[p]) for p in parts)) if members(x, place, self.report, parts) else None
+            return (
+                Node("if", tuple(self.expr(x[p], place[p]) for p in parts))
+                if members(x, place, self.report, parts)
+                else None
+            )
         return self.other(op, x, place)
 
     def other(self, op, x, place):
@@ -182,7 +199,9 @@ class PolicyReader:
         if op == "is":
             if not members(x, place, self.report, ("left", "entity_type"), ("in",)):
                 return None
-            left, kind = self.expr(x["left"], place["left"]), type_name(x["entity_type"], place["entity_type"], self.report)
+            left, kind = self.expr(x["left"], place["left"]), type_name(
+                x["entity_type"], place["entity_type"], self.report
+            )
             return nodes.is_in(left, kind, self.expr(x["in"], place["in"])) if "in" in x else Node("is", (left, kind))
         if op == "Set" and isinstance(x, list):
             return Node("set", tuple(self.expr(y, place[i]) for i, y in enumerate(x)))
@@ -193,14 +212,20 @@ class PolicyReader:
         return self.no(place, f"`{op}` has no counterpart")
 
     def value(self, v, place):
-        """A value that stands in an expression: sets and records are literals of their parts, extension values are calls."""
+        """A value that stands in an expression: sets and records are literals of their parts, extension
+        values are calls."""
         made = None
         if isinstance(v, (bool, int, str)):
             made = Node("literal", (v,))
         elif isinstance(v, list):
             made = Node("set", tuple(self.value(x, place[i]) for i, x in enumerate(v)))
         elif not isinstance(v, dict) or "__expr" in v:
-            self.no(place, f"{v.text} is no whole number of 64 bits" if isinstance(v, Number) else f"no value of Cedar: {shown(v)}")
+            self.no(
+                place,
+                f"{v.text} is no whole number of 64 bits"
+                if isinstance(v, Number)
+                else f"no value of Cedar: {shown(v)}",
+            )
         elif "__entity" in v:
             made = Node("id", (uid(v, place, self.report),))
         elif "__extn" in v:
@@ -212,7 +237,7 @@ class PolicyReader:
 
     def pattern(self, p, place):
         if not isinstance(p, list):
-            return self.no(place, "a pattern is a list of \"Wildcard\" and {\"Literal\":text}")
+            return self.no(place, 'a pattern is a list of "Wildcard" and {"Literal":text}')
         made = []
         for i, q in enumerate(p):
             if q == "Wildcard":
@@ -223,6 +248,5 @@ class PolicyReader:
                 elif q["Literal"]:
                     made.append(q["Literal"])
             else:
-                self.no(place[i], f"\"Wildcard\" or {{\"Literal\":text}} is due, not {shown(q)}")
+                self.no(place[i], f'expected "Wildcard" or {{"Literal":text}}, found {shown(q)}')
         return made
-

@@ -73,7 +73,7 @@ class PolicyReader(ExpressionReader):
     def scope(self, own):
         self.expect(own)
         if self.at(":"):
-            raise Stop(self.next, f"`{own}: Type` is an old form; `{own} is Type` is due")
+            raise Stop(self.next, f"`{own}: Type` is an old form; write `{own} is Type`")
         if self.took("=="):
             return {"==": self.reference(own)}
         if own == "action":
@@ -115,7 +115,7 @@ class PolicyReader(ExpressionReader):
         token = self.next
         kind, text = self.path("an entity")
         if text is None:
-            raise Stop(token, f"an entity as Type::\"id\" is due, not `{kind}`")
+            raise Stop(token, f'expected an entity as Type::"id", found `{kind}`')
         uid = [kind, self.unescaped(text)]
         self.named_in_scope += [(printed, (token.start, self.last_end)) for printed in (kind, nodes.printed(uid))]
         return uid

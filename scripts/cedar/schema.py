@@ -1,4 +1,5 @@
-"""Makes the document's schema of Cedar's JSON schema: names are resolved, common types are written out."""
+"""Makes the document's schema of Cedar's JSON schema: names are resolved, common types are written
+out."""
 from cedar.extensions import FUNCTIONS
 from cedar.nodes import is_action_type
 from cedar.objects import is_list, is_name, is_text, members, shown
@@ -16,22 +17,29 @@ def qualified(name, space):
 
 
 def measured(value, known):
-    """How many parts JSON has and how deep it nests; a part that is shared is counted at each place, and looked at once."""
+    """How many parts JSON has and how deep it nests; a part that is shared is counted at each place,
+    and looked at once."""
     if not isinstance(value, (dict, list)):
         return 1, 0
     if id(value) not in known:
         inner = [measured(x, known) for x in (value.values() if isinstance(value, dict) else value)]
-        known[id(value)] = 1 + sum(parts for parts, _ in inner), 1 + max([height for _, height in inner], default=0), value
+        known[id(value)] = (
+            1 + sum(parts for parts, _ in inner),
+            1 + max([height for _, height in inner], default=0),
+            value,
+        )
     return known[id(value)][:2]
 
 
 def candidates(name, space):
-    """What a name may stand for, the nearest first: one of its own namespace, then one of the empty namespace."""
+    """What a name may stand for, the nearest first: one of its own namespace, then one of the empty
+    namespace."""
     return [f"{space}::{name}", name] if space and "::" not in name else [name]
 
 
 class Schema:
-    """What is declared, and what it means here. `attributes`, `tags` and `contexts` are the types of what entities and requests hold."""
+    """What is declared, and what it means here. `attributes`, `tags` and `contexts` are the types of
+    what entities and requests hold."""
 
     def __init__(self, report):
         self.report = report
@@ -65,7 +73,10 @@ class Schema:
         if measured([self.types, self.actions], self.measures)[0] > MOST:
             self.no(top, f"with its common types written out the schema has more than {MOST} parts")
         if self.annotated:
-            self.report.dropped(next(iter(self.annotated.values())), "annotations of the schema: " + " ".join(f"@{name}" for name in self.annotated))
+            self.report.dropped(
+                next(iter(self.annotated.values())),
+                "annotations of the schema: " + " ".join(f"@{name}" for name in self.annotated),
+            )
 
     def declare(self, space, part, place):
         """Notes what a namespace declares."""
@@ -75,7 +86,7 @@ class Schema:
             return False
         for member in ("commonTypes", "entityTypes", "actions"):
             if not isinstance(part.get(member, {}), dict):
-                return bool(self.no(place[member], f"an object is due, not {shown(part[member])}"))
+                return bool(self.no(place[member], f"expected an object, found {shown(part[member])}"))
         for member, table in (("commonTypes", self.commons), ("entityTypes", self.entities)):
             for name, t in part.get(member, {}).items():
                 at = place[member][name]
@@ -94,15 +105,23 @@ class Schema:
         for table in (self.commons, self.entities):
             for name, (_, space, place) in table.items():
                 if space and name.rsplit("::", 1)[-1] in empty:
-                    self.no(place, f"`{name}` hides `{name.rsplit('::', 1)[-1]}` of the empty namespace, which Cedar refuses")
+                    self.no(
+                        place,
+                        f"`{name}` hides `{name.rsplit('::', 1)[-1]}` of the empty namespace, which Cedar refuses",
+                    )
         for (kind, name), place in self.action_ids.items():
             if kind != "Action" and ("Action", name) in self.action_ids:
-                self.no(place, f"the action {kind}::{shown(name)} hides Action::{shown(name)} of the empty namespace, which Cedar refuses")
+                hidden = f"the action {kind}::{shown(name)} hides Action::{shown(name)}"
+                self.no(place, f"{hidden} of the empty namespace, which Cedar refuses")
 
     # Types.
 
     def entity_name(self, name, space, place):
-        found = next((full for full in candidates(name, space) if full in self.entities), None) if isinstance(name, str) else None
+        found = (
+            next((full for full in candidates(name, space) if full in self.entities), None)
+            if isinstance(name, str)
+            else None
+        )
         return found or self.no(place, f"the entity type {shown(name)} is not declared")
 
     def entity_names(self, names, space, place):
@@ -114,7 +133,7 @@ class Schema:
     def type(self, t, space, place, also=()):
         """The document's type, or None with a refusal."""
         if not isinstance(t, dict) or not isinstance(t.get("type"), str):
-            return self.no(place, f"a type is due, not {shown(t)}")
+            return self.no(place, f"expected a type, found {shown(t)}")
         kind = t["type"]
         if kind == "Record":
             return {"record": self.record(t, space, place, also)}
@@ -128,7 +147,11 @@ class Schema:
         if kind == "Entity":
             return {"entity": self.entity_name(t["name"], space, place["name"])}
         if kind == "Extension":
-            return t["name"] if t["name"] in FUNCTIONS else self.no(place["name"], f"there is no extension type {shown(t['name'])}")
+            return (
+                t["name"]
+                if t["name"] in FUNCTIONS
+                else self.no(place["name"], f"there is no extension type {shown(t['name'])}")
+            )
         if kind in PRIMITIVE and kind != "Bool":
             return PRIMITIVE[kind]
         return self.named(t["name"] if more else kind, space, place["name" if more else "type"], bool(more))
@@ -139,7 +162,7 @@ class Schema:
                 return self.common(full, place)
             if entities_too and full in self.entities:
                 return {"entity": full}
-        own = name[len("__cedar::"):] if name.startswith("__cedar::") else name
+        own = name[len("__cedar::") :] if name.startswith("__cedar::") else name
         if own in PRIMITIVE and own != "Boolean":
             return PRIMITIVE[own]
         return own if own in FUNCTIONS else self.no(place, f"there is no type `{name}`")
@@ -166,13 +189,13 @@ class Schema:
             self.no(place["additionalAttributes"], "records are closed here")
         given, made = t.get("attributes", {}), {}
         if not isinstance(given, dict):
-            return self.no(place["attributes"], f"an object is due, not {shown(given)}") or {}
+            return self.no(place["attributes"], f"expected an object, found {shown(given)}") or {}
         for name, a in given.items():
             at = place["attributes"][name]
             found = self.type(a, space, at, also=("required",))
             required = a.get("required", True) if isinstance(a, dict) else True
             if not isinstance(required, bool):
-                self.no(at["required"], f"true or false is due, not {shown(required)}")
+                self.no(at["required"], f"expected true or false, found {shown(required)}")
             made[name] = found if required else {"optional": found}
         return made
 
@@ -183,7 +206,7 @@ class Schema:
         found = self.type(t, space, place)
         if isinstance(found, dict) and "record" in found:
             return found["record"]
-        return (found is not None and self.no(place, "a record type is due")) or {}
+        return (found is not None and self.no(place, "expected a record type")) or {}
 
     # Declarations.
 
@@ -191,7 +214,7 @@ class Schema:
         if isinstance(e, dict) and "enum" in e:
             if self.has(e, place, ("enum",)) and is_list(e["enum"], place["enum"], self.report, "texts"):
                 if not e["enum"] or not all(isinstance(x, str) for x in e["enum"]):
-                    self.no(place["enum"], "one text or more are due")
+                    self.no(place["enum"], "expected one text or more")
                 self.types[full] = {"enum": e["enum"]}
             return
         if not self.has(e, place, (), ("memberOfTypes", "shape", "tags")):

@@ -1,4 +1,5 @@
-"""Reads a schema in Cedar's text, and makes Cedar's JSON schema of it; the places of its parts are kept beside."""
+"""Reads a schema in Cedar's text, and makes Cedar's JSON schema of it; the places of its parts are kept
+beside."""
 from cedar.nodes import is_action_type
 from cedar.tokens import RESERVED, Reader, Stop
 
@@ -35,9 +36,10 @@ class SchemaReader(Reader):
         return self.places.get(path, 0)
 
     def skip(self, start, inside=False):
-        """From a fault to behind the declaration's `;`, to the brace that closes the namespace inside of which it is, or to the next namespace."""
+        """From a fault to behind the declaration's `;`, to the brace that closes the namespace inside
+        of which it is, or to the next namespace."""
         self.index = max(self.index, start + 1)
-        marks = [t.text for t in self.tokens[start:self.index] if t.kind == "mark"]
+        marks = [t.text for t in self.tokens[start : self.index] if t.kind == "mark"]
         depth = marks.count("{") - marks.count("}")
         while self.next.kind != "end" and not self.at("namespace") and not (inside and depth <= 0 and self.at("}")):
             token = self.take()
@@ -50,7 +52,7 @@ class SchemaReader(Reader):
         token = self.next
         space, text = self.path("a namespace")
         if text is not None:
-            raise Stop(token, "a namespace is due, not an entity")
+            raise Stop(token, "expected a namespace, found an entity")
         if space in self.spaces:
             self.no(token, f"the namespace `{space}` stands twice")
         self.spaces.add(space)
@@ -102,7 +104,9 @@ class SchemaReader(Reader):
     def names(self, quoted):
         found = []
         while True:
-            found.append((self.next, self.name_or_text("an action's name") if quoted else self.name("an entity type's name")))
+            found.append(
+                (self.next, self.name_or_text("an action's name") if quoted else self.name("an entity type's name"))
+            )
             if not self.took(","):
                 return found
 
@@ -123,7 +127,9 @@ class SchemaReader(Reader):
         if self.took("enum"):
             self.note(paths, "enum")
             self.expect("[")
-            made["enum"] = self.separated("]", lambda: self.unescaped(self.take()) if self.next.kind == "text" else self.due("a text in quotes"))
+            made["enum"] = self.separated(
+                "]", lambda: self.unescaped(self.take()) if self.next.kind == "text" else self.due("a text in quotes")
+            )
             return made
         if self.took("in"):
             made["memberOfTypes"] = self.entity_types(self.note(paths, "memberOfTypes"))
@@ -165,7 +171,7 @@ class SchemaReader(Reader):
                     self.no(token, f"no type of actions: `{kind}`")
                 return {"type": kind, "id": self.unescaped(text)}
             if "::" in kind:
-                raise Stop(token, f"an action as {kind}::\"id\" is due")
+                raise Stop(token, f'expected an action as {kind}::"id"')
             return {"id": kind}
 
         return self.separated("]", one) if self.took("[") else [one()]
@@ -211,7 +217,7 @@ class SchemaReader(Reader):
         token = self.next
         name, text = self.path("a type")
         if text is not None:
-            raise Stop(token, "a type is due, not an entity")
+            raise Stop(token, "expected a type, found an entity")
         return name
 
     def type_of(self, paths):

@@ -6,19 +6,24 @@ from cedar import to_json, to_text
 from cedar.json_text import load
 from cedar.places import Report, Source
 from cedar.to_text import Unsayable
+from script import bytes_of, complain
 
 HELP = """usage: scripts/to-cedar PART [--json] < document.json
 
 Writes a part of a document (docs/FORMAT.md) in Cedar's form to standard output. PART is one of
 
-  policies   the static policies and templates: Cedar's text, with ids as @id; --json: the whole policy set, with links
+  policies   the static policies and templates: Cedar's text, with ids as @id; --json: the whole policy
+             set, with links
   schema     the schema: Cedar's text; --json: Cedar's JSON
   links      the links of templates, as the `cedar` command keeps them: JSON
   entities   the entities: JSON
   request    the request: JSON
 
-Source locations (`at`) are left away. What Cedar has no words for is told on standard error with its place in the document, and
-nothing is written then. Status: 0 done; 1 no document, or not sayable; 2 usage. Nothing of this is proved.
+Source locations (`at`) are left away. What Cedar has no words for is told on standard error with its
+place in the document, and nothing is written then.
+
+Status: 0 done; 1 no document, or not sayable; 2 usage; 8 the text can't be read; 9 nothing can be
+written. Nothing of this is proved.
 """
 BAD = (AttributeError, IndexError, KeyError, TypeError, ValueError)
 
@@ -73,18 +78,17 @@ PARTS = {"policies": policies, "schema": schema, "links": links, "entities": ent
 
 
 def main(words):
-    if words in (["--help"], ["-h"], ["help"]):
-        sys.stdout.write(HELP)
-        return 0
     as_json = "--json" in words
     part = [word for word in words if word != "--json"]
     if len(part) != 1 or part[0] not in PARTS:
-        sys.stderr.write("to-cedar: one of policies, schema, links, entities, request is due; scripts/to-cedar --help says more\n")
-        return 2
+        return complain("expected one of policies, schema, links, entities, request; --help says more", 2)
     sys.setrecursionlimit(10000)
+    data, fault = bytes_of(None)
+    if fault:
+        return complain(fault, 8)
     report = Report()
     try:
-        source = Source("document", sys.stdin.buffer.read().decode("utf-8"))
+        source = Source("document", data.decode("utf-8"))
         document = load(source, report)
         if report.refused:
             raise Unsayable(report.lines()[0])
@@ -92,6 +96,5 @@ def main(words):
             raise Unsayable("document: form")
         sys.stdout.write(told("document", lambda d: PARTS[part[0]](d, as_json), document))
     except (Unsayable, UnicodeDecodeError) as why:
-        sys.stderr.write(f"to-cedar: {why}\n")
-        return 1
+        return complain(why, 1)
     return 0

@@ -15,6 +15,7 @@ def uid(u):
 
 # Expressions.
 
+
 def both(operator, left, right):
     return {operator: {"left": left, "right": right}}
 
@@ -25,7 +26,7 @@ def expression(e):
         return {"Set": [expression(x) for x in e]}
     if not isinstance(e, dict):
         return {"Value": e}
-    (form, x), = e.items()
+    ((form, x),) = e.items()
     if form == "id":
         return {"Value": {"__entity": uid(x)}}
     if form == "var":
@@ -54,7 +55,9 @@ def other(form, x):
     if form == "has":
         return {"has": {"left": expression(x[0]), "attr": x[1]}}
     if form == "like":
-        return {"like": {"left": expression(x[0]), "pattern": ["Wildcard" if p is None else {"Literal": p} for p in x[1]]}}
+        return {
+            "like": {"left": expression(x[0]), "pattern": ["Wildcard" if p is None else {"Literal": p} for p in x[1]]}
+        }
     if form == "is":
         return {"is": {"left": expression(x[0]), "entity_type": name(x[1])}}
     if form == "record":
@@ -69,6 +72,7 @@ def other(form, x):
 
 # Policies.
 
+
 def scope(own, part):
     if part is None:
         return {"op": "All"}
@@ -80,7 +84,7 @@ def scope(own, part):
         return {"op": "is", "entity_type": name(part["is"]), **({"in": reference(part["in"])} if "in" in part else {})}
     if "in" in part and own == "action":
         return {"op": "in", "entities": [uid(u) for u in part["in"]]}
-    (operator, r), = part.items()
+    ((operator, r),) = part.items()
     return {"op": operator, **reference(r)}
 
 
@@ -105,8 +109,13 @@ def policy_set(policies):
             raise Unsayable(f"two policies have the id `{p['id']}`")
         known.add(p["id"])
         if "link" in p:
-            made["templateLinks"].append({"templateId": p["link"], "newId": p["id"],
-                                          "values": {slot: {"__entity": uid(u)} for slot, u in values_of_link(p).items()}})
+            made["templateLinks"].append(
+                {
+                    "templateId": p["link"],
+                    "newId": p["id"],
+                    "values": {slot: {"__entity": uid(u)} for slot, u in values_of_link(p).items()},
+                }
+            )
         else:
             made["templates" if is_template(p) else "staticPolicies"][p["id"]] = policy(p)
     return made
@@ -114,16 +123,28 @@ def policy_set(policies):
 
 def links(policies):
     """Links as the `cedar` command keeps them."""
-    return [{"template_id": p["link"], "link_id": p["id"], "args": {slot: uid_text(u) for slot, u in values_of_link(p).items()}}
-            for p in policies if "link" in p]
+    return [
+        {
+            "template_id": p["link"],
+            "link_id": p["id"],
+            "args": {slot: uid_text(u) for slot, u in values_of_link(p).items()},
+        }
+        for p in policies
+        if "link" in p
+    ]
 
 
 # The schema.
 
+
 def type_of(t):
     if isinstance(t, str):
-        return {"type": {"Bool": "Boolean"}.get(t, t)} if t in ("Bool", "Long", "String") else {"type": "Extension", "name": t}
-    (form, x), = t.items()
+        return (
+            {"type": {"Bool": "Boolean"}.get(t, t)}
+            if t in ("Bool", "Long", "String")
+            else {"type": "Extension", "name": t}
+        )
+    ((form, x),) = t.items()
     if form == "set":
         return {"type": "Set", "element": type_of(x)}
     return {"type": "Entity", "name": name(x)} if form == "entity" else record(x)
@@ -149,8 +170,11 @@ def schema(given):
         if "enum" in t:
             here[full.rsplit("::", 1)[-1]] = {"enum": t["enum"]}
             continue
-        here[full.rsplit("::", 1)[-1]] = {"memberOfTypes": t.get("memberOf", []), "shape": record(t.get("attributes", {})),
-                                          **({"tags": type_of(t["tags"])} if "tags" in t else {})}
+        here[full.rsplit("::", 1)[-1]] = {
+            "memberOfTypes": t.get("memberOf", []),
+            "shape": record(t.get("attributes", {})),
+            **({"tags": type_of(t["tags"])} if "tags" in t else {}),
+        }
     for a in given.get("actions", []):
         kind, eid = a["id"]
         here = part(kind)["actions"]
@@ -158,8 +182,11 @@ def schema(given):
             raise Unsayable(f"the action {uid_text(a['id'])}, of a type that is no action's or declared twice")
         here[eid] = {"memberOf": [uid(m) for m in a.get("memberOf", [])]}
         if a.get("principals") or a.get("resources") or a.get("context"):
-            here[eid]["appliesTo"] = {"principalTypes": a.get("principals", []), "resourceTypes": a.get("resources", []),
-                                      "context": record(a.get("context", {}))}
+            here[eid]["appliesTo"] = {
+                "principalTypes": a.get("principals", []),
+                "resourceTypes": a.get("resources", []),
+                "context": record(a.get("context", {})),
+            }
     return made
 
 
@@ -178,7 +205,8 @@ def instant(milliseconds):
         raise Unsayable("a datetime outside the years 0000 to 9999")
     date = datetime.date.fromordinal(day + 719163 + (ERA if shift else 0))
     second, thousandth = divmod(rest, 1000)
-    return f"{date.year - shift:04}-{date.month:02}-{date.day:02}T{second // 3600:02}:{second // 60 % 60:02}:{second % 60:02}.{thousandth:03}Z"
+    day = f"{date.year - shift:04}-{date.month:02}-{date.day:02}"
+    return f"{day}T{second // 3600:02}:{second // 60 % 60:02}:{second % 60:02}.{thousandth:03}Z"
 
 
 def value(v):
@@ -186,7 +214,7 @@ def value(v):
         return [value(x) for x in v]
     if not isinstance(v, dict):
         return v
-    (form, x), = v.items()
+    ((form, x),) = v.items()
     if form == "id":
         return {"__entity": uid(x)}
     if form == "record":
@@ -203,8 +231,12 @@ def values(given):
 
 
 def entity(e):
-    return {"uid": uid(e["id"]), "attrs": values(e.get("attrs", {})), "parents": [uid(p) for p in e.get("parents", [])],
-            **({"tags": values(e["tags"])} if e.get("tags") else {})}
+    return {
+        "uid": uid(e["id"]),
+        "attrs": values(e.get("attrs", {})),
+        "parents": [uid(p) for p in e.get("parents", [])],
+        **({"tags": values(e["tags"])} if e.get("tags") else {}),
+    }
 
 
 def request(r):

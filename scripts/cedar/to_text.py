@@ -15,7 +15,13 @@ class Unsayable(Exception):
 
 
 def quoted(text, star="*"):
-    return '"' + "".join(ESCAPES.get(c) or (star if c == "*" else c if c.isprintable() else f"\\u{{{ord(c):x}}}") for c in text) + '"'
+    return (
+        '"'
+        + "".join(
+            ESCAPES.get(c) or (star if c == "*" else c if c.isprintable() else f"\\u{{{ord(c):x}}}") for c in text
+        )
+        + '"'
+    )
 
 
 def name(text):
@@ -36,6 +42,7 @@ def key(text):
 
 # Expressions: each is written with how tightly it holds together; a looser one stands in parentheses.
 
+
 def expression(e, level=0):
     text, own = written(e)
     return text if own >= level else f"({text})"
@@ -52,7 +59,7 @@ def written(e):
         return f"[{comma(e)}]", MEMBER
     if "at" in e:
         return written(e["of"])
-    (form, x), = e.items()
+    ((form, x),) = e.items()
     if form in ("all", "any") and len(x) > 1:
         mark, own = (" && ", AND) if form == "all" else (" || ", OR)
         return mark.join(expression(y, own + 1) for y in x), own
@@ -105,13 +112,22 @@ def other(form, x):
             text = f"if {expression(x[i])} then {expression(x[i + 1])} else {text}"
         return text, 0
     if form == "get":
-        return expression(x[0], MEMBER) + "".join(f".{n}" if is_name(n, single=True) else f"[{quoted(n)}]" for n in x[1:]), MEMBER
+        return (
+            expression(x[0], MEMBER) + "".join(f".{n}" if is_name(n, single=True) else f"[{quoted(n)}]" for n in x[1:]),
+            MEMBER,
+        )
     if form == "has":
         return f"{expression(x[0], SUM)} has {key(x[1])}", RELATION
     if form == "is":
         return f"{expression(x[0], SUM)} is {name(x[1])}", RELATION
     if form == "like":
-        return f"{expression(x[0], SUM)} like " + '"' + "".join("*" if p is None else quoted(p, star="\\*")[1:-1] for p in x[1]) + '"', RELATION
+        return (
+            f"{expression(x[0], SUM)} like "
+            + '"'
+            + "".join("*" if p is None else quoted(p, star="\\*")[1:-1] for p in x[1])
+            + '"',
+            RELATION,
+        )
     if form == "record":
         return "{" + ", ".join(f"{key(k)}: {expression(y)}" for k, y in x.items()) + "}", MEMBER
     if form == "isEmpty":
@@ -131,6 +147,7 @@ def call(form, x):
 
 
 # Policies.
+
 
 def scope(own, part):
     if part is None:
@@ -170,6 +187,7 @@ def policy(p):
 
 # The schema.
 
+
 class SchemaWriter:
     def __init__(self, schema):
         self.types, self.actions = schema.get("entityTypes", {}), schema.get("actions", [])
@@ -179,7 +197,7 @@ class SchemaWriter:
         if isinstance(t, str):
             own = {"Bool": "Bool", "Long": "Long", "String": "String"}.get(t, t)
             return f"__cedar::{own}" if own in self.declared else own
-        (form, x), = t.items()
+        ((form, x),) = t.items()
         if form == "set":
             return f"Set<{self.type(x, indent)}>"
         return name(x) if form == "entity" else self.record(x, indent)
@@ -190,7 +208,9 @@ class SchemaWriter:
         lines = []
         for k, t in attributes.items():
             optional = isinstance(t, dict) and "optional" in t
-            lines.append(f"{indent}  {key(k)}{'?' if optional else ''}: {self.type(t['optional'] if optional else t, indent + '  ')}")
+            lines.append(
+                f"{indent}  {key(k)}{'?' if optional else ''}: {self.type(t['optional'] if optional else t, indent + '  ')}"
+            )
         return "{\n" + ",\n".join(lines) + f"\n{indent}}}"
 
     def entity(self, full, t, indent):

@@ -5,13 +5,18 @@ from collections import namedtuple
 from cedar.places import Place
 
 SPACE = "[\t\n\x0b\x0c\r \x85\xa0\u1680\u2000-\u200a\u2028\u2029\u202f\u205f\u3000]"
-TOKEN = re.compile("|".join((
-    rf"(?P<space>(?:{SPACE}+|//[^\n\r]*)+)",
-    r"(?P<name>[A-Za-z_][A-Za-z0-9_]*)",
-    r"(?P<slot>\?[A-Za-z_][A-Za-z0-9_]*)",
-    r"(?P<number>[0-9]+)",
-    r'(?P<text>"(?:\\.|[^"\\])*")',
-    r"(?P<mark>==|!=|<=|>=|&&|\|\||::|[-@.,;:(){}\[\]<>+*/%!=?])")))
+TOKEN = re.compile(
+    "|".join(
+        (
+            rf"(?P<space>(?:{SPACE}+|//[^\n\r]*)+)",
+            r"(?P<name>[A-Za-z_][A-Za-z0-9_]*)",
+            r"(?P<slot>\?[A-Za-z_][A-Za-z0-9_]*)",
+            r"(?P<number>[0-9]+)",
+            r'(?P<text>"(?:\\.|[^"\\])*")',
+            r"(?P<mark>==|!=|<=|>=|&&|\|\||::|[-@.,;:(){}\[\]<>+*/%!=?])",
+        )
+    )
+)
 ESCAPE = re.compile(r'[^\\\r*]+|\\u\{[^}"]*\}|\\x..|\\.|.', re.S)
 PLAIN = {"n": "\n", "r": "\r", "t": "\t", "0": "\0", "\\": "\\", '"': '"', "'": "'"}
 RESERVED = frozenset(("true", "false", "if", "then", "else", "in", "is", "like", "has", "__cedar"))
@@ -24,7 +29,8 @@ class Stop(Exception):
 
 
 def tokens_of(text):
-    """The tokens without blanks and comments, and last one of kind `end`; what is no token is of kind `bad`."""
+    """The tokens without blanks and comments, and last one of kind `end`; what is no token is of kind
+    `bad`."""
     found, at = [], 0
     while at < len(text):
         match = TOKEN.match(text, at)
@@ -74,7 +80,7 @@ class Reader:
         return None
 
     def due(self, what):
-        raise Stop(self.next, f"{what} is due, not {shown(self.next)}")
+        raise Stop(self.next, f"expected {what}, found {shown(self.next)}")
 
     def expect(self, text):
         return self.took(text) or self.due(f"`{text}`")
@@ -84,11 +90,12 @@ class Reader:
         if self.next.kind != "name":
             self.due(what)
         if self.next.text in known_reserved:
-            raise Stop(self.next, f"`{self.next.text}` is a reserved word of Cedar, and {what} is due")
+            raise Stop(self.next, f"`{self.next.text}` is a reserved word of Cedar; expected {what}")
         return self.take().text
 
     def path(self, what):
-        """Names joined by `::`, as far as they go: a text may follow the last `::`, which is taken then."""
+        """Names joined by `::`, as far as they go: a text may follow the last `::`, which is taken
+        then."""
         parts = [self.name(what)]
         while self.took("::"):
             if self.next.kind == "text":
@@ -149,7 +156,9 @@ class Reader:
                 return chr(code)
         elif piece[1:] in PLAIN:
             return PLAIN[piece[1:]]
-        return self.bad_escape(offset, f"`{piece}` is no escape of Cedar" + (" (in a pattern of `like` alone)" if piece == "\\*" else ""))
+        return self.bad_escape(
+            offset, f"`{piece}` is no escape of Cedar" + (" (in a pattern of `like` alone)" if piece == "\\*" else "")
+        )
 
     def bad_escape(self, offset, why):
         self.report.no(Place(self.source, offset), why)

@@ -1,10 +1,10 @@
-"""What the program finds of a document, taken apart: each finding with its severity, kind, policy, place,
-source location, text and help.
+"""What the program finds of a document, taken apart: each finding with its severity, kind, policy,
+place, source location, text and help.
 
-Ids of policies may hold any text, also one that looks like a finding. So the program is given the document
-with other ids, which nobody can have foreseen, and the true ones are put back into what it says. It is also
-given a source location for each expression, by which a finding tells what part of the document it is about.
-So findings that differ in nothing but that part are told once each."""
+Ids of policies may hold any text, also one that looks like a finding. So the program is given the
+document with other ids, which nobody can have foreseen, and the true ones are put back into what it
+says. It is also given a source location for each expression, by which a finding tells what part of the
+document it is about. So findings that differ in nothing but that part are told once each."""
 import json
 import re
 import secrets
@@ -19,8 +19,8 @@ class Broken(Exception):
 
 
 class Finding:
-    """What is found: `path` is that of the part of the document that it is about, `at` the source location that
-    the document gives, or None."""
+    """What is found: `path` is that of the part of the document that it is about, `at` the source
+    location that the document gives, or None."""
 
     def __init__(self, severity, kind, text, path, policy=None, at=None, help=None):
         self.severity, self.kind, self.text, self.help = severity, kind, text, help
@@ -66,8 +66,8 @@ def with_ids(policies, token):
 
 
 def with_marks(policies, marks):
-    """The policies with a number as source location of each expression; `marks` gets, for each number, the path
-    and the location that was there."""
+    """The policies with a number as source location of each expression; `marks` gets, for each number,
+    the path and the location that was there."""
     made = []
     for i, policy in enumerate(policies):
         body = [

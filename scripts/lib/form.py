@@ -1,5 +1,5 @@
-"""The form of a document: what in a value is not as docs/schema/document.schema.json has it, each fault with
-its place."""
+"""The form of a document: what in a value is not as docs/schema/document.schema.json has it, each fault
+with its place."""
 import json
 import pathlib
 import re
@@ -54,7 +54,8 @@ class Fault:
 
 
 def form_faults(value, schema=SCHEMA, path=(), definition=None):
-    """The faults of a value against a schema; `definition` is the name of the definition that the schema is."""
+    """The faults of a value against a schema; `definition` is the name of the definition that the
+    schema is."""
     if "$ref" in schema:
         name = schema["$ref"].rsplit("/", 1)[1]
         return form_faults(value, SCHEMA["$defs"][name], path, name)
@@ -102,12 +103,16 @@ def unfit(value, path, definition, schema):
 
 def nearest(value, schema, path, definition):
     """None where one of the options fits; else the faults of the option that was most likely meant."""
+    if definition in ("value", "expression") and isinstance(value, dict) and set(value) == {"type", "id"}:
+        return [unfit(value, path, definition, schema)]  # an id, as Cedar's JSON has it
     meant = []
     for option in schema["anyOf"]:
         if resembles(value, option):
             meant.append(form_faults(value, option, path, definition))
             if not meant[-1]:
                 return []
+    if not meant and definition is None and isinstance(value, dict):
+        return form_faults(value, schema["anyOf"][0], path)  # a type of entities
     if not meant:
         return [unfit(value, path, definition, schema)] + operand_faults(value, schema, path, definition)
     return min(meant, key=lambda faults: (sum(is_at(fault, path) for fault in faults), len(faults)))
@@ -132,7 +137,8 @@ def is_at(fault, path):
 
 
 def resembles(value, schema):
-    """Whether a form may be the one that was meant: of the value's kind, and for an object with a member in common."""
+    """Whether a form may be the one that was meant: of the value's kind, and for an object with a
+    member in common."""
     if "$ref" in schema:
         return resembles(value, SCHEMA["$defs"][schema["$ref"].rsplit("/", 1)[1]])
     if "anyOf" in schema:

@@ -1,5 +1,5 @@
-"""What is legal in a document and likely wrong: findings of these scripts' own, of which the program says
-nothing."""
+"""What is legal in a document and likely wrong: findings of these scripts' own, of which the program
+says nothing."""
 import json
 
 from findings import Finding, uid
@@ -28,7 +28,8 @@ def above(id_, direct):
 
 
 def unlisted_actions(document, actions, policies):
-    """Actions that are no entities here, so that they are in no group, though policies name a group of theirs."""
+    """Actions that are no entities here, so that they are in no group, though policies name a group of
+    theirs."""
     if not document.get("entities") and not document.get("request"):
         return []
     direct = {tuple(action["id"]): [tuple(group) for group in action.get("memberOf", [])] for action in actions}
@@ -68,7 +69,8 @@ def ids_in(part):
 
 
 def unknown_entries(document):
-    """Entries of the request that are unknown, so that neither they are tested nor a decision is made."""
+    """Entries of the request that are unknown, so that neither they are tested nor a decision is
+    made."""
     if "request" not in document:
         text = "there is no request: `request` tests the entities alone, and `slice` and `decide` end with status 6"
         return [warning("UnknownRequest", text, ())] if document.get("entities") else []

@@ -1,4 +1,5 @@
-"""The lines that scripts/check-lines runs: its help says what a line is. And the documents of examples/."""
+"""The lines that scripts/check-lines runs: its help says what a line is. And the documents of
+examples/."""
 import pathlib
 import re
 
@@ -11,7 +12,8 @@ class Fault(Exception):
 
 
 class Line:
-    """One line: the commands, each a list of words; the bytes of the document; the status and the text that are due."""
+    """One line: the commands, each a list of words; the bytes of the document; the status and the text
+    that are due."""
 
     def __init__(self, text, folder, names):
         parts = re.fullmatch(r"(.*) => ([0-9]+)(?: (.*))?", text)

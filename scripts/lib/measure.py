@@ -1,10 +1,10 @@
-"""Measures one run of a program: the seconds of the processor, the most memory that it had, its status. As a
-command, `measure.py FILE PROGRAM [WORD..]` prints the least seconds of three runs on a file, the most MiB,
-and the status where it is not 0, as cells of a table.
+"""Measures one run of a program: the seconds of the processor, the most memory that it had, its status.
+As a command, `measure.py FILE PROGRAM [WORD..]` prints the least seconds of three runs on a file, the
+most MiB, and the status where it is not 0, as cells of a table.
 
-The most memory that wait4 tells of a child has a floor: what this interpreter had when it made the child. So
-the program is stopped at its first write, by a pipe that is full, and what the kernel knows of its own memory
-is read then; it has made the whole text before it writes."""
+The most memory that wait4 tells of a child has a floor: what this interpreter had when it made the
+child. So the program is stopped at its first write, by a pipe that is full, and what the kernel knows
+of its own memory is read then; it has made the whole text before it writes."""
 import contextlib
 import fcntl
 import os
@@ -39,7 +39,8 @@ def most_memory(pid):
 
 
 def run(program, words, path, seconds=60, mebibytes=4096):
-    """One run on the document in a file, with at most so many seconds of the processor and so much memory."""
+    """One run on the document in a file, with at most so many seconds of the processor and so much
+    memory."""
     reader, writer = full_pipe()
     actions = [
         (os.POSIX_SPAWN_OPEN, 0, path, os.O_RDONLY, 0),

@@ -1,5 +1,5 @@
-"""JSON with places: the value of a text, and where in the text each part of it stands. Read as the program
-reads it."""
+"""JSON with places: the value of a text, and where in the text each part of it stands. Read as the
+program reads it."""
 import re
 from json.decoder import scanstring
 
@@ -16,8 +16,8 @@ class NoJson(Exception):
 
 
 class Place:
-    """Where a value begins; for a list the places of its items, for an object those of its members and of their
-    names."""
+    """Where a value begins; for a list the places of its items, for an object those of its members and
+    of their names."""
 
     __slots__ = ("at", "inner", "names")
 
@@ -25,8 +25,8 @@ class Place:
         self.at, self.inner, self.names = at, inner, names
 
     def find(self, path, name=False):
-        """The offset of the part at a path; with `name` that of the member's name. Of a part that is not there, that
-        of the nearest around it."""
+        """The offset of the part at a path; with `name` that of the member's name. Of a part that is
+        not there, that of the nearest around it."""
         place = self
         for i, step in enumerate(path):
             inner = place.inner

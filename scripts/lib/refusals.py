@@ -10,7 +10,8 @@ LONGEST = 16777216
 
 
 def faults_of(document):
-    """The faults of a value: those of its form, and those in the rules of the parts that have their form."""
+    """The faults of a value: those of its form, and those in the rules of the parts that have their
+    form."""
     found = form_faults(document)
     if not isinstance(document, dict):
         return found

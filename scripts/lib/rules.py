@@ -1,8 +1,8 @@
-"""The rules that a document keeps beside its form: declared names, distinct ids, templates and slots, depths,
-and what is its own ancestor.
+"""The rules that a document keeps beside its form: declared names, distinct ids, templates and slots,
+depths, and what is its own ancestor.
 
-Each function takes the parts of a document that have the due form, and gives faults (of `form`) with their
-places."""
+Each function takes the parts of a document that have the due form, and gives faults (of `form`) with
+their places."""
 from form import Fault
 from slips import near, shown
 
@@ -92,8 +92,8 @@ def action_faults(path, action, earlier, types, ids):
 
 
 def on_cycles(direct):
-    """The keys that are reached from themselves by one step or more; steps to what is no key go nowhere. By
-    Tarjan's algorithm, without recursion."""
+    """The keys that are reached from themselves by one step or more; steps to what is no key go
+    nowhere. By Tarjan's algorithm, without recursion."""
     number, low, stack, on_stack, found = {}, {}, [], set(), set()
     for root in direct:
         work = [(root, iter(direct[root]))] if root not in number else []
@@ -121,7 +121,8 @@ def on_cycles(direct):
 
 
 def policy_faults(policies):
-    """The faults of policies; one that has not the due form is None, except that its id may be known."""
+    """The faults of policies; one that has not the due form is None, except that its id may be
+    known."""
     first, slots, found = {}, {}, []
     for i, policy in enumerate(policies):
         path = ("policies", i)
@@ -146,7 +147,8 @@ def policy_faults(policies):
 
 
 def slots_of(policy):
-    """The slots of a template; none of a static policy or a link; nothing known of what has not the due form."""
+    """The slots of a template; none of a static policy or a link; nothing known of what has not the due
+    form."""
     if "faulty" in policy:
         return None
     parts = ("principal", "resource") if "link" not in policy else ()

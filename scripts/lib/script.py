@@ -1,5 +1,6 @@
-"""How a script begins and ends: its help, a file or standard input, the program, and no traceback where a
-reader goes away."""
+"""How a script begins and ends: its help, a file or standard input, the program, and no traceback where
+a reader goes away."""
+import errno
 import os
 import pathlib
 import subprocess
@@ -10,22 +11,33 @@ RELEASE = TOP / "release/palvumiose-x86_64-linux"
 
 
 def run(main, doc):
-    """Ends the process with the status that `main` gives for the words of the command line; -h, --help prints the
-    script's own text."""
+    """Ends the process with the status that `main` gives for the words of the command line; -h, --help
+    prints the script's own text."""
     words = sys.argv[1:]
     try:
-        if words[:1] in (["-h"], ["--help"]):
+        take_utf8()
+        if words[:1] in (["-h"], ["--help"], ["help"]):
             print(doc.strip())
             status = 0
         else:
             status = main(words)
         sys.stdout.flush()
-    except BrokenPipeError:
-        os.dup2(os.open(os.devnull, os.O_WRONLY), sys.stdout.fileno())
+    except OSError as fault:
+        if not isinstance(fault, BrokenPipeError):
+            complain(f"{fault.filename or 'standard output'}: {fault.strerror}", 9)
+        os.dup2(os.open(os.devnull, os.O_WRONLY), 1)
         status = 9
     except KeyboardInterrupt:
         status = 130
     sys.exit(status)
+
+
+def take_utf8():
+    """What is written is UTF-8, whatever the locale; a standard output that is closed can't be written."""
+    if sys.stdout is None:
+        raise OSError(errno.EBADF, os.strerror(errno.EBADF))
+    for stream in filter(None, (sys.stdout, sys.stderr)):
+        stream.reconfigure(encoding="utf-8", errors="surrogateescape", newline="\n")
 
 
 def complain(text, status):
@@ -36,9 +48,24 @@ def complain(text, status):
 def bytes_of(name):
     """The bytes of the file, or of standard input where there is no name; or what is wrong with it."""
     try:
-        return (pathlib.Path(name).read_bytes() if name else sys.stdin.buffer.read()), None
-    except OSError as fault:
-        return None, f"{name or 'standard input'} can't be read: {fault.strerror}"
+        if name:
+            return pathlib.Path(name).read_bytes(), None
+        if sys.stdin is not None:
+            return sys.stdin.buffer.read(), None
+        return None, "standard input can't be read: it is closed"
+    except (OSError, ValueError) as fault:
+        why = getattr(fault, "strerror", None) or fault
+        return None, f"{name or 'standard input'} can't be read: {why}"
+
+
+def tell_tests(found):
+    """Prints what is wrong of the tests that were tried, None for each that holds, and how many; the
+    status."""
+    for wrong in filter(None, found):
+        print(f"FAILED  {wrong}")
+    failed = sum(map(bool, found))
+    print(f"{len(found) - failed} passed, {failed} failed")
+    return 1 if failed else 0
 
 
 def taken_out(words, option="--program"):
@@ -50,8 +77,8 @@ def taken_out(words, option="--program"):
 
 
 def program_at(name):
-    """The program with this name, or without a name the one that scripts/palvumiose chooses; None where there is
-    none, which is then said."""
+    """The program with this name, or without a name the one that scripts/palvumiose chooses; None where
+    there is none, which is then said."""
     if name:
         path = pathlib.Path(name).resolve()
         if path.is_file() and os.access(path, os.X_OK):

@@ -1,5 +1,5 @@
-"""What was probably meant where a document has not its form: usual slips, and what Cedar's own JSON has in
-its place."""
+"""What was probably meant where a document has not its form: usual slips, and what Cedar's own JSON has
+in its place."""
 import difflib
 import json
 

@@ -20,6 +20,9 @@ pub trait Database {
         key: &Text,
     ) -> Result<Option<Value>, LoadError>;
 
+    /// All tags of the entity.
+    fn tags(&mut self, alloc: Global, uid: &EntityUID) -> Result<BTreeMap<Text, Value>, LoadError>;
+
     /// Whether the second id is an ancestor of the entity, by any number of parents.
     fn is_member(&mut self, uid: &EntityUID, ancestor: &EntityUID) -> Result<bool, LoadError>;
 }
@@ -89,7 +92,7 @@ fn answers<D: Database>(
     Ok(found)
 }
 
-// The entity, where there is one, with whole attributes: those with which a path of the trie begins.
+// The entity, where there is one, with all tags and with whole attributes: those with which a path of the trie begins.
 fn answer<D: Database>(
     alloc: Global,
     database: &mut D,
@@ -105,7 +108,7 @@ fn answer<D: Database>(
             attrs.insert(key.try_clone()?, value)?;
         }
     }
-    let tags = BTreeMap::new(alloc);
+    let tags = database.tags(alloc, uid)?;
     Ok(Some(Entity::new(uid.try_clone()?, attrs, BTreeSet::new(alloc), tags)))
 }
 

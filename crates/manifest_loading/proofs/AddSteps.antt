@@ -13,7 +13,8 @@ use Rattle.reads_spec.proofs.Lists.{same_uid}
 use Rattle.entity_loader.specs.declared.loader.AncestorsRequest.{AncestorsRequest}
 use Rattle.manifest_loading.specs.declared.lent.Lent.{Lent}
 use Rattle.manifest_loading.specs.Answering.{AreUnderIds}
-use Rattle.manifest_loading.specs.KeptPart.{bare, AreAlike}
+use Rattle.entity_store.specs.FromParents.{without_links}
+use Rattle.manifest_loading.specs.KeptPart.{AreAlike}
 
 -- an entity is put under its id
 pub under_put : (old new : BTreeMap EntityUID StoredEntity) (u : EntityUID) (e : StoredEntity) → AreUnderIds old → ((x : EntityUID) → get uid_cmp new x ≡ cond (uid_eq u x) (Some e) (get uid_cmp old x)) → e.uid ≡ u → AreUnderIds new
@@ -59,9 +60,9 @@ ids_done rs rest e h = subst (IsStrictlySortedBy uid_cmp) (ap (λ es. ids_of rs 
 
 -- ---- the same but for ancestors
 
-pub alike_put : (old new : BTreeMap EntityUID StoredEntity) (u : EntityUID) (e d : StoredEntity) → get uid_cmp old u ≡ Some d → bare e ≡ bare d → ((x : EntityUID) → get uid_cmp new x ≡ cond (uid_eq u x) (Some e) (get uid_cmp old x)) → AreAlike (get uid_cmp new) (get uid_cmp old)
+pub alike_put : (old new : BTreeMap EntityUID StoredEntity) (u : EntityUID) (e d : StoredEntity) → get uid_cmp old u ≡ Some d → without_links e ≡ without_links d → ((x : EntityUID) → get uid_cmp new x ≡ cond (uid_eq u x) (Some e) (get uid_cmp old x)) → AreAlike (get uid_cmp new) (get uid_cmp old)
 alike_put old new u e d had same put x = by (uid_eq u x) refl
   where
-    by : (b : Bool) → uid_eq u x ≡ b → option_map bare (get uid_cmp new x) ≡ option_map bare (get uid_cmp old x)
-    by true f = ap (option_map bare) (put x ∙ ap (λ c. cond c (Some e) (get uid_cmp old x)) f) ∙ ap Some same ∙ ap (option_map bare) (sym had ∙ ap (get uid_cmp old) (same_uid u x f))
-    by false f = ap (option_map bare) (put x ∙ ap (λ c. cond c (Some e) (get uid_cmp old x)) f)
+    by : (b : Bool) → uid_eq u x ≡ b → option_map without_links (get uid_cmp new x) ≡ option_map without_links (get uid_cmp old x)
+    by true f = ap (option_map without_links) (put x ∙ ap (λ c. cond c (Some e) (get uid_cmp old x)) f) ∙ ap Some same ∙ ap (option_map without_links) (sym had ∙ ap (get uid_cmp old) (same_uid u x f))
+    by false f = ap (option_map without_links) (put x ∙ ap (λ c. cond c (Some e) (get uid_cmp old x)) f)

@@ -32,7 +32,8 @@ use Rattle.trie_traversal.specs.declared.place.Place.{Place}
 use Rattle.entity_loader.specs.Answers.{HasAncestor}
 use Rattle.manifest_loading.specs.Between.{IsBetween}
 use Rattle.manifest_loading.specs.Joining.{AreAscending, IsAskedFor, IsJoined}
-use Rattle.manifest_loading.specs.KeptPart.{left, along, bare, AreAlike, IsState}
+use Rattle.entity_store.specs.FromParents.{without_links}
+use Rattle.manifest_loading.specs.KeptPart.{left, along, AreAlike, IsState}
 use Rattle.manifest_loading.specs.Keeping.{Found}
 use Rattle.manifest_loading.specs.Ordered.{HasOrder}
 use Rattle.store_slices.specs.Reached.{IsReached}
@@ -134,7 +135,7 @@ nil_right [] = refl
 nil_right (e ∷ es) = ap (λ fs. e ∷ fs) (nil_right es)
 
 -- an entity is what a choice leaves, where it is but for ancestors, and has the same ones
-same_left : (k : Keep) (x : EntityUID) (d e : StoredEntity) → bare e ≡ bare (cut_entity k d) → e.ancestors ≡ (cut_entity k d).ancestors → e ≡ cut_entity k d
+same_left : (k : Keep) (x : EntityUID) (d e : StoredEntity) → without_links e ≡ without_links (cut_entity k d) → e.ancestors ≡ (cut_entity k d).ancestors → e ≡ cut_entity k d
 same_left k x d e h a i = record { uid = ap (λ z. z.uid) h i; attrs = ap (λ z. z.attrs) h i; ancestors = a i; tags = ap (λ z. z.tags) h i }
 
 module _ (exact : Bool) (ns : Table) (q : Request) (s : Store) (asked : List Place) (kept new : Found) (st : IsState exact ns q s asked [] kept) (order : HasOrder s)
@@ -250,14 +251,14 @@ module _ (exact : Bool) (ns : Table) (q : Request) (s : Store) (asked : List Pla
   found_left : (x : EntityUID) → new x ≡ left found_part x (entity_at s x)
   found_left x = by (cases (k.chains x [])) (new x) refl (entity_at s x) refl
     where
-      alike_left : option_map bare (new x) ≡ option_map bare (left k x (entity_at s x))
-      alike_left = alike x ∙ ap (option_map bare) (st.part.is x)
+      alike_left : option_map without_links (new x) ≡ option_map without_links (left k x (entity_at s x))
+      alike_left = alike x ∙ ap (option_map without_links) (st.part.is x)
 
       chosen : (f : k.chains x [] ≡ true) (e d : StoredEntity) → new x ≡ Some e → entity_at s x ≡ Some d → e ≡ cut_entity found_part d
       chosen f e d g h =
-          let both : Some (bare e) ≡ Some (bare (cut_entity k d)) = sym (ap (option_map bare) g) ∙ alike_left ∙ (λ i. option_map bare (if f i then option_map (cut_entity k) (h i) else None)) in
-          let same : bare e ≡ bare (cut_entity k d) = cc in
-          let whole_same : bare e ≡ bare (cut_entity found_part d) = same ∙ (λ i. record { uid = d.uid; attrs = cut_fields d.attrs (k.chains d.uid); ancestors = []; tags = sym (keyed d.tags (k.tags d.uid)) i }) in
+          let both : Some (without_links e) ≡ Some (without_links (cut_entity k d)) = sym (ap (option_map without_links) g) ∙ alike_left ∙ (λ i. option_map without_links (if f i then option_map (cut_entity k) (h i) else None)) in
+          let same : without_links e ≡ without_links (cut_entity k d) = cc in
+          let whole_same : without_links e ≡ without_links (cut_entity found_part d) = same ∙ (λ i. record { uid = d.uid; attrs = cut_fields d.attrs (k.chains d.uid); ancestors = []; tags = sym (keyed d.tags (k.tags d.uid)) i }) in
           let there : entity_at (part found_part s) x ≡ Some (cut_entity found_part d) = entity_at-part found_part s x f ∙ ap (option_map (cut_entity found_part)) h in
           same_left found_part x d e whole_same
           (same_sorted uid_cmp uid_cmp_total exact_uid e.ancestors (filter (found_part.ancestors d.uid) d.ancestors) (up x e g) (sorted_filtered (found_part.ancestors d.uid) d.ancestors (order.each x d h).ancestors)
@@ -265,11 +266,11 @@ module _ (exact : Bool) (ns : Table) (q : Request) (s : Store) (asked : List Pla
 
       by : (k.chains x [] ≡ true) ⊎ (k.chains x [] ≡ false) → (o : Option StoredEntity) → new x ≡ o → (p : Option StoredEntity) → entity_at s x ≡ p → new x ≡ left found_part x (entity_at s x)
       by (inl f) None g None h = g ∙ sym (λ i. if f i then option_map (cut_entity found_part) (h i) else None)
-      by (inl f) None g (Some d) h = let c = sym (ap (option_map bare) g) ∙ alike_left ∙ (λ i. option_map bare (if f i then option_map (cut_entity k) (h i) else None)) in absurd (cc c)
-      by (inl f) (Some e) g None h = let c = sym (ap (option_map bare) g) ∙ alike_left ∙ (λ i. option_map bare (if f i then option_map (cut_entity k) (h i) else None)) in absurd (cc c)
+      by (inl f) None g (Some d) h = let c = sym (ap (option_map without_links) g) ∙ alike_left ∙ (λ i. option_map without_links (if f i then option_map (cut_entity k) (h i) else None)) in absurd (cc c)
+      by (inl f) (Some e) g None h = let c = sym (ap (option_map without_links) g) ∙ alike_left ∙ (λ i. option_map without_links (if f i then option_map (cut_entity k) (h i) else None)) in absurd (cc c)
       by (inl f) (Some e) g (Some d) h = g ∙ ap Some (chosen f e d g h) ∙ sym (λ i. if f i then option_map (cut_entity found_part) (h i) else None)
       by (inr f) None g p h = g ∙ sym (λ i. if f i then option_map (cut_entity found_part) (entity_at s x) else None)
-      by (inr f) (Some e) g p h = let c = sym (ap (option_map bare) g) ∙ alike_left ∙ (λ i. option_map bare (if f i then option_map (cut_entity k) (entity_at s x) else None)) in absurd (cc c)
+      by (inr f) (Some e) g p h = let c = sym (ap (option_map without_links) g) ∙ alike_left ∙ (λ i. option_map without_links (if f i then option_map (cut_entity k) (entity_at s x) else None)) in absurd (cc c)
 
   module _ (ids : IsStrictlySortedBy uid_cmp (map (λ e. e.uid) s)) (found : Store) (at : (x : EntityUID) → entity_at found x ≡ new x) (found_ids : IsStrictlySortedBy uid_cmp (map (λ e. e.uid) found)) where
     is_part : found ≡ part found_part s

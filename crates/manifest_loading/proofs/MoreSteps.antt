@@ -21,7 +21,8 @@ use Rattle.plain_lemmas.proofs.Booleans.{or_false, or_left_true, or_of_cond, or_
 use Rattle.entity_loader.specs.Answers.{HasAncestor, IsHonestList}
 use Rattle.entity_loader.specs.declared.loader.AncestorsRequest.{AncestorsRequest}
 use Rattle.manifest_loading.specs.Joining.{lists, asks, brings, AreAscending, HasMore, IsJoined}
-use Rattle.manifest_loading.specs.KeptPart.{bare, AreAlike}
+use Rattle.entity_store.specs.FromParents.{without_links}
+use Rattle.manifest_loading.specs.KeptPart.{AreAlike}
 use Rattle.manifest_loading.specs.Keeping.{Found}
 use Rattle.manifest_loading.proofs.StoreSteps.{turned}
 
@@ -86,7 +87,7 @@ pub record IsAdding (old : Found) (rs : List AncestorsRequest) (ls : List (Vec E
   pub ascending : AreAscending old → AreAscending now
   pub fit : length rests ≡ length left
 
-pub same_some : (o p : Option StoredEntity) → option_map bare o ≡ option_map bare p → is_some o ≡ is_some p
+pub same_some : (o p : Option StoredEntity) → option_map without_links o ≡ option_map without_links p → is_some o ≡ is_some p
 same_some None None h = refl
 same_some None (Some e) h = absurd (cc)
 same_some (Some e) None h = absurd (cc)

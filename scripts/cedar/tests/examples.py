@@ -1,4 +1,5 @@
-"""The examples of examples/cedar/: from text and from JSON the same document but for places, and the answers of the one written by hand."""
+"""The examples of examples/cedar/: from text and from JSON the same document but for places, and the
+answers of the one written by hand."""
 import json
 
 from cedar.tests.shared import COMMANDS, EXAMPLES, make, plain, run, text_of, without_places
@@ -42,7 +43,9 @@ def test(program):
         by_hand = json.loads((folder / "document.json").read_text())
         by_hand["request"] = as_json.document["request"]
         documents = {"by hand": json.dumps(by_hand).encode(), "text": text_of(text), "JSON": text_of(as_json)}
-        wrong += answers(program, f"{name} {request}", documents, COMMANDS if request == "0" else (["request"], ["slice"]))
+        wrong += answers(
+            program, f"{name} {request}", documents, COMMANDS if request == "0" else (["request"], ["slice"])
+        )
         status, answer = run(program, ["decide"], documents["text"])
         found = json.loads(answer) if status == 0 else {}
         if (found.get("decision"), found.get("reasons")) != (decision, reasons):

@@ -1,22 +1,43 @@
-"""Random documents for the round trip, the same ones for the same seed. Most keep every rule; some policies have faults."""
+"""Random documents for the round trip, the same ones for the same seed. Most keep every rule; some
+policies have faults."""
 import random
 
 PRIMITIVES = ("Bool", "Long", "String", "decimal", "ipaddr", "datetime", "duration")
-TEXTS = ("", "a", "abc", "a*b", 'q"uote', "new\nline", "\u00e9\U0001f95d", "nul\0", "back\\slash", "tab\t", "'", "\u200b", "\x7f")
-EXTENSIONS = {"decimal": ("decimal", ("1.0", "-0.5", "922337203685477.5807")), "ipaddr": ("ip", ("10.0.0.1", "10.0.0.0/8", "::1", "ff00::/8")),
-              "datetime": ("datetime", ("2024-10-15", "1969-12-31T23:59:59.999-2359", "0000-02-29")),
-              "duration": ("duration", ("1d2h3m4s5ms", "-1h", "0s"))}
+TEXTS = (
+    "",
+    "a",
+    "abc",
+    "a*b",
+    'q"uote',
+    "new\nline",
+    "\u00e9\U0001f95d",
+    "nul\0",
+    "back\\slash",
+    "tab\t",
+    "'",
+    "\u200b",
+    "\x7f",
+)
+EXTENSIONS = {
+    "decimal": ("decimal", ("1.0", "-0.5", "922337203685477.5807")),
+    "ipaddr": ("ip", ("10.0.0.1", "10.0.0.0/8", "::1", "ff00::/8")),
+    "datetime": ("datetime", ("2024-10-15", "1969-12-31T23:59:59.999-2359", "0000-02-29")),
+    "duration": ("duration", ("1d2h3m4s5ms", "-1h", "0s")),
+}
 LONGS = (0, 1, -1, 7, 100, -100, 9223372036854775807, -9223372036854775808)
 ATTRIBUTES = ("a", "b", "name", "a b", "in", "permit", "\u00e9")
 TYPES = ("User", "Group", "N::Doc", "N::M::Box")
-PREDICATES = {"ipaddr": ("isIpv4", "isIpv6", "isLoopback", "isMulticast"), "decimal": ("lessThan", "greaterThanOrEqual")}
+PREDICATES = {
+    "ipaddr": ("isIpv4", "isIpv6", "isLoopback", "isMulticast"),
+    "decimal": ("lessThan", "greaterThanOrEqual"),
+}
 
 
 class Maker:
     def __init__(self, seed):
         self.r = random.Random(f"from-cedar {seed}")
         pick = self.r.random
-        self.types = list(TYPES[:self.r.randint(2, 4)])
+        self.types = list(TYPES[: self.r.randint(2, 4)])
         self.enum = self.r.sample(["red", "green", 'b"l'], 2) if pick() < 0.4 else None
         self.names = self.types + (["Colour"] if self.enum else [])
         self.above = {t: [u for u in self.names if pick() < 0.3] for t in self.types}
@@ -24,8 +45,10 @@ class Maker:
         self.tags = {t: self.type(1) for t in self.types if pick() < 0.4}
         kind = "N::Action" if pick() < 0.2 else "Action"
         self.actions = [[kind, eid] for eid in self.r.sample(["view", "edit", "read it", "all"], self.r.randint(2, 4))]
-        self.groups = {i: [b for b in self.actions[i + 1:] if pick() < 0.4] for i in range(len(self.actions))}
-        self.applies = [(self.r.choice(self.types), self.r.choice(self.names), self.attributes_of(2)) for _ in self.actions]
+        self.groups = {i: [b for b in self.actions[i + 1 :] if pick() < 0.4] for i in range(len(self.actions))}
+        self.applies = [
+            (self.r.choice(self.types), self.r.choice(self.names), self.attributes_of(2)) for _ in self.actions
+        ]
 
     # Types and values.
 
@@ -72,19 +95,31 @@ class Maker:
     # Expressions.
 
     def paths(self, env):
-        """What the request's variables hold: a path's expression, its type, and what has to be tested for it."""
+        """What the request's variables hold: a path's expression, its type, and what has to be tested
+        for it."""
         principal, resource, context = self.applies[env]
-        left = [({"var": "principal"}, {"entity": principal}, []), ({"var": "resource"}, {"entity": resource}, []),
-                ({"var": "context"}, {"record": context}, [])]
+        left = [
+            ({"var": "principal"}, {"entity": principal}, []),
+            ({"var": "resource"}, {"entity": resource}, []),
+            ({"var": "context"}, {"record": context}, []),
+        ]
         found = []
         while left and len(found) < 30:
             e, t, tests = left.pop(0)
             found.append((e, t, tests))
-            inner = self.attributes.get(t["entity"], {}) if isinstance(t, dict) and "entity" in t else t.get("record", {}) if isinstance(t, dict) else {}
+            inner = (
+                self.attributes.get(t["entity"], {})
+                if isinstance(t, dict) and "entity" in t
+                else t.get("record", {})
+                if isinstance(t, dict)
+                else {}
+            )
             for name, a in inner.items():
                 step = {"get": e["get"] + [name]} if "get" in e else {"get": [e, name]}
                 optional = isinstance(a, dict) and "optional" in a
-                left.append((step, a["optional"] if optional else a, tests + [{"has": [e, name]}] if optional else tests))
+                left.append(
+                    (step, a["optional"] if optional else a, tests + [{"has": [e, name]}] if optional else tests)
+                )
         return found
 
     def some(self, t, env):
@@ -117,16 +152,27 @@ class Maker:
     def structured(self, e, t, other, more):
         x = self.r.random()
         if "set" in t:
-            return ({"isEmpty": e}, []) if x < 0.3 else ({self.r.choice(["containsAll", "containsAny"]): [e, other]}, more)
+            return (
+                ({"isEmpty": e}, []) if x < 0.3 else ({self.r.choice(["containsAll", "containsAny"]): [e, other]}, more)
+            )
         if "record" in t:
             return {"has": [e, self.r.choice(ATTRIBUTES)]}, []
         if x < 0.3:
             return {"is": [e, self.r.choice(self.names)]}, []
         if x < 0.6:
-            return {"in": [e, [{"id": self.uid(n)} for n in self.names[:2]] if x < 0.4 else {"id": self.uid(self.r.choice(self.names))}]}, []
+            return {
+                "in": [
+                    e,
+                    [{"id": self.uid(n)} for n in self.names[:2]]
+                    if x < 0.4
+                    else {"id": self.uid(self.r.choice(self.names))},
+                ]
+            }, []
         if t["entity"] in self.tags and x < 0.9:
             tag = self.r.choice(TEXTS)
-            return {"all": [{"hasTag": [e, tag]}, {"==": [{"getTag": [e, tag]}, self.value(self.tags[t["entity"]], True)]}]}, []
+            return {
+                "all": [{"hasTag": [e, tag]}, {"==": [{"getTag": [e, tag]}, self.value(self.tags[t["entity"]], True)]}]
+            }, []
         return {"==": [e, other]}, more
 
     def boolean(self, env, depth):
@@ -143,8 +189,13 @@ class Maker:
 
     def policy(self, i):
         env = self.r.randrange(len(self.actions))
-        made = {"id": self.r.choice(["p", "a policy ", 'q" '] ) + str(i), "effect": self.r.choice(["permit", "permit", "forbid"]),
-                "principal": {"is": self.applies[env][0]}, "action": {"==": self.actions[env]}, "resource": {"is": self.applies[env][1]}}
+        made = {
+            "id": self.r.choice(["p", "a policy ", 'q" ']) + str(i),
+            "effect": self.r.choice(["permit", "permit", "forbid"]),
+            "principal": {"is": self.applies[env][0]},
+            "action": {"==": self.actions[env]},
+            "resource": {"is": self.applies[env][1]},
+        }
         for own, kind in zip(("principal", "resource"), self.applies[env]):
             x = self.r.random()
             if x < 0.2:
@@ -155,18 +206,30 @@ class Maker:
                 made[own] = {self.r.choice(["==", "in"]): self.uid(kind)}
         if self.r.random() < 0.2:
             made["action"] = {"in": [self.actions[env]] + self.r.sample(self.actions, 1)}
-        body = [{self.r.choice(["when", "unless"]): self.boolean(env, self.r.randint(0, 3))} for _ in range(self.r.randint(0, 2))]
+        body = [
+            {self.r.choice(["when", "unless"]): self.boolean(env, self.r.randint(0, 3))}
+            for _ in range(self.r.randint(0, 2))
+        ]
         return {**made, "body": body} if body else made
 
     def template(self, i):
         """A template, and a link of it."""
         made = self.policy(i)
-        kinds = dict(zip(("principal", "resource"), self.applies[self.actions.index(made["action"].get("==") or made["action"]["in"][0])]))
+        kinds = dict(
+            zip(
+                ("principal", "resource"),
+                self.applies[self.actions.index(made["action"].get("==") or made["action"]["in"][0])],
+            )
+        )
         link = {"id": f"link {i}", "link": made["id"]}
         for own in ("principal", "resource"):
             if self.r.random() < 0.6 or own == "resource" and len(link) == 2:
                 part = made.get(own, {})
-                made[own] = {"is": part["is"], "in": "?"} if "is" in part and self.r.random() < 0.4 else {self.r.choice(["==", "in"]): "?"}
+                made[own] = (
+                    {"is": part["is"], "in": "?"}
+                    if "is" in part and self.r.random() < 0.4
+                    else {self.r.choice(["==", "in"]): "?"}
+                )
                 link[own] = self.uid(kinds[own])
         return [made], [link]
 
@@ -184,14 +247,23 @@ class Maker:
         return made + [{"id": a, "parents": self.groups[i]} for i, a in enumerate(self.actions) if self.groups[i]]
 
     def schema(self):
-        types = {t: {"memberOf": self.above[t], "attributes": self.attributes[t], "tags": self.tags.get(t)} for t in self.types}
+        types = {
+            t: {"memberOf": self.above[t], "attributes": self.attributes[t], "tags": self.tags.get(t)}
+            for t in self.types
+        }
         types = {t: {k: x for k, x in parts.items() if x} for t, parts in types.items()}
         if self.enum:
             types["Colour"] = {"enum": self.enum}
         actions = []
         for i, a in enumerate(self.actions):
             principal, resource, context = self.applies[i]
-            made = {"id": a, "principals": [principal], "resources": [resource], "context": context, "memberOf": self.groups[i]}
+            made = {
+                "id": a,
+                "principals": [principal],
+                "resources": [resource],
+                "context": context,
+                "memberOf": self.groups[i],
+            }
             actions.append({k: x for k, x in made.items() if x})
         return {"entityTypes": types, "actions": actions}
 
@@ -203,7 +275,12 @@ class Maker:
         policies = [self.policy(i) for i in range(self.r.randint(1, 4))] + templates + links
         env = self.r.randrange(len(self.actions))
         principal, resource, context = self.applies[env]
-        request = {"principal": self.uid(principal), "action": self.actions[env], "resource": self.uid(resource), "context": self.values(context)}
+        request = {
+            "principal": self.uid(principal),
+            "action": self.actions[env],
+            "resource": self.uid(resource),
+            "context": self.values(context),
+        }
         return {"schema": self.schema(), "policies": policies, "entities": self.entities(), "request": request}
 
 

@@ -1,4 +1,5 @@
-"""What texts are read as: conditions, scopes and schemas with what is due by hand; texts of extension values, which the program takes or not."""
+"""What texts are read as: conditions, scopes and schemas with what is due by hand; texts of extension
+values, which the program takes or not."""
 import json
 
 from cedar.extensions import stands_for_value

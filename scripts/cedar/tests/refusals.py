@@ -18,11 +18,11 @@ def est(body):
 CONDITIONS = (
     ("1 < 2 < 3", 7, "don't follow one another"),
     ("principal has age == true", 19, "don't follow one another"),
-    ("principal = resource", 11, "`==` is due"),
+    ("principal = resource", 11, "expected `==`"),
     ("4 / 2 == 2", 3, "no `/`"),
     ("4 % 2 == 0", 3, "no `%`"),
     ("!!!!!true", 5, "more than four"),
-    ("!-1 == 2", 2, "parentheses are due"),
+    ("!-1 == 2", 2, "parentheses are needed"),
     ("9223372036854775808 == 1", 1, "outside 64 bits"),
     ("-9223372036854775809 == 1", 1, "outside 64 bits"),
     ("principal == User", 14, "`User` is no variable"),
@@ -38,25 +38,25 @@ CONDITIONS = (
     ("principal has if", 15, "reserved word"),
     ("{if: 1} == {}", 2, "reserved word"),
     ("{a: 1, a: 2} == {}", 8, "two members `a`"),
-    ("principal[age]", 11, "in quotes is due"),
-    ("principal[\"age\" + 1]", 17, "`]` is due"),
-    ("principal.name like name", 21, "a pattern in quotes is due"),
+    ("principal[age]", 11, "in quotes"),
+    ("principal[\"age\" + 1]", 17, "expected `]`"),
+    ("principal.name like name", 21, "expected a pattern in quotes"),
     ("\"a\\*b\" == \"\"", 3, "in a pattern of `like` alone"),
     ("\"\\q\" == \"\"", 2, "no escape"),
     ("\"\\u{d800}\" == \"\"", 2, "no escape"),
     ("\"\\u{1234567}\" == \"\"", 2, "no escape"),
     ("\"\\x80\" == \"\"", 2, "no escape"),
     ("\"a\" like \"b\\x2a\"", 12, "a star in a pattern"),
-    ("principal is \"User\"", 14, "a type is due"),
-    ("principal is User::\"a\"", 14, "not an entity"),
-    ("true && if true then true else true", 9, "parentheses are due"),
-    ("if true then true", 19, "`else` is due"),
-    ("", 2, "an expression is due"),
-    ("true true", 6, "`}` is due"),
-    ("User::{a: 1} == 1", 7, "an expression is due"),
+    ("principal is \"User\"", 14, "expected a type"),
+    ("principal is User::\"a\"", 14, "found an entity"),
+    ("true && if true then true else true", 9, "parentheses are needed"),
+    ("if true then true", 19, "expected `else`"),
+    ("", 2, "expected an expression"),
+    ("true true", 6, "expected `}`"),
+    ("User::{a: 1} == 1", 7, "expected an expression"),
     ("a::b == 1", 1, "no variable"),
-    ("(1 + 2", 8, "`)` is due"),
-    ("[1, 2", 7, "`]` is due"),
+    ("(1 + 2", 8, "expected `)`"),
+    ("[1, 2", 7, "expected `]`"),
     ("principal # 1", 11, "the character '#'"),
     ("__cedar::User::\"a\" == principal", 1, "reserved word"),
     ("principal(1)", 1, "no function `principal`"),
@@ -65,18 +65,18 @@ CONDITIONS = (
     ("true &", 6, "the character '&'"),
 )
 POLICIES = (
-    ("permit (principal, action);", "1:26", "`,` is due"),
-    ("permit (principal, action, resource)", "1:37", "`;` is due, not the end"),
+    ("permit (principal, action);", "1:26", "expected `,`"),
+    ("permit (principal, action, resource)", "1:37", "expected `;`, found the end"),
     ("allow (principal, action, resource);", "1:1", "`permit` or `forbid`"),
-    ("permit (resource, action, principal);", "1:9", "`principal` is due"),
+    ("permit (resource, action, principal);", "1:9", "expected `principal`"),
     ("permit (principal: User, action, resource);", "1:18", "an old form"),
     ("permit (principal == ?resource, action, resource);", "1:22", "has no place in the part of principal"),
     ("permit (principal, action == ?action, resource);", "1:30", "has no place in the part of action"),
-    ("permit (principal in [User::\"a\"], action, resource);", "1:22", "an entity is due"),
-    ("permit (principal, action is Action, resource);", "1:27", "`,` is due"),
+    ("permit (principal in [User::\"a\"], action, resource);", "1:22", "expected an entity"),
+    ("permit (principal, action is Action, resource);", "1:27", "expected `,`"),
     ("permit (principal, action == User::\"a\", resource);", "1:30", "an action's type"),
     ("permit (principal == User, action, resource);", "1:22", "an entity as"),
-    ("permit (principal, action, resource) if { true };", "1:38", "`;` is due"),
+    ("permit (principal, action, resource) if { true };", "1:38", "expected `;`"),
     ("@id(x) " + POLICY, "1:5", "a text in quotes"),
     ("@id " + POLICY, "1:2", "`@id` without a text"),
     ("@a(\"\") @a(\"\") " + POLICY, "1:9", "stands twice"),
@@ -106,7 +106,7 @@ POLICIES = (
     (est('{"foo": [{"Value": 1}]}'), ": conditions[0].body.foo", "no counterpart"),
     (est('{"Value": {"__extn": {"fn": "offset", "args": [1, 2]}}}'), ": conditions[0].body.Value", "is no value here"),
     (est('{"is": {"left": {"Var": "principal"}, "entity_type": "in"}}'), ": conditions[0].body.is.entity_type", "no name"),
-    (est('{"Value": 1}').replace('"when"', '["when"]'), ": conditions[0].kind", "`when` or `unless` is due"),
+    (est('{"Value": 1}').replace('"when"', '["when"]'), ": conditions[0].kind", "expected `when` or `unless`"),
     (est('{"Value": 1}').replace('"principal": {"op": "All"}', '"principal": {"op": "==", "slot": "?resource"}'), ": principal.slot", "has no place"),
     (est('{"Value": 1}').replace('"action": {"op": "All"}', '"action": {"op": "is", "entity_type": "Action"}'), ": action", "no part of a scope"),
     (est('{"Value": "\\ud800"}'), ": conditions[0].body.Value", "surrogate"),
@@ -114,7 +114,7 @@ POLICIES = (
     (est('{"Value": ' + "[" * 5000 + "]" * 5000 + "}"), "", "nests deeper than 1000"),
 )
 SCHEMAS = (
-    ("entity User", "1:12", "`;` is due"),
+    ("entity User", "1:12", "expected `;`"),
     ("entity in;", "1:8", "reserved word"),
     ("entity User; entity User;", "1:21", "declared twice"),
     ("entity User { a: Strin };", "1:18", "no type `Strin`"),
@@ -129,13 +129,13 @@ SCHEMAS = (
     ("action a appliesTo { principal: U };", "1:20", "`resource` is missing"),
     ("entity U; action a appliesTo { principal: U, principal: U, resource: U };", "1:46", "stands twice"),
     ("action a attributes { x: Long };", "1:10", "no counterpart"),
-    ("entity U; action a appliesTo { principal: U, resource: U, context: Long };", "1:68", "a record type is due"),
+    ("entity U; action a appliesTo { principal: U, resource: U, context: Long };", "1:68", "expected a record type"),
     ("entity U; namespace N { entity U; }", "1:32", "hides `U`"),
     ("action a; namespace N { action a; }", "1:32", "hides Action::\"a\""),
     ("namespace N { } namespace N { }", "1:27", "stands twice"),
-    ("namespace N { entity U", "1:23", "`;` is due"),
-    ("class U;", "1:1", "`namespace` is due"),
-    ("entity U { a: Set<Long };", "1:24", "`>` is due"),
+    ("namespace N { entity U", "1:23", "expected `;`"),
+    ("class U;", "1:1", "or `namespace`"),
+    ("entity U { a: Set<Long };", "1:24", "expected `>`"),
     ("entity U { a: " + "Set<" * 300, "", "nests deeper than 200"),
     ('{"": {"entityTypes": {"U": {"shape": {"type": "Record", "attributes": {"x": {"type": "Nope"}}}}}}}',
      '1:86: [""].entityTypes.U.shape.attributes.x.type',
@@ -147,12 +147,12 @@ SCHEMAS = (
     ('{"": {"entityTypes": {"U": {"shape": {"type": "Extension", "name": "ip"}}}}}', '1:68: [""].entityTypes.U.shape.name', "no extension type"),
     ('{"": {"things": {}}}', '1:17: [""].things', "no counterpart"),
     ('{"a b": {}}', '1:9: ["a b"]', "no name of a namespace"),
-    ("[]", "1:1", "an object is due"),
+    ("[]", "1:1", "expected an object"),
 )
 ENTITIES = (
     ("{}", "1:1", "a list of entities"),
     ("[{}]", "1:2: [0]", "`uid` is missing"),
-    ('[{"uid": "User::\\"a\\""}]', "1:10: [0].uid", "an entity's id is due"),
+    ('[{"uid": "User::\\"a\\""}]', "1:10: [0].uid", "expected an entity's id"),
     (f"[{ENTITY}, {ENTITY}]", "1:84: [1].uid", "two entities have this id"),
     ('[{"uid": {"type": "User", "id": "a"}, "attrs": {"age": 1.5}}]', "1:56: [0].attrs.age", "no whole number"),
     ('[{"uid": {"type": "User", "id": "a"}, "attrs": {"age": null}}]', "1:56: [0].attrs.age", "`null`"),
@@ -162,7 +162,7 @@ ENTITIES = (
     ('[{"uid": {"type": "User", "id": "a", "x": 1}}]', "1:43: [0].uid.x", "no counterpart"),
     ('[{"uid": {"type": "if", "id": "a"}}]', "1:19: [0].uid.type", "no name"),
     ('[{"uid": {"type": "User", "id": "a"}, "parents": {}}]', "1:50: [0].parents", "a list of ids"),
-    ('[{"uid": {"type": "User", "id": "a"}, "attrs": []}]', "1:48: [0].attrs", "an object is due"),
+    ('[{"uid": {"type": "User", "id": "a"}, "attrs": []}]', "1:48: [0].attrs", "expected an object"),
     ("entity", "1:1", "no JSON"),
     ('[{"uid": {"type": "User", "id": "a"}, "attrs": {"x": ' + "[" * 130 + "]" * 130 + "}}]", "1:1", "nests deeper than 127"),
     ('[{"uid": {"type": "User", "id": "a"}, "attrs": {"age": -0}}]', "1:56: [0].attrs.age", "-0 is no whole number"),
@@ -170,7 +170,7 @@ ENTITIES = (
 REQUEST = '{"principal": "User::\\"a\\"", "action": "Action::\\"view\\"", "resource": "Doc::\\"d\\"", "context": %s}'
 REQUESTS = (
     ("{}", "1:1", "`principal` is missing"),
-    (REQUEST % "[]", "1:97: context", "an object is due"),
+    (REQUEST % "[]", "1:97: context", "expected an object"),
     (REQUEST % '{"ip": "10.0.0.256"}', "1:104: context.ip", "no text of `ip`"),
     (REQUEST % '{"ip": {"fn": "ip", "arg": 1}}', "1:104: context.ip", "is no value here"),
     ((REQUEST % "{}").replace("User::", "User:"), "1:15: principal", "as User::"),
@@ -181,10 +181,10 @@ LINKS = (
     ('[{"templateId": "t", "newId": "l", "values": {}}]', "1:2: [0]", "no template with the id `t`"),
     ('[{"templateId": "policy0", "newId": "l", "values": {}}]', "1:2: [0]", "no template"),
     ("{}", "1:1", "a list of links"),
-    ('[{"template_id": "policy1", "link_id": "l", "args": {}}]', "1:2: [0]", "values for `?principal` are due"),
+    ('[{"template_id": "policy1", "link_id": "l", "args": {}}]', "1:2: [0]", "expected values for `?principal`"),
     ('[{"template_id": "policy1", "link_id": "l", "args": {"?x": "User::\\"a\\""}}]', '1:60: [0].args["?x"]', "a slot is"),
     ('[{"template_id": "policy1", "link_id": "policy0", "args": {"?principal": "User::\\"a\\""}}]', "1:2: [0]", "two policies have the id `policy0`"),
-    ('[{"template_id": "policy1", "link_id": 1, "args": {}}]', "1:40: [0].link_id", "a text is due"),
+    ('[{"template_id": "policy1", "link_id": 1, "args": {}}]', "1:40: [0].link_id", "expected a text"),
 )
 # Files with several faults: all are told, and nothing that follows from one of them alone.
 SEVERAL = (
@@ -196,7 +196,7 @@ TEMPLATE = POLICY + "permit (principal == ?principal, action, resource);"
 
 
 def cases():
-    """The files of each case, the one with the fault, and what is due."""
+    """The files of each case, the one with the fault, and what is expected."""
     for text, column, words in CONDITIONS:
         yield {"schema": SCHEMA, "policies": when(text)}, "policies", f"1:{column + 44}", words
     for rows, word, also in ((POLICIES, "policies", {}), (SCHEMAS, "schema", {}), (ENTITIES, "entities", {}), (REQUESTS, "request", {}), (LINKS, "links", {"policies": TEMPLATE})):
@@ -212,10 +212,10 @@ def test(_):
         lines = [line for line in make(given).lines if ": refused: " in line]
         front = place if place[:1] in (":", "") else f"{word}:{place}: refused"
         if not any(line.startswith(word) and front in line and words in line for line in lines):
-            wrong.append(f"{given[word] if word in given else given}: {lines}, and {word}:{place} {words} is due")
+            wrong.append(f"expected {given[word] if word in given else given}: {lines}, and {word}:{place} {words}")
     for word, text, due in SEVERAL:
         count += 1
         lines = [line for line in make({"schema": SCHEMA, word: text}).lines if ": refused: " in line]
         if len(lines) != due:
-            wrong.append(f"{text}: {due} refusals are due: {lines}")
+            wrong.append(f"expected {text}: {due} refusals: {lines}")
     return count, wrong

@@ -1,4 +1,5 @@
-"""Random documents, to Cedar's JSON and to its text and back: the same document but for places, and the same answers."""
+"""Random documents, to Cedar's JSON and to its text and back: the same document but for places, and the
+same answers."""
 import json
 
 from cedar import to_command
@@ -19,12 +20,28 @@ def to_cedar(d, as_json):
 
 # What Cedar has no words for: a part, members of the document, and words of what is told.
 UNSAYABLE = (
-    ("policies", {"policies": [{"id": "p", "effect": "permit", "body": [{"when": {"call": ["foo", 1]}}]}]}, "policies[0]: Cedar has no `foo`"),
-    ("policies", {"policies": [{"id": "p", "effect": "permit", "principal": {"==": ["if", "a"]}}]}, "`if` is no name of Cedar"),
-    ("policies", {"policies": [{"id": "p", "effect": "permit"}, {"id": "q"}]}, "policies[1]: not of the document's form"),
+    (
+        "policies",
+        {"policies": [{"id": "p", "effect": "permit", "body": [{"when": {"call": ["foo", 1]}}]}]},
+        "policies[0]: Cedar has no `foo`",
+    ),
+    (
+        "policies",
+        {"policies": [{"id": "p", "effect": "permit", "principal": {"==": ["if", "a"]}}]},
+        "`if` is no name of Cedar",
+    ),
+    (
+        "policies",
+        {"policies": [{"id": "p", "effect": "permit"}, {"id": "q"}]},
+        "policies[1]: not of the document's form",
+    ),
     ("schema", {"schema": {"actions": [{"id": ["Deed", "a"]}]}}, "Deed"),
     ("schema", {"schema": {"entityTypes": {"in": {}}}}, "`in` is no name of Cedar"),
-    ("entities", {"entities": [{"id": ["U", "a"], "attrs": {"t": {"datetime": 253402300800000}}}]}, "entities[0]: a datetime outside the years"),
+    (
+        "entities",
+        {"entities": [{"id": ["U", "a"], "attrs": {"t": {"datetime": 253402300800000}}}]},
+        "entities[0]: a datetime outside the years",
+    ),
     ("entities", {"entities": [{"id": ["U", "a"], "attrs": {"t": {"record": {"__expr": 1}}}}]}, "means something else"),
     ("request", {}, "request: an unknown principal"),
 )
@@ -44,12 +61,19 @@ def unsayable():
 
 
 def instants(program):
-    """Datetimes as milliseconds, through their texts: what `slice` writes of them has to be the same."""
+    """Datetimes as milliseconds, through their texts: what `slice` writes of them has to be the
+    same."""
     for milliseconds in INSTANTS:
         t = {"get": [{"var": "principal"}, "t"]}
-        d = {"schema": {"entityTypes": {"U": {"attributes": {"t": "datetime"}}}, "actions": [{"id": ["Action", "a"], "principals": ["U"], "resources": ["U"]}]},
-             "policies": [{"id": "p", "effect": "permit", "body": [{"when": {"==": [t, t]}}]}], "entities": [{"id": ["U", "a"], "attrs": {"t": {"datetime": milliseconds}}}],
-             "request": {"principal": ["U", "a"], "action": ["Action", "a"], "resource": ["U", "b"], "context": {}}}
+        d = {
+            "schema": {
+                "entityTypes": {"U": {"attributes": {"t": "datetime"}}},
+                "actions": [{"id": ["Action", "a"], "principals": ["U"], "resources": ["U"]}],
+            },
+            "policies": [{"id": "p", "effect": "permit", "body": [{"when": {"==": [t, t]}}]}],
+            "entities": [{"id": ["U", "a"], "attrs": {"t": {"datetime": milliseconds}}}],
+            "request": {"principal": ["U", "a"], "action": ["Action", "a"], "resource": ["U", "b"], "context": {}},
+        }
         due, back = run(program, ["slice"], json.dumps(d).encode()), text_of(make(to_cedar(d, True)))
         if due[0] != 0 or run(program, ["slice"], back) != due:
             yield f"{milliseconds}: {due}: {back}"

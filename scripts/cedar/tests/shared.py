@@ -1,4 +1,5 @@
-"""What the tests share: making documents of texts, running the program, and documents without places."""
+"""What the tests share: making documents of texts, running the program, and documents without
+places."""
 import os
 import pathlib
 import re
@@ -42,7 +43,8 @@ def run(program, command, document):
 
 
 def without_places(answer):
-    """An answer without places, each of its lines once, and without the count of findings: without places equal ones are one."""
+    """An answer without places, each of its lines once, and without the count of findings: without
+    places equal ones are one."""
     status, text = answer
     lines = PLACE.sub(rb"\1:", text).split(b"\n")
     return status, list(dict.fromkeys(COUNT.sub(b"errors", line) for line in lines))
@@ -59,7 +61,13 @@ def plain(value):
     made = {k: plain(x) for k, x in value.items()}
     for form, index in (("all", 0), ("any", 0), ("get", 0), ("if", -1)):
         inner = made.get(form)
-        while set(made) == {form} and isinstance(inner, list) and inner and isinstance(inner[index], dict) and set(inner[index]) == {form}:
+        while (
+            set(made) == {form}
+            and isinstance(inner, list)
+            and inner
+            and isinstance(inner[index], dict)
+            and set(inner[index]) == {form}
+        ):
             inner = inner[index][form] + inner[1:] if index == 0 else inner[:-1] + inner[index][form]
             made[form] = inner
     return made
