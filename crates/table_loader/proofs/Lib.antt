@@ -1,0 +1,3 @@
+mod Uids
+pub mod Stores
+mod Written
