@@ -31,7 +31,7 @@ use Rattle.reads_spec.specs.Paths.{AccessPath, Demand, Shape, paths, extended, a
 use Rattle.reads_spec.specs.PathTypes.{path_type}
 use Rattle.reads_spec.specs.Reads.{binary_shape, shape_of, shapes_of_named, pairs, binary_demands, demands, demands_all, demands_named}
 use Rattle.reads_spec.proofs.Lists.{IsIn}
-use Rattle.entity_manifest.specs.Declared.{is_of_ids}
+use Rattle.entity_manifest.specs.DeclaredPaths.{is_of_ids}
 use Rattle.entity_manifest.proofs.Below.{is_plain, Below, below_self, join_above}
 use Rattle.entity_manifest.proofs.Shapes.{in_append, OfShape, OfFields, AreOfIds, shape_above, field_shapes, tag_shapes, paths_to_ids}
 

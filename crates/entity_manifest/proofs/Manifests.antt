@@ -32,7 +32,7 @@ use Rattle.policy_validate.specs.Typed.{typed_conditions}
 use Rattle.store_slices.proofs.LeastSteps.{declared_trie}
 use Rattle.manifest_core.specs.Manifest.{Manifest, trie_for}
 use Rattle.manifest_computation.specs.Computed.{IsEntryOf, IsManifestOf}
-use Rattle.entity_manifest.specs.Declared.{IsDeclaredTrie}
+use Rattle.entity_manifest.specs.DeclaredPaths.{IsDeclaredTrie}
 use Rattle.entity_manifest.specs.Computed.{ComputedTriesAreDeclared}
 use Rattle.entity_manifest.proofs.Conditions.{Asks, AsksIds, asks_both, none_asked, types_fine}
 

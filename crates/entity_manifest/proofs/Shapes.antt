@@ -14,7 +14,7 @@ use Rattle.reads_spec.specs.Paths.{Step, along, any_tag, AccessPath, beyond, Sha
 use Rattle.reads_spec.specs.PathTypes.{step_on, root_type, path_type}
 use Rattle.reads_spec.proofs.Fitting.{types_along-append}
 use Rattle.reads_spec.proofs.Lists.{IsIn}
-use Rattle.entity_manifest.specs.Declared.{is_of_ids}
+use Rattle.entity_manifest.specs.DeclaredPaths.{is_of_ids}
 use Rattle.entity_manifest.proofs.Below.{is_plain, Below, AttrsBelow, below_self, below_trans, below_plain, attr_below}
 
 pub in_append : {A : Type 0} (y : A) (xs ys : List A) → IsIn y (xs ++ ys) → IsIn y xs ⊎ IsIn y ys

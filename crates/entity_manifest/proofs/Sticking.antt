@@ -34,7 +34,7 @@ use Rattle.trie_traversal.specs.Wants.{Test}
 use Rattle.store_slices.specs.Reached.{IsReached}
 use Rattle.manifest_loading.specs.Right.{IsStuck}
 use Rattle.store_slices.specs.Blocked.{IsBlockedInStore}
-use Rattle.entity_manifest.specs.Declared.{is_of_ids, IsDeclaredTrie}
+use Rattle.entity_manifest.specs.DeclaredPaths.{is_of_ids, IsDeclaredTrie}
 use Rattle.entity_manifest.proofs.Below.{is_plain}
 use Rattle.entity_manifest.proofs.Having.{Has, HaveAll, HaveOne, EntityHas, have_cut, one_cut, walk_has}
 use Rattle.store_slices.proofs.LeastSteps.{map_append}

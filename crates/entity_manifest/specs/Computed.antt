@@ -21,7 +21,7 @@ use Rattle.manifest_loading.specs.declared.error.EntitySliceError.TheVariants.{O
 use Rattle.store_slices.specs.Blocked.{IsBlocked}
 use Rattle.manifest_core.specs.Manifest.{Manifest, trie_for}
 use Rattle.manifest_computation.specs.Computed.{IsManifestOf}
-use Rattle.entity_manifest.specs.Declared.{IsDeclaredTrie}
+use Rattle.entity_manifest.specs.DeclaredPaths.{IsDeclaredTrie}
 
 -- the trie of exactly what typed conditions read and ask for has declared paths alone, and asks only ids for ancestors
 abbrev pub ComputedTriesAreDeclared : Type 0

@@ -1,3 +1,3 @@
-pub mod Declared
+pub mod DeclaredPaths
 pub mod Sticking
 pub mod Computed

@@ -9,7 +9,7 @@ use Rattle.schema_core.specs.Schema.{SchemaData}
 use Rattle.typing_spec.specs.Conforms.{RequestConforms, StoreConforms, IsOf}
 use Rattle.manifest_loading.specs.Right.{SticksAt}
 use Rattle.store_slices.specs.Blocked.{IsBlocked}
-use Rattle.entity_manifest.specs.Declared.{IsDeclaredTrie}
+use Rattle.entity_manifest.specs.DeclaredPaths.{IsDeclaredTrie}
 
 -- where the request, of the environment, and the store conform, a trie whose paths are declared there sticks at no value
 abbrev pub NothingSticks : Type 0
