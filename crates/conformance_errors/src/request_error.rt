@@ -2,7 +2,7 @@
 
 use entity_store::Context;
 use findings::InvalidEnumEntityError;
-use policy_names::{EntityType, EntityUID, Text};
+use policy_names::{EntityType, EntityUID, Quoted, Text};
 use std::alloc::AllocError;
 use std::marker::Model;
 use thiserror::Error;
@@ -104,7 +104,7 @@ pub enum RequestValidationError {
     #[error(transparent)]
     InvalidResourceType(InvalidResourceTypeError),
     /// An enumerated type does not list an id: of the principal, the resource, or in the context.
-    #[error("`{}` is not listed", .0.uid)]
+    #[error("entity `{}` is of an enumerated entity type, but `\"{}\"` is not declared as a valid eid", .0.uid, Quoted(.0.uid.eid.as_text()))]
     InvalidEnumEntity(InvalidEnumEntityError),
     /// The context is not of the type that the action declares.
     #[error(transparent)]

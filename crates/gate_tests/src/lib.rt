@@ -12,6 +12,8 @@ mod documents;
 #[cfg(test)]
 mod expressions;
 #[cfg(test)]
+mod hostile;
+#[cfg(test)]
 mod runs;
 #[cfg(test)]
 mod schemas;

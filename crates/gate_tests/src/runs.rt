@@ -7,6 +7,10 @@ use std::test::Fail;
 const USAGE: &str =
     "usage: check | level N | request | manifest | slice | decide | sample SEED SIZE\n";
 
+// The same, with a bar for the end of the line.
+pub(crate) const USAGE_LINE: &str =
+    "usage: check | level N | request | manifest | slice | decide | sample SEED SIZE|";
+
 fn owned(alloc: Global, words: &[&str]) -> Result<Vec<String>, Fail> {
     let mut owned = Vec::new(alloc);
     for word in words {

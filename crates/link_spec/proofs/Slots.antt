@@ -34,14 +34,14 @@ module _ (schema : SchemaData) (a : ActionData) (e : Environment) (p r p' r' : O
   abbrev other : EnvData
   other = linked_env a e p' r'
 
-  same_variable : (v : Var) → type_of_variable schema this v ≡ type_of_variable schema other v
+  pub same_variable : (v : Var) → type_of_variable schema this v ≡ type_of_variable schema other v
   same_variable Principal = refl
   same_variable Action = refl
   same_variable Resource = refl
   same_variable Context = refl
 
   module _ {A : Type 0} where
-    same_known : (x : Tree A) → known_id this x ≡ known_id other x
+    pub same_known : (x : Tree A) → known_id this x ≡ known_id other x
     same_known (lit (literal.EntityUID u) m) = refl
     same_known (var Action m) = refl
     same_known x = refl
@@ -62,7 +62,7 @@ module _ (schema : SchemaData) (a : ActionData) (e : Environment) (p r p' r' : O
     same_in : (x y : Tree A) (t u : Ty) → in_type schema this x y t u ≡ in_type schema other x y t u
     same_in x y t u = λ i. if is_entity t && (is_entity u || is_entity_set u) then Some (option_map_or (λ us. same_in_listed x us i) (same_listed y i) bool_type) else None
 
-    same_binary : (o : BinaryOp) (known : Bool) (x y : Tree A) (t u : Ty) → binary_type schema this o known x y t u ≡ binary_type schema other o known x y t u
+    pub same_binary : (o : BinaryOp) (known : Bool) (x y : Tree A) (t u : Ty) → binary_type schema this o known x y t u ≡ binary_type schema other o known x y t u
     same_binary Eq known x y t u = λ i. equal_type (same_known x i) (same_known y i) t u
     same_binary In known x y t u = same_in x y t u
     same_binary o known x y t u = refl

@@ -1,3 +1,4 @@
 mod Ascending
 mod Entries
+mod Settled
 pub mod Additions

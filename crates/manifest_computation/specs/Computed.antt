@@ -3,7 +3,7 @@ use Rattle.std.specs.Prelude.{◌≡◌, ⊤, List, [], Some}
 use Rattle.std.specs.List.{AllZip}
 use Rattle.entity_store.specs.declared.request.RequestType.{RequestType}
 use Rattle.access_tries.specs.Paths.{IsLeast}
-use Rattle.access_tries.specs.Table.{Table}
+use Rattle.access_tries.specs.Table.{Table, IsTable}
 use Rattle.schema_core.specs.EnvData.{EnvData, request_type_in, unlinked_envs}
 use Rattle.schema_core.specs.Schema.{SchemaData}
 use Rattle.typing_spec.specs.Typing.{Typed}
@@ -17,10 +17,12 @@ use Rattle.manifest_computation.specs.declared.error.EntityManifestError.{Entity
 use Rattle.manifest_computation.specs.declared.error.EntityManifestError.TheVariants.{Validation, OutOfMemory}
 
 module _ (schema : SchemaData) where
-  -- of an environment: its request type, with the trie of exactly what these typed conditions read and ask for there
+  -- of an environment: its request type, with the trie of exactly what these typed conditions read and ask for there, as a table in order, so
+  -- that each path stands once and no node leads anywhere else
   pub record IsEntryOf (env : EnvData) (ts : List Typed) (e : RequestType × Table) : Type 0 where
     pub request_type : request_type_in env ≡ Some e.0
     pub trie : IsLeast (declared_reads schema env ts) (declared_demands schema env ts) e.1
+    pub table : IsTable e.1
 
   -- without policies there is no entry; else there is one for each environment of the schema, in their order
   abbrev pub IsManifestOf : List PolicyData → Manifest → Type 0

@@ -1,3 +1,4 @@
 pub mod Computed
 pub mod Found
 pub mod Gathered
+pub mod Laws

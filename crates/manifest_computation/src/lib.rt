@@ -4,6 +4,7 @@
 mod compute;
 mod error;
 mod gathering;
+pub mod laws;
 mod tries;
 
 pub use compute::compute_entity_manifest;

@@ -35,7 +35,10 @@ pub(crate) fn tries_of(
     let mut tries = BTreeMap::new(alloc);
     for env in &envs {
         match trie_of_policies(alloc, schema, typechecker, env, policies)? {
-            Some(trie) => add_trie_of(env, trie, &mut tries)?,
+            Some(trie) => {
+                let _nodes = trie.nodes();
+                add_trie_of(env, trie, &mut tries)?;
+            }
             None => return Ok(None),
         }
     }

@@ -6,7 +6,7 @@ use thiserror::Error;
 
 /// The schema does not declare an entity or an action.
 #[derive(Debug, Drop, Error)]
-#[error("entity manifest doesn't match schema. Schema is missing entity UID. Either you wrote an entity manifest by hand (not recommended) or you are using an out-of-date entity manifest with respect to the schema")]
+#[error("entity manifest doesn't match schema. Schema is missing entity {entity}. Either you wrote an entity manifest by hand (not recommended) or you are using an out-of-date entity manifest with respect to the schema")]
 pub struct MismatchedMissingEntityError {
     /// The id.
     pub entity: EntityUID,

@@ -17,8 +17,9 @@ use Rattle.store_slices.specs.Tries.{IsTrieOf}
 abbrev pub trie_or_none : Option Table → Table
 trie_or_none o = unwrap_or o []
 
--- no path of the trie is blocked, and the store is the one restricted to what the trie is of
+-- each entry of the request is known, no path of the trie is blocked, and the store is the one restricted to what the trie is of
 pub record IsSlice (t : Table) (q : Request) (s sliced : Store) : Type 0 where
+  pub whole : IsWhole q
   pub free : (u : Val) → ¬ IsBlocked t q s u
   pub restricted : (reads : List AccessPath) (demands : List Demand) → IsTrieOf reads demands t → sliced ≡ restrict reads demands q s
 

@@ -21,7 +21,7 @@ pub struct IncompatibleEntityManifestError {
 
 /// The loader gave more or fewer entities than were asked for.
 #[derive(Debug, Drop, Error)]
-#[error("expected {expected} entities, got {got}")]
+#[error("entity loader returned the wrong number of entities. Expected {expected} but got {got} entities")]
 pub struct WrongNumberOfEntitiesError {
     /// How many ids were asked for.
     pub expected: usize,

@@ -1,3 +1,4 @@
 pub mod Literals
 pub mod Names
+pub mod PlainScope
 pub mod Scope

@@ -2,6 +2,7 @@
 #![tactic(auto)]
 
 mod names;
+mod plain_scope;
 mod scope;
 
 pub use finding_messages::{Diagnostic, ValidationResult, add_help, findings_text};
@@ -18,4 +19,8 @@ pub use names::{
     unrecognized_action_id_help, validate_action_ids, validate_entity_types,
     validate_entity_types_in_slots, validate_enum_entity,
 };
-pub use scope::{validate_linked_action_application, validate_template_action_application};
+pub use plain_scope::is_plain_scope;
+pub use scope::{
+    action_meets, type_meets, validate_linked_action_application,
+    validate_template_action_application,
+};

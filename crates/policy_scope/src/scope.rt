@@ -100,8 +100,9 @@ fn some_action_meets(
     false
 }
 
-// Whether the action meets the part for the action.
-fn action_meets(
+/// Whether the action meets what a scope asks of the action: it is the named one, or it is one of the list or a descendant of
+/// one, where each of the list is declared.
+pub fn action_meets(
     schema: &ValidatorSchema,
     constraint: &ActionConstraint,
     action: &ValidatorActionId,
@@ -181,8 +182,9 @@ fn some_meets(
     false
 }
 
-// Whether the type meets the part.
-fn type_meets(
+/// Whether the type meets what a scope asks of the principal, or of the resource: it is the named entity's own for `==`,
+/// that one or a descendant of it for `in`, the named one for `is`. Each type meets a slot.
+pub fn type_meets(
     schema: &ValidatorSchema,
     constraint: &PrincipalOrResourceConstraint,
     ty: &EntityType,
@@ -223,7 +225,7 @@ fn in_meets(schema: &ValidatorSchema, entity: &EntityReference, ty: &EntityType)
     }
 }
 
-fn same_type(one: &EntityType, other: &EntityType) -> bool
+pub(crate) fn same_type(one: &EntityType, other: &EntityType) -> bool
     ensures { result ≡ is_eq (text_cmp one.now other.now) }
 {
     one.cmp(other) == Ordering::Equal

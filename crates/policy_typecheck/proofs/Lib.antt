@@ -1,5 +1,7 @@
 pub mod AllChecks
 pub mod Asks
-pub mod Lists
+mod Lists
 pub mod Nothing
+mod Once
+pub mod Told
 pub mod WalkSteps

@@ -13,9 +13,13 @@ same_error = error.ghosts.eq
 abbrev pub same_warning : ValidationWarning → ValidationWarning → Bool
 same_warning = warning.ghosts.eq
 
+-- whether a list holds an equal item
+abbrev pub holds : {T : Type 0} → (T → T → Bool) → List T → T → Bool
+holds eq xs x = list_any (λ y. eq y x) xs
+
 -- one more, unless an equal one is there
 abbrev pub added : {T : Type 0} → (T → T → Bool) → List T → T → List T
-added eq xs x = if list_any (λ y. eq y x) xs then xs else xs ++ x ∷ []
+added eq xs x = if holds eq xs x then xs else xs ++ x ∷ []
 
 -- several, one after another
 abbrev pub all_added : {T : Type 0} → (T → T → Bool) → List T → List T → List T

@@ -3,5 +3,7 @@ pub mod Answer
 pub mod Asked
 pub mod Checks
 pub mod Known
+pub mod Missing
 pub mod Policies
 pub mod Pointed
+pub mod Told

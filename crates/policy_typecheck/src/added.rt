@@ -1,32 +1,116 @@
 //! Lists that grow by what they do not hold.
 
-ghost use Rattle.std.specs.Prelude.{◌≡◌, OnOk};
-ghost use Rattle.policy_typecheck.specs.Added.{added, all_added, same_error};
+ghost use Rattle.std.specs.Prelude.{◌≡◌, ◌++◌, IfOk, OnOk, OnErr, map};
+ghost use Rattle.std.specs.HashSet.{IsUnique};
+ghost use Rattle.policy_typecheck.specs.Added.{added, all_added, holds, same_error, same_warning};
+ghost use Rattle.policy_typecheck.specs.Missing.{lends, LendsSame, unmarked};
 
-use findings::ValidationError;
-use std::alloc::AllocError;
+use findings::{ValidationError, ValidationWarning};
+use indexmap::IndexSet;
+use std::alloc::{AllocError, Global};
 
-/// Adds an item, unless an equal one is there.
-pub(crate) fn add_once<T: PartialEq + Drop>(items: &mut Vec<T>, item: T) -> Result<(), AllocError>
-    ensures { OnOk result (items.new.items ≡ added T.eq items.old.items item) }
+/// Adds a warning, unless an equal one is there.
+pub(crate) fn add_warning(
+    warnings: &mut Vec<ValidationWarning>,
+    warning: ValidationWarning,
+) -> Result<(), AllocError>
+    ensures added { OnOk result (warnings.new.items ≡ added same_warning warnings.old.items warning) }
+    ensures unchanged { OnErr result (warnings.new.items ≡ warnings.old.items) }
 {
-    if items.contains(&item) {
-        drop(item);
+    if warnings.contains(&warning) {
+        drop(warning);
         return Ok(());
     }
-    items.push(item)?;
+    warnings.push(warning)?;
     Ok(())
 }
 
-/// Adds errors, each once.
+/// Adds errors to those that are found, each once.
 pub(crate) fn add_errors(
-    errors: &mut Vec<ValidationError>,
+    found: &mut IndexSet<ValidationError>,
     more: Vec<ValidationError>,
 ) -> Result<(), AllocError>
-    ensures { OnOk result (errors.new.items ≡ all_added same_error errors.old.items more.items) }
+    ensures { OnOk result (found.new.keys ≡ all_added same_error found.old.keys more.items) }
 {
     for error in more {
-        add_once(errors, error)?;
+        add_error(found, error)?;
     }
     Ok(())
+}
+
+fn add_error(
+    found: &mut IndexSet<ValidationError>,
+    error: ValidationError,
+) -> Result<(), AllocError>
+    ensures { OnOk result (found.new.keys ≡ added same_error found.old.keys error) }
+{
+    found.insert(error)?;
+    Ok(())
+}
+
+/// What is found and has no equal among the errors.
+pub(crate) fn missing(
+    alloc: Global,
+    errors: &[ValidationError],
+    found: IndexSet<ValidationError>,
+) -> Result<Vec<ValidationError>, AllocError>
+    ensures { IfOk result (λ more. errors.now ++ more.items ≡ all_added same_error errors.now found.keys) }
+{
+    let known = known_among(alloc, errors, &found)?;
+    let more = unmarked(alloc, found, known)?;
+    Ok(more)
+}
+
+// Of each that is found, whether an equal one is among the errors.
+fn known_among<'a>(
+    alloc: Global,
+    errors: &'a [ValidationError],
+    found: &'a IndexSet<ValidationError>,
+) -> Result<Vec<bool>, AllocError>
+    ensures known { IfOk result (λ known. known.items ≡ map (holds same_error errors.now) found.now.keys) }
+    ensures unique { OnOk result (IsUnique same_error found.now) }
+{
+    let held = set_of(alloc, errors)?;
+    let mut known = Vec::new(alloc);
+    for error in found.iter() {
+        known.push(is_held(&held, error))?;
+    }
+    Ok(known)
+}
+
+fn set_of<'a>(
+    alloc: Global,
+    errors: &'a [ValidationError],
+) -> Result<IndexSet<&'a ValidationError>, AllocError>
+    ensures { IfOk result (λ held. LendsSame same_error held.keys errors.now) }
+{
+    let mut held = IndexSet::new(alloc);
+    for error in errors {
+        held.insert(error)?;
+    }
+    Ok(held)
+}
+
+fn is_held<'a>(held: &IndexSet<&'a ValidationError>, error: &'a ValidationError) -> bool
+    ensures { result ≡ lends same_error held.now.keys error.now }
+{
+    held.contains(&error)
+}
+
+// What is found and not marked.
+fn unmarked(
+    alloc: Global,
+    found: IndexSet<ValidationError>,
+    known: Vec<bool>,
+) -> Result<Vec<ValidationError>, AllocError>
+    ensures { IfOk result (λ more. more.items ≡ unmarked found.keys known.items) }
+{
+    let mut marks = known.into_iter();
+    let mut more = Vec::new(alloc);
+    for error in found {
+        if marks.next() != Some(true) {
+            more.push(error)?;
+        }
+    }
+    Ok(more)
 }

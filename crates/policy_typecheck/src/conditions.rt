@@ -3,7 +3,7 @@
 ghost use Rattle.std.specs.Prelude.{◌≡◌, ◌∷◌, [], IfOk, nat_lt};
 ghost use Rattle.schema_core.specs.RequestEnvs.{env_data_of};
 ghost use Rattle.policy_expressions.specs.Tree.{depth_of};
-ghost use Rattle.typecheck_spec.specs.Check.{check_walked, checked, condition_walked};
+ghost use Rattle.typecheck_spec.specs.Check.{check_walked, condition_walked};
 ghost use Rattle.typecheck_operators.specs.Told.{walked_of};
 ghost use Rattle.policy_typecheck.specs.Answer.{Tells, too_deep};
 
@@ -30,18 +30,15 @@ pub fn is_too_deep(condition: &Expr<()>) -> bool
     condition.depth() > MAX_TYPED_DEPTH
 }
 
-/// The check of the policy's condition.
-pub(crate) fn check_condition<'a>(
+/// The check of an expression, at any depth.
+pub(crate) fn check_walk<'a>(
     at: &Setting<'a, '_, '_, '_>,
     id: &Text,
-    condition: &'a Expr<()>,
+    e: &'a Expr<()>,
 ) -> Result<PolicyCheck, AllocError>
-    ensures { IfOk result (λ r. Tells id.now (checked at.now.schema.now (env_data_of at.now.env.now) condition.now) r) }
+    ensures { IfOk result (λ r. Tells id.now (check_walked (condition_walked at.now.schema.now (env_data_of at.now.env.now) e.now)) r) }
 {
-    if is_too_deep(condition) {
-        return Ok(PolicyCheck::Fail(only_too_deep(at.alloc, id)?));
-    }
-    match walk_condition(at, condition) {
+    match walk_condition(at, e) {
         Ok(told) => answer(at.alloc, id, told),
         // An expression with types is no deeper than the expression itself, so that there is memory alone to want.
         Err(_) => Err(AllocError),

@@ -2,6 +2,7 @@
 #![tactic(auto)]
 
 mod added;
+mod bodies;
 mod conditions;
 mod environments;
 mod errors;

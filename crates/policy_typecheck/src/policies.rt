@@ -1,46 +1,38 @@
 //! What is told of the condition of a policy in all its environments.
 
-ghost use Rattle.std.specs.Prelude.{◌≡◌, IfOk, OnOk, if◌then◌else◌};
+ghost use Rattle.std.specs.Prelude.{◌≡◌, OnErr, OnOk, if◌then◌else◌};
 ghost use Rattle.policy_typecheck.specs.Added.{added, all_added, same_error, same_warning};
-ghost use Rattle.policy_typecheck.specs.Checks.{all_errors, all_false, all_passed, errors_in, has_passed, is_false};
+ghost use Rattle.policy_typecheck.specs.Checks.{errors_in, has_passed, is_false};
 ghost use Rattle.policy_typecheck.specs.Policies.{impossible};
+ghost use Rattle.policy_typecheck.specs.Told.{told_by};
 
 use crate::PolicyCheck;
-use crate::added::{add_errors, add_once};
+use crate::added::{add_errors, add_warning, missing};
 use findings::{ImpossiblePolicy, ValidationError, ValidationWarning};
+use indexmap::IndexSet;
 use policy_names::Text;
-use schema_core::RequestEnv;
-use std::alloc::AllocError;
+use std::alloc::{AllocError, Global};
 
-/// Whether each check passes. The errors of the checks are added, each once; where all find the condition false, that is
-/// warned of.
-pub(crate) fn tell_checks(
-    checks: Vec<(RequestEnv<'_>, PolicyCheck)>,
-    id: &Text,
-    errors: &mut Vec<ValidationError>,
-    warnings: &mut Vec<ValidationWarning>,
-) -> Result<bool, AllocError>
-    ensures accepted { IfOk result (λ b. b ≡ all_passed checks.entry.items) }
-    ensures errors { OnOk result (errors.new.items ≡ all_added same_error errors.old.items (all_errors checks.entry.items)) }
-    ensures warnings { OnOk result (warnings.new.items ≡ (if all_false checks.entry.items then added same_warning warnings.old.items (impossible id.now) else warnings.old.items)) }
-{
-    let accepted = all_passed(&checks);
-    let false_in_each = all_false(&checks);
-    add_all_errors(errors, checks)?;
-    warn_where(false_in_each, warnings, id)?;
-    Ok(accepted)
+/// What the checks so far come to.
+#[derive(Clone, Copy)]
+pub(crate) struct Verdict {
+    /// Whether each of them passes.
+    pub(crate) accepted: bool,
+    /// Whether each of them finds the condition false.
+    pub(crate) impossible: bool,
 }
 
-/// Whether each check passes.
-fn all_passed(checks: &Vec<(RequestEnv<'_>, PolicyCheck)>) -> bool
-    ensures { result ≡ all_passed checks.now.items }
+/// Tells of one check more, and adds its errors, each once.
+pub(crate) fn tell_check(
+    verdict: &mut Verdict,
+    found: &mut IndexSet<ValidationError>,
+    check: PolicyCheck,
+) -> Result<(), AllocError>
+    ensures { OnOk result ((verdict.new, found.new.keys) ≡ told_by check (verdict.old, found.old.keys)) }
 {
-    for check in checks {
-        if !has_passed(&check.1) {
-            return false;
-        }
-    }
-    true
+    verdict.accepted = has_passed(&check) && verdict.accepted;
+    verdict.impossible = is_false(&check) && verdict.impossible;
+    add_errors_of(found, check)
 }
 
 fn has_passed(check: &PolicyCheck) -> bool
@@ -52,18 +44,6 @@ fn has_passed(check: &PolicyCheck) -> bool
     }
 }
 
-/// Whether each check finds the condition false.
-fn all_false(checks: &Vec<(RequestEnv<'_>, PolicyCheck)>) -> bool
-    ensures { result ≡ all_false checks.now.items }
-{
-    for check in checks {
-        if !is_false(&check.1) {
-            return false;
-        }
-    }
-    true
-}
-
 fn is_false(check: &PolicyCheck) -> bool
     ensures { result ≡ is_false check.now }
 {
@@ -73,38 +53,50 @@ fn is_false(check: &PolicyCheck) -> bool
     }
 }
 
-/// Adds the errors of the checks, each once.
-#[tactic(auto, using(crate::proofs::Lists::added_append))]
-fn add_all_errors(
-    errors: &mut Vec<ValidationError>,
-    checks: Vec<(RequestEnv<'_>, PolicyCheck)>,
+fn add_errors_of(
+    found: &mut IndexSet<ValidationError>,
+    check: PolicyCheck,
 ) -> Result<(), AllocError>
-    ensures { OnOk result (errors.new.items ≡ all_added same_error errors.old.items (all_errors checks.entry.items)) }
-{
-    for check in checks {
-        add_errors_of(errors, check.1)?;
-    }
-    Ok(())
-}
-
-fn add_errors_of(errors: &mut Vec<ValidationError>, check: PolicyCheck) -> Result<(), AllocError>
-    ensures { OnOk result (errors.new.items ≡ all_added same_error errors.old.items (errors_in check)) }
+    ensures { OnOk result (found.new.keys ≡ all_added same_error found.old.keys (errors_in check)) }
 {
     match check {
         PolicyCheck::Success(condition) | PolicyCheck::Irrelevant(condition) => {
             drop(condition);
             Ok(())
         }
-        PolicyCheck::Fail(more) => add_errors(errors, more),
+        PolicyCheck::Fail(more) => add_errors(found, more),
     }
 }
 
+/// Adds what is found of a policy behind what the lists hold. There is room first, so that on an error both are as they were.
+pub(crate) fn add_found(
+    alloc: Global,
+    id: &Text,
+    false_in_each: bool,
+    found: IndexSet<ValidationError>,
+    errors: &mut Vec<ValidationError>,
+    warnings: &mut Vec<ValidationWarning>,
+) -> Result<(), AllocError>
+    ensures errors { OnOk result (errors.new.items ≡ all_added same_error errors.old.items found.keys) }
+    ensures warnings { OnOk result (warnings.new.items ≡ (if false_in_each then added same_warning warnings.old.items (impossible id.now) else warnings.old.items)) }
+    ensures unchanged { OnErr result ((errors.new.items ≡ errors.old.items) × (warnings.new.items ≡ warnings.old.items)) }
+{
+    let mut more = missing(alloc, errors.as_slice(), found)?;
+    errors.reserve(more.len())?;
+    warn_where(false_in_each, warnings, id)?;
+    // There is room for all, so that this does not fail.
+    errors.append(&mut more)?;
+    Ok(())
+}
+
+// Warns that the policy's condition is false on each request, where it is.
 fn warn_where(
     false_in_each: bool,
     warnings: &mut Vec<ValidationWarning>,
     id: &Text,
 ) -> Result<(), AllocError>
-    ensures { OnOk result (warnings.new.items ≡ (if false_in_each then added same_warning warnings.old.items (impossible id.now) else warnings.old.items)) }
+    ensures warned { OnOk result (warnings.new.items ≡ (if false_in_each then added same_warning warnings.old.items (impossible id.now) else warnings.old.items)) }
+    ensures unchanged { OnErr result (warnings.new.items ≡ warnings.old.items) }
 {
     if false_in_each {
         warn_impossible(warnings, id)
@@ -113,13 +105,13 @@ fn warn_where(
     }
 }
 
-/// Warns that the policy's condition is false on each request.
 fn warn_impossible(warnings: &mut Vec<ValidationWarning>, id: &Text) -> Result<(), AllocError>
-    ensures { OnOk result (warnings.new.items ≡ added same_warning warnings.old.items (impossible id.now)) }
+    ensures warned { OnOk result (warnings.new.items ≡ added same_warning warnings.old.items (impossible id.now)) }
+    ensures unchanged { OnErr result (warnings.new.items ≡ warnings.old.items) }
 {
     let warning = ValidationWarning::ImpossiblePolicy(ImpossiblePolicy {
         source_loc: None,
         policy_id: id.try_clone()?,
     });
-    add_once(warnings, warning)
+    add_warning(warnings, warning)
 }

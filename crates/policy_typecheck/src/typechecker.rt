@@ -1,26 +1,32 @@
 //! The typechecker.
 
-ghost use Rattle.std.specs.Prelude.{◌≡◌, IfOk, OnOk, map};
+ghost use Rattle.std.specs.Prelude.{◌≡◌, false, IfOk, OnErr, OnOk, map};
 ghost use Rattle.std.specs.List.{AllByRecursion};
 ghost use Rattle.schema_core.specs.EnvData.{unlinked_envs};
 ghost use Rattle.schema_core.specs.RequestEnvs.{env_data_of};
+ghost use Rattle.policy_expressions.specs.Slots.{has_slot};
 ghost use Rattle.policy_set.specs.Condition.{condition_of};
 ghost use Rattle.link_spec.specs.Linked.{linked_envs};
-ghost use Rattle.typecheck_spec.specs.Check.{checked};
+ghost use Rattle.scope_typing.specs.Met.{body_check};
+ghost use Rattle.typecheck_spec.specs.Check.{check_walked, checked, condition_walked};
 ghost use Rattle.policy_typecheck.specs.Added.{all_added, same_error};
 ghost use Rattle.policy_typecheck.specs.Answer.{Tells, TellsIn};
 ghost use Rattle.policy_typecheck.specs.Known.{KnowsFunctions};
-ghost use Rattle.policy_typecheck.specs.Policies.{is_accepted, refusals, warned};
+ghost use Rattle.policy_typecheck.specs.Policies.{is_accepted, is_impossible, is_too_deep, refusals, warned};
+ghost use Rattle.policy_typecheck.specs.Told.{all_told, condition_check, told};
 
 use crate::added::add_errors;
-use crate::conditions::{check_condition, is_too_deep, only_too_deep};
-use crate::policies::tell_checks;
+use crate::bodies::check_bodies;
+use crate::conditions::{check_walk, is_too_deep, only_too_deep};
+use crate::policies::{Verdict, add_found, tell_check};
 use crate::setting::{Extensions, Setting};
 use crate::{PolicyCheck, linked_request_envs};
 use extension_types::ExtensionSchemas;
 use findings::{ValidationError, ValidationWarning};
+use indexmap::IndexSet;
 use policy_expressions::Expr;
 use policy_names::Text;
+use policy_scope::is_plain_scope;
 use policy_set::{Policy, Template};
 use schema_core::{RequestEnv, ValidationMode, ValidatorSchema};
 use std::alloc::{AllocError, Global};
@@ -77,7 +83,8 @@ impl<'a, 'x> Typechecker<'a, 'x> {
 
     /// Types the condition of a template in its environments, and says whether it is accepted: whether it is not too deep,
     /// and fails in none of them. What is found is added behind the errors, environment by environment; a condition that is
-    /// not too deep, and is false in each environment, is warned of. What a list holds already is not added again.
+    /// not too deep, and is false in each environment, is warned of. What a list holds already is not added again. On an
+    /// error both lists are as they were.
     pub fn typecheck_policy(
         &self,
         alloc: Global,
@@ -88,13 +95,76 @@ impl<'a, 'x> Typechecker<'a, 'x> {
         ensures accepted { IfOk result (λ b. b ≡ is_accepted self.now t.now) }
         ensures errors { OnOk result (errors.new.items ≡ all_added same_error errors.old.items (refusals self.now t.now)) }
         ensures warnings { OnOk result (warnings.new.items ≡ warned self.now t.now warnings.old.items) }
+        ensures unchanged { OnErr result ((errors.new.items ≡ errors.old.items) × (warnings.new.items ≡ warnings.old.items)) }
+    {
+        let mut found = IndexSet::new(alloc);
+        let verdict = self.find(alloc, t, &mut found)?;
+        add_found(alloc, t.id(), verdict.impossible, found, errors, warnings)?;
+        Ok(verdict.accepted)
+    }
+
+    // What the checks of a template come to, with what they find, each once.
+    fn find(
+        &self,
+        alloc: Global,
+        t: &Template,
+        found: &mut IndexSet<ValidationError>,
+    ) -> Result<Verdict, AllocError>
+        ensures accepted { IfOk result (λ v. v.accepted ≡ is_accepted self.now t.now) }
+        ensures impossible { IfOk result (λ v. v.impossible ≡ is_impossible self.now t.now) }
+        ensures errors { OnOk result (found.new.keys ≡ all_added same_error found.old.keys (refusals self.now t.now)) }
     {
         if is_too_deep(t.condition()) {
-            add_errors(errors, only_too_deep(alloc, t.id())?)?;
-            return Ok(false);
+            add_errors(found, only_too_deep(alloc, t.id())?)?;
+            return Ok(Verdict {
+                accepted: false,
+                impossible: false,
+            });
         }
-        let checks = self.typecheck_by_request_env(alloc, t)?;
-        tell_checks(checks, t.id(), errors, warnings)
+        let mut verdict = Verdict {
+            accepted: true,
+            impossible: true,
+        };
+        self.check_all(alloc, t, &mut verdict, found)?;
+        Ok(verdict)
+    }
+
+    // Checks the condition in all its environments. Where the ids of the scope have types, only its body is typed, and that
+    // only in the environments that meet the scope, without slots: it is false in the others.
+    fn check_all(
+        &self,
+        alloc: Global,
+        t: &Template,
+        verdict: &mut Verdict,
+        found: &mut IndexSet<ValidationError>,
+    ) -> Result<(), AllocError>
+        requires depth { is_too_deep self.now t.now ≡ false }
+        requires body { has_slot t.now.body ≡ false }
+        ensures { OnOk result ((verdict.new, found.new.keys) ≡ all_told t.now.id (condition_check self.now t.now) (verdict.old, found.old.keys) (linked_envs self.now t.now)) }
+    {
+        let principal = t.principal_constraint();
+        let resource = t.resource_constraint();
+        if is_plain_scope(self.schema, principal, t.action_constraint(), resource) {
+            check_bodies(self, alloc, t, verdict, found)
+        } else {
+            self.check_conditions(alloc, t, verdict, found)
+        }
+    }
+
+    fn check_conditions(
+        &self,
+        alloc: Global,
+        t: &Template,
+        verdict: &mut Verdict,
+        found: &mut IndexSet<ValidationError>,
+    ) -> Result<(), AllocError>
+        ensures { OnOk result ((verdict.new, found.new.keys) ≡ all_told t.now.id (condition_check self.now t.now) (verdict.old, found.old.keys) (linked_envs self.now t.now)) }
+    {
+        for env in linked_request_envs(alloc, self.schema, t)? {
+            let check = self.check_in(alloc, &env, t.id(), t.condition())?;
+            tell_check(verdict, found, check)?;
+        }
+        Ok(())
     }
 
     /// The checks of a template's condition in its environments, one after another.
@@ -162,12 +232,49 @@ impl<'a, 'x> Typechecker<'a, 'x> {
     ) -> Result<PolicyCheck, AllocError>
         ensures { IfOk result (λ r. Tells id.now (checked self.now (env_data_of env.now) condition.now) r) }
     {
+        if is_too_deep(condition) {
+            return Ok(PolicyCheck::Fail(only_too_deep(alloc, id)?));
+        }
+        self.check_walk_in(alloc, env, id, condition)
+    }
+
+    /// Tells of the check of a template's body in an environment.
+    pub(crate) fn tell_body<'b>(
+        &self,
+        alloc: Global,
+        t: &'b Template,
+        env: &'b RequestEnv<'b>,
+        verdict: &mut Verdict,
+        found: &mut IndexSet<ValidationError>,
+    ) -> Result<(), AllocError>
+        ensures { OnOk result ((verdict.new, found.new.keys) ≡ told t.now.id (body_check self.now t.now (env_data_of env.now)) (verdict.old, found.old.keys)) }
+    {
+        let check = self.check_walk_in(alloc, env, t.id(), t.non_scope_constraints())?;
+        tell_check(verdict, found, check)
+    }
+
+    // At any depth.
+    fn check_walk_in<'b>(
+        &self,
+        alloc: Global,
+        env: &'b RequestEnv<'b>,
+        id: &Text,
+        e: &'b Expr<()>,
+    ) -> Result<PolicyCheck, AllocError>
+        ensures { IfOk result (λ r. Tells id.now (check_walked (condition_walked self.now (env_data_of env.now) e.now)) r) }
+    {
         let setting = Setting {
             alloc,
             schema: self.schema,
             env,
             extensions: &self.extensions,
         };
-        check_condition(&setting, id, condition)
+        check_walk(&setting, id, e)
+    }
+
+    pub(crate) fn schema(&self) -> &'a ValidatorSchema
+        ensures { result.now ≡ self.now }
+    {
+        self.schema
     }
 }

@@ -1,3 +1,4 @@
+mod Memory
 mod Typed
-mod Same
+pub mod Same
 mod Covering

@@ -45,8 +45,8 @@ pub(crate) fn check_rules(
     check_policies(alloc, schema, policies)
 }
 
-// The first rule that the request breaks, where all extensions are there.
-fn check_request(
+/// Whether the request keeps every rule, where all extensions are there; else the first that it breaks.
+pub fn check_request(
     alloc: Global,
     schema: &ValidatorSchema,
     request: &Request,

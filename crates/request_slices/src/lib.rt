@@ -7,6 +7,7 @@ pub mod laws;
 mod request;
 mod slice;
 
+pub use checks::check_request;
 pub use error::SliceForRequestError;
 pub use request::slice_for_request;
 pub use slice::restricted_to_reads;

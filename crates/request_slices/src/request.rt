@@ -5,11 +5,14 @@ ghost use Rattle.request_slices.specs.Enough.{IsEnough};
 ghost use Rattle.request_slices.specs.Refused.{WhyNoSlice};
 ghost use Rattle.request_slices.specs.Rules.{KeepRules};
 ghost use Rattle.request_slices.specs.Slice.{slice};
+ghost use Rattle.request_slices.specs.declared.error.SliceForRequestError.{SliceForRequestError};
+ghost use Rattle.request_slices.specs.declared.error.SliceForRequestError.TheVariants.{OutOfMemory};
 
 use crate::checks::check_rules;
 use crate::error::SliceForRequestError;
 use crate::laws::slices_are_enough;
 use crate::restricted_to_reads;
+use conformance::laws::{request_rules_are_exact, store_rules_are_exact};
 use entity_store::{Entities, Request};
 use policy_set::PolicySet;
 use policy_set::laws::{have_keys_once, is_policy_set};
@@ -21,7 +24,7 @@ use std::alloc::Global;
 /// overflow.
 ///
 /// Errs with the first of these that does not hold: the request is whole, it conforms to the schema, so does the store, and
-/// the policies are accepted; a warning does not matter.
+/// the policies are accepted; a warning does not matter. Where all hold, it errs for want of memory alone.
 pub fn slice_for_request(
     alloc: Global,
     schema: &ValidatorSchema,
@@ -33,7 +36,9 @@ pub fn slice_for_request(
     ensures rules { IfOk result (λ _. KeepRules schema.now policies.now request.now entities.now) }
     ensures enough { IfOk result (λ s. IsEnough policies.now.policies request.now s entities.now) }
     ensures refused { IfErr result (WhyNoSlice schema.now policies.now request.now entities.now) }
+    ensures complete { KeepRules schema.now policies.now request.now entities.now → IfErr result (λ e. e ≡ OutOfMemory) }
 {
+    wants_memory_alone(schema, policies, request, entities);
     if let Err(error) = check_rules(alloc, schema, policies, request, entities) {
         return Err(error);
     }
@@ -42,6 +47,24 @@ pub fn slice_for_request(
         Ok(slice) => Ok(slice),
         Err(_) => Err(SliceForRequestError::OutOfMemory),
     }
+}
+
+// Where every rule holds, nothing but want of memory is a reason for no slice.
+fn wants_memory_alone(
+    schema: &ValidatorSchema,
+    policies: &PolicySet,
+    request: &Request,
+    entities: &Entities,
+)
+    ensures { KeepRules schema.now policies.now request.now entities.now → (e : SliceForRequestError) →
+        WhyNoSlice schema.now policies.now request.now entities.now e → e ≡ OutOfMemory }
+{
+    request_rules_are_exact();
+    store_rules_are_exact();
+    let _actions = schema.action_ids();
+    let _policies = policies;
+    let _request = request;
+    let _entities = entities;
 }
 
 // Where every rule holds, the slice is enough.

@@ -14,8 +14,9 @@ use Rattle.reads_spec.specs.Restrict.{cut_entity, cut_fields}
 use Rattle.entity_loader.specs.Answers.{IsGiven}
 use Rattle.entity_loader.specs.Asked.{asks}
 use Rattle.entity_loader.specs.declared.loader.EntityRequest.{EntityRequest}
+use Rattle.table_loader.specs.Laws.{IsOrderedStore}
 use Rattle.table_loader.specs.Tables.{Tables, store_of}
-use Rattle.table_loader.specs.State.{attribute_at}
+use Rattle.table_loader.specs.State.{attribute_at, has_entity}
 use Rattle.table_loader.proofs.Stores.{in_order, is_entity_of}
 use Rattle.row_loader.proofs.Answers.{attributes_enough, tags_enough}
 use Rattle.row_loader.proofs.Cuts.{IsOfWholeFields, field_at-whole, ascending-cut, cut-each}
@@ -58,8 +59,9 @@ module _ (t : Tables) (r : EntityRequest) (e stored : StoredEntity) (at : entity
     tags = same_tags i;
   }
 
-pub honest : EntitiesFromRowsAreHonest
-honest t r e ordered has is = by (entity_at (store_of t) r.entity_id) refl has
+pub given : (t : Tables) (r : EntityRequest) (e : StoredEntity) → IsOrderedStore (store_of t) →
+    has_entity t r.entity_id ≡ true → IsFromRows t r e → IsGiven false (store_of t) r e
+given t r e order has is = by (entity_at (store_of t) r.entity_id) refl has
   where
     by : (o : Option StoredEntity) → entity_at (store_of t) r.entity_id ≡ o → is_some o ≡ true → IsGiven false (store_of t) r e
     by None at k = absurd (cc)
@@ -67,8 +69,11 @@ honest t r e ordered has is = by (entity_at (store_of t) r.entity_id) refl has
       stored = stored;
       at = at;
       keep = by_rows r.access_trie;
-      is = same_entity t r e stored at is ((in_order t ordered).order r.entity_id stored at) (ap (λ (x : StoredEntity). x.uid) (is_entity_of t r.entity_id stored at));
+      is = same_entity t r e stored at is (order r.entity_id stored at) (ap (λ (x : StoredEntity). x.uid) (is_entity_of t r.entity_id stored at));
       chains = attributes_enough r.access_trie stored.uid;
       tags = tags_enough r.access_trie stored.uid;
       exactly = λ no. absurd (cc);
     }
+
+pub honest : EntitiesFromRowsAreHonest
+honest t r e ordered has is = given t r e (in_order t ordered).order has is

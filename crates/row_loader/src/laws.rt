@@ -2,6 +2,7 @@
 
 ghost use Rattle.row_loader.specs.Answers.{RowAnswersAreHonest};
 ghost use Rattle.row_loader.specs.FromRows.{EntitiesFromRowsAreHonest};
+ghost use Rattle.row_loader.specs.Laws.{ToldStoresAreOrdered};
 
 /// The attributes with which a trie goes on, whole, and all tags where it goes on with any tag, are
 /// an honest answer.
@@ -12,4 +13,9 @@ pub fn row_answers_are_honest()
 /// An entity that is put together of what rows give for it, row by row, is an honest answer.
 pub fn entities_from_rows_are_honest()
     ensures { EntitiesFromRowsAreHonest }
+{}
+
+/// A store that a loader over rows tells is in order: ids ascend, and keys and ancestors in each entity.
+pub fn told_stores_are_ordered()
+    ensures { ToldStoresAreOrdered }
 {}

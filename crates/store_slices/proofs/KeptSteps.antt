@@ -1,10 +1,9 @@
 -- What the nodes of reached entities lead along and name is what is read.
-use Rattle.std.proofs.Common.{◌≡◌, ◌<◌, ℕ, zero, suc, Bool, true, false, ◌&&◌, ◌||◌, cond, List, [], ◌∷◌, ◌++◌, Option, Some, None, is_some, length, map, refl, sym, ap, ◌∙◌, subst, inl, inr, arith}
+use Rattle.std.proofs.Common.{◌≡◌, ℕ, Bool, true, false, ◌&&◌, ◌||◌, cond, List, [], ◌∷◌, ◌++◌, Option, Some, None, is_some, map, refl, sym, ap, ◌∙◌, subst, inl, inr}
 use Rattle.std.specs.Prelude.{slice_get}
 use Rattle.std.specs.List.{list_any}
 use Rattle.std.specs.Option.{option_map_or}
 use Rattle.std.specs.BTreeMap.{BTreeMap, get}
-use Rattle.std.specs.BTreeSet.{BTreeSet}
 use Rattle.std.specs.declared.vec.Vec.{Vec}
 use Rattle.std.specs.declared.alloc.Global.{Global}
 use Rattle.std.proofs.lemmas.List.{map-append}
@@ -31,7 +30,7 @@ use Rattle.trie_traversal.specs.Wants.{wants}
 use Rattle.entity_loader.specs.Asked.{some_asks}
 use Rattle.store_slices.specs.Tries.{IsTrieOf}
 use Rattle.store_slices.specs.Reached.{AreReached, AreThere}
-use Rattle.store_slices.specs.Kept.{Numbers, numbers_at, some_place, IsGrouped, IsNumbered, along_nodes, names, some_names, with_names, AreNodes, AreNamed}
+use Rattle.store_slices.specs.Kept.{Numbers, Named, numbers_at, some_place, IsGrouped, IsNumbered, along_nodes, names, some_names, with_names, AreNodes, AreNamed}
 use Rattle.plain_lemmas.proofs.Lists.{is_some_within}
 
 -- ---- places by their entities
@@ -120,14 +119,14 @@ module _ (reads : List AccessPath) (demands : List Demand) (t : Table) (fit : Is
   paths_are : by_paths reads q s ≡ along_nodes t m
   paths_are i = record { chains = λ x c. kept_is x (steps_of c) i; ancestors = λ x y. false; tags = λ x c. tags_are x c i }
 
-  module _ (kept : BTreeMap EntityUID StoredEntity) (is_kept : IsKept kept (part (along_nodes t m) s)) (there : AreThere t ps) (sets : List (BTreeSet EntityUID)) (named : AreNamed t q kept sets) where
+  module _ (kept : BTreeMap EntityUID StoredEntity) (is_kept : IsKept kept (part (along_nodes t m) s)) (there : AreThere t ps) (sets : Named) (named : AreNamed t q ps kept sets) where
     -- a demand of a path to the entity, and a path that names the ancestor
     asked_for : (x y : EntityUID) (p r : AccessPath) → IsIn (let d : Demand = (p, r) in d) demands → IsIn (entity x) (reach s q p) → list_any (names_id y) (reach (part (by_paths reads q s) s) q r) ≡ true → some_names sets (numbers_at m x) y ≡ true
     asked_for x y p r d reached names_it =
         let w = (found true x (address_of r)).1 (record { path = p; reached = reached; passes = (fit.asks p r).1 d }) in
         let a = any_out (λ z. uid_eq z.uid x && view_marks (node_of t z) (address_of r)) ps w in
         let b = and_parts (uid_eq a.0.uid x) (view_marks (node_of t a.0) (address_of r)) a.2 in
-        let n = (named (part (along_nodes t m) s) is_kept a.0.number (there a.0 a.1) y).1 (record { path = r; marked = b.1; named = subst (λ k. list_any (names_id y) (reach (part k s) q r) ≡ true) paths_are names_it }) in
+        let n = (named (part (along_nodes t m) s) is_kept a.0 a.1 y).1 (record { path = r; marked = b.1; named = subst (λ k. list_any (names_id y) (reach (part k s) q r) ≡ true) paths_are names_it }) in
         g.tests (λ i. names sets i y) x ∙ any_in (λ z. uid_eq z.uid x && names sets z.number y) a.0 ps a.1 (and_from (uid_eq a.0.uid x) (names sets a.0.number y) b.0 n)
 
     -- whether the entity is kept where it has a node
@@ -149,7 +148,7 @@ module _ (reads : List AccessPath) (demands : List Demand) (t : Table) (fit : Is
     from x y h =
         let a = any_out (λ z. uid_eq z.uid x && names sets z.number y) ps (sym (g.tests (λ i. names sets i y) x) ∙ h) in
         let b = and_parts (uid_eq a.0.uid x) (names sets a.0.number y) a.2 in
-        let n = (named (part (along_nodes t m) s) is_kept a.0.number (there a.0 a.1) y).0 b.1 in
+        let n = (named (part (along_nodes t m) s) is_kept a.0 a.1 y).0 b.1 in
         let r = (found true x (address_of n.path)).0 (any_in (λ z. uid_eq z.uid x && view_marks (node_of t z) (address_of n.path)) a.0 ps a.1 (and_from (uid_eq a.0.uid x) (view_marks (node_of t a.0) (address_of n.path)) b.0 n.marked)) in
         let names_it = subst (λ k. list_any (names_id y) (reach (part k s) q n.path) ≡ true) (sym paths_are) n.named in
         let d : Demand = (r.path, n.path) in

@@ -5,7 +5,6 @@ use Rattle.std.specs.List.{list_any}
 use Rattle.std.specs.Cmp.{nat_cmp_total}
 use Rattle.std.proofs.lemmas.Bool.{and_parts, and_from, or_cases}
 use Rattle.std.proofs.lemmas.Cmp.{tied_itself, nat_list_cmp_total}
-use Rattle.policy_names.proofs.Ties.{equal_of}
 use Rattle.policy_expressions.specs.declared.kinds.BinaryOp.{BinaryOp}
 use Rattle.policy_expressions.specs.declared.kinds.BinaryOp.TheVariants.{In}
 use Rattle.policy_expressions.specs.declared.kinds.Var.TheVariants.{Principal}
@@ -16,10 +15,9 @@ use Rattle.access_tries.specs.declared.edge.Edge.{Edge}
 use Rattle.access_tries.specs.declared.edge.Edge.TheVariants.{Field, AnyTag, Root}
 use Rattle.access_tries.specs.declared.edge.EntityRoot.{EntityRoot}
 use Rattle.access_tries.specs.declared.edge.EntityRoot.TheVariants.{Var}
-use Rattle.access_tries.specs.Edges.{Address, rank, first_text, second_text, edge_cmp, edge_eq}
+use Rattle.access_tries.specs.Edges.{Address, rank, first_text, second_text, edge_eq}
 use Rattle.access_tries.specs.Paths.{edge_of, address_of, demand_of, has_path, asks, is_front, is_same, IsLeast}
 use Rattle.access_tries.specs.Table.{Table}
-use Rattle.access_tries.specs.EdgeLaws.{exact_edge}
 use Rattle.reads_spec.specs.Paths.{Step, along, any_tag, AccessPath, Demand, Shape, beyond, paths}
 use Rattle.reads_spec.specs.PathTypes.{is_declared_path}
 use Rattle.reads_spec.specs.Reads.{shape_of, wholly, binary_reads, reads, reads_all, reads_named, reads_of, pairs, binary_demands, demands, demands_all, demands_named, demands_of, declared_reads, declared_demands, are_declared}

@@ -1,14 +1,15 @@
 -- How the parts are made, one after another.
-use Rattle.std.proofs.Common.{◌≡◌, ◌<◌, ◌+◌, ℕ, zero, suc, true, false, List, [], ◌∷◌, ◌++◌, map, Option, Some, None, ◌≤◌, ◌⊎◌, inl, inr, is_some, length, refl, sym, ap, ◌∙◌, subst, append_assoc, arith}
-use Rattle.std.specs.Prelude.{◌↔◌, filter, slice_get}
+use Rattle.std.proofs.Common.{◌≡◌, ℕ, Bool, true, false, cond, List, [], ◌∷◌, ◌++◌, map, Option, Some, None, ◌⊎◌, inl, inr, is_some, refl, sym, ap, ◌∙◌, subst, append_assoc}
+use Rattle.std.specs.Prelude.{◌↔◌, filter}
 use Rattle.std.specs.List.{AllByRecursion}
 use Rattle.std.specs.List.Sorted.{IsStrictlySortedBy}
 use Rattle.std.specs.Option.{option_map_or}
-use Rattle.std.proofs.lemmas.Bool.{cases_lt}
-use Rattle.std.specs.Ordering.{ordering_reverse}
+use Rattle.std.proofs.lemmas.Bool.{false≢true}
+use Rattle.std.proofs.lemmas.Map.Lookups.{exact_unsigned}
+use Rattle.std.specs.Ordering.{is_eq, nat_cmp, ordering_reverse}
 use Rattle.std.specs.declared.cmp.Ordering.TheVariants.{Less}
-use Rattle.std.specs.Map.{values_of}
-use Rattle.std.specs.BTreeMap.{BTreeMap, IsOrdered, get, values, insert_entry}
+use Rattle.std.specs.Map.{lookup, values_of}
+use Rattle.std.specs.BTreeMap.{BTreeMap, IsOrdered, get, is_at, values, insert_entry}
 use Rattle.std.specs.BTreeSet.{BTreeSet, contains}
 use Rattle.std.specs.declared.vec.Vec.{Vec}
 use Rattle.std.specs.declared.alloc.Global.{Global}
@@ -16,15 +17,19 @@ use Rattle.hierarchy.specs.Keyed.{AreAtTheirKeys, with_value}
 use Rattle.hierarchy.proofs.Keyed.{value_found, value_put, own_put}
 use Rattle.policy_names.specs.declared.entity_uid.EntityUID.{EntityUID}
 use Rattle.policy_names.specs.Uid.{uid_cmp, uid_cmp_total, exact_uid}
+use Rattle.policy_names.proofs.Ties.{equal_of}
 use Rattle.entity_store.specs.declared.request.Request.{Request}
 use Rattle.entity_store.specs.Store.{StoredEntity, Store, entity_at}
 use Rattle.entity_store.specs.Ascending.{IsAbove}
 use Rattle.access_tries.specs.Table.{Table}
 use Rattle.reads_spec.specs.Restrict.{Keep, cut_entity, part}
+use Rattle.reads_spec.proofs.Lists.{IsIn}
 use Rattle.plain_lemmas.proofs.Lists.{append_empty}
 use Rattle.trie_traversal.specs.Names.{IsKept, IsNamed}
+use Rattle.trie_traversal.specs.declared.place.Place.{Place}
+use Rattle.trie_traversal.specs.Places.{node_of}
 use Rattle.entity_loader.specs.Asked.{asked_by}
-use Rattle.store_slices.specs.Kept.{Numbers, numbers_at, along_nodes, names, some_names, with_names, AreNodes}
+use Rattle.store_slices.specs.Kept.{Numbers, Named, numbers_at, along_nodes, names, some_names, with_names, AreNodes, AreNamed}
 
 -- the entities `made` were made of those before `left`, of all
 pub record IsParting (k : Keep) (made left all : Store) : Type 0 where
@@ -119,42 +124,66 @@ module _ (ns : Table) (m : Numbers) (e : StoredEntity) where
       (λ i. record (cut_entity (asked_by ns (numbers_are v at i)) e) { ancestors = none i })
       ∙ (λ i. record (cut_entity (along_nodes ns m) e) { ancestors = sym (none_passes e.ancestors) i })
 
-  pub named_cut : (sets : List (BTreeSet EntityUID)) (v : Vec ℕ Global) → get uid_cmp m e.uid ≡ Some v → (ids : List EntityUID) → ids ≡ filter (some_names sets v.items) e.ancestors → record (cut_entity (asked_by ns v.items) e) { ancestors = ids } ≡ cut_entity (with_names ns m sets) e
+  pub named_cut : (sets : Named) (v : Vec ℕ Global) → get uid_cmp m e.uid ≡ Some v → (ids : List EntityUID) → ids ≡ filter (some_names sets v.items) e.ancestors → record (cut_entity (asked_by ns v.items) e) { ancestors = ids } ≡ cut_entity (with_names ns m sets) e
   named_cut sets v at ids are =
       (λ i. record (cut_entity (asked_by ns v.items) e) { ancestors = are i })
       ∙ (λ i. record (cut_entity (asked_by ns (numbers_are v at i)) e) { ancestors = filter (some_names sets (numbers_are v at i)) e.ancestors })
 
--- ---- names of nodes
+-- ---- names at places
 
--- the ids of the nodes before the next
-pub record IsNaming (ns : Table) (q : Request) (kept : BTreeMap EntityUID StoredEntity) (n : ℕ) (sets : List (BTreeSet EntityUID)) : Type 0 where
-  pub many : length sets ≡ n
-  pub named : (s : Store) → IsKept kept s → (i : ℕ) → i < n → (y : EntityUID) → (names sets i y ≡ true) ↔ IsNamed (record { nodes = ns; number = i }) q s y
+-- the ids of numbers are right, and there for each place but those that are left
+pub record IsNaming (ns : Table) (q : Request) (kept : BTreeMap EntityUID StoredEntity) (left all : List Place) (m : Named) : Type 0 where
+  pub right : (s : Store) → IsKept kept s → (i : ℕ) → is_some (get nat_cmp m i) ≡ true → (y : EntityUID) → (names m i y ≡ true) ↔ IsNamed (record { nodes = ns; number = i }) q s y
+  pub rest : (p : Place) → IsIn p all → IsIn p left ⊎ (is_some (get nat_cmp m p.number) ≡ true)
 
-got_before : {X : Type 0} (xs : List X) (x : X) (i : ℕ) → i < length xs → slice_get (xs ++ x ∷ []) i ≡ slice_get xs i
-got_before [] x i h = absurd (omega (arith, h))
-got_before (y ∷ xs) x zero h = refl
-got_before (y ∷ xs) x (suc i) h = got_before xs x i (omega (arith, h))
+pub naming_start : (ns : Table) (q : Request) (kept : BTreeMap EntityUID StoredEntity) (all : List Place) (m : Named) → m.entries ≡ [] → IsNaming ns q kept all all m
+naming_start ns q kept all m none = record {
+  right = λ s k i there y. absurd (false≢true (sym (ap (λ es. is_some (lookup (is_at (nat_cmp i)) es)) none) ∙ there));
+  rest = λ p h. inl h;
+}
 
-got_last : {X : Type 0} (xs : List X) (x : X) → slice_get (xs ++ x ∷ []) (length xs) ≡ Some x
-got_last [] x = refl
-got_last (y ∷ xs) x = got_last xs x
+module _ (ns : Table) (q : Request) (kept : BTreeMap EntityUID StoredEntity) (it left all : List Place) (p : Place) (m : Named) (is : it ≡ p ∷ left) (t : IsNaming ns q kept it all m) where
+  pub naming_skip : is_some (get nat_cmp m p.number) ≡ true → IsNaming ns q kept left all m
+  naming_skip there = record { right = t.right; rest = λ r h. by r (t.rest r h) }
+    where
+      first : (r : Place) → IsIn r (p ∷ left) → IsIn r left ⊎ (is_some (get nat_cmp m r.number) ≡ true)
+      first r (inl same) = inr (subst (λ (z : Place). is_some (get nat_cmp m z.number) ≡ true) same there)
+      first r (inr i) = inl i
 
-pub naming_more : (ns : Table) (q : Request) (kept : BTreeMap EntityUID StoredEntity) (n : ℕ) (sets : List (BTreeSet EntityUID)) (ids : BTreeSet EntityUID) → IsNaming ns q kept n sets
-    → ((s : Store) → IsKept kept s → (y : EntityUID) → (contains uid_cmp ids y ≡ true) ↔ IsNamed (record { nodes = ns; number = n }) q s y) → IsNaming ns q kept (n + 1) (sets ++ ids ∷ [])
-naming_more ns q kept n sets ids t here = record { many = omega (arith, longer sets ids, t.many); named = λ s k i h y. by s k i y (cases_lt i n) h }
+      by : (r : Place) → IsIn r it ⊎ (is_some (get nat_cmp m r.number) ≡ true) → IsIn r left ⊎ (is_some (get nat_cmp m r.number) ≡ true)
+      by r (inl i) = first r (subst (IsIn r) is i)
+      by r (inr h) = inr h
+
+  module _ (now : Named) (ids : BTreeSet EntityUID) (put : (i : ℕ) → get nat_cmp now i ≡ cond (is_eq (nat_cmp p.number i)) (Some ids) (get nat_cmp m i)) (here : get nat_cmp now p.number ≡ Some ids)
+      (named : (s : Store) → IsKept kept s → (y : EntityUID) → (contains uid_cmp ids y ≡ true) ↔ IsNamed (node_of ns p) q s y) where
+    abbrev AreRight : Store → ℕ → EntityUID → Option (BTreeSet EntityUID) → Type 0
+    AreRight s i y o = (option_map_or (λ b. contains uid_cmp b y) o false ≡ true) ↔ IsNamed (record { nodes = ns; number = i }) q s y
+
+    right_now : (s : Store) → IsKept kept s → (i : ℕ) (y : EntityUID) (b : Bool) → is_eq (nat_cmp p.number i) ≡ b → is_some (cond b (Some ids) (get nat_cmp m i)) ≡ true → AreRight s i y (cond b (Some ids) (get nat_cmp m i))
+    right_now s k i y true e there = subst (λ j. AreRight s j y (Some ids)) (exact_unsigned p.number i (equal_of (nat_cmp p.number i) e)) (named s k y)
+    right_now s k i y false e there = t.right s k i there y
+
+    still : (b : Bool) (o : Option (BTreeSet EntityUID)) → is_some o ≡ true → is_some (cond b (Some ids) o) ≡ true
+    still true o h = refl
+    still false o h = h
+
+    first : (r : Place) → IsIn r (p ∷ left) → IsIn r left ⊎ (is_some (get nat_cmp now r.number) ≡ true)
+    first r (inl same) = inr (subst (λ (z : Place). is_some (get nat_cmp now z.number) ≡ true) same (ap (λ (o : Option (BTreeSet EntityUID)). is_some o) here))
+    first r (inr i) = inl i
+
+    by : (r : Place) → IsIn r it ⊎ (is_some (get nat_cmp m r.number) ≡ true) → IsIn r left ⊎ (is_some (get nat_cmp now r.number) ≡ true)
+    by r (inl i) = first r (subst (IsIn r) is i)
+    by r (inr h) = inr (ap (λ (o : Option (BTreeSet EntityUID)). is_some o) (put r.number) ∙ still (is_eq (nat_cmp p.number r.number)) (get nat_cmp m r.number) h)
+
+    pub naming_more : IsNaming ns q kept left all now
+    naming_more = record {
+      right = λ s k i there y. subst (AreRight s i y) (sym (put i)) (right_now s k i y (is_eq (nat_cmp p.number i)) refl (sym (ap (λ (o : Option (BTreeSet EntityUID)). is_some o) (put i)) ∙ there));
+      rest = λ r h. by r (t.rest r h);
+    }
+
+pub naming_done : (ns : Table) (q : Request) (kept : BTreeMap EntityUID StoredEntity) (left all : List Place) (m : Named) → left ≡ [] → IsNaming ns q kept left all m → AreNamed ns q all kept m
+naming_done ns q kept left all m none t s k p h y = by (t.rest p h)
   where
-    longer : {X : Type 0} (xs : List X) (x : X) → length (xs ++ x ∷ []) ≡ suc (length xs)
-    longer [] x = refl
-    longer (z ∷ xs) x = ap suc (longer xs x)
-
-    by : (s : Store) → IsKept kept s → (i : ℕ) (y : EntityUID) → (i < n) ⊎ (n ≤ i) → i < n + 1 → (names (sets ++ ids ∷ []) i y ≡ true) ↔ IsNamed (record { nodes = ns; number = i }) q s y
-    by s k i y (inl before) h =
-        let same : names (sets ++ ids ∷ []) i y ≡ names sets i y = ap (λ o. option_map_or (λ (b : BTreeSet EntityUID). contains uid_cmp b y) o false) (got_before sets ids i (rw t.many before)) in
-        (λ e. (t.named s k i before y).0 (sym same ∙ e), λ e. same ∙ (t.named s k i before y).1 e)
-    by s k i y (inr after) h =
-        let last : i ≡ length sets = omega (arith, after, h, t.many) in
-        let is_n : i ≡ n = omega (arith, after, h) in
-        let same : names (sets ++ ids ∷ []) i y ≡ contains uid_cmp ids y = ap (λ o. option_map_or (λ (b : BTreeSet EntityUID). contains uid_cmp b y) o false) (ap (slice_get (sets ++ ids ∷ [])) last ∙ got_last sets ids) in
-        let there : (contains uid_cmp ids y ≡ true) ↔ IsNamed (record { nodes = ns; number = i }) q s y = subst (λ j. (contains uid_cmp ids y ≡ true) ↔ IsNamed (record { nodes = ns; number = j }) q s y) (sym is_n) (here s k y) in
-        (λ e. there.0 (sym same ∙ e), λ e. same ∙ there.1 e)
+    by : IsIn p left ⊎ (is_some (get nat_cmp m p.number) ≡ true) → (names m p.number y ≡ true) ↔ IsNamed (node_of ns p) q s y
+    by (inl i) = absurd (subst (IsIn p) none i)
+    by (inr there) = t.right s k p.number there y

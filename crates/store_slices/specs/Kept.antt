@@ -1,7 +1,8 @@
 -- What is kept of a store, by the nodes at which entities are reached.
-use Rattle.std.specs.Prelude.{◌≡◌, ◌↔◌, ℕ, ◌<◌, Bool, true, false, ◌&&◌, ◌||◌, List, [], ◌∷◌, is_some, slice_get, length}
+use Rattle.std.specs.Prelude.{◌≡◌, ◌↔◌, ℕ, Bool, true, false, ◌&&◌, ◌||◌, List, [], ◌∷◌, is_some}
 use Rattle.std.specs.List.{list_any}
 use Rattle.std.specs.Option.{option_map_or}
+use Rattle.std.specs.Ordering.{nat_cmp}
 use Rattle.std.specs.BTreeMap.{BTreeMap, get}
 use Rattle.std.specs.BTreeSet.{BTreeSet, contains}
 use Rattle.std.specs.declared.vec.Vec.{Vec}
@@ -12,9 +13,11 @@ use Rattle.entity_store.specs.declared.request.Request.{Request}
 use Rattle.entity_store.specs.Store.{StoredEntity, Store}
 use Rattle.access_tries.specs.Table.{Table}
 use Rattle.reads_spec.specs.Paths.{any_tag, steps_of}
+use Rattle.reads_spec.specs.Among.{IsIn}
 use Rattle.reads_spec.specs.Restrict.{Keep}
 use Rattle.trie_traversal.specs.Names.{IsKept, IsNamed}
 use Rattle.trie_traversal.specs.declared.place.Place.{Place}
+use Rattle.trie_traversal.specs.Places.{node_of}
 use Rattle.entity_loader.specs.Asked.{by_tag, some_leads, some_asks, some_along}
 
 -- for each entity the numbers of the nodes at which it is reached
@@ -46,22 +49,26 @@ along_nodes ns m = record {
   tags = λ x. by_tag (λ c. some_asks ns (numbers_at m x) (any_tag ∷ steps_of c));
 }
 
--- whether the id is among those of some node
-abbrev pub names : List (BTreeSet EntityUID) → ℕ → EntityUID → Bool
-names sets i y = option_map_or (λ ids. contains uid_cmp ids y) (slice_get sets i) false
+-- ids, by the numbers of nodes
+abbrev pub Named : Type 0
+Named = BTreeMap ℕ (BTreeSet EntityUID)
 
-abbrev pub some_names : List (BTreeSet EntityUID) → List ℕ → EntityUID → Bool
-some_names sets is y = list_any (λ i. names sets i y) is
+-- whether the id is among those of some node
+abbrev pub names : Named → ℕ → EntityUID → Bool
+names m i y = option_map_or (λ ids. contains uid_cmp ids y) (get nat_cmp m i) false
+
+abbrev pub some_names : Named → List ℕ → EntityUID → Bool
+some_names m is y = list_any (λ i. names m i y) is
 
 -- and the ancestors that some of the nodes names
-abbrev pub with_names : Table → Numbers → List (BTreeSet EntityUID) → Keep
-with_names ns m sets = record (along_nodes ns m) { ancestors = λ x. some_names sets (numbers_at m x) }
+abbrev pub with_names : Table → Numbers → Named → Keep
+with_names ns m named = record (along_nodes ns m) { ancestors = λ x. some_names named (numbers_at m x) }
 
 -- exactly the entities with numbers have nodes that are there
 abbrev pub AreNodes : Table → Numbers → Type 0
 AreNodes ns m = (x : EntityUID) → is_some (get uid_cmp m x) ≡ some_leads ns (numbers_at m x) []
 
--- the ids that the ancestors' tries of each node name, where they are followed in what is kept
-abbrev pub AreNamed : Table → Request → BTreeMap EntityUID StoredEntity → List (BTreeSet EntityUID) → Type 0
-AreNamed ns q kept sets =
-    (s : Store) → IsKept kept s → (i : ℕ) → i < length ns → (y : EntityUID) → (names sets i y ≡ true) ↔ IsNamed (record { nodes = ns; number = i }) q s y
+-- the ids that the ancestors' tries of each place name, where they are followed in what is kept
+abbrev pub AreNamed : Table → Request → List Place → BTreeMap EntityUID StoredEntity → Named → Type 0
+AreNamed ns q ps kept m =
+    (s : Store) → IsKept kept s → (p : Place) → IsIn p ps → (y : EntityUID) → (names m p.number y ≡ true) ↔ IsNamed (node_of ns p) q s y

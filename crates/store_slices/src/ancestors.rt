@@ -10,22 +10,29 @@ use entity_store::{Entity, Request};
 use policy_names::EntityUID;
 use std::alloc::{AllocError, Global};
 use std::collections::{BTreeMap, BTreeSet};
-use trie_traversal::named_ids;
+use trie_traversal::{Place, named_ids};
 
-/// For each node of the table the ids that its ancestors' tries name, where they are followed in what is kept.
-pub(crate) fn named_by_nodes(
+/// Ids, by the numbers of nodes.
+pub(crate) type Named = BTreeMap<usize, BTreeSet<EntityUID>>;
+
+/// For each node of a place the ids that its ancestors' tries name, where they are followed in what is kept.
+pub(crate) fn named_at_places(
     alloc: Global,
     request: &Request,
     nodes: &[Node],
+    places: &BTreeSet<Place>,
     kept: &BTreeMap<EntityUID, Entity>,
-) -> Result<Vec<BTreeSet<EntityUID>>, AllocError>
+) -> Result<Named, AllocError>
     requires whole { IsWhole request.now }
     requires table { IsTable nodes.now }
-    ensures { IfOk result (λ named. AreNamed nodes.now request.now kept.now named.items) }
+    ensures { IfOk result (λ named. AreNamed nodes.now request.now places.now.keys kept.now named) }
 {
-    let mut named = Vec::new(alloc);
-    for number in 0..nodes.len() {
-        named.push(named_ids(alloc, request, kept, &TrieRef::new(nodes, number))?)?;
+    let mut named = BTreeMap::new(alloc);
+    for place in places.iter() {
+        if !named.contains_key(&place.number) {
+            let ids = named_ids(alloc, request, kept, &TrieRef::new(nodes, place.number))?;
+            named.insert(place.number, ids)?;
+        }
     }
     Ok(named)
 }
@@ -35,7 +42,7 @@ pub(crate) fn ancestors_among(
     alloc: Global,
     entity: &Entity,
     numbers: &[usize],
-    named: &[BTreeSet<EntityUID>],
+    named: &Named,
 ) -> Result<BTreeSet<EntityUID>, AllocError>
     ensures { IfOk result (λ ids. ids.keys ≡ filter (some_names named.now numbers.now) entity.now.ancestors) }
 {
@@ -49,7 +56,7 @@ pub(crate) fn ancestors_among(
 }
 
 // Whether some of the nodes names the id.
-fn some_names(named: &[BTreeSet<EntityUID>], numbers: &[usize], uid: &EntityUID) -> bool
+fn some_names(named: &Named, numbers: &[usize], uid: &EntityUID) -> bool
     ensures { result ≡ some_names named.now numbers.now uid.now }
 {
     for number in numbers {
@@ -60,10 +67,10 @@ fn some_names(named: &[BTreeSet<EntityUID>], numbers: &[usize], uid: &EntityUID)
     false
 }
 
-fn names(named: &[BTreeSet<EntityUID>], number: usize, uid: &EntityUID) -> bool
+fn names(named: &Named, number: usize, uid: &EntityUID) -> bool
     ensures { result ≡ names named.now number uid.now }
 {
-    match named.get(number) {
+    match named.get(&number) {
         Some(ids) => ids.contains(uid),
         None => false,
     }

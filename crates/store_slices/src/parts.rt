@@ -6,7 +6,7 @@ ghost use Rattle.reads_spec.specs.Restrict.{part};
 ghost use Rattle.trie_traversal.specs.Names.{IsKept};
 ghost use Rattle.store_slices.specs.Kept.{along_nodes, with_names, AreNodes};
 
-use crate::ancestors::ancestors_among;
+use crate::ancestors::{Named, ancestors_among};
 use crate::numbers::Numbers;
 use access_tries::Node;
 use entity_loader::cut_entity;
@@ -41,7 +41,7 @@ pub(crate) fn slice_of(
     alloc: Global,
     nodes: &[Node],
     numbers: &Numbers,
-    named: &[BTreeSet<EntityUID>],
+    named: &Named,
     entities: &Entities,
 ) -> Result<Entities, AllocError>
     requires table { IsTable nodes.now }

@@ -6,7 +6,7 @@ ghost use Rattle.reads_spec.specs.Restrict.{restrict};
 ghost use Rattle.entity_store.specs.Request.{IsWhole};
 ghost use Rattle.store_slices.specs.Tries.{IsTrieOf};
 
-use crate::ancestors::named_by_nodes;
+use crate::ancestors::named_at_places;
 use crate::numbers::numbers_of;
 use crate::parts::{parts_of, slice_of};
 use crate::reach::reached_places;
@@ -29,7 +29,7 @@ pub fn restricted_store(
     let places = reached_places(alloc, request, trie, entities)?;
     let numbers = numbers_of(alloc, &places)?;
     let kept = parts_of(alloc, nodes, &numbers, entities)?;
-    let named = named_by_nodes(alloc, request, nodes, &kept)?;
+    let named = named_at_places(alloc, request, nodes, &places, &kept)?;
     drop(kept);
     slice_of(alloc, nodes, &numbers, &named, entities)
 }

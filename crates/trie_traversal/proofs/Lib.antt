@@ -6,4 +6,5 @@ mod BeginSteps
 mod LedSteps
 mod StuckSteps
 mod NameSteps
+mod WaitSteps
 mod ValueSteps

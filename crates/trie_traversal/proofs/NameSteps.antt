@@ -1,44 +1,39 @@
 -- Steps of naming.
-use Rattle.std.proofs.Common.{◌≡◌, ◌⊎◌, ℕ, ◌-◌, ◌<◌, Bool, true, false, cond, ◌&&◌, ◌||◌, List, [], ◌∷◌, length, map, Option, Some, None, refl, sym, ap, subst, ◌∙◌, inl, inr, arith, is_some, zero, suc}
-use Rattle.std.specs.Prelude.{◌↔◌, slice_get}
+use Rattle.std.proofs.Common.{◌≡◌, ◌⊎◌, ℕ, ◌-◌, ◌<◌, Bool, true, false, cond, ◌&&◌, ◌||◌, List, [], ◌∷◌, length, map, Option, Some, None, refl, sym, ap, subst, ◌∙◌, inl, inr, arith}
+use Rattle.std.specs.Prelude.{◌↔◌}
 use Rattle.std.specs.BTreeSet.{BTreeSet, contains}
-use Rattle.std.specs.BTreeMap.{is_at}
 use Rattle.std.specs.List.{list_any, flat_map, AllByRecursion}
 use Rattle.std.specs.Option.{option_to_list}
 use Rattle.std.proofs.lemmas.Bool.{and_parts, or_cases, false≢true}
 use Rattle.policy_names.specs.declared.entity_uid.EntityUID.{EntityUID}
-use Rattle.policy_names.proofs.Ties.{equal_of}
 use Rattle.policy_names.specs.Uid.{uid_cmp, uid_eq}
 use Rattle.entity_store.specs.declared.request.Request.{Request}
 use Rattle.entity_store.specs.Store.{StoredEntity, Store, entity_at}
-use Rattle.policy_values.specs.Value.{Val, entity, set, rec, Vals, no_vals, val, Fields, field_at}
+use Rattle.policy_values.specs.Value.{Val, entity, rec, Fields, field_at}
 use Rattle.access_tries.specs.declared.edge.Edge.{Edge}
 use Rattle.access_tries.specs.declared.edge.Edge.TheVariants.{Field, AnyTag, Root}
 use Rattle.access_tries.specs.declared.edge.EntityRoot.{EntityRoot}
 use Rattle.access_tries.specs.declared.table.Link.{Link}
-use Rattle.access_tries.specs.Edges.{Address, edge_cmp, edge_eq}
+use Rattle.access_tries.specs.Edges.{Address, edge_eq}
 use Rattle.access_tries.specs.Paths.{edge_of}
 use Rattle.access_tries.specs.Table.{Table, at_path, has_mark, links_at}
-use Rattle.access_tries.specs.Views.{ViewData, view_marks, view_leads, LeadsTo, LeadsNowhere, with_child, with_root, children_in, roots_in, children_of, roots_of, AreChildren, AreRoots}
-use Rattle.access_tries.specs.EdgeLaws.{exact_edge}
+use Rattle.access_tries.specs.Views.{ViewData, view_marks, LeadsTo, with_child, with_root, children_in, roots_in, children_of, roots_of, AreChildren, AreRoots}
 use Rattle.reads_spec.specs.Paths.{Step, along, any_tag}
-use Rattle.reads_spec.specs.Restrict.{names_id, lists_id, is_id, values_in, root_value, step, walk, reach}
+use Rattle.reads_spec.specs.Restrict.{names_id, values_in, root_value, step, walk}
 use Rattle.reads_spec.proofs.Lists.{IsIn, in_flat_map, flat_map_out, any_in, same_uid, uid_self}
 use Rattle.plain_lemmas.proofs.Booleans.{or_left_true, or_right_true}
 use Rattle.reads_spec.proofs.Words.{any_out}
-use Rattle.trie_traversal.specs.Names.{IsNamed, Names, SomeNames, Adds}
+use Rattle.trie_traversal.specs.Names.{IsNamed, Names, SomeNames}
+use Rattle.trie_traversal.specs.Waiting.{Has, Adds}
 use Rattle.plain_lemmas.proofs.Lists.{within_of_is_some}
 use Rattle.access_tries.specs.SameLaws.{edge_is}
 
--- ---- sets that grow
+-- ---- what grows
 
-abbrev pub Has : BTreeSet EntityUID → EntityUID → Type 0
-Has ids y = contains uid_cmp ids y ≡ true
+pub adds_none : (P old : EntityUID → Type 0) → ((y : EntityUID) → P y → ⊥) → Adds P old old
+adds_none P old h = record { each = λ y. (λ i. inl i, λ e. elim e [ inl i ↦ i | inr p ↦ absurd (h y p) ]) }
 
-pub adds_none : (P : EntityUID → Type 0) (ids : BTreeSet EntityUID) → ((y : EntityUID) → P y → ⊥) → Adds P ids ids
-adds_none P ids h = record { each = λ y. (λ i. inl i, λ e. elim e [ inl i ↦ i | inr p ↦ absurd (h y p) ]) }
-
-pub adds_same : (P Q : EntityUID → Type 0) (old new : BTreeSet EntityUID) → ((y : EntityUID) → P y ↔ Q y) → Adds P old new → Adds Q old new
+pub adds_same : (P Q old new : EntityUID → Type 0) → ((y : EntityUID) → P y ↔ Q y) → Adds P old new → Adds Q old new
 adds_same P Q old new f a = record {
   each = λ y. (
     λ i. elim ((a.each y).0 i) [ inl j ↦ inl j | inr p ↦ inr ((f y).0 p) ],
@@ -46,57 +41,57 @@ adds_same P Q old new f a = record {
   );
 }
 
-pub adds_both : (P Q R : EntityUID → Type 0) (old mid new : BTreeSet EntityUID) → ((y : EntityUID) → R y ↔ (P y ⊎ Q y)) → Adds P old mid → Adds Q mid new → Adds R old new
+pub adds_both : (P Q R old mid new : EntityUID → Type 0) → ((y : EntityUID) → R y ↔ (P y ⊎ Q y)) → Adds P old mid → Adds Q mid new → Adds R old new
 adds_both P Q R old mid new f a b = record { each = λ y. (λ i. out y ((b.each y).0 i), λ e. back y e) }
   where
-    first : (y : EntityUID) → Has old y ⊎ P y → Has old y ⊎ R y
+    first : (y : EntityUID) → old y ⊎ P y → old y ⊎ R y
     first y (inl j) = inl j
     first y (inr p) = inr ((f y).1 (inl p))
 
-    out : (y : EntityUID) → Has mid y ⊎ Q y → Has old y ⊎ R y
+    out : (y : EntityUID) → mid y ⊎ Q y → old y ⊎ R y
     out y (inl j) = first y ((a.each y).0 j)
     out y (inr q) = inr ((f y).1 (inr q))
 
-    part : (y : EntityUID) → P y ⊎ Q y → Has new y
+    part : (y : EntityUID) → P y ⊎ Q y → new y
     part y (inl p) = (b.each y).1 (inl ((a.each y).1 (inr p)))
     part y (inr q) = (b.each y).1 (inr q)
 
-    back : (y : EntityUID) → Has old y ⊎ R y → Has new y
+    back : (y : EntityUID) → old y ⊎ R y → new y
     back y (inl j) = (b.each y).1 (inl ((a.each y).1 (inl j)))
     back y (inr r) = part y ((f y).0 r)
 
--- the set has what was named, but for what is left
-pub record IsNaming (all left : EntityUID → Type 0) (old new : BTreeSet EntityUID) : Type 0 where
-  pub each : (y : EntityUID) → (Has new y ⊎ left y) ↔ (Has old y ⊎ all y)
+-- what was named is there, but for what is left
+pub record IsNaming (all left old new : EntityUID → Type 0) : Type 0 where
+  pub each : (y : EntityUID) → (new y ⊎ left y) ↔ (old y ⊎ all y)
 
-pub naming_start : (all left : EntityUID → Type 0) (ids : BTreeSet EntityUID) → ((y : EntityUID) → left y ↔ all y) → IsNaming all left ids ids
-naming_start all left ids f = record {
+pub naming_start : (all left old : EntityUID → Type 0) → ((y : EntityUID) → left y ↔ all y) → IsNaming all left old old
+naming_start all left old f = record {
   each = λ y. (
     λ e. elim e [ inl i ↦ inl i | inr l ↦ inr ((f y).0 l) ],
     λ e. elim e [ inl i ↦ inl i | inr l ↦ inr ((f y).1 l) ],
   );
 }
 
-pub naming_more : (all left this rest : EntityUID → Type 0) (old mid new : BTreeSet EntityUID) → ((y : EntityUID) → left y ↔ (this y ⊎ rest y)) → IsNaming all left old mid → Adds this mid new → IsNaming all rest old new
+pub naming_more : (all left this rest old mid new : EntityUID → Type 0) → ((y : EntityUID) → left y ↔ (this y ⊎ rest y)) → IsNaming all left old mid → Adds this mid new → IsNaming all rest old new
 naming_more all left this rest old mid new f n a = record { each = λ y. (λ e. (n.each y).0 (out y e), λ e. back y ((n.each y).1 e)) }
   where
-    had : (y : EntityUID) → Has mid y ⊎ this y → Has mid y ⊎ left y
+    had : (y : EntityUID) → mid y ⊎ this y → mid y ⊎ left y
     had y (inl i) = inl i
     had y (inr t) = inr ((f y).1 (inl t))
 
-    out : (y : EntityUID) → Has new y ⊎ rest y → Has mid y ⊎ left y
+    out : (y : EntityUID) → new y ⊎ rest y → mid y ⊎ left y
     out y (inl i) = had y ((a.each y).0 i)
     out y (inr r) = inr ((f y).1 (inr r))
 
-    part : (y : EntityUID) → this y ⊎ rest y → Has new y ⊎ rest y
+    part : (y : EntityUID) → this y ⊎ rest y → new y ⊎ rest y
     part y (inl t) = inl ((a.each y).1 (inr t))
     part y (inr r) = inr r
 
-    back : (y : EntityUID) → Has mid y ⊎ left y → Has new y ⊎ rest y
+    back : (y : EntityUID) → mid y ⊎ left y → new y ⊎ rest y
     back y (inl i) = inl ((a.each y).1 (inl i))
     back y (inr l) = part y ((f y).0 l)
 
-pub naming_skip : (all left rest : EntityUID → Type 0) (old new : BTreeSet EntityUID) → ((y : EntityUID) → left y ↔ rest y) → IsNaming all left old new → IsNaming all rest old new
+pub naming_skip : (all left rest old new : EntityUID → Type 0) → ((y : EntityUID) → left y ↔ rest y) → IsNaming all left old new → IsNaming all rest old new
 naming_skip all left rest old new f n = record {
   each = λ y. (
     λ e. (n.each y).0 (elim e [ inl i ↦ inl i | inr r ↦ inr ((f y).1 r) ]),
@@ -104,7 +99,7 @@ naming_skip all left rest old new f n = record {
   );
 }
 
-pub naming_done : (all left : EntityUID → Type 0) (old new : BTreeSet EntityUID) → ((y : EntityUID) → left y → ⊥) → IsNaming all left old new → Adds all old new
+pub naming_done : (all left old new : EntityUID → Type 0) → ((y : EntityUID) → left y → ⊥) → IsNaming all left old new → Adds all old new
 naming_done all left old new f n = record {
   each = λ y. (
     λ i. (n.each y).0 (inl i),
@@ -113,7 +108,7 @@ naming_done all left old new f n = record {
 }
 
 -- an id that is put in
-pub inserted : (x : EntityUID) (old new : BTreeSet EntityUID) → ((q : EntityUID) → contains uid_cmp new q ≡ cond (uid_eq x q) true (contains uid_cmp old q)) → Adds (λ y. uid_eq y x ≡ true) old new
+pub inserted : (x : EntityUID) (old new : BTreeSet EntityUID) → ((q : EntityUID) → contains uid_cmp new q ≡ cond (uid_eq x q) true (contains uid_cmp old q)) → Adds (λ y. uid_eq y x ≡ true) (Has old) (Has new)
 inserted x old new put = record { each = λ y. one y (uid_eq x y) refl (put y) }
   where
     one : (y : EntityUID) (b : Bool) → uid_eq x y ≡ b → contains uid_cmp new y ≡ cond b true (contains uid_cmp old y) → Has new y ↔ (Has old y ⊎ (uid_eq y x ≡ true))
@@ -441,11 +436,3 @@ no_root_names q s y n = n.among
 
 pub fewer_below : (e : Edge) (v w : ViewData) → LeadsTo e v w → length w.nodes - w.number < length v.nodes - v.number
 fewer_below e v w l = let h = within_of_is_some w.nodes w.number l.there in let k = l.later in let same = ap length l.table in omega (arith, h, k, same)
-
--- ---- from nothing
-
-pub from_nothing : (P : EntityUID → Type 0) (old new : BTreeSet EntityUID) → old.keys ≡ [] → Adds P old new → (y : EntityUID) → (contains uid_cmp new y ≡ true) ↔ P y
-from_nothing P old new e a y = (λ h. elim ((a.each y).0 h) [ inl i ↦ absurd (none i) | inr p ↦ p ], λ p. (a.each y).1 (inr p))
-  where
-    none : contains uid_cmp old y ≡ true → ⊥
-    none i = false≢true (ap (λ ks. list_any (is_at (uid_cmp y)) ks) (sym e) ∙ i)

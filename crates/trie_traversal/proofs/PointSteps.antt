@@ -1,5 +1,5 @@
 -- Where values lead along addresses that pass a test.
-use Rattle.std.proofs.Common.{◌≡◌, ℕ, Bool, true, false, ◌&&◌, ◌||◌, List, [], ◌∷◌, Option, Some, None, is_some, refl, ap, sym, ◌∙◌}
+use Rattle.std.proofs.Common.{◌≡◌, ℕ, true, false, ◌&&◌, ◌||◌, List, [], ◌∷◌, Option, Some, None, is_some, refl, ap, ◌∙◌}
 use Rattle.std.specs.Prelude.{slice_get}
 use Rattle.std.specs.List.{list_any}
 use Rattle.std.specs.Map.{values_of}
@@ -7,7 +7,7 @@ use Rattle.std.proofs.lemmas.Bool.{and_parts, and_from}
 use Rattle.access_tries.specs.Edges.{edge_eq}
 use Rattle.access_tries.specs.Table.{Table, NodeData, at_path, has_mark, links_at}
 use Rattle.reads_spec.specs.Restrict.{values_in}
-use Rattle.plain_lemmas.proofs.Booleans.{and_false, false_by_weaker, or_left_true, or_right_true, or_weaker}
+use Rattle.plain_lemmas.proofs.Booleans.{and_false, false_by_weaker}
 use Rattle.policy_names.specs.declared.entity_uid.EntityUID.{EntityUID}
 use Rattle.policy_names.specs.Uid.{uid_eq}
 use Rattle.policy_values.specs.Value.{Val, entity, rec, Fields, no_fields, field, fields_of}

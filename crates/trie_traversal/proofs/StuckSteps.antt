@@ -3,7 +3,6 @@ use Rattle.std.proofs.Common.{◌≡◌, ◌⊎◌, ◌<◌, ◌≤◌, ◌+◌,
 use Rattle.std.specs.Prelude.{slice_get}
 use Rattle.std.specs.List.{list_any}
 use Rattle.std.proofs.lemmas.Bool.{or_cases}
-use Rattle.policy_names.proofs.Ties.{equal_of}
 use Rattle.policy_expressions.specs.declared.kinds.Var.TheVariants.{Principal, Action, Resource, Context}
 use Rattle.entity_store.specs.declared.request.Request.{Request}
 use Rattle.entity_store.specs.Store.{StoredEntity}
@@ -13,18 +12,16 @@ use Rattle.access_tries.specs.declared.edge.Edge.TheVariants.{Field, AnyTag, Roo
 use Rattle.access_tries.specs.declared.edge.EntityRoot.{EntityRoot}
 use Rattle.access_tries.specs.declared.edge.EntityRoot.TheVariants.{Literal, Var}
 use Rattle.access_tries.specs.declared.table.Link.{Link}
-use Rattle.access_tries.specs.Edges.{Address, edge_cmp, edge_eq}
+use Rattle.access_tries.specs.Edges.{Address}
 use Rattle.access_tries.specs.Paths.{edge_of}
 use Rattle.access_tries.specs.Table.{Table, at_path, has_mark}
 use Rattle.access_tries.specs.Views.{ViewData, whole, LeadsTo, LeadsNowhere}
-use Rattle.access_tries.specs.EdgeLaws.{exact_edge}
 use Rattle.reads_spec.specs.Paths.{Step, along, any_tag}
 use Rattle.reads_spec.specs.Restrict.{values_in, root_value}
 use Rattle.trie_traversal.specs.Begun.{SomeRootSticks}
 use Rattle.trie_traversal.specs.Stuck.{Tests, tests_of, behind, is_step, GoesOn, MarksSome, Demands, Sticks, FieldsStick, SomeSticks, EntitySticks, IsStuck}
 use Rattle.trie_traversal.proofs.FollowSteps.{tests_behind}
 use Rattle.trie_traversal.proofs.PointSteps.{no_mark}
-use Rattle.access_tries.specs.SameLaws.{edge_is}
 
 -- ---- nothing sticks where nothing leads
 

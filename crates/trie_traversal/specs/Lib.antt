@@ -5,3 +5,4 @@ pub mod Stuck
 pub mod Begun
 pub mod Answered
 pub mod Names
+pub mod Waiting

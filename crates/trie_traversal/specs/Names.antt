@@ -1,8 +1,7 @@
 -- What ancestors' tries name in what is kept of a store.
-use Rattle.std.specs.Prelude.{◌≡◌, ◌↔◌, ◌⊎◌, Bool, true, List, ◌∷◌, map}
+use Rattle.std.specs.Prelude.{◌≡◌, true, List, map}
 use Rattle.std.specs.List.{list_any}
 use Rattle.std.specs.BTreeMap.{BTreeMap, get}
-use Rattle.std.specs.BTreeSet.{BTreeSet, contains}
 use Rattle.policy_names.specs.declared.entity_uid.EntityUID.{EntityUID}
 use Rattle.policy_names.specs.Uid.{uid_cmp}
 use Rattle.entity_store.specs.declared.request.Request.{Request}
@@ -35,7 +34,3 @@ pub record SomeNames (s : Store) (vs : List Val) (t : ViewData) (y : EntityUID) 
   pub value : Val
   pub among : IsIn value vs
   pub names : Names s value t y
-
--- the set has what it had, what is named, and nothing else
-pub record Adds (P : EntityUID → Type 0) (old new : BTreeSet EntityUID) : Type 0 where
-  pub each : (y : EntityUID) → (contains uid_cmp new y ≡ true) ↔ ((contains uid_cmp old y ≡ true) ⊎ P y)

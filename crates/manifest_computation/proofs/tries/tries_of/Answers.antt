@@ -29,4 +29,4 @@ loop-env-preserved c =
     let added = c.in_ok-add_trie_of-in-Some.ensures in
     entries_here schema c.action_ids-actions.ensures.schema ps c.deref-env-items.result.now (ap (map env_data_of) c.deref-env-items.ensures.value ∙ c.in_ok-envs.ensures)
     c.loop-env.env-index c.env-item.result c.env-item.is c.loop-env-test.true c.loop-env.tries.entries _ (added.0, c.in-Some.trie) c.loop-env.invariant added.1.0
-    (record { request_type = added.1.1; trie = left.trie }) left.left
+    (record { request_type = added.1.1; trie = left.trie; table = c.nodes-nodes.ensures.table }) left.left

@@ -23,9 +23,9 @@ returns c = record {
       let m = c.in_ok-numbers.numbers in
       let nodes = c.nodes-nodes.ensures.nodes in
       let kept = c.in_ok-kept.kept in
-      let sets = c.in_ok-named.named.items in
+      let sets = c.in_ok-named.named in
       let is_kept = subst (λ ns. IsKept kept (part (along_nodes ns m) s)) nodes c.in_ok-kept.ensures in
-      let named = subst (λ ns. AreNamed ns q kept sets) nodes c.in_ok-named.ensures in
+      let named = subst (λ ns. AreNamed ns q c.in_ok-places.places.keys kept sets) nodes c.in_ok-named.ensures in
       let all = restricted_is reads demands t fit q s c.in_ok-places.places.keys c.in_ok-places.ensures.reached m c.in_ok-numbers.ensures kept is_kept c.in_ok-places.ensures.there sets named in
-      IfOk-weaker c.slice_of.result _ _ (λ r is. is ∙ (λ i. part (with_names (nodes i) m (c.deref.ensures.value i)) s) ∙ sym all) c.slice_of.ensures;
+      IfOk-weaker c.slice_of.result _ _ (λ r is. is ∙ (λ i. part (with_names (nodes i) m sets) s) ∙ sym all) c.slice_of.ensures;
 }

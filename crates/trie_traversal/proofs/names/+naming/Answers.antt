@@ -1,77 +1,50 @@
-use Rattle.std.proofs.Common.{◌≡◌, ◌∷◌, [], true, refl, sym, ap, ◌∙◌, subst, arith, ◌⊎◌, Some, None}
+use Rattle.std.proofs.Common.{◌≡◌, sym, ap, ◌∙◌, subst, arith, Some, None}
 use Rattle.std.specs.Option.{option_copied}
 use Rattle.std.proofs.lemmas.Result.{on_ok_weaker}
-use Rattle.reads_spec.specs.Restrict.{values_in}
-use Rattle.policy_names.specs.Uid.{uid_eq}
 use Rattle.entity_store.proofs.FieldsFound.{field_found}
-use Rattle.entity_store.specs.Store.{entity_at}
-use Rattle.policy_values.specs.Value.{entity, rec, fields_of, field_at}
-use Rattle.access_tries.specs.Views.{view_marks}
-use Rattle.access_tries.specs.declared.edge.Edge.TheVariants.{Field, AnyTag}
-use Rattle.trie_traversal.specs.Names.{Names, SomeNames, Adds}
-use Rattle.trie_traversal.proofs.NameSteps.{adds_same, adds_both, adds_none, naming_start, naming_more, naming_skip, naming_done, NamesHere, ChildNames, names_nothing, names_children, children_names, child_first, child_skipped, no_child_names, some_first, none_names, absent_names, entity_names, untagged_names, fewer_below}
-use Rattle.trie_traversal.proofs.ValueSteps.{values_are, no_mark_behind, plain}
+use Rattle.policy_values.specs.Value.{entity, rec, set, fields_of, vals_of, field_at}
+use Rattle.policy_values.specs.ValueView.{val_of}
+use Rattle.access_tries.specs.declared.edge.Edge.TheVariants.{Field}
+use Rattle.trie_traversal.specs.Names.{Names}
+use Rattle.trie_traversal.specs.Waiting.{Has, Gives, Adds}
+use Rattle.trie_traversal.proofs.NameSteps.{adds_none, naming_start, naming_more, naming_skip, naming_done, ChildNames, names_nothing, names_children, children_names, child_first, child_skipped, no_child_names, fewer_below}
+use Rattle.trie_traversal.proofs.ValueSteps.{plain}
+use Rattle.trie_traversal.proofs.WaitSteps.{gives_more, gives_also, adds_in, later_in}
 use Rattle.trie_traversal.proofs.names.+naming.Goals as goal
 
-pub name_at-returns-in_default : goal.name_at-returns-in_default
-name_at-returns-in_default t c = λ s kept.
-    adds_none (Names s c.args.value.now c.args.trie.now) c.args.ids.now (λ y.
+pub name_at-returns-in-EntityUID-clause-named : goal.name_at-returns-in-EntityUID-clause-named
+name_at-returns-in-EntityUID-clause-named t c =
+    let w = c.args.trie.now in
+    let is : entity c.in-EntityUID.uid ≡ c.args.value.now = ap val_of (sym c.in-EntityUID.is) ∙ c.kind.ensures.content in
+    on_ok_weaker c.name_later.result
+    (λ f s. gives_also s w c.args.ids.now (entity c.in-EntityUID.uid) c.args.value.now is c.args.waiting.now c.name_later.new.waiting (f s))
+    c.name_later.ensures.named
+
+pub name_at-returns-in-Record-clause-named : goal.name_at-returns-in-Record-clause-named
+name_at-returns-in-Record-clause-named t c =
+    let w = c.args.trie.now in
+    let is : rec (fields_of c.in-Record.fields.entries) ≡ c.args.value.now = ap val_of (sym c.in-Record.is) ∙ c.kind.ensures.content in
+    on_ok_weaker c.name_fields.result
+    (λ f s. subst (λ v. Adds (Names s v w) (Gives s w c.args.ids.now c.args.waiting.now) (Gives s w c.name_fields.new.ids c.name_fields.new.waiting)) is (f s))
+    c.name_fields.ensures.named
+
+pub name_at-returns-in-Record-clause-later : goal.name_at-returns-in-Record-clause-later
+name_at-returns-in-Record-clause-later t c = on_ok_weaker c.name_fields.result (λ f k low. f k (omega (arith, low))) c.name_fields.ensures.later
+
+pub name_at-returns-in-Set-clause-named : goal.name_at-returns-in-Set-clause-named
+name_at-returns-in-Set-clause-named t c =
+    let w = c.args.trie.now in
+    let is : set (vals_of c.in-Set.values.items) ≡ c.args.value.now = ap val_of (sym c.in-Set.is) ∙ c.kind.ensures.content in
+    on_ok_weaker c.name_set.result
+    (λ f s. gives_more s w c.args.waiting.now (Names s c.args.value.now w) c.args.ids.now c.name_set.new.ids (subst (λ v. Adds (Names s v w) (Has c.args.ids.now) (Has c.name_set.new.ids)) is (f s)))
+    c.name_set.ensures
+
+pub name_at-returns-in_default-clause-named : goal.name_at-returns-in_default-clause-named
+name_at-returns-in_default-clause-named t c = λ s.
+    let w = c.args.trie.now in
+    adds_none (Names s c.args.value.now w) (Gives s w c.args.ids.now c.args.waiting.now) (λ y.
     let p = plain c.kind.result.now c.in_default.not-EntityUID c.in_default.not-Set c.in_default.not-Record s y in
-    subst (λ v. Names s v c.args.trie.now y → ⊥) c.kind.ensures.content (names_nothing s _ c.args.trie.now y p.0 p.1))
-
-pub name_each-loop-value-init : goal.name_each-loop-value-init
-name_each-loop-value-init t c = λ s kept.
-    let same = c.into_iter-value-iterator.ensures.into_iter_gives ∙ c.values-value-items.ensures.rest ∙ values_are c.args.values.now.entries in
-    naming_start (SomeNames s (values_in (fields_of c.args.values.now.entries)) c.args.trie.now) (SomeNames s c.into_iter-value-iterator.result c.args.trie.now) c.args.ids.now (λ y. rw same ((λ n. n), (λ n. n)))
-
-pub name_each-loop-value-preserved : goal.name_each-loop-value-preserved
-name_each-loop-value-preserved t c = λ s kept.
-    let v = c.in-Some.value.now in
-    let w = c.args.trie.now in
-    naming_more (SomeNames s (values_in (fields_of c.args.values.now.entries)) w) (SomeNames s c.loop-value.value-iterator w) (Names s v w) (SomeNames s c.next.new.self w) c.args.ids.now c.loop-value.ids c.name_at.new.ids
-    (λ y. rw c.in-Some.ensures.steps (some_first s v c.next.new.self w y)) (c.loop-value.invariant s kept) (c.in_ok-name_at.ensures s kept)
-
-pub name_each-returns : goal.name_each-returns
-name_each-returns t c = λ s kept.
-    naming_done (SomeNames s (values_in (fields_of c.args.values.now.entries)) c.args.trie.now) (SomeNames s c.loop-value.value-iterator c.args.trie.now) c.args.ids.now c.loop-value.ids
-    (λ y n. none_names s c.args.trie.now y (subst (λ l. SomeNames s l c.args.trie.now y) c.in-None.ensures.steps.0 n)) (c.loop-value.invariant s kept)
-
-pub name_entity-returns-in_default : goal.name_entity-returns-in_default
-name_entity-returns-in_default t c = λ s kept.
-    let x = c.args.uid.now in
-    let w = c.args.trie.now in
-    let none : entity_at s x ≡ None = kept x ∙ sym c.get.ensures.value ∙ ap option_copied c.in_default.is in
-    adds_same (λ y. (view_marks w [] ≡ true) × (uid_eq y x ≡ true)) (Names s (entity x) w) c.args.ids.now c.name_here.new.ids
-    (λ y. let f = absent_names s x w y none in (f.1, f.0)) c.in_ok-name_here.ensures
-
-pub name_entity-name_each-requires : goal.name_entity-name_each-requires
-name_entity-name_each-requires t c = omega (arith, fewer_below AnyTag c.args.trie.now c.in-Some-tags.below c.in-Some-tags.ensures)
-
-pub name_entity-returns-in-Some-tags : goal.name_entity-returns-in-Some-tags
-name_entity-returns-in-Some-tags t c =
-    let x = c.args.uid.now in
-    let w = c.args.trie.now in
-    let e = c.in-Some.entity.now in
-    let ids = c.args.ids.now in
-    let below = c.in-Some-tags.below in
-    on_ok_weaker c.name_each.result (λ f s kept.
-    let there : entity_at s x ≡ Some e = kept x ∙ sym c.get.ensures.value ∙ ap option_copied c.in-Some.is in
-    let fields : Adds (Names s (rec e.attrs) w) c.name_here.new.ids c.name_fields.new.ids = subst (λ fs. Adds (Names s (rec fs) w) c.name_here.new.ids c.name_fields.new.ids) c.attrs.ensures (c.in_ok-name_fields.ensures s kept) in
-    let tags : Adds (SomeNames s (values_in e.tags) below) c.name_fields.new.ids c.name_each.new.ids = subst (λ fs. Adds (SomeNames s (values_in fs) below) c.name_fields.new.ids c.name_each.new.ids) c.tags-in-Some-tags.ensures (f s kept) in
-    adds_both (λ y. NamesHere (entity x) w y ⊎ Names s (rec e.attrs) w y) (SomeNames s (values_in e.tags) below) (Names s (entity x) w) ids c.name_fields.new.ids c.name_each.new.ids
-    (λ y. entity_names s x w y e there below c.in-Some-tags.ensures)
-    (adds_both (NamesHere (entity x) w) (Names s (rec e.attrs) w) (λ y. NamesHere (entity x) w y ⊎ Names s (rec e.attrs) w y) ids c.name_here.new.ids c.name_fields.new.ids (λ y. ((λ n. n), (λ n. n))) c.in_ok-name_here.ensures fields) tags)
-    c.name_each.ensures
-
-pub name_entity-returns-in-None : goal.name_entity-returns-in-None
-name_entity-returns-in-None t c = λ s kept.
-    let x = c.args.uid.now in
-    let w = c.args.trie.now in
-    let e = c.in-Some.entity.now in
-    let there : entity_at s x ≡ Some e = kept x ∙ sym c.get.ensures.value ∙ ap option_copied c.in-Some.is in
-    let fields : Adds (Names s (rec e.attrs) w) c.name_here.new.ids c.name_fields.new.ids = subst (λ fs. Adds (Names s (rec fs) w) c.name_here.new.ids c.name_fields.new.ids) c.attrs.ensures (c.in_ok-name_fields.ensures s kept) in
-    adds_both (NamesHere (entity x) w) (Names s (rec e.attrs) w) (Names s (entity x) w) c.args.ids.now c.name_here.new.ids c.name_fields.new.ids
-    (λ y. untagged_names s x w y e there (no_mark_behind AnyTag w c.in-None.ensures)) c.in_ok-name_here.ensures fields
+    subst (λ v. Names s v w y → ⊥) c.kind.ensures.content (names_nothing s _ w y p.0 p.1))
 
 pub name_fields-loop-name-init : goal.name_fields-loop-name-init
 name_fields-loop-name-init t c =
@@ -80,14 +53,16 @@ name_fields-loop-name-init t c =
     let fs = fields_of c.args.fields.now.entries in
     let w = c.args.trie.now in
     record {
-      naming = λ s kept. naming_start (Names s (rec fs) w) (ChildNames s fs c.into_iter-name-iterator.result) c.args.ids.now (λ y. rw same (children_names s fs w y (rw c.children-name-items.ensures.children at lead), names_children s fs w y));
+      naming = λ s.
+          naming_start (Names s (rec fs) w) (ChildNames s fs c.into_iter-name-iterator.result) (Gives s w c.args.ids.now c.args.waiting.now) (λ y. rw same (children_names s fs w y (rw c.children-name-items.ensures.children at lead), names_children s fs w y));
+      later = λ k low h. h;
       lead = rw c.into_iter-name-iterator.ensures.into_iter_gives lead;
     }
 
 pub name_fields-name_at-requires : goal.name_fields-name_at-requires
 name_fields-name_at-requires t c =
     let all = rw c.in-Some.ensures.steps at c.loop-name.invariant.lead in
-    omega (arith, fewer_below (Field c.in-Some.name.now) c.args.trie.now c.in-Some.below all.0)
+    (omega (arith, fewer_below (Field c.in-Some.name.now) c.args.trie.now c.in-Some.below all.0), all.0.there)
 
 pub name_fields-loop-name-preserved-in-Continue-1 :
     goal.name_fields-loop-name-preserved-in-Continue-1
@@ -96,12 +71,18 @@ name_fields-loop-name-preserved-in-Continue-1 t c =
     let w = c.args.trie.now in
     let n = c.in-Some.name.now in
     let v = c.in-Some-get.value.now in
+    let below = c.in-Some.below in
     let steps = c.in-Some.ensures.steps in
     let there : field_at fs n ≡ Some v = sym (field_found n c.args.fields.now.entries) ∙ sym c.get.ensures.value ∙ ap option_copied c.in-Some-get.is in
     let all = rw steps at c.loop-name.invariant.lead in
+    let mid = c.loop-name.waiting in
+    let new = c.name_at.new.waiting in
     record {
-      naming = λ s kept. naming_more (Names s (rec fs) w) (ChildNames s fs c.loop-name.name-iterator) (Names s v c.in-Some.below) (ChildNames s fs c.next.new.self) c.args.ids.now c.loop-name.ids c.name_at.new.ids
-          (λ y. rw steps (child_first s fs n c.in-Some.below c.next.new.self y v there)) (c.loop-name.invariant.naming s kept) (c.in_ok-name_at.ensures s kept);
+      naming = λ s. naming_more (Names s (rec fs) w) (ChildNames s fs c.loop-name.name-iterator) (Names s v below) (ChildNames s fs c.next.new.self)
+          (Gives s w c.args.ids.now c.args.waiting.now) (Gives s w c.loop-name.ids mid) (Gives s w c.name_at.new.ids new)
+          (λ y. rw steps (child_first s fs n below c.next.new.self y v there)) (c.loop-name.invariant.naming s)
+          (adds_in s w below all.0.table (Names s v below) c.loop-name.ids c.name_at.new.ids mid new (c.in_ok-name_at.ensures.named s));
+      later = λ k low h. later_in (Field n) w below all.0 mid new c.in_ok-name_at.ensures.later k low (c.loop-name.invariant.later k low h);
       lead = all.1;
     }
 
@@ -114,13 +95,16 @@ name_fields-loop-name-preserved t c =
     let none : field_at fs n ≡ None = sym (field_found n c.args.fields.now.entries) ∙ sym c.get.ensures.value ∙ ap option_copied c.in_default.is in
     let all = rw steps at c.loop-name.invariant.lead in
     record {
-      naming = λ s kept. naming_skip (Names s (rec fs) w) (ChildNames s fs c.loop-name.name-iterator) (ChildNames s fs c.next.new.self) c.args.ids.now c.loop-name.ids
-          (λ y. rw steps (child_skipped s fs n c.in-Some.below c.next.new.self y none)) (c.loop-name.invariant.naming s kept);
+      naming = λ s. naming_skip (Names s (rec fs) w) (ChildNames s fs c.loop-name.name-iterator) (ChildNames s fs c.next.new.self)
+          (Gives s w c.args.ids.now c.args.waiting.now) (Gives s w c.loop-name.ids c.loop-name.waiting)
+          (λ y. rw steps (child_skipped s fs n c.in-Some.below c.next.new.self y none)) (c.loop-name.invariant.naming s);
+      later = c.loop-name.invariant.later;
       lead = all.1;
     }
 
-pub name_fields-returns : goal.name_fields-returns
-name_fields-returns t c = λ s kept.
+pub name_fields-returns-clause-named : goal.name_fields-returns-clause-named
+name_fields-returns-clause-named t c = λ s.
     let fs = fields_of c.args.fields.now.entries in
-    naming_done (Names s (rec fs) c.args.trie.now) (ChildNames s fs c.loop-name.name-iterator) c.args.ids.now c.loop-name.ids
-    (λ y n. no_child_names s fs y (subst (λ l. ChildNames s fs l y) c.in-None.ensures.steps.0 n)) (c.loop-name.invariant.naming s kept)
+    let w = c.args.trie.now in
+    naming_done (Names s (rec fs) w) (ChildNames s fs c.loop-name.name-iterator) (Gives s w c.args.ids.now c.args.waiting.now) (Gives s w c.loop-name.ids c.loop-name.waiting)
+    (λ y n. no_child_names s fs y (subst (λ l. ChildNames s fs l y) c.in-None.ensures.steps.0 n)) (c.loop-name.invariant.naming s)

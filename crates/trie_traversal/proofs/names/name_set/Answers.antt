@@ -3,6 +3,7 @@ use Rattle.std.proofs.lemmas.Bool.{false≢true}
 use Rattle.reads_spec.specs.Restrict.{lists_id}
 use Rattle.policy_values.specs.Value.{set, vals_of}
 use Rattle.trie_traversal.specs.Names.{Names}
+use Rattle.trie_traversal.specs.Waiting.{Has}
 use Rattle.trie_traversal.proofs.NameSteps.{adds_same, adds_none, names_alone, here_names}
 use Rattle.trie_traversal.proofs.names.name_set.Goals as goal
 
@@ -10,7 +11,7 @@ pub returns-in_ok-add_ids : goal.returns-in_ok-add_ids
 returns-in_ok-add_ids c = λ s.
     let v = set (vals_of c.args.values.now.items) in
     let t = c.args.trie.now in
-    adds_same (λ y. lists_id y (vals_of c.args.values.now.items) ≡ true) (Names s v t) c.args.ids.now c.add_ids.new.ids
+    adds_same (λ y. lists_id y (vals_of c.args.values.now.items) ≡ true) (Names s v t) (Has c.args.ids.now) (Has c.add_ids.new.ids)
     (λ y. (λ h. here_names s v t y (sym c.is_ancestor.ensures ∙ c.if-is_ancestor.true, h), λ n. (names_alone s v t y (λ k. refl) n).1))
     c.in_ok-add_ids.ensures
 
@@ -18,4 +19,4 @@ pub returns-else-is_ancestor : goal.returns-else-is_ancestor
 returns-else-is_ancestor c = λ s.
     let v = set (vals_of c.args.values.now.items) in
     let t = c.args.trie.now in
-    adds_none (Names s v t) c.args.ids.now (λ y n. false≢true (sym c.if-is_ancestor.false ∙ c.is_ancestor.ensures ∙ (names_alone s v t y (λ k. refl) n).0))
+    adds_none (Names s v t) (Has c.args.ids.now) (λ y n. false≢true (sym c.if-is_ancestor.false ∙ c.is_ancestor.ensures ∙ (names_alone s v t y (λ k. refl) n).0))

@@ -1,0 +1,88 @@
+-- What checks tell, one after another.
+use Rattle.std.proofs.Common.{◌≡◌, ℕ, Bool, true, false, not, ◌&&◌, List, [], ◌∷◌, map, refl, sym, ap, ◌∙◌}
+use Rattle.std.specs.Prelude.{flat_map, if◌then◌else◌}
+use Rattle.std.specs.List.{list_all}
+use Rattle.std.proofs.lemmas.List.Sums.{fold-append}
+use Rattle.schema_core.specs.EnvData.{EnvData}
+use Rattle.schema_core.specs.Faults.{IsSchema}
+use Rattle.schema_core.specs.Schema.{SchemaData}
+use Rattle.policy_expressions.specs.Slots.{has_slot}
+use Rattle.policy_set.specs.Data.{TemplateData}
+use Rattle.link_spec.specs.Linked.{linked_envs}
+use Rattle.policy_scope.specs.PlainScope.{is_plain_scope}
+use Rattle.findings.specs.declared.error.ValidationError.{ValidationError}
+use Rattle.findings.specs.contracts.error.ValidationErrorEq.TheImpl.Laws.{laws-law}
+use Rattle.typecheck_spec.specs.Check.{Check, Success, Irrelevant, Fail, TooDeep}
+use Rattle.scope_typing.specs.Met.{body_check, met_envs}
+use Rattle.scope_typing.proofs.Steps.{IsStep, same_asked}
+use Rattle.scope_typing.proofs.Folds.{checks_follow}
+use Rattle.policy_typecheck.specs.declared.policy_check.PolicyCheck.{PolicyCheck}
+use Rattle.policy_typecheck.specs.declared.policy_check.PolicyCheck.TheVariants as code
+use Rattle.policy_typecheck.specs.Added.{added, all_added, same_error}
+use Rattle.policy_typecheck.specs.Answer.{Tells, errors_of, too_deep}
+use Rattle.policy_typecheck.specs.Policies.{passes, is_irrelevant, is_too_deep, checks_of, refusals, is_accepted, is_impossible}
+use Rattle.policy_typecheck.specs.Told.{Told, told_by, told, all_told, condition_check}
+use Rattle.policy_typecheck.proofs.Once.{once_added}
+
+-- in code as by the definitions
+pub same_told : (id : List ℕ) (c : Check) (r : PolicyCheck) → Tells id c r → (s : Told) → told_by r s ≡ told id c s
+same_told id (Success t) (code.Success u) h s = refl
+same_told id (Irrelevant t) (code.Irrelevant u) h s = refl
+same_told id (Fail fs) (code.Fail es) h s = ap (λ xs. (record { accepted = false; impossible = false }, all_added same_error s.1 xs)) h
+same_told id TooDeep (code.Fail es) h s = ap (λ xs. (record { accepted = false; impossible = false }, all_added same_error s.1 xs)) h
+same_told id c r h s = absurd h
+
+and_again : (a b : Bool) → (a && (a && b)) ≡ (a && b)
+and_again true b = refl
+and_again false b = refl
+
+told_step : (id : List ℕ) → IsStep (told id)
+told_step id = record {
+  once = λ c s. λ j. (record { accepted = and_again (passes c) s.0.accepted j; impossible = and_again (is_irrelevant c) s.0.impossible j }, once_added same_error (λ x. laws-law.refl x) s.1 (errors_of id c) j);
+  skips = λ x s. refl;
+  same = λ p w s. same_asked (λ c. told id c s) ((λ x y. refl), (λ x y. refl)) p w;
+}
+
+-- the bodies in the environments that meet the scope tell what the conditions in all environments do
+pub bodies_tell : (schema : SchemaData) → IsSchema schema → (t : TemplateData) → is_plain_scope schema t.principal t.action t.resource ≡ true → has_slot t.body ≡ false → is_too_deep schema t ≡ false → (s : Told) →
+    all_told t.id (body_check schema t) s (met_envs schema t) ≡ all_told t.id (condition_check schema t) s (linked_envs schema t)
+bodies_tell schema ok t plain no_slot flat s = sym (checks_follow schema ok t plain no_slot flat (told t.id) (told_step t.id) s)
+
+-- behind the environments each passes where each did before and each of these does
+with_true : (a : Bool) → (a && true) ≡ a
+with_true true = refl
+with_true false = refl
+
+exchanged : (a b c : Bool) → ((a && b) && c) ≡ (b && (a && c))
+exchanged true b c = refl
+exchanged false true c = refl
+exchanged false false c = refl
+
+module _ (id : List ℕ) (check : EnvData → Check) where
+  accepted_told : (s : Told) (envs : List EnvData) → (all_told id check s envs).0.accepted ≡ (s.0.accepted && list_all passes (map check envs))
+  accepted_told s [] = sym (with_true s.0.accepted)
+  accepted_told s (e ∷ envs) = accepted_told (told id (check e) s) envs ∙ exchanged (passes (check e)) s.0.accepted (list_all passes (map check envs))
+
+  impossible_told : (s : Told) (envs : List EnvData) → (all_told id check s envs).0.impossible ≡ (s.0.impossible && list_all is_irrelevant (map check envs))
+  impossible_told s [] = sym (with_true s.0.impossible)
+  impossible_told s (e ∷ envs) = impossible_told (told id (check e) s) envs ∙ exchanged (is_irrelevant (check e)) s.0.impossible (list_all is_irrelevant (map check envs))
+
+  errors_told : (s : Told) (envs : List EnvData) → (all_told id check s envs).1 ≡ all_added same_error s.1 (flat_map (errors_of id) (map check envs))
+  errors_told s [] = refl
+  errors_told s (e ∷ envs) = errors_told (told id (check e) s) envs ∙ sym (fold-append (added same_error) s.1 (errors_of id (check e)) (flat_map (errors_of id) (map check envs)))
+
+-- a template whose condition is not too deep
+module _ (schema : SchemaData) (t : TemplateData) (flat : is_too_deep schema t ≡ false) (es : List ValidationError) where
+  abbrev pub whole_told : Told
+  whole_told = all_told t.id (condition_check schema t) (record { accepted = true; impossible = true }, es) (linked_envs schema t)
+
+  pub told_accepted : whole_told.0.accepted ≡ is_accepted schema t
+  told_accepted = accepted_told t.id (condition_check schema t) (record { accepted = true; impossible = true }, es) (linked_envs schema t) ∙ sym (ap (λ b. not b && list_all passes (checks_of schema t)) flat)
+
+  pub told_impossible : whole_told.0.impossible ≡ is_impossible schema t
+  told_impossible = impossible_told t.id (condition_check schema t) (record { accepted = true; impossible = true }, es) (linked_envs schema t) ∙ sym (ap (λ b. not b && list_all is_irrelevant (checks_of schema t)) flat)
+
+  pub told_errors : whole_told.1 ≡ all_added same_error es (refusals schema t)
+  told_errors =
+      errors_told t.id (condition_check schema t) (record { accepted = true; impossible = true }, es) (linked_envs schema t) ∙
+      sym (ap (λ b. all_added same_error es (if b then too_deep t.id ∷ [] else flat_map (errors_of t.id) (checks_of schema t))) flat)

@@ -1,0 +1,33 @@
+-- What checks tell, one after another.
+use Rattle.std.specs.Prelude.{ℕ, ◌&&◌, List, fold}
+use Rattle.schema_core.specs.EnvData.{EnvData}
+use Rattle.schema_core.specs.Schema.{SchemaData}
+use Rattle.policy_set.specs.Data.{TemplateData}
+use Rattle.policy_set.specs.Condition.{condition_of}
+use Rattle.findings.specs.declared.error.ValidationError.{ValidationError}
+use Rattle.typecheck_spec.specs.Check.{Check, checked}
+use Rattle.policy_typecheck.specs.declared.policies.Verdict.{Verdict}
+use Rattle.policy_typecheck.specs.Added.{all_added, same_error}
+use Rattle.policy_typecheck.specs.Answer.{errors_of}
+use Rattle.policy_typecheck.specs.declared.policy_check.PolicyCheck.{PolicyCheck}
+use Rattle.policy_typecheck.specs.Checks.{has_passed, is_false, errors_in}
+use Rattle.policy_typecheck.specs.Policies.{passes, is_irrelevant}
+
+-- what the checks so far come to, and the errors so far
+abbrev pub Told : Type 0
+Told = Verdict × List ValidationError
+
+-- one check more, in code and by the definitions
+abbrev pub told_by : PolicyCheck → Told → Told
+told_by r s = (record { accepted = has_passed r && s.0.accepted; impossible = is_false r && s.0.impossible }, all_added same_error s.1 (errors_in r))
+
+abbrev pub told : List ℕ → Check → Told → Told
+told id c s = (record { accepted = passes c && s.0.accepted; impossible = is_irrelevant c && s.0.impossible }, all_added same_error s.1 (errors_of id c))
+
+-- the checks in environments, one after another
+abbrev pub all_told : List ℕ → (EnvData → Check) → Told → List EnvData → Told
+all_told id check s envs = fold (λ s env. told id (check env) s) s envs
+
+-- the check of a template's condition
+abbrev pub condition_check : SchemaData → TemplateData → EnvData → Check
+condition_check schema t env = checked schema env (condition_of t)

@@ -1,0 +1,4 @@
+pub mod Parts
+pub mod Behind
+pub mod Laws
+pub mod Met

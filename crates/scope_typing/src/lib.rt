@@ -1,0 +1,4 @@
+//! Laws of scopes: they decide in which environments a body is typed.
+#![tactic(auto)]
+
+pub mod laws;
