@@ -76,11 +76,12 @@ fn listed<'a>(
     requires { IsSchema schema.now }
     ensures { IfOk result (λ r. pointed r.items ≡ filter (action_meets schema.now (ActionConstraint.In uids.now)) schema.now.action_ids) }
 {
-    if !are_declared(schema, uids) {
-        return Ok(Vec::new(alloc));
+    if are_declared(schema, uids) {
+        let ids = ids_within(alloc, schema, uids)?;
+        among(alloc, schema.action_ids(), &ids)
+    } else {
+        Ok(Vec::new(alloc))
     }
-    let ids = ids_within(alloc, schema, uids)?;
-    among(alloc, schema.action_ids(), &ids)
 }
 
 fn are_declared(schema: &ValidatorSchema, uids: &[EntityUID]) -> bool
