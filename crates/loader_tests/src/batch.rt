@@ -16,7 +16,8 @@ use table_loader::MemoryRows;
 const GROUP: &str =
     r#"{"schema":{"entityTypes":{"Group":{},"Photo":{},"User":{"memberOf":["Group"]}},"actions":[{"id":["Action","view"],"principals":["User"],"resources":["Photo"]}]},"policies":[{"id":"p0","effect":"permit","principal":{"in":["Group","g"]}}],"entities":[{"id":["User","alice"],"parents":[["Group","g"],["Group","h"]]}]}"#;
 
-// Of alice and of bob, whom the store does not have: whether there is alice, whether she is in g, whether there is bob.
+// Of alice and of bob, whom the store does not have. Of each the rows are asked whether there is such a user, and whether
+// it is in g.
 const BOTH: &str =
     r#"[{"principal":["User","alice"],"action":["Action","view"],"resource":["Photo","x"],"context":{}},{"principal":["User","bob"],"action":["Action","view"],"resource":["Photo","x"],"context":{}}]"#;
 
@@ -116,7 +117,8 @@ fn requests_are_answered(rt: HostRuntime) -> Result<(), Fail> {
         (BOTH, Some(0), "fault deny "),
         (BOTH, Some(1), "fault deny "),
         (BOTH, Some(2), "allow fault "),
-        (BOTH, Some(3), "allow deny "),
+        (BOTH, Some(3), "allow fault "),
+        (BOTH, Some(4), "allow deny "),
         (MIXED, None, "allow partial refused deny "),
         (MIXED, Some(2), "allow partial refused fault "),
         ("[]", None, ""),

@@ -23,7 +23,7 @@ use Rattle.reads_spec.proofs.Lists.{IsIn, in_map_out, flat_map_out}
 use Rattle.request_environments.specs.Environments.{EnvironmentsAreOfTypes, EnvironmentsAreThere}
 
 -- environments of an action have it
-env_action : (a : ActionData) (e : Environment) → IsIn e (environments_of a) → a.name ≡ e.action
+pub env_action : (a : ActionData) (e : Environment) → IsIn e (environments_of a) → a.name ≡ e.action
 env_action a e i =
     let p = flat_map_out (environments_at a) e a.principals i in
     let r = in_map_out (environment p.from a.name) e a.resources p.gives in
@@ -35,7 +35,7 @@ all_later k a (x ∷ xs) h (inl e) = subst (λ z. uid_cmp k z.name ≡ Less) e h
 all_later k a (x ∷ xs) h (inr i) = all_later k a xs h.1 i
 
 -- an action of the schema is found by its name
-member_found : (a : ActionData) (xs : List ActionData) → IsStrictlySortedBy uid_cmp (map (λ z. z.name) xs) → IsIn a xs → find (is_action_named a.name) xs ≡ Some a
+pub member_found : (a : ActionData) (xs : List ActionData) → IsStrictlySortedBy uid_cmp (map (λ z. z.name) xs) → IsIn a xs → find (is_action_named a.name) xs ≡ Some a
 member_found a [] h i = absurd i
 member_found a (x ∷ xs) h (inl e) = rw (e, tied_itself uid_cmp_total a.name) refl
 member_found a (x ∷ xs) h (inr i) =
@@ -46,7 +46,7 @@ some_same : {X : Type 0} {x y : X} → Some x ≡ Some y → x ≡ y
 some_same k = cc
 
 -- what a request type says of the ids of a request
-types_known : (p a r : Option EntityUID) (t : RequestType) → type_of_ids p a r ≡ Some t → ((known p).entity_type ≡ t.principal) × (known a ≡ t.action) × ((known r).entity_type ≡ t.resource)
+pub types_known : (p a r : Option EntityUID) (t : RequestType) → type_of_ids p a r ≡ Some t → ((known p).entity_type ≡ t.principal) × (known a ≡ t.action) × ((known r).entity_type ≡ t.resource)
 types_known (Some p) (Some a) (Some r) t h =
     let same : record { principal = p.entity_type; action = a; resource = r.entity_type } ≡ t = some_same h in
     (ap (λ z. z.principal) same, ap (λ z. z.action) same, ap (λ z. z.resource) same)
