@@ -4,9 +4,10 @@ use Rattle.std.specs.Prelude.{IfErr, IfOk}
 use Rattle.byte_streams.specs.Steps.{Rose}
 use Rattle.policy_values.specs.Value.{Val, Fields}
 use Rattle.entity_store.specs.declared.request.Request.{Request}
-use Rattle.entity_store.specs.Request.{IsWhole, known_fields}
+use Rattle.entity_store.specs.Request.{IsWhole}
+use Rattle.policy_core.specs.Eval.{known_fields}
 use Rattle.entity_store.specs.Store.{Store}
-use Rattle.policy_expressions.specs.declared.var.Var.TheVariants.{Principal, Action, Resource, Context}
+use Rattle.policy_expressions.specs.declared.kinds.Var.TheVariants.{Principal, Action, Resource, Context}
 use Rattle.access_tries.specs.declared.edge.EntityRoot.{EntityRoot}
 use Rattle.access_tries.specs.declared.edge.EntityRoot.TheVariants.{Literal, Var}
 use Rattle.access_tries.specs.Table.{Table}
@@ -74,16 +75,16 @@ module _ (sticks : Table → Val → Type 0) (enough : LoadedIsEnough) (faults :
   module _ (e : EntitySliceError) (loads : Loads sticks m q old new (Err e)) (not_memory : e ≡ error.OutOfMemory → ⊥) where
     -- a loader that tells its store is refused for none of its answers
     righted : (w : Store) → IsTold old w → IsRight (λ v. Unit {0}) old new e
-    righted w told = by_trie (λ t h. weaker e (loads.right t h w told)) (λ h. absurd (not_memory (loads.without h)))
+    righted w told = by_trie (λ t h. weaker (SticksAt t q w) e (loads.right t h w told)) (λ h. absurd (not_memory (loads.without h)))
       where
-        weaker : {P : Val → Type 0} (d : EntitySliceError) → IsRight P old new d → IsRight (λ v. Unit {0}) old new d
-        weaker (error.PartialRequest d) h = h
-        weaker (error.IncompatibleEntityManifest d) h = tt
-        weaker (error.WrongNumberOfEntities d) h = h
-        weaker (error.WrongNumberOfAncestors n k) h = h
-        weaker (error.InconsistentLoader u k d) h = h
-        weaker error.LoaderFault h = h
-        weaker error.OutOfMemory h = h
+        weaker : (P : Val → Type 0) (d : EntitySliceError) → IsRight P old new d → IsRight (λ v. Unit {0}) old new d
+        weaker P (error.PartialRequest d) h = h
+        weaker P (error.IncompatibleEntityManifest d) h = tt
+        weaker P (error.WrongNumberOfEntities d) h = h
+        weaker P (error.WrongNumberOfAncestors n k) h = h
+        weaker P (error.InconsistentLoader u k d) h = h
+        weaker P error.LoaderFault h = h
+        weaker P error.OutOfMemory h = h
 
     -- where that store conforms, for faults alone
     fault_alone : (w : Store) → IsTold old w → StoreConforms schema w → e ≡ error.LoaderFault
@@ -97,16 +98,16 @@ module _ (sticks : Table → Val → Type 0) (enough : LoadedIsEnough) (faults :
         refusal = record { without = λ h. loads.without h; right = λ t h. loads.right t h w told }
 
     caused : CauseOf (λ v. Unit {0}) old new e
-    caused = by_trie (λ t h. weaker e (loads.cause t h)) (λ h. absurd (not_memory (loads.without h)))
+    caused = by_trie (λ t h. weaker (sticks t) e (loads.cause t h)) (λ h. absurd (not_memory (loads.without h)))
       where
-        weaker : {P : Val → Type 0} (d : EntitySliceError) → CauseOf P old new d → CauseOf (λ v. Unit {0}) old new d
-        weaker (error.PartialRequest d) h = h
-        weaker (error.IncompatibleEntityManifest d) h = tt
-        weaker (error.WrongNumberOfEntities d) h = h
-        weaker (error.WrongNumberOfAncestors n k) h = h
-        weaker (error.InconsistentLoader u k d) h = h
-        weaker error.LoaderFault h = h
-        weaker error.OutOfMemory h = h
+        weaker : (P : Val → Type 0) (d : EntitySliceError) → CauseOf P old new d → CauseOf (λ v. Unit {0}) old new d
+        weaker P (error.PartialRequest d) h = h
+        weaker P (error.IncompatibleEntityManifest d) h = tt
+        weaker P (error.WrongNumberOfEntities d) h = h
+        weaker P (error.WrongNumberOfAncestors n k) h = h
+        weaker P (error.InconsistentLoader u k d) h = h
+        weaker P error.LoaderFault h = h
+        weaker P error.OutOfMemory h = h
 
   why : (e : EntitySliceError) → Loads sticks m q old new (Err e) → (e ≡ error.OutOfMemory → ⊥) → WhyNotLoaded schema policies.policies old new e
   why error.LoaderFault loads not_memory = caused error.LoaderFault loads not_memory

@@ -44,22 +44,22 @@ module _ (schema : SchemaData) (ps : List PolicyData) where
   -- a fault that is answered is one that rose
   rose : (old mid : LoaderState) → Continues old mid → (q : Request) (a : BatchAnswer) → IsAnswerTo schema ps old mid q a →
       (is_fault a + old.faults ≤ mid.faults) ⊎ (2 ^ 64 ≤ mid.faults + 1)
-  rose old mid on q Partial h = inl on.faults
-  rose old mid on q (Refused e) h = inl on.faults
-  rose old mid on q (Decided r) h = inl on.faults
+  rose old mid on q Partial h = inl (omega (arith, on.faults))
+  rose old mid on q (Refused e) h = inl (omega (arith, on.faults))
+  rose old mid on q (Decided r) h = inl (omega (arith, on.faults))
   rose old mid on q (Loading error.LoaderFault) h = elim h.2 [
     | inl more ↦ inl (omega (arith, more))
     | inr last ↦ inr last
   ]
-  rose old mid on q (Loading (error.IncompatibleEntityManifest e)) h = inl on.faults
-  rose old mid on q (Loading (error.InconsistentLoader uid kept got)) h = inl on.faults
-  rose old mid on q (Loading (error.WrongNumberOfEntities e)) h = inl on.faults
-  rose old mid on q (Loading (error.WrongNumberOfAncestors n k)) h = inl on.faults
-  rose old mid on q (Loading (error.PartialRequest e)) h = inl on.faults
-  rose old mid on q (Loading error.OutOfMemory) h = inl on.faults
+  rose old mid on q (Loading (error.IncompatibleEntityManifest e)) h = inl (omega (arith, on.faults))
+  rose old mid on q (Loading (error.InconsistentLoader uid kept got)) h = inl (omega (arith, on.faults))
+  rose old mid on q (Loading (error.WrongNumberOfEntities e)) h = inl (omega (arith, on.faults))
+  rose old mid on q (Loading (error.WrongNumberOfAncestors n k)) h = inl (omega (arith, on.faults))
+  rose old mid on q (Loading (error.PartialRequest e)) h = inl (omega (arith, on.faults))
+  rose old mid on q (Loading error.OutOfMemory) h = inl (omega (arith, on.faults))
 
 pub counted : FaultsAreCounted
-counted schema ps old new [] [] h = inl (goes_on schema ps old new [] [] h).faults
+counted schema ps old new [] [] h = let same = (goes_on schema ps old new [] [] h).faults in inl (omega (arith, same))
 counted schema ps old new (q ∷ qs) (a ∷ answers) h =
     by (rose schema ps old h.0 h.1 q a h.2) (counted schema ps h.0 new qs answers h.3)
   where
