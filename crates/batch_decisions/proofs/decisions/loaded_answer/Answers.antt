@@ -1,4 +1,4 @@
-use Rattle.std.proofs.Common.{◌≡◌, ◌⊎◌}
+use Rattle.std.proofs.Common.{◌⊎◌}
 use Rattle.trie_traversal.specs.Begun.{SomeRootSticks}
 use Rattle.manifest_loading.specs.Rounds.{Sticks}
 use Rattle.batch_decisions.specs.Answers.{IsAnswerTo}
