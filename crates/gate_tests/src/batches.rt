@@ -15,7 +15,7 @@ const BATCHES: &str =
 # an id that is not listed
 {"schema":$enums,"requests":[{"principal":["Foo","fo"],"action":["Action","a"],"resource":["Bar","b"],"context":{}}]} => Done {"refused":"entity `Foo::\"fo\"` is of an enumerated entity type, but `\"fo\"` is not declared as a valid eid"}|
 # an entity that is not stored is no fault of the request
-{"schema":$people,"policies":[{"id":"p0","effect":"permit","body":[{"when":{"==":[{"get":[{"var":"principal"},"name"]},"x"]}}]}],"requests":[{"principal":["User","ghost"],"action":["Action","view"],"resource":["Photo","x"],"context":{}}]} => Done {"decision":"Deny","errors":[["p0","entity `User::\"ghost\"` does not exist"]],"reasons":[]}|
+{"schema":{"entityTypes":{"Photo":{},"User":{"attributes":{"name":"String"}}},"actions":[{"id":["Action","view"],"principals":["User"],"resources":["Photo"]}]},"policies":[{"id":"p0","effect":"permit","body":[{"when":{"==":[{"get":[{"var":"principal"},"name"]},"x"]}}]}],"requests":[{"principal":["User","ghost"],"action":["Action","view"],"resource":["Photo","x"],"context":{}}]} => Done {"decision":"Deny","errors":[["p0","entity `User::\"ghost\"` does not exist"]],"reasons":[]}|
 # no requests: no line
 {"schema":$photos,"requests":[]} => Done 
 # nor where they are absent

@@ -1,23 +1,20 @@
 -- The lines on many requests are those of the answers over the store.
-use Rattle.std.proofs.Common.{◌≡◌, ◌++◌, ℕ, List, [], ◌∷◌, Bool, true, false, Some, None, refl, sym, ap, ◌∙◌, subst}
+use Rattle.std.proofs.Common.{◌≡◌, List, [], ◌∷◌, refl, sym, ◌∙◌, subst}
 use Rattle.std.proofs.lemmas.List.Elements.{All-from_recursion}
 use Rattle.std.specs.List.{All, AllByRecursion, AllZip, flat_map}
 use Rattle.entity_store.specs.declared.request.Request.{Request}
-use Rattle.entity_store.specs.Request.{IsWhole}
-use Rattle.typing_spec.specs.Conforms.{StoreConforms}
-use Rattle.conformance.specs.RequestRules.{first_request_fault}
 use Rattle.json_document.specs.declared.document.Document.{Document}
 use Rattle.batch_decisions.specs.Answers.{IsStoreAnswer}
 use Rattle.batch_decisions.specs.declared.answer.BatchAnswer.{BatchAnswer}
 use Rattle.batch_decisions.specs.declared.answer.BatchAnswer.TheVariants.{Partial, Refused, Loading, Decided}
-use Rattle.policy_gate.specs.Answer.{IsRefusedOr, IsWellMade, IsWork, batch_text, is_whole, partial_message, refused_line, refused_policies, request_line, whole_line}
+use Rattle.policy_gate.specs.Answer.{IsRefusedOr, IsWellMade, IsWork, refused_policies, request_line}
 use Rattle.policy_gate.specs.Batch.{IsToldOfStore, line_on}
 use Rattle.policy_gate.specs.Headline.{HasAcceptedPolicies}
 use Rattle.policy_gate.specs.Laws.{Laws}
 use Rattle.policy_gate.specs.Reply.{Answer}
 use Rattle.policy_gate.specs.declared.command.Command.TheVariants.{Batch}
 use Rattle.policy_gate.specs.declared.status.Status.TheVariants as status
-use Rattle.policy_gate.proofs.Says.{not_refused, parts_whole, partial_line, line_decided, whole_parts}
+use Rattle.policy_gate.proofs.Says.{not_refused, parts_whole, partial_line, line_decided}
 
 module _ (laws : Laws) (d : Document) (made : IsWellMade d) where
   abbrev IsAnswer : Request → BatchAnswer → Type 0

@@ -1,6 +1,5 @@
-use Rattle.std.proofs.Common.{sym, subst}
+use Rattle.std.proofs.Common.{subst}
 use Rattle.std.specs.List.{AllZip}
-use Rattle.json_document.specs.declared.document.Document.{Document}
 use Rattle.batch_decisions.specs.Answers.{IsStoreAnswer}
 use Rattle.policy_gate.specs.Answer.{IsWork}
 use Rattle.policy_gate.specs.Reply.{reply_view}
