@@ -7,8 +7,8 @@ use Rattle.schema_core.specs.EnvData.{EnvData}
 use Rattle.schema_core.specs.RequestEnvs.{env_data_of}
 use Rattle.schema_core.specs.declared.request_env.RequestEnv.{RequestEnv}
 use Rattle.policy_expressions.specs.Plain.{Plain}
-use Rattle.policy_typecheck.specs.declared.policy_check.PolicyCheck.{PolicyCheck}
-use Rattle.policy_typecheck.specs.Answer.{TellsIn}
+use Rattle.typecheck_walk.specs.declared.policy_check.PolicyCheck.{PolicyCheck}
+use Rattle.typecheck_walk.specs.Answer.{TellsIn}
 use Rattle.plain_lemmas.proofs.Lists.{all_push}
 
 module _ (schema : SchemaData) (id : List ℕ) (x : Plain) where

@@ -16,10 +16,10 @@ use Rattle.typecheck_spec.specs.Check.{Check, Success, Irrelevant, Fail, TooDeep
 use Rattle.scope_typing.specs.Met.{body_check, met_envs}
 use Rattle.scope_typing.proofs.Steps.{IsStep, same_asked}
 use Rattle.scope_typing.proofs.Folds.{checks_follow}
-use Rattle.policy_typecheck.specs.declared.policy_check.PolicyCheck.{PolicyCheck}
-use Rattle.policy_typecheck.specs.declared.policy_check.PolicyCheck.TheVariants as code
+use Rattle.typecheck_walk.specs.declared.policy_check.PolicyCheck.{PolicyCheck}
+use Rattle.typecheck_walk.specs.declared.policy_check.PolicyCheck.TheVariants as code
 use Rattle.policy_typecheck.specs.Added.{added, all_added, same_error}
-use Rattle.policy_typecheck.specs.Answer.{Tells, errors_of, too_deep}
+use Rattle.typecheck_walk.specs.Answer.{Tells, errors_of, too_deep}
 use Rattle.policy_typecheck.specs.Policies.{passes, is_irrelevant, is_too_deep, checks_of, refusals, is_accepted, is_impossible}
 use Rattle.policy_typecheck.specs.Told.{Told, told_by, told, all_told, condition_check}
 use Rattle.policy_typecheck.proofs.Once.{once_added}

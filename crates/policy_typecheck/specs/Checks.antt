@@ -1,8 +1,10 @@
 -- Checks in code.
 use Rattle.std.specs.Prelude.{Bool, true, false, List, []}
 use Rattle.findings.specs.declared.error.ValidationError.{ValidationError}
-use Rattle.policy_typecheck.specs.declared.policy_check.PolicyCheck.{PolicyCheck}
-use Rattle.policy_typecheck.specs.declared.policy_check.PolicyCheck.TheVariants.{Irrelevant, Fail}
+use Rattle.typecheck_walk.specs.declared.policy_check.PolicyCheck.{PolicyCheck}
+use Rattle.typecheck_walk.specs.declared.policy_check.PolicyCheck.TheVariants.{Irrelevant, Fail}
+use Rattle.policy_typecheck.specs.declared.verdict.Verdict.{Verdict}
+use Rattle.policy_typecheck.specs.declared.verdict.Verdict.TheVariants.{Never, May}
 
 abbrev pub has_passed : PolicyCheck → Bool
 has_passed (Fail es) = false
@@ -15,3 +17,7 @@ is_false r = false
 abbrev pub errors_in : PolicyCheck → List ValidationError
 errors_in (Fail es) = es.items
 errors_in r = []
+
+abbrev pub verdict_told : PolicyCheck → Verdict
+verdict_told (Irrelevant t) = Never
+verdict_told r = May

@@ -1,9 +1,9 @@
 pub mod Added
-pub mod Answer
-pub mod Asked
 pub mod Checks
-pub mod Known
 pub mod Missing
-pub mod Policies
 pub mod Pointed
+pub mod Policies
 pub mod Told
+pub mod Verdict
+pub use Rattle.typecheck_walk.specs.Answer
+pub use Rattle.typecheck_walk.specs.Known

@@ -11,7 +11,7 @@ use Rattle.findings.specs.declared.error.ValidationWarning.{ValidationWarning}
 use Rattle.findings.specs.declared.error.ValidationWarning.TheVariants as warning
 use Rattle.typecheck_spec.specs.Check.{Check, Success, Irrelevant, checked}
 use Rattle.policy_typecheck.specs.Added.{added, same_warning}
-use Rattle.policy_typecheck.specs.Answer.{errors_of, too_deep}
+use Rattle.typecheck_walk.specs.Answer.{errors_of, too_deep}
 
 -- whether a check passes, and whether it finds the condition false
 abbrev pub passes : Check → Bool

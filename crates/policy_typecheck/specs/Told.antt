@@ -6,16 +6,16 @@ use Rattle.policy_set.specs.Data.{TemplateData}
 use Rattle.policy_set.specs.Condition.{condition_of}
 use Rattle.findings.specs.declared.error.ValidationError.{ValidationError}
 use Rattle.typecheck_spec.specs.Check.{Check, checked}
-use Rattle.policy_typecheck.specs.declared.policies.Verdict.{Verdict}
+use Rattle.policy_typecheck.specs.declared.policies.Summary.{Summary}
 use Rattle.policy_typecheck.specs.Added.{all_added, same_error}
-use Rattle.policy_typecheck.specs.Answer.{errors_of}
-use Rattle.policy_typecheck.specs.declared.policy_check.PolicyCheck.{PolicyCheck}
+use Rattle.typecheck_walk.specs.Answer.{errors_of}
+use Rattle.typecheck_walk.specs.declared.policy_check.PolicyCheck.{PolicyCheck}
 use Rattle.policy_typecheck.specs.Checks.{has_passed, is_false, errors_in}
 use Rattle.policy_typecheck.specs.Policies.{passes, is_irrelevant}
 
 -- what the checks so far come to, and the errors so far
 abbrev pub Told : Type 0
-Told = Verdict × List ValidationError
+Told = Summary × List ValidationError
 
 -- one check more, in code and by the definitions
 abbrev pub told_by : PolicyCheck → Told → Told

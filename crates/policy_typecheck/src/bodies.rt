@@ -9,7 +9,7 @@ ghost use Rattle.policy_typecheck.specs.Told.{all_told};
 ghost use Rattle.scope_typing.specs.Met.{body_check, met_at, met_envs, met_with};
 
 use crate::Typechecker;
-use crate::policies::Verdict;
+use crate::policies::Summary;
 use findings::ValidationError;
 use indexmap::IndexSet;
 use policy_names::EntityType;
@@ -23,16 +23,16 @@ pub(crate) fn check_bodies(
     checker: &Typechecker<'_, '_>,
     alloc: Global,
     t: &Template,
-    verdict: &mut Verdict,
+    summary: &mut Summary,
     found: &mut IndexSet<ValidationError>,
 ) -> Result<(), AllocError>
     ensures schema { IsSchema checker.now }
-    ensures told { OnOk result ((verdict.new, found.new.keys) ≡ all_told t.now.id (body_check checker.now t.now) (verdict.old, found.old.keys) (met_envs checker.now t.now)) }
+    ensures told { OnOk result ((summary.new, found.new.keys) ≡ all_told t.now.id (body_check checker.now t.now) (summary.old, found.old.keys) (met_envs checker.now t.now)) }
 {
     let schema = checker.schema();
     for action in schema.action_ids() {
         if action_meets(schema, t.action_constraint(), action) {
-            check_of_action(checker, alloc, t, action, verdict, found)?;
+            check_of_action(checker, alloc, t, action, summary, found)?;
         }
     }
     Ok(())
@@ -44,15 +44,15 @@ fn check_of_action(
     alloc: Global,
     t: &Template,
     action: &ValidatorActionId,
-    verdict: &mut Verdict,
+    summary: &mut Summary,
     found: &mut IndexSet<ValidationError>,
 ) -> Result<(), AllocError>
-    ensures { OnOk result ((verdict.new, found.new.keys) ≡ all_told t.now.id (body_check checker.now t.now) (verdict.old, found.old.keys) (met_with checker.now t.now action.now)) }
+    ensures { OnOk result ((summary.new, found.new.keys) ≡ all_told t.now.id (body_check checker.now t.now) (summary.old, found.old.keys) (met_with checker.now t.now action.now)) }
 {
     let schema = checker.schema();
     for principal in action.applies_to_principals() {
         if type_meets(schema, t.principal_constraint(), principal) {
-            check_of_principal(checker, alloc, t, action, principal, verdict, found)?;
+            check_of_principal(checker, alloc, t, action, principal, summary, found)?;
         }
     }
     Ok(())
@@ -65,16 +65,16 @@ fn check_of_principal(
     t: &Template,
     action: &ValidatorActionId,
     principal: &EntityType,
-    verdict: &mut Verdict,
+    summary: &mut Summary,
     found: &mut IndexSet<ValidationError>,
 ) -> Result<(), AllocError>
-    ensures { OnOk result ((verdict.new, found.new.keys) ≡ all_told t.now.id (body_check checker.now t.now) (verdict.old, found.old.keys) (met_at checker.now t.now action.now principal.now)) }
+    ensures { OnOk result ((summary.new, found.new.keys) ≡ all_told t.now.id (body_check checker.now t.now) (summary.old, found.old.keys) (met_at checker.now t.now action.now principal.now)) }
 {
     let schema = checker.schema();
     for resource in action.applies_to_resources() {
         if type_meets(schema, t.resource_constraint(), resource) {
             let env = env_with(action, principal, resource);
-            checker.tell_body(alloc, t, &env, verdict, found)?;
+            checker.tell_body(alloc, t, &env, summary, found)?;
         }
     }
     Ok(())

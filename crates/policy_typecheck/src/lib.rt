@@ -1,21 +1,16 @@
-//! The typechecker: a walk through a condition that gives its type or tells what it found.
+//! The typechecker: what checks of the conditions of policies come to, in one environment and in all.
 #![tactic(auto)]
 
 mod added;
 mod bodies;
-mod conditions;
 mod environments;
-mod errors;
-mod known;
 mod policies;
-mod policy_check;
-mod setting;
 mod slots;
 mod typechecker;
-mod walks;
+mod verdict;
 
-pub use conditions::is_too_deep;
 pub use environments::linked_request_envs;
-pub use policy_check::PolicyCheck;
 pub use typecheck_answer::TypecheckAnswer;
+pub use typecheck_walk::{PolicyCheck, is_too_deep};
 pub use typechecker::Typechecker;
+pub use verdict::Verdict;

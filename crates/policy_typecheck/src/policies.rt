@@ -15,7 +15,7 @@ use std::alloc::{AllocError, Global};
 
 /// What the checks so far come to.
 #[derive(Clone, Copy)]
-pub(crate) struct Verdict {
+pub(crate) struct Summary {
     /// Whether each of them passes.
     pub(crate) accepted: bool,
     /// Whether each of them finds the condition false.
@@ -24,14 +24,14 @@ pub(crate) struct Verdict {
 
 /// Tells of one check more, and adds its errors, each once.
 pub(crate) fn tell_check(
-    verdict: &mut Verdict,
+    summary: &mut Summary,
     found: &mut IndexSet<ValidationError>,
     check: PolicyCheck,
 ) -> Result<(), AllocError>
-    ensures { OnOk result ((verdict.new, found.new.keys) ≡ told_by check (verdict.old, found.old.keys)) }
+    ensures { OnOk result ((summary.new, found.new.keys) ≡ told_by check (summary.old, found.old.keys)) }
 {
-    verdict.accepted = has_passed(&check) && verdict.accepted;
-    verdict.impossible = is_false(&check) && verdict.impossible;
+    summary.accepted = has_passed(&check) && summary.accepted;
+    summary.impossible = is_false(&check) && summary.impossible;
     add_errors_of(found, check)
 }
 

@@ -1,26 +1,27 @@
 //! The typechecker.
 
-ghost use Rattle.std.specs.Prelude.{◌≡◌, false, IfOk, OnErr, OnOk, map};
+ghost use Rattle.std.specs.Prelude.{◌≡◌, ◌≤◌, false, IfOk, OnErr, OnOk, map};
 ghost use Rattle.std.specs.List.{AllByRecursion};
 ghost use Rattle.schema_core.specs.EnvData.{unlinked_envs};
 ghost use Rattle.schema_core.specs.RequestEnvs.{env_data_of};
 ghost use Rattle.policy_expressions.specs.Slots.{has_slot};
+ghost use Rattle.policy_expressions.specs.Tree.{depth_of};
 ghost use Rattle.policy_set.specs.Condition.{condition_of};
 ghost use Rattle.link_spec.specs.Linked.{linked_envs};
 ghost use Rattle.scope_typing.specs.Met.{body_check};
-ghost use Rattle.typecheck_spec.specs.Check.{check_walked, checked, condition_walked};
+ghost use Rattle.typecheck_spec.specs.Check.{checked};
 ghost use Rattle.policy_typecheck.specs.Added.{all_added, same_error};
-ghost use Rattle.policy_typecheck.specs.Answer.{Tells, TellsIn};
-ghost use Rattle.policy_typecheck.specs.Known.{KnowsFunctions};
+ghost use Rattle.typecheck_walk.specs.Answer.{Tells, TellsIn};
+ghost use Rattle.typecheck_walk.specs.Known.{KnowsFunctions};
 ghost use Rattle.policy_typecheck.specs.Policies.{is_accepted, is_impossible, is_too_deep, refusals, warned};
 ghost use Rattle.policy_typecheck.specs.Told.{all_told, condition_check, told};
+ghost use Rattle.policy_typecheck.specs.Verdict.{verdict_of};
 
 use crate::added::add_errors;
 use crate::bodies::check_bodies;
-use crate::conditions::{check_walk, is_too_deep, only_too_deep};
-use crate::policies::{Verdict, add_found, tell_check};
-use crate::setting::{Extensions, Setting};
-use crate::{PolicyCheck, linked_request_envs};
+use crate::policies::{Summary, add_found, tell_check};
+use crate::verdict::verdict_by;
+use crate::{Verdict, linked_request_envs};
 use extension_types::ExtensionSchemas;
 use findings::{ValidationError, ValidationWarning};
 use indexmap::IndexSet;
@@ -31,6 +32,10 @@ use policy_set::{Policy, Template};
 use schema_core::{RequestEnv, ValidationMode, ValidatorSchema};
 use std::alloc::{AllocError, Global};
 use std::marker::Model;
+use typecheck_spec::laws::check_is_exact;
+use typecheck_walk::{
+    Extensions, PolicyCheck, Setting, check_condition, check_walk, is_too_deep, only_too_deep,
+};
 
 /// A typechecker for the policies of a schema.
 #[derive(Drop)]
@@ -98,9 +103,9 @@ impl<'a, 'x> Typechecker<'a, 'x> {
         ensures unchanged { OnErr result ((errors.new.items ≡ errors.old.items) × (warnings.new.items ≡ warnings.old.items)) }
     {
         let mut found = IndexSet::new(alloc);
-        let verdict = self.find(alloc, t, &mut found)?;
-        add_found(alloc, t.id(), verdict.impossible, found, errors, warnings)?;
-        Ok(verdict.accepted)
+        let summary = self.find(alloc, t, &mut found)?;
+        add_found(alloc, t.id(), summary.impossible, found, errors, warnings)?;
+        Ok(summary.accepted)
     }
 
     // What the checks of a template come to, with what they find, each once.
@@ -109,24 +114,24 @@ impl<'a, 'x> Typechecker<'a, 'x> {
         alloc: Global,
         t: &Template,
         found: &mut IndexSet<ValidationError>,
-    ) -> Result<Verdict, AllocError>
+    ) -> Result<Summary, AllocError>
         ensures accepted { IfOk result (λ v. v.accepted ≡ is_accepted self.now t.now) }
         ensures impossible { IfOk result (λ v. v.impossible ≡ is_impossible self.now t.now) }
         ensures errors { OnOk result (found.new.keys ≡ all_added same_error found.old.keys (refusals self.now t.now)) }
     {
         if is_too_deep(t.condition()) {
             add_errors(found, only_too_deep(alloc, t.id())?)?;
-            return Ok(Verdict {
+            return Ok(Summary {
                 accepted: false,
                 impossible: false,
             });
         }
-        let mut verdict = Verdict {
+        let mut summary = Summary {
             accepted: true,
             impossible: true,
         };
-        self.check_all(alloc, t, &mut verdict, found)?;
-        Ok(verdict)
+        self.check_all(alloc, t, &mut summary, found)?;
+        Ok(summary)
     }
 
     // Checks the condition in all its environments. Where the ids of the scope have types, only its body is typed, and that
@@ -135,19 +140,19 @@ impl<'a, 'x> Typechecker<'a, 'x> {
         &self,
         alloc: Global,
         t: &Template,
-        verdict: &mut Verdict,
+        summary: &mut Summary,
         found: &mut IndexSet<ValidationError>,
     ) -> Result<(), AllocError>
         requires depth { is_too_deep self.now t.now ≡ false }
         requires body { has_slot t.now.body ≡ false }
-        ensures { OnOk result ((verdict.new, found.new.keys) ≡ all_told t.now.id (condition_check self.now t.now) (verdict.old, found.old.keys) (linked_envs self.now t.now)) }
+        ensures { OnOk result ((summary.new, found.new.keys) ≡ all_told t.now.id (condition_check self.now t.now) (summary.old, found.old.keys) (linked_envs self.now t.now)) }
     {
         let principal = t.principal_constraint();
         let resource = t.resource_constraint();
         if is_plain_scope(self.schema, principal, t.action_constraint(), resource) {
-            check_bodies(self, alloc, t, verdict, found)
+            check_bodies(self, alloc, t, summary, found)
         } else {
-            self.check_conditions(alloc, t, verdict, found)
+            self.check_conditions(alloc, t, summary, found)
         }
     }
 
@@ -155,14 +160,14 @@ impl<'a, 'x> Typechecker<'a, 'x> {
         &self,
         alloc: Global,
         t: &Template,
-        verdict: &mut Verdict,
+        summary: &mut Summary,
         found: &mut IndexSet<ValidationError>,
     ) -> Result<(), AllocError>
-        ensures { OnOk result ((verdict.new, found.new.keys) ≡ all_told t.now.id (condition_check self.now t.now) (verdict.old, found.old.keys) (linked_envs self.now t.now)) }
+        ensures { OnOk result ((summary.new, found.new.keys) ≡ all_told t.now.id (condition_check self.now t.now) (summary.old, found.old.keys) (linked_envs self.now t.now)) }
     {
         for env in linked_request_envs(alloc, self.schema, t)? {
             let check = self.check_in(alloc, &env, t.id(), t.condition())?;
-            tell_check(verdict, found, check)?;
+            tell_check(summary, found, check)?;
         }
         Ok(())
     }
@@ -223,6 +228,22 @@ impl<'a, 'x> Typechecker<'a, 'x> {
         Ok(checks)
     }
 
+    /// Whether a policy can be true on requests of an environment of the schema: never exactly where its own condition has
+    /// the type False there. A condition that is deeper than 200 is not typed.
+    pub fn verdict<'b>(
+        &self,
+        alloc: Global,
+        p: &'b Policy,
+        env: &'b RequestEnv<'b>,
+    ) -> Result<Verdict, AllocError>
+        requires { depth_of p.now.condition ≤ 200 }
+        ensures { IfOk result (λ v. v ≡ verdict_of self.now p.now.condition (env_data_of env.now)) }
+    {
+        check_is_exact();
+        let check = self.typecheck_linked_in(alloc, p, env)?;
+        Ok(verdict_by(&check))
+    }
+
     fn check_in<'b>(
         &self,
         alloc: Global,
@@ -232,10 +253,7 @@ impl<'a, 'x> Typechecker<'a, 'x> {
     ) -> Result<PolicyCheck, AllocError>
         ensures { IfOk result (λ r. Tells id.now (checked self.now (env_data_of env.now) condition.now) r) }
     {
-        if is_too_deep(condition) {
-            return Ok(PolicyCheck::Fail(only_too_deep(alloc, id)?));
-        }
-        self.check_walk_in(alloc, env, id, condition)
+        check_condition(&self.setting(alloc, env), id, condition)
     }
 
     /// Tells of the check of a template's body in an environment.
@@ -244,32 +262,26 @@ impl<'a, 'x> Typechecker<'a, 'x> {
         alloc: Global,
         t: &'b Template,
         env: &'b RequestEnv<'b>,
-        verdict: &mut Verdict,
+        summary: &mut Summary,
         found: &mut IndexSet<ValidationError>,
     ) -> Result<(), AllocError>
-        ensures { OnOk result ((verdict.new, found.new.keys) ≡ told t.now.id (body_check self.now t.now (env_data_of env.now)) (verdict.old, found.old.keys)) }
+        ensures { OnOk result ((summary.new, found.new.keys) ≡ told t.now.id (body_check self.now t.now (env_data_of env.now)) (summary.old, found.old.keys)) }
     {
-        let check = self.check_walk_in(alloc, env, t.id(), t.non_scope_constraints())?;
-        tell_check(verdict, found, check)
+        let check = check_walk(&self.setting(alloc, env), t.id(), t.non_scope_constraints())?;
+        tell_check(summary, found, check)
     }
 
-    // At any depth.
-    fn check_walk_in<'b>(
-        &self,
-        alloc: Global,
-        env: &'b RequestEnv<'b>,
-        id: &Text,
-        e: &'b Expr<()>,
-    ) -> Result<PolicyCheck, AllocError>
-        ensures { IfOk result (λ r. Tells id.now (check_walked (condition_walked self.now (env_data_of env.now) e.now)) r) }
+    // Where conditions are typed in the environment.
+    fn setting<'b, 's>(&'s self, alloc: Global, env: &'b RequestEnv<'b>) -> Setting<'b, 'a, 's, 'x>
+        ensures schema { result.schema.now ≡ self.now }
+        ensures environment { result.env.now ≡ env.now }
     {
-        let setting = Setting {
+        Setting {
             alloc,
             schema: self.schema,
             env,
             extensions: &self.extensions,
-        };
-        check_walk(&setting, id, e)
+        }
     }
 
     pub(crate) fn schema(&self) -> &'a ValidatorSchema

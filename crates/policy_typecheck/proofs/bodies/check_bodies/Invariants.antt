@@ -8,5 +8,5 @@ use Rattle.policy_typecheck.proofs.bodies.check_bodies.Given as goal
 -- what is told so far, before what the actions that are left tell
 abbrev pub invariant-loop-action : goal.invariant-loop-action
 invariant-loop-action l =
-    all_told l.t.id (body_check l.checker l.t) (l.verdict, l.found.keys) (flat_map (met_with l.checker l.t) (filter (action_meets l.schema l.t.action) (drop l.action-index l.action-items))) ≡
-    all_told l.t.id (body_check l.checker l.t) (l.initial.verdict, l.initial.found.keys) (flat_map (met_with l.checker l.t) (filter (action_meets l.schema l.t.action) l.action-items))
+    all_told l.t.id (body_check l.checker l.t) (l.summary, l.found.keys) (flat_map (met_with l.checker l.t) (filter (action_meets l.schema l.t.action) (drop l.action-index l.action-items))) ≡
+    all_told l.t.id (body_check l.checker l.t) (l.initial.summary, l.initial.found.keys) (flat_map (met_with l.checker l.t) (filter (action_meets l.schema l.t.action) l.action-items))

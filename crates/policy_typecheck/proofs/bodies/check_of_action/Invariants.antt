@@ -8,5 +8,5 @@ use Rattle.policy_typecheck.proofs.bodies.check_of_action.Given as goal
 -- what is told so far, before what the principal types that are left tell
 abbrev pub invariant-loop-principal : goal.invariant-loop-principal
 invariant-loop-principal l =
-    all_told l.t.id (body_check l.checker l.t) (l.verdict, l.found.keys) (flat_map (met_at l.checker l.t l.action) (filter (type_meets l.checker l.t.principal) l.principal-iterator)) ≡
-    all_told l.t.id (body_check l.checker l.t) (l.initial.verdict, l.initial.found.keys) (met_with l.checker l.t l.action)
+    all_told l.t.id (body_check l.checker l.t) (l.summary, l.found.keys) (flat_map (met_at l.checker l.t l.action) (filter (type_meets l.checker l.t.principal) l.principal-iterator)) ≡
+    all_told l.t.id (body_check l.checker l.t) (l.initial.summary, l.initial.found.keys) (met_with l.checker l.t l.action)

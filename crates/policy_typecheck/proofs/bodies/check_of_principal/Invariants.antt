@@ -10,5 +10,5 @@ use Rattle.policy_typecheck.proofs.bodies.check_of_principal.Given as goal
 -- what is told so far, before what the resource types that are left tell
 abbrev pub invariant-loop-resource : goal.invariant-loop-resource
 invariant-loop-resource l =
-    all_told l.t.id (body_check l.checker l.t) (l.verdict, l.found.keys) (map (λ r. unlinked l.action (environment l.principal l.action.name r)) (filter (type_meets l.checker l.t.resource) l.resource-iterator)) ≡
-    all_told l.t.id (body_check l.checker l.t) (l.initial.verdict, l.initial.found.keys) (met_at l.checker l.t l.action l.principal)
+    all_told l.t.id (body_check l.checker l.t) (l.summary, l.found.keys) (map (λ r. unlinked l.action (environment l.principal l.action.name r)) (filter (type_meets l.checker l.t.resource) l.resource-iterator)) ≡
+    all_told l.t.id (body_check l.checker l.t) (l.initial.summary, l.initial.found.keys) (met_at l.checker l.t l.action l.principal)

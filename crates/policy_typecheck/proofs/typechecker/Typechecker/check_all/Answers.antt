@@ -8,7 +8,7 @@ pub returns-then-is_plain_scope : goal.returns-then-is_plain_scope
 returns-then-is_plain_scope c =
     let s = c.args.self.now in
     let t = c.args.t.now in
-    let before : Told = (c.args.verdict.now, c.args.found.now.keys) in
+    let before : Told = (c.args.summary.now, c.args.found.now.keys) in
     let plain : is_plain_scope s t.principal t.action t.resource ≡ true =
     (λ j. is_plain_scope (sym c.self.view_is j) (sym c.principal_constraint-principal.ensures j) (sym c.action_constraint.ensures j) (sym c.resource_constraint-resource.ensures j)) ∙ sym c.is_plain_scope.ensures ∙ c.if-is_plain_scope.true in
-    subst (λ z. OnOk c.check_bodies.result ((c.check_bodies.new.verdict, c.check_bodies.new.found.keys) ≡ z)) (bodies_tell s c.check_bodies.ensures.schema t plain c.requires.body c.requires.depth before) c.check_bodies.ensures.told
+    subst (λ z. OnOk c.check_bodies.result ((c.check_bodies.new.summary, c.check_bodies.new.found.keys) ≡ z)) (bodies_tell s c.check_bodies.ensures.schema t plain c.requires.body c.requires.depth before) c.check_bodies.ensures.told

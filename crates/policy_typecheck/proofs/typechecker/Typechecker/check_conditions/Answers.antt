@@ -2,7 +2,7 @@ use Rattle.std.proofs.Common.{map, sym, ap, ◌∙◌, subst}
 use Rattle.std.specs.Vec.Iter.{into_iter_items}
 use Rattle.schema_core.specs.RequestEnvs.{env_data_of}
 use Rattle.typecheck_spec.specs.Check.{checked}
-use Rattle.policy_typecheck.specs.Answer.{Tells}
+use Rattle.typecheck_walk.specs.Answer.{Tells}
 use Rattle.policy_typecheck.specs.Told.{Told, all_told, condition_check}
 use Rattle.policy_typecheck.proofs.Told.{same_told}
 use Rattle.policy_typecheck.proofs.typechecker.Typechecker.check_conditions.Goals as goal
@@ -13,7 +13,7 @@ loop-env-preserved c =
     let t = c.args.t.now in
     let e = env_data_of c.in-Some.env in
     let r = c.in_ok-check.check in
-    let before : Told = (c.loop-env.verdict, c.loop-env.found.keys) in
+    let before : Told = (c.loop-env.summary, c.loop-env.found.keys) in
     let named = subst (λ id. Tells id (checked s e c.condition.result.now) r) c.id.ensures c.in_ok-check.ensures in
     let tells = subst (λ x. Tells t.id (checked s e x) r) c.condition.ensures.value named in
     ap (λ z. all_told t.id (condition_check s t) z (map env_data_of (into_iter_items c.next.new.self))) (c.in_ok-tell_check.ensures ∙ same_told t.id (condition_check s t e) r tells before) ∙

@@ -8,5 +8,5 @@ use Rattle.policy_typecheck.proofs.typechecker.Typechecker.check_conditions.Give
 -- what is told so far, before what the environments that are left tell
 abbrev pub invariant-loop-env : goal.invariant-loop-env
 invariant-loop-env l =
-    all_told l.t.id (condition_check l.self l.t) (l.verdict, l.found.keys) (map env_data_of (into_iter_items l.env-iterator)) ≡
-    all_told l.t.id (condition_check l.self l.t) (l.initial.verdict, l.initial.found.keys) (linked_envs l.self l.t)
+    all_told l.t.id (condition_check l.self l.t) (l.summary, l.found.keys) (map env_data_of (into_iter_items l.env-iterator)) ≡
+    all_told l.t.id (condition_check l.self l.t) (l.initial.summary, l.initial.found.keys) (linked_envs l.self l.t)

@@ -1,5 +1,5 @@
 use Rattle.schema_core.specs.declared.request_env.RequestEnv.{RequestEnv}
-use Rattle.policy_typecheck.specs.declared.policy_check.PolicyCheck.{PolicyCheck}
+use Rattle.typecheck_walk.specs.declared.policy_check.PolicyCheck.{PolicyCheck}
 use Rattle.policy_typecheck.proofs.AllChecks.{envs_more, told_more}
 use Rattle.std.specs.Vec.Iter.{into_iter_items}
 use Rattle.policy_typecheck.proofs.typechecker.Typechecker.check_in_each.Goals as goal

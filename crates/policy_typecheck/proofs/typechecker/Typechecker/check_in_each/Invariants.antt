@@ -2,7 +2,7 @@ use Rattle.std.proofs.Common.{◌≡◌, ◌++◌, map}
 use Rattle.std.specs.Vec.Iter.{into_iter_items}
 use Rattle.std.specs.List.{AllByRecursion}
 use Rattle.schema_core.specs.RequestEnvs.{env_data_of}
-use Rattle.policy_typecheck.specs.Answer.{TellsIn}
+use Rattle.typecheck_walk.specs.Answer.{TellsIn}
 use Rattle.policy_typecheck.proofs.typechecker.Typechecker.check_in_each.Given as goal
 
 -- the checks so far, and the environments that are left

@@ -2,7 +2,7 @@ use Rattle.std.proofs.Common.{◌≡◌, OnOk, subst}
 use Rattle.schema_core.specs.RequestEnvs.{env_data_of}
 use Rattle.typecheck_spec.specs.Check.{check_walked, condition_walked}
 use Rattle.scope_typing.specs.Met.{body_check}
-use Rattle.policy_typecheck.specs.Answer.{Tells}
+use Rattle.typecheck_walk.specs.Answer.{Tells}
 use Rattle.policy_typecheck.specs.Told.{Told}
 use Rattle.policy_typecheck.proofs.Told.{same_told}
 use Rattle.policy_typecheck.proofs.typechecker.Typechecker.tell_body.Goals as goal
@@ -13,7 +13,7 @@ returns c =
     let t = c.args.t.now in
     let e = env_data_of c.args.env.now in
     let r = c.in_ok-check.check in
-    let before : Told = (c.args.verdict.now, c.args.found.now.keys) in
+    let before : Told = (c.args.summary.now, c.args.found.now.keys) in
     let named = subst (λ id. Tells id (check_walked (condition_walked s e c.non_scope_constraints.result.now)) r) c.id.ensures c.in_ok-check.ensures in
     let tells = subst (λ x. Tells t.id (check_walked (condition_walked s e x)) r) c.non_scope_constraints.ensures named in
-    subst (λ z. OnOk c.tell_check.result ((c.tell_check.new.verdict, c.tell_check.new.found.keys) ≡ z)) (same_told t.id (body_check s t e) r tells before) c.tell_check.ensures
+    subst (λ z. OnOk c.tell_check.result ((c.tell_check.new.summary, c.tell_check.new.found.keys) ≡ z)) (same_told t.id (body_check s t e) r tells before) c.tell_check.ensures

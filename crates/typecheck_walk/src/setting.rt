@@ -3,7 +3,7 @@
 ghost use Rattle.std.specs.Prelude.{◌≡◌};
 ghost use Rattle.std.specs.Option.{option_map};
 ghost use Rattle.policy_expressions.specs.Functions.{function_of};
-ghost use Rattle.policy_typecheck.specs.Known.{KnowsFunctions};
+ghost use Rattle.typecheck_walk.specs.Known.{KnowsFunctions};
 
 use extension_types::ExtensionSchemas;
 use policy_names::Name;
@@ -14,7 +14,7 @@ use typecheck_rules::{CalledFunction, called_function};
 
 /// Extensions in which every extension function is found.
 #[derive(Drop)]
-pub(crate) struct Extensions<'a, 'x> {
+pub struct Extensions<'a, 'x> {
     schemas: &'a ExtensionSchemas<'x>,
 }
 
@@ -27,13 +27,14 @@ impl<'a, 'x> Model for Extensions<'a, 'x> {
 
     ghost view = { λ e. e.schemas.now };
 
-    ghost use Rattle.policy_typecheck.specs.Known.{KnowsFunctions};
+    ghost use Rattle.typecheck_walk.specs.Known.{KnowsFunctions};
 
     ghost invariant = { λ e. KnowsFunctions e.schemas.now };
 }
 
 impl<'a, 'x> Extensions<'a, 'x> {
-    pub(crate) fn new(schemas: &'a ExtensionSchemas<'x>) -> Extensions<'a, 'x>
+    /// Those of the extensions.
+    pub fn new(schemas: &'a ExtensionSchemas<'x>) -> Extensions<'a, 'x>
         requires { KnowsFunctions schemas.now }
         ensures { result ≡ schemas.now }
     {
@@ -41,7 +42,7 @@ impl<'a, 'x> Extensions<'a, 'x> {
     }
 
     /// The function of a name.
-    pub(crate) fn called(&self, name: &Name) -> Option<CalledFunction<'x>>
+    pub fn called(&self, name: &Name) -> Option<CalledFunction<'x>>
         ensures { option_map (λ c. c.function) result ≡ function_of name.now }
     {
         called_function(self.schemas, name)
@@ -50,9 +51,13 @@ impl<'a, 'x> Extensions<'a, 'x> {
 
 /// The schema, the environment and the extensions under which an expression is typed.
 #[derive(Drop)]
-pub(crate) struct Setting<'a, 's, 'e, 'x> {
-    pub(crate) alloc: Global,
-    pub(crate) schema: &'s ValidatorSchema,
-    pub(crate) env: &'a RequestEnv<'a>,
-    pub(crate) extensions: &'e Extensions<'s, 'x>,
+pub struct Setting<'a, 's, 'e, 'x> {
+    /// Where memory is taken from.
+    pub alloc: Global,
+    /// The schema.
+    pub schema: &'s ValidatorSchema,
+    /// The environment.
+    pub env: &'a RequestEnv<'a>,
+    /// The extensions.
+    pub extensions: &'e Extensions<'s, 'x>,
 }

@@ -4,7 +4,7 @@ use Rattle.schema_core.specs.RequestEnvs.{env_data_of}
 use Rattle.policy_expressions.specs.Tree.{depth_of, deepest, deepest_named, trees_of, named_of}
 use Rattle.typecheck_spec.specs.Walk.{walked_all, walked_named}
 use Rattle.typecheck_operators.specs.Told.{all_of, field_of}
-use Rattle.policy_typecheck.proofs.walks.+walk.Given as goal
+use Rattle.typecheck_walk.proofs.walks.+walk.Given as goal
 
 abbrev pub decreases-walk : goal.decreases-walk
 decreases-walk l = 4 * depth_of l.e.now

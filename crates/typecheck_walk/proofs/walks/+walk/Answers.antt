@@ -12,9 +12,9 @@ use Rattle.policy_expressions.specs.TreeView.{tree_of}
 use Rattle.typecheck_spec.specs.Walk.{walked}
 use Rattle.typecheck_spec.specs.Operators.{attr_walked, has_walked, binary_walked, unary_walked, like_walked, is_walked, set_walked, record_walked, if_parts, reached_after, reached_besides}
 use Rattle.typecheck_operators.specs.Told.{mark, walked_of}
-use Rattle.policy_typecheck.proofs.Asks.{asks_tag}
-use Rattle.policy_typecheck.proofs.WalkSteps.{so_far_more, keys_more, depth_more}
-use Rattle.policy_typecheck.proofs.walks.+walk.Goals as goal
+use Rattle.typecheck_walk.proofs.Asks.{asks_tag}
+use Rattle.typecheck_walk.proofs.WalkSteps.{so_far_more, keys_more, depth_more}
+use Rattle.typecheck_walk.proofs.walks.+walk.Goals as goal
 
 pub walk-returns-in-If : goal.walk-returns-in-If
 walk-returns-in-If t c =

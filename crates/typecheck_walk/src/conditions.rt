@@ -3,9 +3,9 @@
 ghost use Rattle.std.specs.Prelude.{◌≡◌, ◌∷◌, [], IfOk, nat_lt};
 ghost use Rattle.schema_core.specs.RequestEnvs.{env_data_of};
 ghost use Rattle.policy_expressions.specs.Tree.{depth_of};
-ghost use Rattle.typecheck_spec.specs.Check.{check_walked, condition_walked};
+ghost use Rattle.typecheck_spec.specs.Check.{check_walked, checked, condition_walked};
 ghost use Rattle.typecheck_operators.specs.Told.{walked_of};
-ghost use Rattle.policy_typecheck.specs.Answer.{Tells, too_deep};
+ghost use Rattle.typecheck_walk.specs.Answer.{Tells, too_deep};
 
 use crate::PolicyCheck;
 use crate::errors::errors_of;
@@ -30,8 +30,22 @@ pub fn is_too_deep(condition: &Expr<()>) -> bool
     condition.depth() > MAX_TYPED_DEPTH
 }
 
+/// The check of a condition in an environment: what is deeper than 200 fails with `TooDeep` alone.
+pub fn check_condition<'a>(
+    at: &Setting<'a, '_, '_, '_>,
+    id: &Text,
+    condition: &'a Expr<()>,
+) -> Result<PolicyCheck, AllocError>
+    ensures { IfOk result (λ r. Tells id.now (checked at.now.schema.now (env_data_of at.now.env.now) condition.now) r) }
+{
+    if is_too_deep(condition) {
+        return Ok(PolicyCheck::Fail(only_too_deep(at.alloc, id)?));
+    }
+    check_walk(at, id, condition)
+}
+
 /// The check of an expression, at any depth.
-pub(crate) fn check_walk<'a>(
+pub fn check_walk<'a>(
     at: &Setting<'a, '_, '_, '_>,
     id: &Text,
     e: &'a Expr<()>,
@@ -46,7 +60,7 @@ pub(crate) fn check_walk<'a>(
 }
 
 /// That the policy's condition is too deep.
-pub(crate) fn only_too_deep(alloc: Global, id: &Text) -> Result<Vec<ValidationError>, AllocError>
+pub fn only_too_deep(alloc: Global, id: &Text) -> Result<Vec<ValidationError>, AllocError>
     ensures { IfOk result (λ es. es.items ≡ too_deep id.now ∷ []) }
 {
     let error = ValidationError::TooDeep(TooDeep {

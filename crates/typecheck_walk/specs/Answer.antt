@@ -9,8 +9,8 @@ use Rattle.findings.specs.declared.error.ValidationError.{ValidationError}
 use Rattle.findings.specs.declared.error.ValidationError.TheVariants as error
 use Rattle.typecheck_spec.specs.Check.{Check, checked}
 use Rattle.typecheck_spec.specs.Check as definition
-use Rattle.policy_typecheck.specs.declared.policy_check.PolicyCheck.{PolicyCheck}
-use Rattle.policy_typecheck.specs.declared.policy_check.PolicyCheck.TheVariants.{Success, Irrelevant, Fail}
+use Rattle.typecheck_walk.specs.declared.policy_check.PolicyCheck.{PolicyCheck}
+use Rattle.typecheck_walk.specs.declared.policy_check.PolicyCheck.TheVariants.{Success, Irrelevant, Fail}
 
 -- that the condition of the policy is too deep
 abbrev pub too_deep : List ℕ → ValidationError

@@ -3,7 +3,7 @@
 ghost use Rattle.std.specs.Prelude.{◌≡◌, IfOk};
 ghost use Rattle.capabilities.specs.Capability.{has_cap};
 ghost use Rattle.typing_spec.specs.Typing.{attribute_known, tag_known};
-ghost use Rattle.policy_typecheck.specs.Asked.{asked};
+ghost use Rattle.typecheck_walk.specs.Asked.{asked};
 
 use capabilities::{Capability, CapabilitySet};
 use policy_expressions::{BinaryOp, Expr};

@@ -2,7 +2,7 @@ use Rattle.std.proofs.Common.{◌≡◌, ◌++◌, map}
 use Rattle.std.specs.Vec.Iter.{into_iter_items}
 use Rattle.findings.specs.Seen.{error_of}
 use Rattle.typecheck_rules.specs.Found.{findings_from}
-use Rattle.policy_typecheck.proofs.errors.errors_of.Given as goal
+use Rattle.typecheck_walk.proofs.errors.errors_of.Given as goal
 
 -- the errors so far, and those of the findings that are left
 abbrev pub invariant-loop-finding : goal.invariant-loop-finding

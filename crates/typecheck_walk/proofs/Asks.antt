@@ -8,7 +8,7 @@ use Rattle.policy_expressions.specs.declared.kinds.BinaryOp.{BinaryOp}
 use Rattle.policy_expressions.specs.declared.kinds.BinaryOp.TheVariants.{Eq, Less, LessEq, Add, Sub, Mul, In, Contains, ContainsAll, ContainsAny, GetTag, HasTag}
 use Rattle.typecheck_spec.specs.Walked.{Walked}
 use Rattle.typecheck_spec.specs.Operators.{binary_walked}
-use Rattle.policy_typecheck.specs.Asked.{asked}
+use Rattle.typecheck_walk.specs.Asked.{asked}
 
 module _ (schema : SchemaData) (env : EnvData) where
   pub asks_tag : (o : BinaryOp) (k : Bool) (x y : Plain) (m : Mark (Unit {0})) (v w : Walked) → binary_walked schema env o (asked o k) x y m v w ≡ binary_walked schema env o k x y m v w
