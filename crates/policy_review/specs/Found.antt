@@ -20,8 +20,8 @@ use Rattle.typecheck_spec.specs.Check.{checked}
 use Rattle.link_spec.specs.Linked.{linked_envs}
 use Rattle.level_spec.specs.Levels.{greater, least_level}
 use Rattle.policy_typecheck.specs.Policies.{passes}
-use Rattle.policy_typecheck.specs.declared.policy_check.PolicyCheck.{PolicyCheck}
-use Rattle.policy_typecheck.specs.declared.policy_check.PolicyCheck.TheVariants.{Success, Irrelevant, Fail}
+use Rattle.typecheck_walk.specs.declared.policy_check.PolicyCheck.{PolicyCheck}
+use Rattle.typecheck_walk.specs.declared.policy_check.PolicyCheck.TheVariants.{Success, Irrelevant, Fail}
 use Rattle.policy_typecheck.specs.declared.verdict.Verdict.{Verdict}
 use Rattle.policy_typecheck.specs.declared.verdict.Verdict.TheVariants.{Never, May}
 use Rattle.policy_validate.specs.Accepted.{IsAccepted}
@@ -32,10 +32,10 @@ use Rattle.policy_review.specs.declared.rows.PolicyLevel.{PolicyLevel}
 use Rattle.policy_review.specs.declared.rows.Review.{Review}
 
 -- by a check in code; none where it fails
-abbrev pub verdict_told : PolicyCheck → Option Verdict
-verdict_told (Success t) = Some May
-verdict_told (Irrelevant t) = Some Never
-verdict_told (Fail es) = None
+abbrev pub passed_verdict : PolicyCheck → Option Verdict
+passed_verdict (Success t) = Some May
+passed_verdict (Irrelevant t) = Some Never
+passed_verdict (Fail es) = None
 
 -- the level that an error needs
 abbrev pub needed_of : EntityDerefViolationKind → Option ℕ

@@ -13,7 +13,7 @@ use Rattle.policy_set.specs.PolicySet.{PolicySetData, IsPolicySet, AreKeyedOnce,
 use Rattle.policy_set.specs.Response.{outcome}
 use Rattle.typing_spec.specs.Conforms.{RequestConforms, StoreConforms}
 use Rattle.typing_spec.specs.Sound.{IsTruth}
-use Rattle.level_spec.specs.Findings.{IsIn}
+use Rattle.reads_spec.specs.Among.{IsIn}
 use Rattle.policy_typecheck.specs.Verdict.{verdict_of}
 use Rattle.policy_typecheck.specs.declared.verdict.Verdict.TheVariants.{Never}
 use Rattle.policy_validate.specs.Accepted.{IsAccepted}

@@ -13,7 +13,7 @@ ghost use Rattle.policy_set.specs.PolicySet.{statics};
 ghost use Rattle.level_spec.specs.Levels.{greater};
 ghost use Rattle.policy_review.specs.Levels.{greatest};
 ghost use Rattle.policy_review.specs.Matrix.{row_at, rows_of};
-ghost use Rattle.policy_review.specs.Found.{verdict_told, level_found_in, passes_everywhere, with_level, with_static};
+ghost use Rattle.policy_review.specs.Found.{passed_verdict, level_found_in, passes_everywhere, with_level, with_static};
 
 use crate::levels::{level_of, raised_by};
 use crate::rows::ReviewRow;
@@ -129,7 +129,7 @@ fn add_rows(
     check_is_exact();
     for env in schema.unlinked_request_envs(alloc)? {
         let check = typechecker.typecheck_linked_in(alloc, policy, &env)?;
-        match verdict_told(&check) {
+        match passed_verdict(&check) {
             Some(verdict) => add_row(policy.id(), &env, verdict, matrix)?,
             None => {
                 drop(check);
@@ -141,8 +141,8 @@ fn add_rows(
     Ok(true)
 }
 
-fn verdict_told(check: &PolicyCheck) -> Option<Verdict>
-    ensures { result ≡ verdict_told check.now }
+fn passed_verdict(check: &PolicyCheck) -> Option<Verdict>
+    ensures { result ≡ passed_verdict check.now }
 {
     match check {
         PolicyCheck::Success(_) => Some(Verdict::May),

@@ -1,0 +1,5 @@
+pub mod Never
+pub mod Least
+pub mod Raising
+pub mod Checks
+pub mod Placing
