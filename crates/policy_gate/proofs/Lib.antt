@@ -1,4 +1,5 @@
 mod Answers
+mod Lines
 mod Runs
 mod Manifests
 mod Says
