@@ -20,6 +20,10 @@ pub greater_zero : (o : Option ℕ) → greater o (Some 0) ≡ o
 greater_zero None = refl
 greater_zero (Some j) = ap Some (search (arith))
 
+pub zero_greater : (o : Option ℕ) → greater (Some 0) o ≡ o
+zero_greater None = refl
+zero_greater (Some j) = ap Some (search (arith))
+
 pub greater_assoc : (o p q : Option ℕ) → greater (greater o p) q ≡ greater o (greater p q)
 greater_assoc None p q = refl
 greater_assoc (Some j) None q = refl

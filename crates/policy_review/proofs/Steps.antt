@@ -1,5 +1,6 @@
 -- Steps through the environments of a policy, and through the policies of a set.
-use Rattle.std.proofs.Common.{◌≡◌, ℕ, Bool, true, false, ◌&&◌, List, [], ◌∷◌, ◌++◌, map, fold, append-nil, append_assoc, Option, Some, IsTrue, refl, sym, ap, ◌∙◌}
+use Rattle.std.proofs.Common.{◌≡◌, ℕ, Bool, true, false, ◌&&◌, List, [], ◌∷◌, ◌++◌, map, fold, append-nil, append_assoc, Option, Some, Result, Ok, Err, IfOk, refl, sym, ap, ◌∙◌}
+use Rattle.std.specs.Bool.{OnTrue}
 use Rattle.std.specs.Option.{option_to_list}
 use Rattle.std.specs.List.{list_all, filter, filter_map, flat_map}
 use Rattle.schema_core.specs.EnvData.{EnvData, action_in, unlinked_envs}
@@ -19,6 +20,14 @@ use Rattle.policy_review.specs.Found.{level_found_in, with_level, with_static, p
 use Rattle.policy_review.specs.declared.rows.ReviewRow.{ReviewRow}
 use Rattle.policy_review.proofs.Raising.{greater_zero, greater_assoc}
 use Rattle.policy_review.proofs.Placing.{static_next}
+
+pub anyway : {P : Type 0} → P → (b : Bool) → OnTrue b P
+anyway p true = p
+anyway p false = tt
+
+pub whatever : {A E : Type 0} (P : A → Type 0) → ((x : A) → P x) → (r : Result A E) → IfOk r P
+whatever P f (Ok x) = f x
+whatever P f (Err e) = tt
 
 -- ---- of a policy: what is there already, and what the environments that are left add
 
