@@ -162,8 +162,8 @@ module _ (schema : SchemaData) (ps : List PolicyData) where
   passed_left [] h = tt
   passed_left (env ∷ envs) h = (
     all_left (λ p. condition_in (checked schema env p.condition)) ps
-    (all_more (PassesEach (env ∷ envs)) (λ p. is_some (condition_in (checked schema env p.condition)) ≡ true)
-    (λ p k. left_passes (checked schema env p.condition) ∙ (and_parts_of (passes_in env p) (list_all (λ v. passes_in v p) envs) k).0) ps h),
+        (all_more (PassesEach (env ∷ envs)) (λ p. is_some (condition_in (checked schema env p.condition)) ≡ true)
+        (λ p k. left_passes (checked schema env p.condition) ∙ (and_parts_of (passes_in env p) (list_all (λ v. passes_in v p) envs) k).0) ps h),
     passed_left envs (all_more (PassesEach (env ∷ envs)) (PassesEach envs) (λ p k. (and_parts_of (passes_in env p) (list_all (λ v. passes_in v p) envs) k).1) ps h),
   )
 
