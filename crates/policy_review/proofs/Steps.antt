@@ -1,9 +1,9 @@
 -- Steps through the environments of a policy, and through the policies of a set.
-use Rattle.std.proofs.Common.{◌≡◌, ℕ, Bool, true, false, ◌&&◌, List, [], ◌∷◌, ◌++◌, map, fold, append-nil, append_assoc, Option, Some, Result, Ok, Err, IfOk, refl, sym, ap, ◌∙◌}
+use Rattle.std.proofs.Common.{◌≡◌, ℕ, Bool, true, false, ◌&&◌, List, [], ◌∷◌, ◌++◌, map, fold, append-nil, append_assoc, Option, Result, Ok, Err, IfOk, sym, ap, ◌∙◌}
 use Rattle.std.specs.Bool.{OnTrue}
 use Rattle.std.specs.Option.{option_to_list}
 use Rattle.std.specs.List.{list_all, filter, filter_map, flat_map}
-use Rattle.schema_core.specs.EnvData.{EnvData, action_in, unlinked_envs}
+use Rattle.schema_core.specs.EnvData.{EnvData, unlinked_envs}
 use Rattle.schema_core.specs.Schema.{SchemaData}
 use Rattle.policy_set.specs.Data.{PolicyData}
 use Rattle.policy_set.specs.Condition.{written_of}
