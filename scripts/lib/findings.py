@@ -28,7 +28,9 @@ class Finding:
 
 
 def ask(program, words, document):
-    """The status and the text that the program answers with."""
+    """The status and the text that the program answers with; a list of requests is for `batch` alone."""
+    if words != ["batch"]:
+        document = {name: part for name, part in document.items() if name != "requests"}
     try:
         ran = subprocess.run(
             [program, *words], input=json.dumps(document, ensure_ascii=False).encode(), capture_output=True
@@ -141,7 +143,19 @@ def put_back(text, token, ids):
 
 
 def conformance_of(program, document):
-    """What `request` says against the request and the entities of a document: at most one finding."""
+    """What `request` says against the requests and the entities of a document: of each at most one finding."""
+    if "requests" not in document:
+        return one_conformance(program, document, ("request",))
+    rest = {name: part for name, part in document.items() if name != "requests"}
+    found = one_conformance(program, rest, ())  # without a request, what is said is said of an entity
+    if not found:
+        for i, request in enumerate(document["requests"]):
+            found += one_conformance(program, rest | {"request": request}, ("requests", i))
+    return found
+
+
+def one_conformance(program, document, path):
+    """What `request` says of a document with one request, which stands at the path."""
     status, told = ask(program, ["request"], document)
     if status == 0:
         return []
@@ -150,7 +164,7 @@ def conformance_of(program, document):
     if status == 5:
         return [Finding("error", "InvalidEntity", told.rstrip("\n"), entity_path(told, document.get("entities", [])))]
     text, _, help_ = told.rstrip("\n").partition("\n  help: ")
-    return [Finding("error", "InvalidRequest", text, ("request",), help=help_ or None)]
+    return [Finding("error", "InvalidRequest", text, path, help=help_ or None)]
 
 
 def uid(id_):

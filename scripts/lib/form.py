@@ -29,6 +29,7 @@ DUE = {
     "expressions": "a list of one expression or more",
     "two": "a list of the left and the right operand",
     "place": "a number of bytes, to 4294967295",
+    "request": "an object with a principal, an action, a resource and a context",
 }
 NOUNS = {
     "uid": "id",
@@ -169,6 +170,9 @@ def object_faults(value, schema, path, definition):
     found += [
         Fault(path, f'the member "{name}" is missing') for name in schema.get("required", []) if name not in value
     ]
+    beside = schema.get("not", {}).get("required", [])
+    if beside and all(name in value for name in beside):
+        found.append(Fault(path + (beside[1],), f'the member "{beside[1]}" stands in place of "{beside[0]}"', True))
     least, most = schema.get("minProperties", 0), schema.get("maxProperties", len(value))
     if not strange and not least <= len(value) <= most:
         found.append(unfit(value, path, definition, schema))

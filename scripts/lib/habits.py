@@ -30,7 +30,7 @@ def above(id_, direct):
 def unlisted_actions(document, actions, policies):
     """Actions that are no entities here, so that they are in no group, though policies name a group of
     theirs."""
-    if not document.get("entities") and not document.get("request"):
+    if not any(document.get(part) for part in ("entities", "request", "requests")):
         return []
     direct = {tuple(action["id"]): [tuple(group) for group in action.get("memberOf", [])] for action in actions}
     stored = {tuple(entity["id"]) for entity in document.get("entities", [])}
@@ -69,21 +69,29 @@ def ids_in(part):
 
 
 def unknown_entries(document):
-    """Entries of the request that are unknown, so that neither they are tested nor a decision is
+    """Entries of the requests that are unknown, so that neither they are tested nor a decision is
     made."""
+    if "requests" in document:
+        return [
+            found
+            for i, request in enumerate(document["requests"])
+            for found in unknown_in(request, ("requests", i), "`batch` decides nothing on it")
+        ]
     if "request" not in document:
         text = "there is no request: `request` tests the entities alone, and `slice` and `decide` end with status 6"
         return [warning("UnknownRequest", text, ())] if document.get("entities") else []
-    request = document["request"]
+    ends = "`request` does not test what is unknown, and `slice` and `decide` end with status 6"
+    return unknown_in(document["request"], ("request",), ends)
+
+
+def unknown_in(request, path, ends):
+    """The entries of one request, which stands at the path, that are unknown, and what follows."""
     unknown = [entry for entry in ("principal", "action", "resource", "context") if request.get(entry) is None]
     if not unknown:
         return []
-    text = (
-        f"of the request {', '.join(unknown)} {'is' if len(unknown) == 1 else 'are'} unknown: `request` does not test "
-        "what is unknown, and `slice` and `decide` end with status 6"
-    )
+    text = f"of the request {', '.join(unknown)} {'is' if len(unknown) == 1 else 'are'} unknown: {ends}"
     help_ = 'an empty context is "context":{}' if unknown == ["context"] else None
-    return [warning("UnknownRequest", text, ("request",), help_)]
+    return [warning("UnknownRequest", text, path, help_)]
 
 
 def is_template(policy):

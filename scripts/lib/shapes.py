@@ -106,6 +106,13 @@ def users(size):
     )
 
 
+def requests(size):
+    """users, each with a request of its own"""
+    made = users(size)
+    del made["request"]
+    return made | {"requests": [REQUEST | {"principal": ["User", f"u{i}"]} for i in range(size)]}
+
+
 def policies(size):
     """policies of a few comparisons, in one environment"""
     return document([permit(i, compared(i)) for i in range(size)])

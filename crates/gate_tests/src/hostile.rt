@@ -20,6 +20,8 @@ level 200; {"schema":$photos,"policies":[{"id":"p0","effect":"permit"}]} => Done
 request; {"schema":$photos,"request":$view} => Done conforms|
 manifest; {"schema":$photos,"policies":[]} => Done {"perAction":[]}|
 sample 0 1; not read => Done entities 1 kept 1 decision Allow|
+batch; {"schema":$photos,"policies":[{"id":"p0","effect":"permit","principal":{"in":["Group","g"]}}],"entities":[{"id":["User","alice"],"parents":[["Group","g"],["Group","h"]]}],"requests":[$view,{},{"principal":["User","bob"],"action":["Action","view"],"resource":["Photo","x"],"context":{}},{"principal":["Group","g"],"action":["Action","view"],"resource":["Photo","x"],"context":{}}]} => Done {"decision":"Allow","errors":[],"reasons":["p0"]}|{"refused":"entity slicing requires a fully concrete request. Got a partial request"}|{"decision":"Deny","errors":[],"reasons":[]}|{"refused":"principal type `Group` is not valid for `Action::\"view\"`"}|
+batch; {"schema":$photos,"requests":[]} => Done 
 # refusals, whose status a failing write leaves
 check; {"schema":$photos,"policies":[{"id":"p0","effect":"permit","body":[{"when":{"isEmpty":[]}}]}]} => Findings error EmptySetForbidden: for policy `p0`, empty set literals are forbidden in policies|errors 1, warnings 0|
 slice; {"schema":$photos,"policies":[{"id":"p0","effect":"permit","body":[{"when":{"isEmpty":[]}}]}],"request":$view} => Findings error EmptySetForbidden: for policy `p0`, empty set literals are forbidden in policies|errors 1, warnings 0|
@@ -57,6 +59,7 @@ sample 0 0; [] => Usage $usage
 sample 0 10001; [] => Usage $usage
 sample 18446744073709551616 1; [] => Usage $usage
 sample +1 1; [] => Usage $usage
+batch batch; [] => Usage $usage
 CHECK; [] => Usage $usage
 ; [] => Usage $usage"#;
 

@@ -5,11 +5,11 @@ use std::alloc::Global;
 use std::test::Fail;
 
 const USAGE: &str =
-    "usage: check | level N | request | manifest | slice | decide | sample SEED SIZE\n";
+    "usage: check | level N | request | manifest | slice | decide | sample SEED SIZE | batch\n";
 
 // The same, with a bar for the end of the line.
 pub(crate) const USAGE_LINE: &str =
-    "usage: check | level N | request | manifest | slice | decide | sample SEED SIZE|";
+    "usage: check | level N | request | manifest | slice | decide | sample SEED SIZE | batch|";
 
 fn owned(alloc: Global, words: &[&str]) -> Result<Vec<String>, Fail> {
     let mut owned = Vec::new(alloc);

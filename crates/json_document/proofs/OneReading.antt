@@ -21,12 +21,13 @@ use Rattle.schema_declarations.specs.declared.fault.SchemaFault.TheVariants as r
 use Rattle.json_document.specs.Faults.{Then}
 use Rattle.json_document.specs.Parts.{DocumentParts, parts_of}
 use Rattle.json_document.specs.Policies.{no_policies, policies_of}
-use Rattle.json_document.specs.Request.{request_of}
+use Rattle.json_document.specs.Request.{request_of, requests_of}
 use Rattle.json_document.specs.Entities.{entities_of}
 use Rattle.json_document.specs.Store.{IsStoreOf, IsStoreFrom, IsStoreFault}
-use Rattle.json_document.specs.Reading.{IsRead, IsReadFrom, IsReadBehindSchema, IsReadBehindPolicies, IsReadBehindStore, IsSchemaFrom, IsSchemaFault, document, or_place}
+use Rattle.json_document.specs.Reading.{IsRead, IsReadFrom, IsReadBehindSchema, IsReadBehindPolicies, IsReadBehindStore, IsReadBehindRequest, IsSchemaFrom, IsSchemaFault, document, or_place}
 use Rattle.json_document.specs.declared.document.Document.{Document}
 use Rattle.json_document.specs.declared.place.Place.{Place}
+use Rattle.json_document.specs.declared.shape.Shape.{Shape}
 use Rattle.json_document.specs.declared.place.Place.TheVariants as place
 
 -- a reading that comes to a value comes to nothing else
@@ -81,6 +82,7 @@ no_schema_place d s (place.Entity i) is fault = fault
 no_schema_place d s (place.EntityDuplicate i) is fault = fault
 no_schema_place d s (place.EntityCycle i) is fault = fault
 no_schema_place d s place.Request is fault = fault
+no_schema_place d s (place.RequestAt i) is fault = fault
 
 schema_once : (o : Option Declarations) → IsOne (IsSchemaFrom o)
 schema_once None x r f g = absurd (cc (f))
@@ -102,14 +104,18 @@ no_store_place es s (place.SlotMissing i) is fault = fault
 no_store_place es s (place.SlotExtra i) is fault = fault
 no_store_place es s (place.Entity i) is fault = fault
 no_store_place es s place.Request is fault = fault
+no_store_place es s (place.RequestAt i) is fault = fault
 
 store_from : (o : Result (List StoredEntity) Place) → IsOne (IsStoreFrom o)
 store_from (Err p) x r f g = absurd (cc (f))
 store_from (Ok es) x (Ok s) f g = ap Ok (one_store es s x g f)
 store_from (Ok es) x (Err p) f g = absurd (no_store_place es x p f g)
 
+behind_request : (parts : DocumentParts) (schema : SchemaData) (policies : PolicySetData) (entities : Store) (request : Request) → IsOne (IsReadBehindRequest parts schema policies entities request)
+behind_request parts schema policies entities request = one_then _ _ (one_value (requests_of [] parts.requests)) (λ requests. one_value (Ok (document schema policies entities request requests)))
+
 behind_store : (parts : DocumentParts) (schema : SchemaData) (policies : PolicySetData) (entities : Store) → IsOne (IsReadBehindStore parts schema policies entities)
-behind_store parts schema policies entities = one_then _ _ (one_value (or_place place.Request (request_of parts.request))) (λ request. one_value (Ok (document schema policies entities request)))
+behind_store parts schema policies entities = one_then _ _ (one_value (or_place place.Request (request_of parts.request))) (behind_request parts schema policies entities)
 
 behind_policies : (parts : DocumentParts) (schema : SchemaData) (policies : PolicySetData) → IsOne (IsReadBehindPolicies parts schema policies)
 behind_policies parts schema policies = one_then _ _ (store_from (entities_of [] parts.entities)) (behind_store parts schema policies)
@@ -120,6 +126,6 @@ behind_schema parts schema = one_then _ _ (one_value (policies_of 0 no_policies 
 read_from : (parts : DocumentParts) → IsOne (IsReadFrom parts)
 read_from parts = one_then _ _ (schema_once (schema_of parts.schema)) (behind_schema parts)
 
-pub one_reading : (v : Data) (d : Document) (r : Result Document Place) → IsRead v (Ok d) → IsRead v r → r ≡ Ok d
+pub one_reading : (shape : Shape) (v : Data) (d : Document) (r : Result Document Place) → IsRead shape v (Ok d) → IsRead shape v r → r ≡ Ok d
 unfolding IsRead
-one_reading v d r f g = one_then _ _ (one_value (or_place place.Form (parts_of v))) read_from d r f g
+one_reading shape v d r f g = one_then _ _ (one_value (or_place place.Form (parts_of shape v))) read_from d r f g

@@ -5,24 +5,30 @@ use Rattle.serde_json.specs.Find.{get, as_object}
 use Rattle.serde_json.specs.View.{view, items_view}
 use Rattle.json_values.specs.Json.{◌>>=◌, has_only, list_of}
 use Rattle.json_document.specs.declared.parts.Parts.{Parts}
+use Rattle.json_document.specs.declared.shape.Shape.{Shape}
+use Rattle.json_document.specs.declared.shape.Shape.TheVariants.{Whole, Batch}
 
 pub record DocumentParts : Type 0 where
   pub schema : Data
   pub policies : Items
   pub entities : Items
   pub request : Option Data
+  pub requests : Items
 
 abbrev pub parts_view : Parts → DocumentParts
-parts_view p = record { schema = view p.schema.now; policies = items_view p.policies.now; entities = items_view p.entities.now; request = option_map (λ v. view v.now) p.request }
+parts_view p = record { schema = view p.schema.now; policies = items_view p.policies.now; entities = items_view p.entities.now; request = option_map (λ v. view v.now) p.request; requests = items_view p.requests.now }
 
-abbrev pub part_names : List (List ℕ)
-part_names = codes "schema" ∷ codes "policies" ∷ codes "entities" ∷ codes "request" ∷ []
+-- the members that a document of the shape may have
+abbrev pub part_names : Shape → List (List ℕ)
+part_names Whole = codes "schema" ∷ codes "policies" ∷ codes "entities" ∷ codes "request" ∷ []
+part_names Batch = codes "schema" ∷ codes "policies" ∷ codes "entities" ∷ codes "requests" ∷ []
 
--- an object with a schema, and perhaps lists of policies and entities and a request
-unfoldable pub parts_of : Data → Option DocumentParts
-parts_of d = do
+-- an object with a schema, and perhaps lists of policies and entities and, by its shape, a request or a list of requests
+unfoldable pub parts_of : Shape → Data → Option DocumentParts
+parts_of shape d = do
   members ← as_object d
   schema ← get (codes "schema") d
   policies ← list_of (get (codes "policies") d)
   entities ← list_of (get (codes "entities") d)
-  if has_only part_names members then Some (record { schema = schema; policies = policies; entities = entities; request = get (codes "request") d }) else None
+  requests ← list_of (get (codes "requests") d)
+  if has_only (part_names shape) members then Some (record { schema = schema; policies = policies; entities = entities; request = get (codes "request") d; requests = requests }) else None

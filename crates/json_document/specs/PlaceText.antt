@@ -2,7 +2,7 @@
 use Rattle.std.specs.Prelude.{ℕ, List, ◌++◌, codes, decimal}
 use Rattle.schema_core.specs.FaultText.{fault_text}
 use Rattle.json_document.specs.declared.place.Place.{Place}
-use Rattle.json_document.specs.declared.place.Place.TheVariants.{Json, Form, Schema, SchemaFault, Policy, PolicyNested, PolicyDuplicate, UnknownTemplate, SlotMissing, SlotExtra, Entity, EntityDuplicate, EntityCycle, Request}
+use Rattle.json_document.specs.declared.place.Place.TheVariants.{Json, Form, Schema, SchemaFault, Policy, PolicyNested, PolicyDuplicate, UnknownTemplate, SlotMissing, SlotExtra, Entity, EntityDuplicate, EntityCycle, Request, RequestAt}
 
 abbrev pub place_text : Place → List ℕ
 place_text Json = codes "document: json"
@@ -19,3 +19,4 @@ place_text (Entity i) = codes "document: entities[" ++ (decimal i ++ codes "]")
 place_text (EntityDuplicate i) = codes "document: entities[" ++ (decimal i ++ codes "]: duplicate")
 place_text (EntityCycle i) = codes "document: entities[" ++ (decimal i ++ codes "]: cycle")
 place_text Request = codes "document: request"
+place_text (RequestAt i) = codes "document: requests[" ++ (decimal i ++ codes "]")

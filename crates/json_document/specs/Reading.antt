@@ -1,5 +1,5 @@
 -- What a JSON value says as a document, or where its first fault is.
-use Rattle.std.specs.Prelude.{◌≡◌, Option, Some, None, Result, Ok, Err}
+use Rattle.std.specs.Prelude.{◌≡◌, List, [], Option, Some, None, Result, Ok, Err}
 use Rattle.policy_set.specs.PolicySet.{PolicySetData}
 use Rattle.entity_store.specs.Store.{Store}
 use Rattle.entity_store.specs.declared.request.Request.{Request}
@@ -12,10 +12,11 @@ use Rattle.serde_json.specs.Data.{Data}
 use Rattle.json_document.specs.Faults.{Then}
 use Rattle.json_document.specs.Parts.{DocumentParts, parts_of}
 use Rattle.json_document.specs.Policies.{no_policies, policies_of}
-use Rattle.json_document.specs.Request.{request_of}
+use Rattle.json_document.specs.Request.{request_of, requests_of}
 use Rattle.json_document.specs.Store.{IsStoreOf}
 use Rattle.json_document.specs.declared.document.Document.{Document}
 use Rattle.json_document.specs.declared.place.Place.{Place}
+use Rattle.json_document.specs.declared.shape.Shape.{Shape}
 use Rattle.json_document.specs.declared.place.Place.TheVariants as place
 
 -- the place of the fault for which the declarations make no schema
@@ -34,13 +35,17 @@ abbrev pub or_place : {A : Type 0} → Place → Option A → Result A Place
 or_place p None = Err p
 or_place p (Some x) = Ok x
 
-abbrev pub document : SchemaData → PolicySetData → Store → Request → Document
-document schema policies entities request = record { schema = schema; policies = policies; entities = entities; request = request }
+abbrev pub document : SchemaData → PolicySetData → Store → Request → List Request → Document
+document schema policies entities request requests = record { schema = schema; policies = policies; entities = entities; request = request; requests = requests }
 
--- Reading goes on behind the schema, the policies and the entities: each part in turn, up to the first fault.
+-- Reading goes on behind the schema, the policies, the entities and the request: each part in turn, up to the first fault.
+abbrev pub IsReadBehindRequest : DocumentParts → SchemaData → PolicySetData → Store → Request → Result Document Place → Type 0
+IsReadBehindRequest parts schema policies entities request =
+    Then (λ r. r ≡ requests_of [] parts.requests) (λ requests r. r ≡ Ok (document schema policies entities request requests))
+
 abbrev pub IsReadBehindStore : DocumentParts → SchemaData → PolicySetData → Store → Result Document Place → Type 0
 IsReadBehindStore parts schema policies entities =
-    Then (λ r. r ≡ or_place place.Request (request_of parts.request)) (λ request r. r ≡ Ok (document schema policies entities request))
+    Then (λ r. r ≡ or_place place.Request (request_of parts.request)) (IsReadBehindRequest parts schema policies entities)
 
 abbrev pub IsReadBehindPolicies : DocumentParts → SchemaData → PolicySetData → Result Document Place → Type 0
 IsReadBehindPolicies parts schema policies = Then (IsStoreOf parts.entities) (IsReadBehindStore parts schema policies)
@@ -52,6 +57,6 @@ IsReadBehindSchema parts schema = Then (λ r. r ≡ policies_of 0 no_policies pa
 abbrev pub IsReadFrom : DocumentParts → Result Document Place → Type 0
 IsReadFrom parts = Then (IsSchemaFrom (schema_of parts.schema)) (IsReadBehindSchema parts)
 
--- document reading: the document that the value is, or the place of the first fault
-unfoldable pub IsRead : Data → Result Document Place → Type 0
-IsRead d = Then (λ r. r ≡ or_place place.Form (parts_of d)) IsReadFrom
+-- document reading: the document of the shape that the value is, or the place of the first fault
+unfoldable pub IsRead : Shape → Data → Result Document Place → Type 0
+IsRead shape d = Then (λ r. r ≡ or_place place.Form (parts_of shape d)) IsReadFrom

@@ -1,13 +1,16 @@
--- A request in JSON.
-use Rattle.std.specs.Prelude.{ℕ, List, [], ◌∷◌, if◌then◌else◌, Option, Some, None, option_map, option_and_then, is_some, codes}
+-- Requests in JSON.
+use Rattle.std.specs.Prelude.{ℕ, List, [], ◌∷◌, ◌++◌, length, if◌then◌else◌, Option, Some, None, option_map, option_and_then, is_some, Result, Ok, Err, codes}
+use Rattle.std.specs.Option.{option_map_or}
 use Rattle.policy_names.specs.declared.entity_uid.EntityUID.{EntityUID}
 use Rattle.policy_values.specs.Value.{Fields, fields_of}
 use Rattle.entity_store.specs.declared.request.Request.{Request}
-use Rattle.serde_json.specs.Data.{Data}
+use Rattle.serde_json.specs.Data.{Data, Items, no_items, item}
 use Rattle.serde_json.specs.Find.{get, as_null, as_object}
 use Rattle.json_values.specs.Json.{◌>>=◌, has_only}
 use Rattle.json_values.specs.Names.{uid_of}
 use Rattle.json_values.specs.Values.{value_entries_of}
+use Rattle.json_document.specs.declared.place.Place.{Place}
+use Rattle.json_document.specs.declared.place.Place.TheVariants as place
 
 -- an id; one that is absent or null is unknown
 abbrev pub known_of : Option Data → Option (Option EntityUID)
@@ -40,3 +43,8 @@ given_request_of d = do
 abbrev pub request_of : Option Data → Option Request
 request_of None = Some (record { principal = None; action = None; resource = None; context = None })
 request_of (Some d) = given_request_of d
+
+-- those before, and the requests of the items; else the place of the first item that is none
+abbrev pub requests_of : List Request → Items → Result (List Request) Place
+requests_of before no_items = Ok before
+requests_of before (item d ds) = option_map_or (λ q. requests_of (before ++ q ∷ []) ds) (given_request_of d) (Err (place.RequestAt (length before)))

@@ -3,19 +3,20 @@
 ghost use Rattle.serde_json.specs.View.{view};
 ghost use Rattle.json_document.specs.Faults.{MayComeTo};
 ghost use Rattle.json_document.specs.Parts.{parts_view};
-ghost use Rattle.json_document.specs.Reading.{IsRead, IsReadBehindPolicies, IsReadBehindSchema, IsReadBehindStore, IsReadFrom};
+ghost use Rattle.json_document.specs.Reading.{IsRead, IsReadBehindPolicies, IsReadBehindRequest, IsReadBehindSchema, IsReadBehindStore, IsReadFrom};
 
 use crate::parts::{Parts, parts_of};
 use crate::policies::read_policies;
+use crate::requests::read_requests;
 use crate::schema::read_schema;
-use crate::{DocumentFault, Place, read_request, read_store};
+use crate::{DocumentFault, Place, Requests, Shape, read_request, read_store};
 use entity_store::{Entities, Request};
 use policy_set::PolicySet;
 use schema_core::ValidatorSchema;
 use serde_json::Value;
 use std::alloc::Global;
 
-/// A schema, policies, entities and a request.
+/// A schema, policies, entities, and a request or several.
 #[derive(Drop)]
 pub struct Document {
     /// The schema.
@@ -24,8 +25,30 @@ pub struct Document {
     pub policies: PolicySet,
     /// The store of the entities.
     pub entities: Entities,
-    /// The request.
+    /// The request; one without entries where none is given.
     pub request: Request,
+    /// The requests; none but in a document for many.
+    pub requests: Requests,
+}
+
+fn with_requests(
+    alloc: Global,
+    parts: &Parts<'_>,
+    schema: ValidatorSchema,
+    policies: PolicySet,
+    entities: Entities,
+    request: Request,
+) -> Result<Document, DocumentFault>
+    ensures { MayComeTo result (IsReadBehindRequest (parts_view parts.now) schema policies entities request) }
+{
+    let requests = read_requests(alloc, parts.requests)?;
+    Ok(Document {
+        schema,
+        policies,
+        entities,
+        request,
+        requests,
+    })
 }
 
 fn with_request(
@@ -40,12 +63,7 @@ fn with_request(
     let Some(request) = read_request(alloc, parts.request)? else {
         return Err(DocumentFault::Place(Place::Request));
     };
-    Ok(Document {
-        schema,
-        policies,
-        entities,
-        request,
-    })
+    with_requests(alloc, parts, schema, policies, entities, request)
 }
 
 fn with_entities(
@@ -78,13 +96,24 @@ fn read_parts(alloc: Global, parts: &Parts<'_>) -> Result<Document, DocumentFaul
     with_policies(alloc, parts, schema)
 }
 
-/// The document that the value is; else the place of its first fault.
+/// The document of the shape that the value is; else the place of its first fault.
 #[tactic(auto, unfolding(crate::specs::Reading::IsRead))]
-pub fn read_document(alloc: Global, value: &Value) -> Result<Document, DocumentFault>
-    ensures { MayComeTo result (IsRead (view value.now)) }
+pub fn read_document_as(
+    alloc: Global,
+    shape: Shape,
+    value: &Value,
+) -> Result<Document, DocumentFault>
+    ensures { MayComeTo result (IsRead shape (view value.now)) }
 {
-    match parts_of(value) {
+    match parts_of(shape, value) {
         Some(parts) => read_parts(alloc, &parts),
         None => Err(DocumentFault::Place(Place::Form)),
     }
+}
+
+/// The document with one request that the value is; else the place of its first fault.
+pub fn read_document(alloc: Global, value: &Value) -> Result<Document, DocumentFault>
+    ensures { MayComeTo result (IsRead Shape.Whole (view value.now)) }
+{
+    read_document_as(alloc, Shape::Whole, value)
 }

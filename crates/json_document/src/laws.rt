@@ -2,7 +2,7 @@
 
 ghost use Rattle.json_document.specs.Laws.{OneReading};
 
-/// A JSON value that is a document is no other document, and has no fault.
+/// A JSON value that is a document of a shape is no other one, and has no fault.
 pub fn one_reading()
     ensures { OneReading }
 {}

@@ -1,4 +1,4 @@
-//! Documents in JSON: the schema, the policies, the entities and the request that they declare, and where the first fault is.
+//! Documents in JSON: the schema, the policies, the entities and the requests that they declare, and where the first fault is.
 #![tactic(auto)]
 
 mod document;
@@ -9,10 +9,12 @@ mod parts;
 mod place;
 mod policies;
 mod request;
+mod requests;
 mod schema;
+mod shape;
 mod store;
 
-pub use document::{Document, read_document};
+pub use document::{Document, read_document, read_document_as};
 pub use entities::read_entities;
 pub use json_policies::{PolicyParts, PolicyRead, TemplateLink, read_entry};
 pub use json_schema::read_declarations;
@@ -20,5 +22,7 @@ pub use json_values::{parse_json, read_uid, read_value};
 pub use place::{DocumentFault, Place};
 pub use policies::read_policies;
 pub use request::read_request;
+pub use requests::Requests;
 pub use schema::read_schema;
+pub use shape::Shape;
 pub use store::read_store;

@@ -36,6 +36,8 @@ pub enum Place {
     EntityCycle(usize),
     /// The request has not the form of one.
     Request,
+    /// The request at this index has not the form of one.
+    RequestAt(usize),
 }
 
 impl fmt::Display for Place {
@@ -63,6 +65,7 @@ impl fmt::Display for Place {
             Place::EntityDuplicate(i) => write!(f, "document: entities[{i}]: duplicate"),
             Place::EntityCycle(i) => write!(f, "document: entities[{i}]: cycle"),
             Place::Request => f.write_str("document: request"),
+            Place::RequestAt(i) => write!(f, "document: requests[{i}]"),
         }
     }
 }

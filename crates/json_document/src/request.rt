@@ -66,8 +66,9 @@ fn read_entries(alloc: Global, value: &Json) -> Result<Option<Request>, AllocErr
     }))
 }
 
+/// The request that the value is, if it is one.
 #[tactic(auto, unfolding(crate::specs::Request::given_request_of))]
-fn read_given_request(alloc: Global, value: &Json) -> Result<Option<Request>, AllocError>
+pub(crate) fn read_given_request(alloc: Global, value: &Json) -> Result<Option<Request>, AllocError>
     ensures { IfOk result (λ o. o ≡ given_request_of (view value.now)) }
 {
     let Some(members) = value.as_object() else {

@@ -135,6 +135,7 @@ fn checked(alloc: Global, document: &Document) -> Result<String, Fail> {
         policies,
         entities,
         request,
+        ..
     } = document;
     match slice_for_request(alloc, schema, policies, request, entities) {
         Ok(slice) => {

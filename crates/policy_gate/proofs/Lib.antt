@@ -1,4 +1,5 @@
 mod Answers
+mod Batch
 mod Runs
 mod Manifests
 mod Says

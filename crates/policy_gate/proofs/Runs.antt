@@ -7,7 +7,7 @@ use Rattle.byte_streams.specs.Steps.{IsQuiet, Rose}
 use Rattle.byte_streams.specs.declared.reading.TheConstants.{DOCUMENT_LIMIT}
 use Rattle.policy_gate.specs.Answer.{IsAnswer}
 use Rattle.policy_gate.specs.Reply.{Answer, answer}
-use Rattle.policy_gate.specs.Command.{own_document}
+use Rattle.policy_gate.specs.Command.{own_document, shape_of}
 use Rattle.policy_gate.specs.Laws.{Laws}
 use Rattle.policy_gate.specs.Run.{Cause, Gives, IsDocumentDue, IsDue, IsDueAfterReading, IsDueFor, IsGiven, IsGivenBy, IsToReadBy, IsToWorkOn, Reads, Runs}
 use Rattle.policy_gate.specs.Status.{IsAfterEnd, IsOfDocument, after_fault}
@@ -15,6 +15,7 @@ use Rattle.policy_gate.specs.declared.command.Command.{Command}
 use Rattle.policy_gate.specs.declared.status.Status.{Status}
 use Rattle.policy_gate.specs.declared.status.Status.TheVariants.{Done, Findings, Usage, Document, Request, Store, PartialRequest, ReadFault, WriteFault, OutOfMemory, TooLong}
 use Rattle.json_document.specs.declared.document.Document.{Document as ADocument}
+use Rattle.json_document.specs.declared.shape.Shape.TheVariants.{Whole}
 use Rattle.policy_gate.specs.Headline.{HasPoliciesFor, IsDocumentOf, KeepsRules, KeepsRulesOf, Says}
 use Rattle.policy_gate.proofs.Answers.{status_of_document}
 use Rattle.policy_gate.proofs.Says.{says_done, says_refused, kept_is_done}
@@ -182,39 +183,39 @@ module _ (laws : Laws) (command : Option Command) (source source' : SourceState)
 
   pub done_for : (c : Command) → command ≡ Some c → status ≡ Done
       → (bytes : List ℕ) × (text : List ℕ) × IsGiven c source source' bytes
-      × ((d : ADocument) × IsDocumentOf bytes d × Says c d text)
+      × ((d : ADocument) × IsDocumentOf (shape_of c) bytes d × Says c d text)
       × Appends sink.holds sink'.holds text
   done_for c is ends = at (cause_at c Done is ends)
     where
-      at : Cause (Some c) source source' sink sink' Done → (bytes : List ℕ) × (text : List ℕ) × IsGiven c source source' bytes × ((d : ADocument) × IsDocumentOf bytes d × Says c d text) × Appends sink.holds sink'.holds text
+      at : Cause (Some c) source source' sink sink' Done → (bytes : List ℕ) × (text : List ℕ) × IsGiven c source source' bytes × ((d : ADocument) × IsDocumentOf (shape_of c) bytes d × Says c d text) × Appends sink.holds sink'.holds text
       at (text, (bytes, read, answer), written) = (bytes, text, read, says_done laws c bytes text answer, written)
 
   -- where 0 says two things of a document, each
   pub both_for : (P : ADocument → List ℕ → Type 0)
-      → ((bytes : List ℕ) × (text : List ℕ) × WasRead source source' bytes × ((d : ADocument) × IsDocumentOf bytes d × (KeepsRules d × P d text)) × Appends sink.holds sink'.holds text)
+      → ((bytes : List ℕ) × (text : List ℕ) × WasRead source source' bytes × ((d : ADocument) × IsDocumentOf Whole bytes d × (KeepsRules d × P d text)) × Appends sink.holds sink'.holds text)
       → (bytes : List ℕ) × (text : List ℕ) × WasRead source source' bytes
-      × ((d : ADocument) × IsDocumentOf bytes d × KeepsRules d × P d text)
+      × ((d : ADocument) × IsDocumentOf Whole bytes d × KeepsRules d × P d text)
       × Appends sink.holds sink'.holds text
   both_for P (bytes, text, read, (d, of, said), written) = (bytes, text, read, (d, of, said.0, said.1), written)
 
   -- the same of a document that is the command's own
   pub own_for : (own : List ℕ) (P : ADocument → List ℕ → Type 0)
-      → ((bytes : List ℕ) × (text : List ℕ) × ((bytes ≡ own) × (source' ≡ source)) × ((d : ADocument) × IsDocumentOf bytes d × (KeepsRules d × P d text)) × Appends sink.holds sink'.holds text)
-      → (text : List ℕ) × (source' ≡ source) × ((d : ADocument) × IsDocumentOf own d × KeepsRules d × P d text) × Appends sink.holds sink'.holds text
-  own_for own P (bytes, text, (is, alone), (d, of, said), written) = (text, alone, (d, subst (λ b. IsDocumentOf b d) is of, said.0, said.1), written)
+      → ((bytes : List ℕ) × (text : List ℕ) × ((bytes ≡ own) × (source' ≡ source)) × ((d : ADocument) × IsDocumentOf Whole bytes d × (KeepsRules d × P d text)) × Appends sink.holds sink'.holds text)
+      → (text : List ℕ) × (source' ≡ source) × ((d : ADocument) × IsDocumentOf Whole own d × KeepsRules d × P d text) × Appends sink.holds sink'.holds text
+  own_for own P (bytes, text, (is, alone), (d, of, said), written) = (text, alone, (d, subst (λ b. IsDocumentOf Whole b d) is of, said.0, said.1), written)
 
   pub refused_for : status ≡ Findings
       → (c : Command) × (command ≡ Some c)
-      × ((bytes : List ℕ) × IsGiven c source source' bytes × ((d : ADocument) × IsDocumentOf bytes d × (¬ HasPoliciesFor c d)))
+      × ((bytes : List ℕ) × IsGiven c source source' bytes × ((d : ADocument) × IsDocumentOf (shape_of c) bytes d × (¬ HasPoliciesFor c d)))
   refused_for ends = at command refl (subst (Cause command source source' sink sink') ends (causes command source source' sink sink' status runs))
     where
-      at : (o : Option Command) → command ≡ o → Cause o source source' sink sink' Findings → (c : Command) × (command ≡ Some c) × ((bytes : List ℕ) × IsGiven c source source' bytes × ((d : ADocument) × IsDocumentOf bytes d × (¬ HasPoliciesFor c d)))
+      at : (o : Option Command) → command ≡ o → Cause o source source' sink sink' Findings → (c : Command) × (command ≡ Some c) × ((bytes : List ℕ) × IsGiven c source source' bytes × ((d : ADocument) × IsDocumentOf (shape_of c) bytes d × (¬ HasPoliciesFor c d)))
       at None is (text, due) = absurd due
       at (Some c) is (text, (bytes, read, answer)) = (c, is, (bytes, read, says_refused laws c bytes text answer))
 
 pub complete_for : (laws : Laws) (bytes : List ℕ) (d : ADocument) (source source' : SourceState) (sink sink' : SinkState) (status : Status) (command : Option Command) (c : Command)
     → Runs command source source' sink sink' status → command ≡ Some c → IsToWorkOn c source source' bytes → IsQuiet sink.faults sink'.faults
-    → IsDocumentOf bytes d → KeepsRulesOf c d → (status ≡ Done) ⊎ (status ≡ OutOfMemory)
+    → IsDocumentOf (shape_of c) bytes d → KeepsRulesOf c d → (status ≡ Done) ⊎ (status ≡ OutOfMemory)
 complete_for laws bytes d source source' sink sink' status command c runs is work q' of keeps =
     elim (exact_for bytes source source' sink sink' status command c runs is work q') [
       | inl (text, answer, written) ↦ inl (kept_is_done laws c bytes d _ of keeps answer)

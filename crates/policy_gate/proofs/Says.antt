@@ -12,16 +12,20 @@ use Rattle.finding_messages.specs.Findings.{Findings}
 use Rattle.findings.specs.declared.error.ValidationError.{ValidationError}
 use Rattle.conformance_errors.specs.Written.{request_text, entity_text}
 use Rattle.typing_spec.specs.Conforms.{RequestConforms, StoreConforms}
-use Rattle.policy_gate.specs.Answer.{IsAnswer, IsAnswerIf, IsAnswerFor, IsWellMade, IsAnswerTo, IsRefusedOr, IsWork, found_in, found_at, refused_levels, is_whole, partial_request, refusal, refused_data, refused_decision, refused_partial, refused_policies, refused_request, refused_store, refused_with, request_fault, slice_of, store_fault}
-use Rattle.policy_gate.specs.Headline.{Conforms, HasAcceptedPolicies, HasPoliciesAt, HasPoliciesFor, IsDocumentOf, KeepsRules, KeepsRulesOf, IsChecked, IsSliced, IsDecided, Says}
+use Rattle.policy_gate.specs.Answer.{IsAnswer, IsAnswerIf, IsAnswerFor, IsWellMade, IsAnswerTo, IsRefusedOr, IsWork, found_in, found_at, refused_batch, refused_levels, is_whole, partial_message, partial_request, refusal, refused_line, request_line, whole_line, refused_data, refused_decision, refused_partial, refused_policies, refused_request, refused_store, refused_with, request_fault, slice_of, store_fault}
+use Rattle.policy_gate.specs.Headline.{Conforms, HasAcceptedPolicies, HasPoliciesAt, HasPoliciesFor, IsDocumentOf, KeepsRules, KeepsRulesOf, IsChecked, IsSliced, IsDecided, IsReadyForRequests, Says}
 use Rattle.json_values.specs.Json.{json_of}
+use Rattle.policy_gate.specs.Command.{shape_of}
 use Rattle.policy_gate.specs.Laws.{Laws}
 use Rattle.policy_gate.specs.Reply.{Answer, answer}
 use Rattle.policy_gate.specs.declared.status.Status.{Status}
 use Rattle.policy_gate.specs.declared.status.Status.TheVariants as status
 use Rattle.policy_gate.specs.declared.command.Command.{Command}
-use Rattle.policy_gate.specs.declared.command.Command.TheVariants.{Check, Level, Request as Conformance, Manifest, Slice, Decide, Sample}
+use Rattle.policy_gate.specs.declared.command.Command.TheVariants.{Check, Level, Request as Conformance, Manifest, Slice, Decide, Sample, Batch}
 use Rattle.json_document.proofs.OneReading.{one_reading}
+use Rattle.conformance.specs.RequestRules.{first_request_fault}
+use Rattle.policy_set.specs.Response.{response}
+use Rattle.json_response.specs.SliceJson.{response_text}
 use Rattle.conformance.proofs.Options.{none_first, none_rest, neither, none_inside}
 use Rattle.request_slices.specs.Enough.{IsEnough}
 
@@ -57,9 +61,11 @@ mapped : {X : Type 0} (f : X → Answer) (o : Option X) → ((x : X) → IsRefus
 mapped f None h = tt
 mapped f (Some x) h = h x
 
+refuses_store : (d : Document) → Refuses (refused_store d)
+refuses_store d = mapped (λ f. answer status.Store (entity_text (record { uid = f.0; rule = f.1 }))) (store_fault d) (λ x. tt)
+
 refuses_data : (d : Document) → Refuses (refused_data d)
-refuses_data d = either (refused_request d) (refused_store d) (mapped (λ e. answer status.Request (request_text e)) (request_fault d) (λ x. tt))
-    (mapped (λ f. answer status.Store (entity_text (record { uid = f.0; rule = f.1 }))) (store_fault d) (λ x. tt))
+refuses_data d = either (refused_request d) (refused_store d) (mapped (λ e. answer status.Request (request_text e)) (request_fault d) (λ x. tt)) (refuses_store d)
 
 refuses_decision : (d : Document) → Refuses (refused_decision d)
 refuses_decision d = either (refused_partial d) (option_or (refused_data d) (refused_policies d)) (refuses_partial d) (either (refused_data d) (refused_policies d) (refuses_data d) (refuses_with (found_in d).errors (found_in d)))
@@ -72,6 +78,7 @@ refuses Manifest d = refuses_with (found_in d).errors (found_in d)
 refuses Slice d = refuses_decision d
 refuses Decide d = refuses_decision d
 refuses (Sample seed size) d = refuses_decision d
+refuses Batch d = either (refused_store d) (refused_policies d) (refuses_store d) (refuses_with (found_in d).errors (found_in d))
 
 no_refusal : (s : Status) → IsRefusal s → s ≡ status.Done → ⊥
 no_refusal s h is = subst IsRefusal is h
@@ -83,7 +90,7 @@ done (Some a) W text h is = absurd (no_refusal a.status h (sym (ap (λ b. b.stat
 
 -- ---- the rules
 
-whole_parts : (q : Request) → is_whole q ≡ true → IsWhole q
+pub whole_parts : (q : Request) → is_whole q ≡ true → IsWhole q
 whole_parts q h = by q.principal q.action q.resource q.context h
   where
     by : (p a r : Option EntityUID) (c : Option Fields) → (is_some p && (is_some a && (is_some r && is_some c))) ≡ true → IsWhole (record { principal = p; action = a; resource = r; context = c })
@@ -95,6 +102,14 @@ whole_parts q h = by q.principal q.action q.resource q.context h
 
 pub parts_whole : (q : Request) → IsWhole q → is_whole q ≡ true
 parts_whole q h = λ i. h.principal i && (h.action i && (h.resource i && h.context i))
+
+-- the line on a request that is not whole
+pub partial_line : (d : Document) (q : Request) → (IsWhole q → ⊥) → request_line d q ≡ refused_line partial_message
+partial_line d q partial = by (is_whole q) (λ h. partial (whole_parts q h))
+  where
+    by : (b : Bool) → (b ≡ true → ⊥) → (if b then whole_line d q (first_request_fault d.schema (λ _. true) q) else refused_line partial_message) ≡ refused_line partial_message
+    by true h = absurd (h refl)
+    by false h = refl
 
 pub partial_whole : (d : Document) → refused_partial d ≡ None → IsWhole d.request
 partial_whole d h = whole_parts d.request (by (is_whole d.request) h)
@@ -144,14 +159,20 @@ module _ (laws : Laws) (d : Document) where
     unfolding store_fault
     kept_store h = (laws.stores d.schema made.schema d.entities).1 h
 
+    pub conforming_store : refused_store d ≡ None → StoreConforms d.schema d.entities
+    conforming_store h = store_kept (none_inside (λ f. answer status.Store (entity_text (record { uid = f.0; rule = f.1 }))) (store_fault d) h)
+
+    store_not_refused : StoreConforms d.schema d.entities → refused_store d ≡ None
+    store_not_refused is = ap (option_map (λ f. answer status.Store (entity_text (record { uid = f.0; rule = f.1 })))) (kept_store is)
+
     conforming : refused_data d ≡ None → Conforms d
     conforming h = record {
       request = none_inside (λ e. answer status.Request (request_text e)) (request_fault d) (none_first (refused_request d) (refused_store d) h);
-      store = store_kept (none_inside (λ f. answer status.Store (entity_text (record { uid = f.0; rule = f.1 }))) (store_fault d) (none_rest (refused_request d) (refused_store d) h));
+      store = conforming_store (none_rest (refused_request d) (refused_store d) h);
     }
 
     conforms : request_fault d ≡ None → StoreConforms d.schema d.entities → refused_data d ≡ None
-    conforms request store = neither (refused_request d) (refused_store d) (ap (option_map (λ e. answer status.Request (request_text e))) request) (ap (option_map (λ f. answer status.Store (entity_text (record { uid = f.0; rule = f.1 })))) (kept_store store))
+    conforms request store = neither (refused_request d) (refused_store d) (ap (option_map (λ e. answer status.Request (request_text e))) request) (store_not_refused store)
 
     pub keeping : refused_decision d ≡ None → KeepsRules d
     keeping h =
@@ -163,6 +184,9 @@ module _ (laws : Laws) (d : Document) where
     keeps : KeepsRules d → refused_decision d ≡ None
     keeps h = neither (refused_partial d) (option_or (refused_data d) (refused_policies d)) (whole_partial d h.whole) (neither (refused_data d) (refused_policies d) (conforms (kept_request h.whole h.request) h.store) (not_refused h.policies))
 
+    ready : refused_batch d ≡ None → IsReadyForRequests d
+    ready h = record { store = conforming_store (none_first (refused_store d) (refused_policies d) h); policies = accepted (none_rest (refused_store d) (refused_policies d) h) }
+
     -- where every rule of the command holds nothing is refused
     kept_all : (c : Command) → KeepsRulesOf c d → refusal c d ≡ None
     kept_all Check h = not_refused h
@@ -172,6 +196,7 @@ module _ (laws : Laws) (d : Document) where
     kept_all Slice h = keeps h
     kept_all Decide h = keeps h
     kept_all (Sample seed size) h = keeps h
+    kept_all Batch h = neither (refused_store d) (refused_policies d) (store_not_refused h.store) (not_refused h.policies)
 
     -- ---- what 0 says
 
@@ -184,6 +209,10 @@ module _ (laws : Laws) (d : Document) where
     sliced : (text : List ℕ) → KeepsRules d → IsWork Slice d text → IsSliced d text
     sliced text rules is = record { written = is; enough = enough rules }
 
+    -- the line on a request that is whole and conforms
+    pub line_decided : (q : Request) → IsWhole q → RequestConforms d.schema q → request_line d q ≡ response_text (response d.policies.policies q d.entities)
+    line_decided q whole conforms = rw (parts_whole q whole, (laws.requests d.schema made.schema q whole).1 conforms) refl
+
     says : (c : Command) (text : List ℕ) → refusal c d ≡ None → IsWork c d text → Says c d text
     says Check text none is = record { written = is; accepted = accepted none }
     says (Level n) text none is =
@@ -194,6 +223,11 @@ module _ (laws : Laws) (d : Document) where
     says Slice text none is = let rules = keeping none in (rules, sliced text rules is)
     says Decide text none is = let rules = keeping none in (rules, decided text rules is)
     says (Sample seed size) text none is = let rules = keeping none in (rules, record { written = is; enough = enough rules })
+    says Batch text none is = record {
+      written = is;
+      decided = λ q rules. record { written = line_decided q rules.whole rules.request; allowed = laws.outcomes d.schema made.schema d.policies made.policies made.keys q d.entities rules };
+      rules = ready none;
+    }
 
 -- ---- what 1 says
 
@@ -216,9 +250,11 @@ no_partial d = by (is_whole d.request)
     by false = λ is. absurd (cc is)
 
 -- a refusal of the request or the store is none for findings
+no_store : (d : Document) → IfSome (refused_store d) (λ r. r.status ≡ status.Findings → ⊥)
+no_store d = mapped_other (λ f. answer status.Store (entity_text (record { uid = f.0; rule = f.1 }))) (store_fault d) (λ x is. absurd (cc is))
+
 no_data : (d : Document) → IfSome (refused_data d) (λ r. r.status ≡ status.Findings → ⊥)
-no_data d = first (refused_request d) (refused_store d) (mapped_other (λ e. answer status.Request (request_text e)) (request_fault d) (λ x is. absurd (cc is)))
-    (mapped_other (λ f. answer status.Store (entity_text (record { uid = f.0; rule = f.1 }))) (store_fault d) (λ x is. absurd (cc is)))
+no_data d = first (refused_request d) (refused_store d) (mapped_other (λ e. answer status.Request (request_text e)) (request_fault d) (λ x is. absurd (cc is))) (no_store d)
   where
     first : (a b : Option Answer) → IfSome a (λ r. r.status ≡ status.Findings → ⊥) → IfSome b (λ r. r.status ≡ status.Findings → ⊥) → IfSome (option_or a b) (λ r. r.status ≡ status.Findings → ⊥)
     first None b h k = k
@@ -245,6 +281,7 @@ found_policies laws Manifest d h = not_accepted laws d h
 found_policies laws Slice d h = not_accepted laws d (found_data d (refused_policies d) (found_behind (refused_partial d) (option_or (refused_data d) (refused_policies d)) (no_partial d) h))
 found_policies laws (Sample seed size) d h = not_accepted laws d (found_data d (refused_policies d) (found_behind (refused_partial d) (option_or (refused_data d) (refused_policies d)) (no_partial d) h))
 found_policies laws Decide d h = not_accepted laws d (found_data d (refused_policies d) (found_behind (refused_partial d) (option_or (refused_data d) (refused_policies d)) (no_partial d) h))
+found_policies laws Batch d h = not_accepted laws d (found_behind (refused_store d) (refused_policies d) (no_store d) h)
 
 found_answer : (r : Option Answer) (W : List ℕ → Type 0) (text : List ℕ) → IsRefusedOr r W (answer status.Findings text) → IsFound r
 found_answer None W text is = absurd (cc (is.0))
@@ -254,7 +291,7 @@ found_answer (Some a) W text is = sym (ap (λ b. b.status) is)
 
 module _ (laws : Laws) (c : Command) (bytes text : List ℕ) where
   abbrev SaysDone : Type 0
-  SaysDone = (d : Document) × IsDocumentOf bytes d × Says c d text
+  SaysDone = (d : Document) × IsDocumentOf (shape_of c) bytes d × Says c d text
 
   done_value : (o : Option Data) → json_of bytes ≡ o → IsAnswerIf c o (answer status.Done text) → SaysDone
   done_value None json is = absurd (cc (ap (λ b. b.status) is))
@@ -264,12 +301,12 @@ module _ (laws : Laws) (c : Command) (bytes text : List ℕ) where
       (d, (v, json, reads), says laws d made c text past.0 past.1)
 
   -- where 0 is due, it says this
-  pub says_done : IsAnswer c bytes (answer status.Done text) → (d : Document) × IsDocumentOf bytes d × Says c d text
+  pub says_done : IsAnswer c bytes (answer status.Done text) → (d : Document) × IsDocumentOf (shape_of c) bytes d × Says c d text
   unfolding IsAnswer
   says_done is = done_value (json_of bytes) refl is
 
   abbrev SaysRefused : Type 0
-  SaysRefused = (d : Document) × IsDocumentOf bytes d × (¬ HasPoliciesFor c d)
+  SaysRefused = (d : Document) × IsDocumentOf (shape_of c) bytes d × (¬ HasPoliciesFor c d)
 
   refused_value : (o : Option Data) → json_of bytes ≡ o → IsAnswerIf c o (answer status.Findings text) → SaysRefused
   refused_value None json is = absurd (cc (ap (λ b. b.status) is))
@@ -278,19 +315,19 @@ module _ (laws : Laws) (c : Command) (bytes text : List ℕ) where
       (d, (v, json, reads), found_policies laws c d (found_answer (refusal c d) (IsWork c d) text is))
 
   -- where 1 is due, the policies are not accepted
-  pub says_refused : IsAnswer c bytes (answer status.Findings text) → (d : Document) × IsDocumentOf bytes d × (¬ HasPoliciesFor c d)
+  pub says_refused : IsAnswer c bytes (answer status.Findings text) → (d : Document) × IsDocumentOf (shape_of c) bytes d × (¬ HasPoliciesFor c d)
   unfolding IsAnswer
   says_refused is = refused_value (json_of bytes) refl is
 
 module _ (laws : Laws) (c : Command) where
-  for_value : (v : Data) (d : Document) (a : Answer) → IsRead v (Ok d) → KeepsRulesOf c d → IsAnswerFor c v a → a.status ≡ status.Done
-  for_value v d a reads rules (inl (place, faulty, is)) = absurd (cc (one_reading v d (Err place) reads faulty))
+  for_value : (v : Data) (d : Document) (a : Answer) → IsRead (shape_of c) v (Ok d) → KeepsRulesOf c d → IsAnswerFor c v a → a.status ≡ status.Done
+  for_value v d a reads rules (inl (place, faulty, is)) = absurd (cc (one_reading (shape_of c) v d (Err place) reads faulty))
   for_value v d a reads rules (inr (e, again, made, is)) =
-      let same : e ≡ d = cc (one_reading v d (Ok e) reads again) in
+      let same : e ≡ d = cc (one_reading (shape_of c) v d (Ok e) reads again) in
       let none = kept_all laws e made c (subst (KeepsRulesOf c) (sym same) rules) in
       (subst (λ r. IsRefusedOr r (IsWork c e) a) none is).0
 
   -- where every rule of the command holds, 0 is due
-  pub kept_is_done : (bytes : List ℕ) (d : Document) (a : Answer) → IsDocumentOf bytes d → KeepsRulesOf c d → IsAnswer c bytes a → a.status ≡ status.Done
+  pub kept_is_done : (bytes : List ℕ) (d : Document) (a : Answer) → IsDocumentOf (shape_of c) bytes d → KeepsRulesOf c d → IsAnswer c bytes a → a.status ≡ status.Done
   unfolding IsAnswer
   kept_is_done bytes d a (v, json, reads) rules is = for_value v d a reads rules (subst (λ o. IsAnswerIf c o a) json is)

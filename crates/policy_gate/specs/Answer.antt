@@ -1,7 +1,8 @@
 -- Which status and text are due for a command and the bytes of a document.
 use Rattle.std.specs.Prelude.{◌≡◌, ◌⊎◌, ◌&&◌, ℕ, Bool, true, List, [], ◌∷◌, ◌++◌, length, Option, Some, None, is_some, Ok, Err, codes, option_map, if◌then◌else◌}
 use Rattle.std.specs.Option.{option_or}
-use Rattle.serde_json.specs.Data.{Data}
+use Rattle.std.specs.List.{flat_map}
+use Rattle.serde_json.specs.Data.{Data, object, string, member, no_members}
 use Rattle.json_values.specs.Json.{json_of}
 use Rattle.policy_names.specs.declared.entity_uid.EntityUID.{EntityUID}
 use Rattle.entity_store.specs.declared.request.Request.{Request}
@@ -23,7 +24,7 @@ use Rattle.policy_validate.specs.Accepted.{findings_of}
 use Rattle.policy_validate.specs.Levels.{level_findings_of}
 use Rattle.conformance.specs.RequestRules.{first_request_fault}
 use Rattle.conformance.specs.StoreRules.{first_store_fault}
-use Rattle.conformance_errors.specs.Written.{request_text, entity_text}
+use Rattle.conformance_errors.specs.Written.{request_message, request_text, entity_text}
 use Rattle.conformance_errors.specs.declared.request_error.RequestValidationError.{RequestValidationError}
 use Rattle.conformance_errors.specs.declared.store_rule.StoreRule.{StoreRule}
 use Rattle.request_slices.specs.Slice.{slice}
@@ -32,9 +33,10 @@ use Rattle.manifest_core.specs.Manifest.{Manifest}
 use Rattle.manifest_core.specs.ManifestJson.{manifest_data}
 use Rattle.manifest_computation.specs.Computed.{IsManifestOf}
 use Rattle.json_response.specs.SliceJson.{decision_text, slice_text, response_text}
+use Rattle.policy_gate.specs.Command.{shape_of}
 use Rattle.policy_gate.specs.Reply.{Answer, answer}
 use Rattle.policy_gate.specs.declared.command.Command.{Command}
-use Rattle.policy_gate.specs.declared.command.Command.TheVariants.{Check, Level, Request as Conformance, Manifest as Reads, Slice, Decide, Sample}
+use Rattle.policy_gate.specs.declared.command.Command.TheVariants.{Check, Level, Request as Conformance, Manifest as Reads, Slice, Decide, Sample, Batch}
 use Rattle.policy_gate.specs.declared.status.Status.{Status}
 use Rattle.policy_gate.specs.declared.status.Status.TheVariants as status
 
@@ -58,9 +60,13 @@ store_fault d = first_store_fault d.schema d.entities
 abbrev pub is_whole : Request → Bool
 is_whole q = is_some q.principal && (is_some q.action && (is_some q.resource && is_some q.context))
 
+-- why nothing is decided on a request of which an entry is not known
+abbrev pub partial_message : List ℕ
+partial_message = codes "entity slicing requires a fully concrete request. Got a partial request"
+
 -- what is answered where an entry of the request is not known
 abbrev pub partial_request : Answer
-partial_request = answer status.PartialRequest (codes "request: entity slicing requires a fully concrete request. Got a partial request\n")
+partial_request = answer status.PartialRequest (codes "request: " ++ (partial_message ++ codes "\n"))
 
 -- what is answered in place of a command's work, if anything: that an entry of the request is not known
 abbrev pub refused_partial : Document → Option Answer
@@ -100,6 +106,10 @@ refused_data d = option_or (refused_request d) (refused_store d)
 abbrev pub refused_decision : Document → Option Answer
 refused_decision d = option_or (refused_partial d) (option_or (refused_data d) (refused_policies d))
 
+-- why no request is decided on: the store breaks a rule, or there are errors in the policies
+abbrev pub refused_batch : Document → Option Answer
+refused_batch d = option_or (refused_store d) (refused_policies d)
+
 -- what is answered in place of the command's work, where some rule of it is broken
 abbrev pub refusal : Command → Document → Option Answer
 refusal Check d = refused_policies d
@@ -109,6 +119,7 @@ refusal Reads d = refused_policies d
 refusal Slice d = refused_decision d
 refusal Decide d = refused_decision d
 refusal (Sample seed size) d = refused_decision d
+refusal Batch d = refused_batch d
 
 -- the document's store restricted to what its policies read on its request
 abbrev pub slice_of : Document → Store
@@ -123,8 +134,25 @@ abbrev pub sample_text : ℕ → ℕ → Decision → List ℕ
 sample_text size kept decision =
     codes "entities " ++ (decimal size ++ (codes " kept " ++ (decimal kept ++ (codes " decision " ++ (decision_text decision ++ codes "\n")))))
 
+-- the line on a request to which there is no response: JSON without spaces that says why
+unfoldable pub refused_line : List ℕ → List ℕ
+refused_line message = compact_text (object (member (codes "refused") (string message) no_members)) ++ codes "\n"
+
+-- the line on a request that is whole: the response on the whole store, or the first rule that it breaks
+abbrev pub whole_line : Document → Request → Option RequestValidationError → List ℕ
+whole_line d q None = response_text (response d.policies.policies q d.entities)
+whole_line d q (Some e) = refused_line (request_message e)
+
+-- the line on one of many requests
+abbrev pub request_line : Document → Request → List ℕ
+request_line d q = if is_whole q then whole_line d q (first_request_fault d.schema (λ _. true) q) else refused_line partial_message
+
+-- a line for each request
+abbrev pub batch_text : Document → List ℕ
+batch_text d = flat_map (request_line d) d.requests
+
 -- the text is that of the command's work: the findings; that all conforms; the manifest of the policies; the restricted store, with the response on it; the response on
--- the whole store; the line on the restricted store
+-- the whole store; the line on the restricted store; a line for each request
 abbrev pub IsWork : Command → Document → List ℕ → Type 0
 IsWork Check d text = text ≡ findings_text (found_in d)
 IsWork (Level n) d text = text ≡ findings_text (found_at n d)
@@ -133,6 +161,7 @@ IsWork Reads d text = (m : Manifest) × IsManifestOf d.schema d.policies.policie
 IsWork Slice d text = text ≡ slice_text (response d.policies.policies d.request (slice_of d)) (slice_of d)
 IsWork Decide d text = text ≡ response_text (response d.policies.policies d.request d.entities)
 IsWork (Sample seed size) d text = text ≡ sample_text size (length (slice_of d)) (response d.policies.policies d.request (slice_of d)).decision
+IsWork Batch d text = text ≡ batch_text d
 
 -- the refusal, where there is one, or else the work
 abbrev pub IsRefusedOr : Option Answer → (List ℕ → Type 0) → Answer → Type 0
@@ -151,8 +180,8 @@ pub record IsWellMade (d : Document) : Type 0 where
 
 -- what is due for a JSON value: the place of the first fault, where it is no document
 abbrev pub IsAnswerFor : Command → Data → Answer → Type 0
-IsAnswerFor c v a = ((place : Place) × IsRead v (Err place) × (a ≡ answer status.Document (place_text place ++ codes "\n")))
-    ⊎ ((d : Document) × IsRead v (Ok d) × IsWellMade d × IsAnswerTo c d a)
+IsAnswerFor c v a = ((place : Place) × IsRead (shape_of c) v (Err place) × (a ≡ answer status.Document (place_text place ++ codes "\n")))
+    ⊎ ((d : Document) × IsRead (shape_of c) v (Ok d) × IsWellMade d × IsAnswerTo c d a)
 
 -- what is due where the bytes may be JSON
 abbrev pub IsAnswerIf : Command → Option Data → Answer → Type 0

@@ -2,9 +2,11 @@
 use Rattle.std.specs.Prelude.{ℕ, List, [], ◌∷◌, if◌then◌else◌, Option, Some, None, nat_lt, option_map, option_and_then, codes}
 use Rattle.std.specs.Str.{bytes_eq}
 use Rattle.policy_ext.specs.NumberReading.{plain_of}
+use Rattle.json_document.specs.declared.shape.Shape.{Shape}
+use Rattle.json_document.specs.declared.shape.Shape.TheVariants as shape
 use Rattle.json_samples.specs.Sample.{sample_document}
 use Rattle.policy_gate.specs.declared.command.Command.{Command}
-use Rattle.policy_gate.specs.declared.command.Command.TheVariants.{Check, Level, Request, Manifest, Slice, Decide, Sample}
+use Rattle.policy_gate.specs.declared.command.Command.TheVariants.{Check, Level, Request, Manifest, Slice, Decide, Sample, Batch}
 
 -- a command of one word
 abbrev pub one_word : List ℕ → Option Command
@@ -13,7 +15,8 @@ one_word word =
     (if bytes_eq word (codes "request") then Some Request else
     (if bytes_eq word (codes "manifest") then Some Manifest else
     (if bytes_eq word (codes "slice") then Some Slice else
-    (if bytes_eq word (codes "decide") then Some Decide else None))))
+    (if bytes_eq word (codes "decide") then Some Decide else
+    (if bytes_eq word (codes "batch") then Some Batch else None)))))
 
 -- a command of two words: a level is a number, up to 200, of digits with no zero in front of others
 abbrev pub two_words : List ℕ → List ℕ → Option Command
@@ -45,3 +48,9 @@ own_document Request = None
 own_document Manifest = None
 own_document Slice = None
 own_document Decide = None
+own_document Batch = None
+
+-- what a document for a command asks about: one request, but for many at once
+abbrev pub shape_of : Command → Shape
+shape_of Batch = shape.Batch
+shape_of c = shape.Whole

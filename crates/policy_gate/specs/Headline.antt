@@ -4,6 +4,8 @@ use Rattle.policy_set.specs.Allowed.{AreAllowed}
 use Rattle.policy_set.specs.Response.{response}
 use Rattle.json_document.specs.Reading.{IsRead}
 use Rattle.json_document.specs.declared.document.Document.{Document}
+use Rattle.json_document.specs.declared.shape.Shape.{Shape}
+use Rattle.entity_store.specs.declared.request.Request.{Request as ARequest}
 use Rattle.serde_json.specs.Data.{Data}
 use Rattle.finding_messages.specs.Written.{findings_text}
 use Rattle.typing_spec.specs.Conforms.{StoreConforms}
@@ -15,13 +17,13 @@ use Rattle.json_response.specs.SliceJson.{slice_text, response_text}
 use Rattle.json_values.specs.Json.{json_of}
 use Rattle.manifest_core.specs.Manifest.{Manifest as Tries}
 use Rattle.manifest_computation.specs.Computed.{IsManifestOf}
-use Rattle.policy_gate.specs.Answer.{found_in, found_at, manifest_text, request_fault, sample_text, slice_of}
+use Rattle.policy_gate.specs.Answer.{batch_text, found_in, found_at, manifest_text, request_fault, request_line, sample_text, slice_of}
 use Rattle.policy_gate.specs.declared.command.Command.{Command}
-use Rattle.policy_gate.specs.declared.command.Command.TheVariants.{Check, Level, Request, Manifest, Slice, Decide, Sample}
+use Rattle.policy_gate.specs.declared.command.Command.TheVariants.{Check, Level, Request, Manifest, Slice, Decide, Sample, Batch}
 
--- the document that the bytes are
-abbrev pub IsDocumentOf : List ℕ → Document → Type 0
-IsDocumentOf bytes d = (v : Data) × (json_of bytes ≡ Some v) × IsRead v (Ok d)
+-- the document of the shape that the bytes are
+abbrev pub IsDocumentOf : Shape → List ℕ → Document → Type 0
+IsDocumentOf shape bytes d = (v : Data) × (json_of bytes ≡ Some v) × IsRead shape v (Ok d)
 
 -- the policies of the document are accepted
 abbrev pub HasAcceptedPolicies : Document → Type 0
@@ -35,6 +37,11 @@ HasPoliciesAt n d = IsAcceptedAt d.schema n d.policies
 pub record Conforms (d : Document) : Type 0 where
   pub request : request_fault d ≡ None
   pub store : StoreConforms d.schema d.entities
+
+-- its store conforms to the schema, and its policies are accepted
+pub record IsReadyForRequests (d : Document) : Type 0 where
+  pub store : StoreConforms d.schema d.entities
+  pub policies : HasAcceptedPolicies d
 
 -- the document keeps every rule
 abbrev pub KeepsRules : Document → Type 0
@@ -54,6 +61,7 @@ KeepsRulesOf Manifest d = HasAcceptedPolicies d
 KeepsRulesOf Slice d = KeepsRules d
 KeepsRulesOf Decide d = KeepsRules d
 KeepsRulesOf (Sample seed size) d = KeepsRules d
+KeepsRulesOf Batch d = IsReadyForRequests d
 
 -- the policies keep what the command asks of policies
 abbrev pub HasPoliciesFor : Command → Document → Type 0
@@ -96,6 +104,17 @@ pub record IsSampled (size : ℕ) (d : Document) (text : List ℕ) : Type 0 wher
   pub written : text ≡ sample_text size (length (slice_of d)) (response d.policies.policies d.request (slice_of d)).decision
   pub enough : IsEnough d.policies.policies d.request (slice_of d) d.entities
 
+-- the line on a request is the response on the whole store, on which the outcome of each policy is a truth value, a missing entity or an overflow
+pub record IsDecidedLine (d : Document) (q : ARequest) : Type 0 where
+  pub written : request_line d q ≡ response_text (response d.policies.policies q d.entities)
+  pub allowed : AreAllowed d.policies.policies q d.entities
+
+-- the text has a line for each request; where the request is whole and conforms it is decided on. The store conforms, and the policies are accepted
+pub record IsBatch (d : Document) (text : List ℕ) : Type 0 where
+  pub written : text ≡ batch_text d
+  pub decided : (q : ARequest) → KeepRules d.schema d.policies q d.entities → IsDecidedLine d q
+  pub rules : IsReadyForRequests d
+
 -- what 0 says
 abbrev pub Says : Command → Document → List ℕ → Type 0
 Says Check d text = IsChecked d text
@@ -105,3 +124,4 @@ Says Manifest d text = IsManifested d text
 Says Slice d text = KeepsRules d × IsSliced d text
 Says Decide d text = KeepsRules d × IsDecided d text
 Says (Sample seed size) d text = KeepsRules d × IsSampled size d text
+Says Batch d text = IsBatch d text

@@ -1,4 +1,5 @@
 pub mod Answer
+pub mod Batch
 pub mod Command
 pub mod Headline
 pub mod Laws

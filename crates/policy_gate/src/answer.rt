@@ -9,10 +9,12 @@ ghost use Rattle.conformance_errors.specs.Written.{request_text};
 ghost use Rattle.finding_messages.specs.Written.{findings_text};
 ghost use Rattle.json_response.specs.SliceJson.{decision_text};
 ghost use Rattle.policy_gate.specs.Answer.{IsAnswer, IsAnswerFor, IsAnswerTo, IsRefusedOr, IsWellMade, IsWork, found_at, found_in, manifest_text, refused_data, refused_decision, refused_policies, refused_request, refused_store, refused_with, request_fault, sample_text, slice_of, status_of, store_fault};
+ghost use Rattle.policy_gate.specs.Command.{shape_of};
 ghost use Rattle.policy_gate.specs.Headline.{KeepsRules};
 ghost use Rattle.policy_gate.specs.Reply.{reply_view};
 
-use crate::command::Command;
+use crate::batch::batch;
+use crate::command::{Command, shape_of};
 use crate::laws::laws;
 use crate::reply::{Reply, reply_with};
 use crate::status::Status;
@@ -23,7 +25,7 @@ use conformance::{
 };
 use entity_store::Entities;
 use extension_types::{ExtensionSchemas, all_objects};
-use json_document::{Document, DocumentFault, parse_json, read_document};
+use json_document::{Document, DocumentFault, parse_json, read_document_as};
 use json_response::{response_text, slice_text};
 use manifest_computation::{EntityManifestError, compute_entity_manifest};
 use manifest_core::EntityManifest;
@@ -59,7 +61,7 @@ pub(crate) fn reply(alloc: Global, command: Command, bytes: &[u8]) -> Result<Rep
 fn reply_to_value(alloc: Global, command: Command, value: Value) -> Result<Reply, AllocError>
     ensures { IfOk result (λ r. IsAnswerFor command (view value) (reply_view r)) }
 {
-    let read = read_document(alloc, &value);
+    let read = read_document_as(alloc, shape_of(command), &value);
     // The value takes as much memory as the document: it is let go of before the reply is made.
     drop(value);
     match read {
@@ -77,8 +79,8 @@ fn reply_to_value(alloc: Global, command: Command, value: Value) -> Result<Reply
     }
 }
 
-// What holds of each document.
-fn is_well_made(document: &Document)
+/// What holds of each document.
+pub(crate) fn is_well_made(document: &Document)
     ensures { IsWellMade document.now }
 {
     is_policy_set(&document.policies);
@@ -98,6 +100,7 @@ fn reply_to(alloc: Global, command: Command, document: &Document) -> Result<Repl
         Command::Slice => cut(alloc, document),
         Command::Decide => decided(alloc, document),
         Command::Sample { seed, size } => sampled(alloc, document, seed, size),
+        Command::Batch => batch(alloc, document),
     }
 }
 
@@ -117,8 +120,8 @@ fn with_levels(alloc: Global, document: &Document, level: u32) -> Result<Reply, 
     told(alloc, &found)
 }
 
-// The findings, with the status that they have.
-fn told(alloc: Global, found: &ValidationResult) -> Result<Reply, AllocError>
+/// The findings, with the status that they have.
+pub(crate) fn told(alloc: Global, found: &ValidationResult) -> Result<Reply, AllocError>
     ensures { IfOk result (λ r. IsRefusedOr (refused_with found.now.errors found.now)
         (λ text. text ≡ findings_text found.now) (reply_view r)) }
 {
@@ -354,7 +357,11 @@ fn broken_with(
     }
 }
 
-fn refused_store(alloc: Global, document: &Document) -> Result<Option<Reply>, AllocError>
+/// What is answered for an entity of the store that breaks a rule, if one does.
+pub(crate) fn refused_store(
+    alloc: Global,
+    document: &Document,
+) -> Result<Option<Reply>, AllocError>
     ensures { IfOk result (λ o. option_map reply_view o ≡ refused_store document.now) }
 {
     match store_fault(document)? {

@@ -1,8 +1,9 @@
 //! The words of a call.
 ghost use Rattle.std.specs.Prelude.{◌≡◌, IfOk, map, option_map, string_bytes};
 ghost use Rattle.policy_ext.specs.NumberReading.{number_of, plain_of};
-ghost use Rattle.policy_gate.specs.Command.{command_of, one_word, own_document, size_of, three_words, two_words};
+ghost use Rattle.policy_gate.specs.Command.{command_of, one_word, own_document, shape_of, size_of, three_words, two_words};
 
+use json_document::Shape;
 use json_samples::sample_document;
 use std::alloc::{AllocError, Global};
 
@@ -34,6 +35,8 @@ pub enum Command {
         /// How many users the document has.
         size: u64,
     },
+    /// Decide on each of the document's requests, over its whole store.
+    Batch,
 }
 
 fn one_word(word: &str) -> Option<Command>
@@ -45,6 +48,7 @@ fn one_word(word: &str) -> Option<Command>
         "manifest" => Some(Command::Manifest),
         "slice" => Some(Command::Slice),
         "decide" => Some(Command::Decide),
+        "batch" => Some(Command::Batch),
         _ => None,
     }
 }
@@ -129,7 +133,18 @@ pub(crate) fn own_document(alloc: Global, command: Command) -> Result<Option<Str
         | Command::Request
         | Command::Manifest
         | Command::Slice
-        | Command::Decide => Ok(None),
+        | Command::Decide
+        | Command::Batch => Ok(None),
+    }
+}
+
+/// What a document for the command asks about.
+pub(crate) fn shape_of(command: Command) -> Shape
+    ensures { result ≡ shape_of command }
+{
+    match command {
+        Command::Batch => Shape::Batch,
+        _ => Shape::Whole,
     }
 }
 

@@ -2,6 +2,7 @@
 #![tactic(auto)]
 
 mod answer;
+mod batch;
 mod command;
 mod laws;
 mod reply;
@@ -14,7 +15,10 @@ pub use byte_streams::{
 };
 pub use command::{Command, command_of};
 pub use conformance::{EntityDoesNotConform, RequestValidationError, conforms, validate_request};
-pub use json_document::{Document, DocumentFault, Place, read_document, read_schema, read_value};
+pub use json_document::{
+    Document, DocumentFault, Place, Requests, Shape, read_document, read_document_as, read_schema,
+    read_value,
+};
 pub use json_expressions::{Bounded, read_expr};
 pub use json_response::write_value;
 pub use json_values::parse_json;

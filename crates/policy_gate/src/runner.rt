@@ -4,9 +4,10 @@ ghost use Rattle.std.specs.Io.KnownBytes.{Appends};
 ghost use Rattle.byte_streams.specs.Document.{TakesFew, WasRead};
 ghost use Rattle.byte_streams.specs.Steps.{IsQuiet};
 ghost use Rattle.policy_gate.specs.Answer.{IsAnswer};
-ghost use Rattle.policy_gate.specs.Command.{command_of, own_document};
+ghost use Rattle.policy_gate.specs.Command.{command_of, own_document, shape_of};
 ghost use Rattle.json_document.specs.declared.document.Document.{Document};
-ghost use Rattle.policy_gate.specs.Headline.{HasPoliciesFor, IsChecked, IsCheckedAt, IsConforming, IsDecided, IsDocumentOf, IsManifested, IsSampled, IsSliced, KeepsRules, KeepsRulesOf};
+ghost use Rattle.json_document.specs.declared.shape.Shape.TheVariants as shape;
+ghost use Rattle.policy_gate.specs.Headline.{HasPoliciesFor, IsBatch, IsChecked, IsCheckedAt, IsConforming, IsDecided, IsDocumentOf, IsManifested, IsSampled, IsSliced, KeepsRules, KeepsRulesOf};
 ghost use Rattle.policy_gate.specs.Reply.{answer, reply_view};
 ghost use Rattle.policy_gate.specs.Run.{Cause, Gives, IsDue, IsDueAfterReading, IsDueFor, IsGiven, IsToWorkOn, Reads, Runs};
 ghost use Rattle.json_samples.specs.Sample.{sample_document};
@@ -21,7 +22,7 @@ use byte_streams::{DOCUMENT_LIMIT, ReadError, Sink, Source, read_document_bytes,
 use std::alloc::{AllocError, Global};
 
 const USAGE: &str =
-    "usage: check | level N | request | manifest | slice | decide | sample SEED SIZE\n";
+    "usage: check | level N | request | manifest | slice | decide | sample SEED SIZE | batch\n";
 
 const READ_FAULT: &str = "read fault\n";
 
@@ -137,14 +138,14 @@ pub fn run<S: Source, K: Sink>(
     ensures headline { command_of (map string_bytes words.now.items) ≡ Some Command.Slice
         → result ≡ Status.Done
         → (bytes : List ℕ) × (text : List ℕ) × WasRead (S.state source.old) (S.state source.new) bytes
-        × ((document : Document) × IsDocumentOf bytes document × KeepsRules document × IsSliced document text)
+        × ((document : Document) × IsDocumentOf shape.Whole bytes document × KeepsRules document × IsSliced document text)
         × Appends (K.state sink.old).holds (K.state sink.new).holds text }
 
     // Where `check` ends with 0 the document's policies are accepted, and the text is what is found of them: warnings alone.
     ensures checked { command_of (map string_bytes words.now.items) ≡ Some Command.Check
         → result ≡ Status.Done
         → (bytes : List ℕ) × (text : List ℕ) × WasRead (S.state source.old) (S.state source.new) bytes
-        × ((document : Document) × IsDocumentOf bytes document × IsChecked document text)
+        × ((document : Document) × IsDocumentOf shape.Whole bytes document × IsChecked document text)
         × Appends (K.state sink.old).holds (K.state sink.new).holds text }
 
     // Where `level` ends with 0 the policies are accepted at the level, and the text is what is found of them: warnings alone. Then on a store cut
@@ -152,14 +153,14 @@ pub fn run<S: Source, K: Sink>(
     ensures levelled { (level : ℕ) → command_of (map string_bytes words.now.items) ≡ Some (Command.Level level)
         → result ≡ Status.Done
         → (bytes : List ℕ) × (text : List ℕ) × WasRead (S.state source.old) (S.state source.new) bytes
-        × ((document : Document) × IsDocumentOf bytes document × IsCheckedAt level document text)
+        × ((document : Document) × IsDocumentOf shape.Whole bytes document × IsCheckedAt level document text)
         × Appends (K.state sink.old).holds (K.state sink.new).holds text }
 
     // Where `request` ends with 0 the document's request breaks no rule, and its store conforms; the text says so.
     ensures conforming { command_of (map string_bytes words.now.items) ≡ Some Command.Request
         → result ≡ Status.Done
         → (bytes : List ℕ) × (text : List ℕ) × WasRead (S.state source.old) (S.state source.new) bytes
-        × ((document : Document) × IsDocumentOf bytes document × IsConforming document text)
+        × ((document : Document) × IsDocumentOf shape.Whole bytes document × IsConforming document text)
         × Appends (K.state sink.old).holds (K.state sink.new).holds text }
 
     // Where `manifest` ends with 0 the document's policies are accepted, and the text is their manifest: for each environment of the schema
@@ -167,7 +168,7 @@ pub fn run<S: Source, K: Sink>(
     ensures manifested { command_of (map string_bytes words.now.items) ≡ Some Command.Manifest
         → result ≡ Status.Done
         → (bytes : List ℕ) × (text : List ℕ) × WasRead (S.state source.old) (S.state source.new) bytes
-        × ((document : Document) × IsDocumentOf bytes document × IsManifested document text)
+        × ((document : Document) × IsDocumentOf shape.Whole bytes document × IsManifested document text)
         × Appends (K.state sink.old).holds (K.state sink.new).holds text }
 
     // Where `decide` ends with 0 the document keeps every rule, and the text is the response on its whole store, on which each policy's
@@ -175,7 +176,7 @@ pub fn run<S: Source, K: Sink>(
     ensures decided { command_of (map string_bytes words.now.items) ≡ Some Command.Decide
         → result ≡ Status.Done
         → (bytes : List ℕ) × (text : List ℕ) × WasRead (S.state source.old) (S.state source.new) bytes
-        × ((document : Document) × IsDocumentOf bytes document × KeepsRules document × IsDecided document text)
+        × ((document : Document) × IsDocumentOf shape.Whole bytes document × KeepsRules document × IsDecided document text)
         × Appends (K.state sink.old).holds (K.state sink.new).holds text }
 
     // Where `sample` ends with 0 the source is left alone, and the document that the seed and the size make keeps every rule; the text is the line
@@ -183,21 +184,29 @@ pub fn run<S: Source, K: Sink>(
     ensures sampled { (seed size : ℕ) → command_of (map string_bytes words.now.items) ≡ Some (Command.Sample seed size)
         → result ≡ Status.Done
         → (text : List ℕ) × (S.state source.new ≡ S.state source.old)
-        × ((document : Document) × IsDocumentOf (sample_document seed size) document × KeepsRules document × IsSampled size document text)
+        × ((document : Document) × IsDocumentOf shape.Whole (sample_document seed size) document × KeepsRules document × IsSampled size document text)
+        × Appends (K.state sink.old).holds (K.state sink.new).holds text }
+
+    // Where `batch` ends with 0 the document's store conforms and its policies are accepted, and the text has a line for each of its requests: for one
+    // that is whole and conforms the response on the whole store, on which each policy's outcome is a truth value, a missing entity or an overflow.
+    ensures batched { command_of (map string_bytes words.now.items) ≡ Some Command.Batch
+        → result ≡ Status.Done
+        → (bytes : List ℕ) × (text : List ℕ) × WasRead (S.state source.old) (S.state source.new) bytes
+        × ((document : Document) × IsDocumentOf shape.Batch bytes document × IsBatch document text)
         × Appends (K.state sink.old).holds (K.state sink.new).holds text }
 
     // A command finds errors in the policies of no other documents than those whose policies are not accepted, for `level` at the level.
     ensures refused { result ≡ Status.Findings
         → (command : Command) × (command_of (map string_bytes words.now.items) ≡ Some command)
         × ((bytes : List ℕ) × IsGiven command (S.state source.old) (S.state source.new) bytes
-        × ((document : Document) × IsDocumentOf bytes document × (¬ HasPoliciesFor command document))) }
+        × ((document : Document) × IsDocumentOf (shape_of command) bytes document × (¬ HasPoliciesFor command document))) }
 
     // And 0 comes wherever every rule of the command holds, unless memory runs out.
     ensures complete { (command : Command) (bytes : List ℕ) (document : Document)
         → command_of (map string_bytes words.now.items) ≡ Some command
         → IsToWorkOn command (S.state source.old) (S.state source.new) bytes
         → IsQuiet (K.state sink.old).faults (K.state sink.new).faults
-        → IsDocumentOf bytes document → KeepsRulesOf command document
+        → IsDocumentOf (shape_of command) bytes document → KeepsRulesOf command document
         → (result ≡ Status.Done) ⊎ (result ≡ Status.OutOfMemory) }
 {
     laws();

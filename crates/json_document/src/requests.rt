@@ -1,0 +1,65 @@
+//! Lists of requests.
+
+ghost use Rattle.std.specs.Prelude.{◌≡◌, []};
+ghost use Rattle.serde_json.specs.View.{items_view};
+ghost use Rattle.json_document.specs.Faults.{ComesTo};
+ghost use Rattle.json_document.specs.Request.{requests_of};
+
+use crate::request::read_given_request;
+use crate::{DocumentFault, Place};
+use entity_store::Request;
+use serde_json::Value;
+use std::alloc::Global;
+use std::marker::Model;
+
+/// Requests, in their order; contracts see them as their list.
+#[derive(Debug, Drop)]
+pub struct Requests {
+    items: Vec<Request>,
+}
+
+impl Model for Requests {
+    ghost use Rattle.std.specs.Prelude.{List};
+    ghost use Rattle.entity_store.specs.declared.request.Request.{Request};
+
+    ghost Value = { List Request };
+
+    ghost view = { λ r. r.items.items };
+}
+
+impl Requests {
+    /// These requests.
+    pub fn new(items: Vec<Request>) -> Requests
+        ensures { result ≡ items.items }
+    {
+        Requests { items }
+    }
+
+    /// The requests, borrowed.
+    pub fn as_vec(&self) -> &Vec<Request>
+        ensures { result.now.items ≡ self.now }
+    {
+        &self.items
+    }
+}
+
+fn read_items(alloc: Global, items: &[Value]) -> Result<Vec<Request>, DocumentFault>
+    ensures { ComesTo (λ v. v.items) result (requests_of [] (items_view items.now)) }
+{
+    let mut requests = Vec::new(alloc);
+    for item in items {
+        let Some(request) = read_given_request(alloc, item)? else {
+            return Err(DocumentFault::Place(Place::RequestAt(requests.len())));
+        };
+        requests.push(request)?;
+    }
+    Ok(requests)
+}
+
+/// The requests of the items; else the place of the first item that is none.
+pub(crate) fn read_requests(alloc: Global, items: &[Value]) -> Result<Requests, DocumentFault>
+    ensures { ComesTo (λ qs. qs) result (requests_of [] (items_view items.now)) }
+{
+    let requests = read_items(alloc, items)?;
+    Ok(Requests::new(requests))
+}

@@ -1,0 +1,10 @@
+//! What a document asks about.
+
+/// What a document asks about, which decides on the members that it may have.
+#[derive(Clone, Copy, Debug, PartialEq, Eq)]
+pub enum Shape {
+    /// One request, `request`.
+    Whole,
+    /// A list of requests, `requests`.
+    Batch,
+}

@@ -1,0 +1,19 @@
+-- What is written of the answers to many requests over one store.
+use Rattle.std.specs.Prelude.{ℕ, List, []}
+use Rattle.conformance_errors.specs.Written.{request_message}
+use Rattle.json_response.specs.SliceJson.{response_text}
+use Rattle.batch_decisions.specs.declared.answer.BatchAnswer.{BatchAnswer}
+use Rattle.batch_decisions.specs.declared.answer.BatchAnswer.TheVariants.{Partial, Refused, Loading, Decided}
+use Rattle.policy_gate.specs.Answer.{partial_message, refused_line}
+
+-- what a request reads was there: the store is in memory
+abbrev pub IsToldOfStore : BatchAnswer → Type 0
+IsToldOfStore (Loading e) = ⊥
+IsToldOfStore a = Unit {0}
+
+-- the line on an answer
+abbrev pub line_on : BatchAnswer → List ℕ
+line_on Partial = refused_line partial_message
+line_on (Refused e) = refused_line (request_message e)
+line_on (Loading e) = []
+line_on (Decided r) = response_text r
