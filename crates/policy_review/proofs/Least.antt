@@ -12,7 +12,7 @@ use Rattle.typing_spec.specs.Typing.{Typing, types}
 use Rattle.link_spec.specs.Linked.{linked_envs}
 use Rattle.level_spec.specs.Levels.{greater, least, least_level, is_below, dereferences, passes}
 use Rattle.level_spec.specs.Policies.{PassesIn, PassesAt}
-use Rattle.policy_review.specs.Levels.{greatest, least_level_in, least_level_of}
+use Rattle.policy_review.specs.Levels.{greatest, least_level_in, least_level_of, HasLeastLevel}
 use Rattle.policy_review.specs.Laws.{LeastLevelsAreLeast}
 use Rattle.plain_lemmas.proofs.Booleans.{and_false, and_parts_of, not_both}
 
@@ -77,3 +77,7 @@ least_least schema t = here (least_level_of schema t) (λ n. passes_all schema (
 
         below : (n : ℕ) → n < m → nat_le m n ≡ false
         below n l = search (arith)
+
+pub each_least : LeastLevelsAreLeast → (schema : SchemaData) (ts : List TemplateData) → AllByRecursion (HasLeastLevel schema) ts
+each_least least schema [] = tt
+each_least least schema (t ∷ ts) = (least schema t, each_least least schema ts)

@@ -3,3 +3,4 @@ pub mod Least
 pub mod Raising
 pub mod Checks
 pub mod Placing
+pub mod Steps

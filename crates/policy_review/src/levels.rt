@@ -88,7 +88,7 @@ fn raised(
         if errors.is_empty() {
             return Ok(Some(level));
         }
-        match needed_by(&errors) {
+        match needed_by(errors) {
             Some(more) => level = more,
             None => return Ok(None),
         }
@@ -96,12 +96,12 @@ fn raised(
 }
 
 // The greatest level that errors on levels need; none, where one tells of what has no level.
-fn needed_by(errors: &Vec<ValidationError>) -> Option<u32>
-    ensures { result ≡ needed_by errors.now.items }
+fn needed_by(errors: Vec<ValidationError>) -> Option<u32>
+    ensures { result ≡ needed_by errors.items }
 {
     let mut level = Some(0);
     for error in errors {
-        level = greater(level, needed_in(error));
+        level = greater(level, needed_in(&error));
     }
     level
 }

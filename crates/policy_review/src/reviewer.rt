@@ -68,8 +68,7 @@ fn levels_are_least(schema: &ValidatorSchema, policies: &PolicySet)
     ensures { LevelsAreLeast schema.now policies.now }
 {
     least_levels_are_least();
-    let _actions = schema.action_ids();
-    is_policy_set(policies);
+    let _read = (schema, policies);
 }
 
 // The review; nothing where the policies are not accepted. The checks that accept them give what it says.

@@ -1,5 +1,5 @@
 pub mod AllChecks
 mod Lists
-mod Once
+mod MetActions
 pub mod Told
 mod Verdicts

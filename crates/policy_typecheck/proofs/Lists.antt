@@ -1,10 +1,11 @@
 -- Lists that grow by what they do not hold.
 use Rattle.std.proofs.Common.{append-nil, append_assoc, ◌≡◌, Bool, true, false, ◌||◌, List, [], ◌∷◌, ◌++◌, map, refl, sym, ap, ◌∙◌, if◌then◌else◌}
 use Rattle.std.specs.List.{list_any, AllByRecursion, IsDistinct}
-use Rattle.std.specs.Cmp.{IsEquivalence}
-use Rattle.policy_typecheck.specs.Added.{added, all_added, holds}
 use Rattle.std.specs.Borrow.{Bor}
+use Rattle.std.specs.Cmp.{IsEquivalence}
 use Rattle.indexmap.specs.IndexSet.{insert_key}
+use Rattle.plain_lemmas.proofs.Booleans.{or_assoc, or_false, or_left_true, or_right_true, or_true}
+use Rattle.policy_typecheck.specs.Added.{added, all_added, holds}
 use Rattle.policy_typecheck.specs.Missing.{lends, unmarked}
 
 module _ {T : Type 0} (eq : T → T → Bool) where
@@ -18,10 +19,6 @@ module _ {T : Type 0} (eq : T → T → Bool) (laws : IsEquivalence eq) where
   pub turned : (xs : List T) (x : T) → list_any (eq x) xs ≡ holds eq xs x
   turned [] x = refl
   turned (y ∷ ys) x = ap (λ b. b || list_any (eq x) ys) (laws.symm x y) ∙ ap (λ b. eq y x || b) (turned ys x)
-
-  or_false : (b : Bool) → (b || false) ≡ b
-  or_false true = refl
-  or_false false = refl
 
   holds_append : (xs zs : List T) (x : T) → holds eq (xs ++ zs) x ≡ (holds eq xs x || holds eq zs x)
   holds_append [] zs x = refl
@@ -73,14 +70,6 @@ module _ {T : Type 0} (eq : T → T → Bool) (laws : IsEquivalence eq) where
       none_of : (ws : List T) → AllByRecursion (λ y. holds eq [] y ≡ false) ws
       none_of [] = tt
       none_of (w ∷ ws) = (refl, none_of ws)
-
-  or_true : (b : Bool) → (b || true) ≡ true
-  or_true true = refl
-  or_true false = refl
-
-  or_assoc : (a b c : Bool) → ((a || b) || c) ≡ (a || (b || c))
-  or_assoc true b c = refl
-  or_assoc false b c = refl
 
   -- what stands for items, each for one
   module _ {R : Type 0} (now : R → T) where
@@ -143,3 +132,18 @@ module _ {T : Type 0} (eq : T → T → Bool) (laws : IsEquivalence eq) where
   -- to add what was kept once is to add all
   pub once_is_enough : (xs ys : List T) → all_added eq xs (all_added eq [] ys) ≡ all_added eq xs ys
   once_is_enough xs ys = added_after xs [] ys
+
+  -- what is held is not added
+  none_added : (xs ys : List T) → AllByRecursion (λ y. holds eq xs y ≡ true) ys → all_added eq xs ys ≡ xs
+  none_added xs [] held = refl
+  none_added xs (y ∷ ys) held = ap (λ b. all_added eq (if b then xs else xs ++ y ∷ []) ys) held.0 ∙ none_added xs ys held.1
+
+  each_held : (xs ys : List T) → ((y : T) → holds eq ys y ≡ true → holds eq xs y ≡ true) → AllByRecursion (λ y. holds eq xs y ≡ true) ys
+  each_held xs [] within = tt
+  each_held xs (y ∷ ys) within =
+      (within y (or_left_true (eq y y) (holds eq ys y) (laws.refl y)), each_held xs ys (λ z held. within z (or_right_true (eq y z) (holds eq ys z) held)))
+
+  -- what is added twice is added once
+  pub once_added : (xs ys : List T) → all_added eq (all_added eq xs ys) ys ≡ all_added eq xs ys
+  once_added xs ys =
+      none_added (all_added eq xs ys) ys (each_held (all_added eq xs ys) ys (λ y held. holds_all xs ys y ∙ or_right_true (holds eq xs y) (holds eq ys y) held))

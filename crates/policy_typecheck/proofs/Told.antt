@@ -22,7 +22,7 @@ use Rattle.policy_typecheck.specs.Added.{added, all_added, same_error}
 use Rattle.typecheck_walk.specs.Answer.{Tells, errors_of, too_deep}
 use Rattle.policy_typecheck.specs.Policies.{passes, is_irrelevant, is_too_deep, checks_of, refusals, is_accepted, is_impossible}
 use Rattle.policy_typecheck.specs.Told.{Told, told_by, told, all_told, condition_check}
-use Rattle.policy_typecheck.proofs.Once.{once_added}
+use Rattle.policy_typecheck.proofs.Lists.{once_added}
 
 -- in code as by the definitions
 pub same_told : (id : List ℕ) (c : Check) (r : PolicyCheck) → Tells id c r → (s : Told) → told_by r s ≡ told id c s
@@ -38,7 +38,7 @@ and_again false b = refl
 
 told_step : (id : List ℕ) → IsStep (told id)
 told_step id = record {
-  once = λ c s. λ j. (record { accepted = and_again (passes c) s.0.accepted j; impossible = and_again (is_irrelevant c) s.0.impossible j }, once_added same_error (λ x. laws-law.refl x) s.1 (errors_of id c) j);
+  once = λ c s. λ j. (record { accepted = and_again (passes c) s.0.accepted j; impossible = and_again (is_irrelevant c) s.0.impossible j }, once_added same_error laws-law s.1 (errors_of id c) j);
   skips = λ x s. refl;
   same = λ p w s. same_asked (λ c. told id c s) ((λ x y. refl), (λ x y. refl)) p w;
 }

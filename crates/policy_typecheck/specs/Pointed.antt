@@ -1,6 +1,6 @@
--- Names that are referred to.
-use Rattle.std.specs.Prelude.{ℕ, List, map}
+-- Values that are referred to.
+use Rattle.std.specs.Prelude.{List, map}
 use denote.Ref.{Bor}
 
-abbrev pub pointed : List (Bor (List ℕ)) → List (List ℕ)
-pointed names = map (λ x. x.now) names
+abbrev pub pointed : {T : Type 0} → List (Bor T) → List T
+pointed rs = map (λ r. r.now) rs

@@ -9,11 +9,12 @@ ghost use Rattle.policy_typecheck.specs.Told.{all_told};
 ghost use Rattle.scope_typing.specs.Met.{body_check, met_at, met_envs, met_with};
 
 use crate::Typechecker;
+use crate::met::met_actions;
 use crate::policies::Summary;
 use findings::ValidationError;
 use indexmap::IndexSet;
 use policy_names::EntityType;
-use policy_scope::{action_meets, type_meets};
+use policy_scope::type_meets;
 use policy_set::Template;
 use schema_core::{RequestEnv, ValidatorActionId};
 use std::alloc::{AllocError, Global};
@@ -29,11 +30,8 @@ pub(crate) fn check_bodies(
     ensures schema { IsSchema checker.now }
     ensures told { OnOk result ((summary.new, found.new.keys) ≡ all_told t.now.id (body_check checker.now t.now) (summary.old, found.old.keys) (met_envs checker.now t.now)) }
 {
-    let schema = checker.schema();
-    for action in schema.action_ids() {
-        if action_meets(schema, t.action_constraint(), action) {
-            check_of_action(checker, alloc, t, action, summary, found)?;
-        }
+    for action in met_actions(alloc, checker.schema(), t.action_constraint())? {
+        check_of_action(checker, alloc, t, action, summary, found)?;
     }
     Ok(())
 }

@@ -4,6 +4,7 @@
 mod added;
 mod bodies;
 mod environments;
+mod met;
 mod policies;
 mod slots;
 mod typechecker;

@@ -17,8 +17,8 @@ use Rattle.typecheck_spec.specs.Check.{Check, Success, Irrelevant, Fail, TooDeep
 use Rattle.typecheck_spec.specs.Walked.{findings_of}
 use Rattle.link_spec.specs.Accepted.{IsTyped}
 use Rattle.policy_typecheck.specs.Answer.{Tells}
-use Rattle.policy_typecheck.specs.declared.policy_check.PolicyCheck.{PolicyCheck}
-use Rattle.policy_typecheck.specs.declared.policy_check.PolicyCheck.TheVariants as told
+use Rattle.typecheck_walk.specs.declared.policy_check.PolicyCheck.{PolicyCheck}
+use Rattle.typecheck_walk.specs.declared.policy_check.PolicyCheck.TheVariants as told
 use Rattle.policy_validate.specs.Typed.{typed_conditions}
 use Rattle.policy_validate.specs.Found.{condition_in, condition_told, found_conditions}
 

@@ -27,8 +27,8 @@ use Rattle.level_spec.specs.Levels.{passes}
 use Rattle.level_spec.specs.Policies as level
 use Rattle.level_spec.specs.Policies.{PassesAt}
 use Rattle.policy_typecheck.specs.Answer.{Tells, TellsIn}
-use Rattle.policy_typecheck.specs.declared.policy_check.PolicyCheck.{PolicyCheck}
-use Rattle.policy_typecheck.specs.declared.policy_check.PolicyCheck.TheVariants.{Success, Irrelevant, Fail}
+use Rattle.typecheck_walk.specs.declared.policy_check.PolicyCheck.{PolicyCheck}
+use Rattle.typecheck_walk.specs.declared.policy_check.PolicyCheck.TheVariants.{Success, Irrelevant, Fail}
 use Rattle.level_validate.specs.Errors.{Condition, PassesIn, LevelErrorsAreExact}
 use Rattle.policy_validate.specs.Accepted.{errors_of_written, errors_of_link}
 use Rattle.policy_validate.specs.Checks.{condition_in}
