@@ -160,14 +160,14 @@ batch_text d = flat_map (request_line d) d.requests
 
 -- what stands for a verdict
 abbrev pub verdict_word : Verdict → List ℕ
-verdict_word Never = codes "never "
-verdict_word May = codes "may "
+verdict_word Never = codes "never"
+verdict_word May = codes "may"
 
 -- the line on whether a policy can be true on requests of a type
 abbrev pub row_line : ReviewRow → List ℕ
 row_line r =
-    verdict_word r.verdict
-    ++ (r.policy_id ++ (codes ": " ++ (r.request_type.principal ++ (codes ", " ++ (id_text r.request_type.action ++ (codes ", " ++ (r.request_type.resource ++ codes "\n")))))))
+    verdict_word r.verdict ++ (codes " " ++ (r.policy_id ++ (codes ": "
+    ++ (r.request_type.principal ++ (codes ", " ++ (id_text r.request_type.action ++ (codes ", " ++ (r.request_type.resource ++ codes "\n"))))))))
 
 -- the least level, or that there is none
 abbrev pub level_word : Option ℕ → List ℕ

@@ -1,5 +1,5 @@
 //! The review of the policies.
-ghost use Rattle.std.specs.Prelude.{◌≡◌, ◌++◌, IfOk, OnOk, string_bytes};
+ghost use Rattle.std.specs.Prelude.{◌≡◌, ◌++◌, IfOk, string_bytes};
 ghost use Rattle.std.specs.List.{flat_map};
 ghost use Rattle.policy_gate.specs.Answer.{IsAnswerTo, level_line, row_line, verdict_word};
 ghost use Rattle.policy_gate.specs.Reply.{reply_view};
@@ -28,23 +28,24 @@ fn written_review(alloc: Global, review: &Review) -> Result<Reply, AllocError>
     ensures { IfOk result (λ r. (r.status ≡ Status.Done)
         × (string_bytes r.text ≡ flat_map row_line review.now.matrix.items ++ flat_map level_line review.now.levels.items)) }
 {
-    let mut text = String::new(alloc);
-    add_rows(alloc, &mut text, &review.matrix)?;
-    add_levels(alloc, &mut text, &review.levels)?;
+    let mut text = row_lines(alloc, &review.matrix)?;
+    let levels = level_lines(alloc, &review.levels)?;
+    text.push_str(levels.as_str())?;
     Ok(Reply {
         status: Status::Done,
         text,
     })
 }
 
-fn add_rows(alloc: Global, text: &mut String, rows: &Vec<ReviewRow>) -> Result<(), AllocError>
-    ensures { OnOk result (string_bytes text.new ≡ string_bytes text.old ++ flat_map row_line rows.now.items) }
+fn row_lines(alloc: Global, rows: &Vec<ReviewRow>) -> Result<String, AllocError>
+    ensures { IfOk result (λ s. string_bytes s ≡ flat_map row_line rows.now.items) }
 {
+    let mut text = String::new(alloc);
     for row in rows {
         let line = row_line(alloc, row)?;
         text.push_str(line.as_str())?;
     }
-    Ok(())
+    Ok(text)
 }
 
 fn row_line(alloc: Global, row: &ReviewRow) -> Result<String, AllocError>
@@ -55,30 +56,27 @@ fn row_line(alloc: Global, row: &ReviewRow) -> Result<String, AllocError>
     let principal = &row.request_type.principal;
     let action = &row.request_type.action;
     let resource = &row.request_type.resource;
-    format!(in alloc; "{verdict}{id}: {principal}, {action}, {resource}\n")
+    format!(in alloc; "{verdict} {id}: {principal}, {action}, {resource}\n")
 }
 
 fn verdict_word(verdict: Verdict) -> &'static str
     ensures { result.now ≡ verdict_word verdict }
 {
     match verdict {
-        Verdict::Never => "never ",
-        Verdict::May => "may ",
+        Verdict::Never => "never",
+        Verdict::May => "may",
     }
 }
 
-fn add_levels(
-    alloc: Global,
-    text: &mut String,
-    levels: &Vec<PolicyLevel>,
-) -> Result<(), AllocError>
-    ensures { OnOk result (string_bytes text.new ≡ string_bytes text.old ++ flat_map level_line levels.now.items) }
+fn level_lines(alloc: Global, levels: &Vec<PolicyLevel>) -> Result<String, AllocError>
+    ensures { IfOk result (λ s. string_bytes s ≡ flat_map level_line levels.now.items) }
 {
+    let mut text = String::new(alloc);
     for level in levels {
         let line = level_line(alloc, level)?;
         text.push_str(line.as_str())?;
     }
-    Ok(())
+    Ok(text)
 }
 
 fn level_line(alloc: Global, level: &PolicyLevel) -> Result<String, AllocError>
