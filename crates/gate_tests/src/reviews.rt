@@ -26,8 +26,8 @@ const REVIEWS: &str = r#"# a principal that is in nothing: false on each request
 {"schema":$photos,"policies":[{"id":"t","effect":"permit","principal":{"in":"?"}},{"id":"l","link":"t","principal":["Group","g"]},{"id":"s","effect":"permit"}]} => Done may l: User, Action::"view", Photo|may s: User, Action::"view", Photo|level s: 0|level t: 1|
 # a template that is not linked
 {"schema":$photos,"policies":[{"id":"t","effect":"permit","principal":{"==":"?"}}]} => Done level t: 0|
-# a link that can't be true where its template may be
-{"schema":$enums,"policies":[{"id":"t","effect":"permit","principal":{"in":"?"}},{"id":"l","link":"t","principal":["Bar","bar"]}]} => Done never l: Foo, Action::"a", Bar|level t: 1|
+# a link is false where the scope is not met
+{"schema":$two,"policies":[{"id":"t","effect":"permit","principal":{"in":"?"},"action":{"==":["Action","view"]}},{"id":"l","link":"t","principal":["Group","g"]}]} => Done never l: User, Action::"edit", Photo|may l: User, Action::"view", Photo|level t: 1|
 # neither the request nor the store matters
 {"schema":$photos,"policies":[{"id":"p0","effect":"permit"}],"entities":[{"id":["Nope","x"]}],"request":{"principal":["Nope","x"]}} => Done may p0: User, Action::"view", Photo|level p0: 0|
 # errors in the policies
