@@ -5,6 +5,7 @@ import pathlib
 import signal
 import subprocess
 import sys
+import tempfile
 
 from script import TOP
 
@@ -59,17 +60,21 @@ def program_of(words):
     return str(pathlib.Path(words[0]).resolve()) if words else str(TOP / "release/palvumiose-x86_64-linux")
 
 
-def hard_document(types):
-    """A short document that takes long: an action on many types, and a policy with many undeclared attributes."""
-    names = [f"T{i}" for i in range(types)]
-    reads = [{"get": [{"var": "principal"}, f"a{i}"]} for i in range(100)]
-    action = {"id": ["Action", "view"], "principals": names, "resources": names}
-    return json.dumps(
-        {
-            "schema": {"entityTypes": {name: {} for name in names}, "actions": [action]},
-            "policies": [{"id": "p", "effect": "permit", "body": [{"when": {"all": reads}}]}],
-        }
-    )
+class Endless:
+    """A program that is taken for the real one, and never answers. Used by `with`: its path."""
+
+    def __init__(self, program):
+        self.program = program
+
+    def __enter__(self):
+        self.folder = tempfile.TemporaryDirectory()
+        path = pathlib.Path(self.folder.name) / "endless"
+        path.write_text(f'#!/bin/sh\n[ $# -eq 0 ] && exec "{self.program}"\nexec sleep 600\n', encoding="utf-8")
+        path.chmod(0o755)
+        return str(path)
+
+    def __exit__(self, *_):
+        self.folder.cleanup()
 
 
 def chain_document(length):

@@ -44,7 +44,7 @@ module _ (schema : SchemaData) (ps : List PolicyData) where
 
   -- the answers to requests, one after another
   abbrev pub AreAnswers : LoaderState → List Request → List BatchAnswer → LoaderState → Type 0
-  AreAnswers old [] [] new = Continues old new
+  AreAnswers old [] [] new = old ≡ new
   AreAnswers old (q ∷ qs) (a ∷ answers) new =
       (mid : LoaderState) × Continues old mid × IsAnswerTo old mid q a × AreAnswers mid qs answers new
   AreAnswers old qs answers new = ⊥

@@ -1,18 +1,20 @@
 //! Decisions on many requests, over any loader.
 
-ghost use Rattle.std.specs.Prelude.{◌≡◌, IfOk, IfErr};
+ghost use Rattle.std.specs.Prelude.{◌≡◌, ◌≢◌, Err, IfOk, IfErr};
 ghost use Rattle.entity_loader.specs.State.{Continues};
 ghost use Rattle.entity_store.specs.Request.{IsWhole};
 ghost use Rattle.typing_spec.specs.Conforms.{RequestConforms};
 ghost use Rattle.policy_set.specs.PolicySet.{AreKeyedOnce};
 ghost use Rattle.policy_validate.specs.Accepted.{IsAccepted};
 ghost use Rattle.manifest_computation.specs.Computed.{IsManifestOf, WhyNone};
+ghost use Rattle.manifest_loading.specs.declared.error.EntitySliceError.TheVariants.{OutOfMemory};
 ghost use Rattle.batch_decisions.specs.Answers.{IsAnswerTo, AreAnswers};
+ghost use Rattle.batch_decisions.specs.Loaded.{answer_of};
 
 use crate::BatchAnswer;
 use conformance::laws::request_rules_are_exact;
 use entity_loader::EntityLoader;
-use entity_store::Request;
+use entity_store::{Entities, Request};
 use loaded_responses::laws::{loaded_is_enough, refusals_are_faults};
 use manifest_computation::{EntityManifestError, compute_entity_manifest};
 use manifest_core::EntityManifest;
@@ -39,15 +41,22 @@ pub fn decide_batch<D: EntityLoader>(
     requests: &Vec<Request>,
     loader: &mut D,
 ) -> Result<Vec<BatchAnswer>, EntityManifestError>
-    ensures answers { IfOk result (λ as. AreAnswers schema.now policies.now.policies
-        (D.state loader.old) requests.now.items as.items (D.state loader.new)) }
+    ensures answers { IfOk result (λ answers. AreAnswers schema.now policies.now.policies
+        (D.state loader.old) requests.now.items answers.items (D.state loader.new)) }
     ensures accepted { IfOk result (λ _. IsAccepted schema.now policies.now) }
     ensures refused { IfErr result (WhyNone schema.now policies.now) }
     ensures goes_on { Continues (D.state loader.old) (D.state loader.new) }
 {
     let manifest = compute_entity_manifest(alloc, schema, policies)?;
-    let answers =
-        answers_by::<D, Brand>(alloc, schema, policies, &manifest, requests, loader, Blank::new(1))?;
+    let answers = answers_by::<D, Brand>(
+        alloc,
+        schema,
+        policies,
+        &manifest,
+        requests,
+        loader,
+        Blank::new(1),
+    )?;
     Ok(answers)
 }
 
@@ -66,15 +75,17 @@ fn answers_by<D: EntityLoader, L: Ledger>(
     requires one { blank.parts ≡ 1 }
     requires accepted { IsAccepted schema.now policies.now }
     requires manifest { IsManifestOf schema.now policies.now.policies manifest.now }
-    ensures answers { IfOk result (λ as. AreAnswers schema.now policies.now.policies
-        (D.state loader.old) requests.now.items as.items (D.state loader.new)) }
+    ensures answers { IfOk result (λ answers. AreAnswers schema.now policies.now.policies
+        (D.state loader.old) requests.now.items answers.items (D.state loader.new)) }
     ensures goes_on { Continues (D.state loader.old) (D.state loader.new) }
 {
     have_keys_once(policies);
     let mut steps = Steps::<L>::new(blank);
     let mut answers = Vec::new(alloc);
     for request in requests {
-        let answer = answer_to(alloc, schema, policies, manifest, request, loader, &mut steps)?;
+        let answer = answer_to(
+            alloc, schema, policies, manifest, request, loader, &mut steps,
+        )?;
         answers.push(answer)?;
     }
     Ok(answers)
@@ -98,6 +109,8 @@ fn answer_to<D: EntityLoader, L: Ledger>(
     ensures goes_on { Continues (D.state loader.old) (D.state loader.new) }
 {
     request_rules_are_exact();
+    // for the proof: the names of a schema's actions ascend
+    let _actions = schema.action_ids();
     if !request.is_whole() {
         return Ok(BatchAnswer::Partial);
     }
@@ -133,7 +146,22 @@ fn loaded_answer<D: EntityLoader, L: Ledger>(
     let _actions = schema.action_ids();
     is_policy_set(policies);
     request_is_ordered(request);
-    match load_entities(alloc, manifest, request, loader, steps) {
+    let loaded = load_entities(alloc, manifest, request, loader, steps);
+    answer_of(alloc, policies, request, loaded)
+}
+
+// The decision on what is loaded, or why it is not; for want of memory there is no answer.
+fn answer_of(
+    alloc: Global,
+    policies: &PolicySet,
+    request: &Request,
+    loaded: Result<Entities, EntitySliceError>,
+) -> Result<BatchAnswer, AllocError>
+    requires { IsWhole request.now }
+    ensures answer { IfOk result (λ a. a ≡ answer_of policies.now.policies request.now loaded) }
+    ensures memory { IfOk result (λ _. loaded ≢ Err OutOfMemory) }
+{
+    match loaded {
         Ok(entities) => Ok(BatchAnswer::Decided(decide(alloc, policies, request, &entities)?)),
         Err(EntitySliceError::OutOfMemory) => Err(AllocError),
         Err(error) => Ok(BatchAnswer::Loading(error)),

@@ -27,10 +27,10 @@ pub fn decide_batch_on_rows<R: Rows>(
     requests: &Vec<Request>,
     loader: &mut RowLoader<R>,
 ) -> Result<Vec<BatchAnswer>, EntityManifestError>
-    ensures answers { IfOk result (λ as. AllZip
+    ensures answers { IfOk result (λ answers. AllZip
         (IsRowAnswer schema.now policies.now.policies (store_told (R.state loader.old.rows)))
-        requests.now.items as.items) }
-    ensures faults { IfOk result (λ as. AreCounted as.items
+        requests.now.items answers.items) }
+    ensures faults { IfOk result (λ answers. AreCounted answers.items
         (R.state loader.old.rows).faults (R.state loader.new.rows).faults) }
     ensures accepted { IfOk result (λ _. IsAccepted schema.now policies.now) }
     ensures refused { IfErr result (WhyNone schema.now policies.now) }
@@ -47,8 +47,8 @@ pub fn decide_batch_on_store(
     requests: &Vec<Request>,
     entities: &Entities,
 ) -> Result<Vec<BatchAnswer>, EntityManifestError>
-    ensures answers { IfOk result (λ as. StoreConforms schema.now entities.now →
-        AllZip (IsStoreAnswer schema.now policies.now.policies entities.now) requests.now.items as.items) }
+    ensures answers { IfOk result (λ answers. StoreConforms schema.now entities.now →
+        AllZip (IsStoreAnswer schema.now policies.now.policies entities.now) requests.now.items answers.items) }
     ensures accepted { IfOk result (λ _. IsAccepted schema.now policies.now) }
     ensures refused { IfErr result (WhyNone schema.now policies.now) }
 {

@@ -4,5 +4,5 @@ mod Conditions
 mod Having
 mod Sticking
 mod Conforming
-mod Manifests
+pub mod Manifests
 mod Loading

@@ -10,6 +10,7 @@ use Rattle.std.specs.Cmp.{tied_itself}
 use Rattle.std.specs.declared.cmp.Ordering.TheVariants.{Less}
 use Rattle.std.proofs.lemmas.Cmp.{eq_by_cmp_equiv}
 use Rattle.std.proofs.lemmas.Map.Keys.{sorted_head, sorted_tail}
+use Rattle.plain_lemmas.proofs.Options.{some_injective}
 use Rattle.policy_names.proofs.Ties.{equal_of}
 use Rattle.policy_names.specs.declared.entity_uid.EntityUID.{EntityUID}
 use Rattle.policy_names.specs.Uid.{uid_cmp, uid_cmp_total}
@@ -32,6 +33,7 @@ use Rattle.policy_validate.specs.Typed.{typed_conditions}
 use Rattle.store_slices.proofs.LeastSteps.{declared_trie}
 use Rattle.manifest_core.specs.Manifest.{Manifest, trie_for}
 use Rattle.manifest_computation.specs.Computed.{IsEntryOf, IsManifestOf}
+use Rattle.request_environments.proofs.Environments.{env_action, member_found, types_known}
 use Rattle.entity_manifest.specs.DeclaredPaths.{IsDeclaredTrie}
 use Rattle.entity_manifest.specs.Computed.{ComputedTriesAreDeclared}
 use Rattle.entity_manifest.proofs.Conditions.{Asks, AsksIds, asks_both, none_asked, types_fine}
@@ -68,16 +70,16 @@ tries_declared d g ps t l =
 -- ---- entries
 
 -- an environment that the entry is of
-record IsOfEntry (d : SchemaData) (ps : List PolicyData) (envs : List EnvData) (rt : RequestType) (t : Table) : Type 0 where
-  env : EnvData
-  among : IsIn env envs
-  request_type : request_type_in env ≡ Some rt
-  trie : IsLeast (declared_reads d env (typed_conditions d env ps)) (declared_demands d env (typed_conditions d env ps)) t
+pub record IsOfEntry (d : SchemaData) (ps : List PolicyData) (envs : List EnvData) (rt : RequestType) (t : Table) : Type 0 where
+  pub env : EnvData
+  pub among : IsIn env envs
+  pub request_type : request_type_in env ≡ Some rt
+  pub trie : IsLeast (declared_reads d env (typed_conditions d env ps)) (declared_demands d env (typed_conditions d env ps)) t
 
-same_type : (rt k : RequestType) → is_at (request_type_cmp rt) k ≡ true → rt ≡ k
+pub same_type : (rt k : RequestType) → is_at (request_type_cmp rt) k ≡ true → rt ≡ k
 same_type rt k h = exact_request_type rt k (equal_of (request_type_cmp rt k) h)
 
-entry_found : (d : SchemaData) (ps : List PolicyData) (envs : List EnvData) (m : Manifest) (rt : RequestType) (t : Table) →
+pub entry_found : (d : SchemaData) (ps : List PolicyData) (envs : List EnvData) (m : Manifest) (rt : RequestType) (t : Table) →
     AllZip (λ env e. IsEntryOf d env (typed_conditions d env ps) e) envs m → lookup (is_at (request_type_cmp rt)) m ≡ Some t → IsOfEntry d ps envs rt t
 entry_found d ps [] [] rt t z h = absurd (cc)
 entry_found d ps [] (e ∷ m) rt t z h = absurd z
@@ -97,38 +99,6 @@ entry_found d ps (env ∷ envs) (e ∷ m) rt t z h = by (is_at (request_type_cmp
 
 -- ---- environments of a schema
 
--- environments of an action have it
-env_action : (a : ActionData) (e : Environment) → IsIn e (environments_of a) → a.name ≡ e.action
-env_action a e i =
-    let p = flat_map_out (environments_at a) e a.principals i in
-    let r = in_map_out (environment p.from a.name) e a.resources p.gives in
-    ap (λ z. z.action) r.2
-
-all_later : (k : EntityUID) (a : ActionData) (xs : List ActionData) → AllByRecursion (λ y. uid_cmp k y ≡ Less) (map (λ z. z.name) xs) → IsIn a xs → uid_cmp k a.name ≡ Less
-all_later k a [] h i = absurd i
-all_later k a (x ∷ xs) h (inl e) = subst (λ z. uid_cmp k z.name ≡ Less) e h.0
-all_later k a (x ∷ xs) h (inr i) = all_later k a xs h.1 i
-
--- an action of the schema is found by its name
-member_found : (a : ActionData) (xs : List ActionData) → IsStrictlySortedBy uid_cmp (map (λ z. z.name) xs) → IsIn a xs → find (is_action_named a.name) xs ≡ Some a
-member_found a [] h i = absurd i
-member_found a (x ∷ xs) h (inl e) = rw (e, tied_itself uid_cmp_total a.name) refl
-member_found a (x ∷ xs) h (inr i) =
-    let later = all_later x.name a xs (sorted_head uid_cmp x.name (map (λ z. z.name) xs) h) i in
-    rw ((eq_by_cmp_equiv uid_cmp_total).symm a.name x.name, later) (member_found a xs (sorted_tail uid_cmp x.name (map (λ z. z.name) xs) h) i)
-
--- what a request type says of the ids of a request
-types_known : (p a r : Option EntityUID) (rt : RequestType) → type_of_ids p a r ≡ Some rt → ((known p).entity_type ≡ rt.principal) × (known a ≡ rt.action) × ((known r).entity_type ≡ rt.resource)
-types_known (Some p) (Some a) (Some r) rt h =
-    let same : record { principal = p.entity_type; action = a; resource = r.entity_type } ≡ rt = some_same h in
-    (ap (λ z. z.principal) same, ap (λ z. z.action) same, ap (λ z. z.resource) same)
-  where
-    some_same : {X : Type 0} {x y : X} → Some x ≡ Some y → x ≡ y
-    some_same k = cc
-types_known None a r rt h = absurd (cc)
-types_known (Some p) None r rt h = absurd (cc)
-types_known (Some p) (Some a) None rt h = absurd (cc)
-
 -- the request is of an environment of the schema that has its type
 pub record HasEnvironment (d : SchemaData) (q : Request) (env : EnvData) : Type 0 where
   pub linked : LinkedEnvironment
@@ -141,7 +111,7 @@ env_of_type d valid q rt has env among typed =
     let e = in_map_out (unlinked a.from) env (environments_of a.from) a.gives in
     let named = env_action a.from e.0 e.1 in
     let ids = types_known q.principal q.action q.resource rt has in
-    let same : record { principal = e.0.principal; action = e.0.action; resource = e.0.resource } ≡ rt = some_same (ap request_type_in e.2 ∙ typed) in
+    let same : record { principal = e.0.principal; action = e.0.action; resource = e.0.resource } ≡ rt = some_injective (ap request_type_in e.2 ∙ typed) in
     record {
       linked = record { environment = e.0; context = a.from.context; principal_slot = None; resource_slot = None };
       is = e.2;
@@ -152,9 +122,6 @@ env_of_type d valid q rt has env among typed =
         context = subst (λ u. IsSomeAnd (action_at d u) (λ b. a.from.context ≡ b.context)) named (subst (λ o. IsSomeAnd o (λ b. a.from.context ≡ b.context)) (sym (member_found a.from d.action_ids valid.actions_ascend a.among)) refl);
       };
     }
-  where
-    some_same : {X : Type 0} {x y : X} → Some x ≡ Some y → x ≡ y
-    some_same k = cc
 
 -- ---- the trie of a request
 

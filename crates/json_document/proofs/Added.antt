@@ -1,13 +1,11 @@
 -- What is added to a set at an index, and for what fault it is not.
-use Rattle.std.proofs.Common.{◌≡◌, ◌∙◌, ℕ, Option, Some, None, Result, Ok, Err, ap, refl, sym, if◌then◌else◌}
+use Rattle.std.proofs.Common.{◌≡◌, ◌∙◌, ℕ, Option, Some, None, Ok, ap, refl, sym}
 use Rattle.std.specs.Prelude.{IsSomeAnd}
 use Rattle.policy_names.specs.declared.entity_uid.EntityUID.{EntityUID}
-use Rattle.policy_expressions.specs.declared.kinds.SlotValues.{SlotValues}
 use Rattle.policy_set.specs.Data.{TemplateData}
 use Rattle.policy_set.specs.Links.{linked_policy}
 use Rattle.policy_set.specs.PolicySet.{PolicySetData, slot_values, with_policy}
 use Rattle.policy_set.specs.declared.policy_set.PolicySetError.{PolicySetError}
-use Rattle.json_document.specs.declared.place.Place.{Place}
 use Rattle.json_policies.specs.declared.link.TemplateLink.{TemplateLink}
 use Rattle.json_document.specs.Policies.{slot_pairs, unless_fault, with_link}
 

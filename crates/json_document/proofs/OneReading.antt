@@ -1,11 +1,8 @@
 -- A JSON value that is a document is no other document, and has no fault.
-use Rattle.std.proofs.Common.{◌≡◌, ℕ, List, [], ◌∷◌, inl, inr, Option, Some, None, Result, Ok, Err, Contains, sym, ◌∙◌, ap, refl, subst}
+use Rattle.std.proofs.Common.{◌≡◌, List, [], inl, inr, Option, Some, None, Result, Ok, Err, sym, ◌∙◌, ap, subst}
 use Rattle.std.specs.Prelude.{IfSome, IsSomeAnd}
-use Rattle.serde_json.specs.Data.{Data, Items}
-use Rattle.hierarchy.specs.Least.{IsLeast}
-use Rattle.hierarchy.specs.Repeated.{IsRepeated, StandsEarlier}
+use Rattle.serde_json.specs.Data.{Data}
 use Rattle.hierarchy.proofs.Repeated.{earlier_at}
-use Rattle.policy_names.specs.declared.entity_uid.EntityUID.{EntityUID}
 use Rattle.entity_store.specs.Store.{StoredEntity, Store}
 use Rattle.entity_store.specs.FromParents.{IsFromParents, ids_of}
 use Rattle.entity_store.proofs.OneStore.{one_store}
@@ -14,7 +11,7 @@ use Rattle.entity_store.specs.declared.request.Request.{Request}
 use Rattle.schema_core.specs.Schema.{SchemaData}
 use Rattle.json_schema.specs.Schema.{schema_of}
 use Rattle.schema_core.specs.Entries.{Declarations}
-use Rattle.schema_core.specs.Declarations.{IsSchemaOf, IsRefused, declared_outline}
+use Rattle.schema_core.specs.Declarations.{IsSchemaOf, declared_outline}
 use Rattle.schema_core.proofs.OneSchema.{one_schema}
 use Rattle.schema_declarations.specs.declared.fault.SchemaFault.{SchemaFault}
 use Rattle.schema_declarations.specs.declared.fault.SchemaFault.TheVariants as refused
@@ -23,7 +20,7 @@ use Rattle.json_document.specs.Parts.{DocumentParts, parts_of}
 use Rattle.json_document.specs.Policies.{no_policies, policies_of}
 use Rattle.json_document.specs.Request.{request_of, requests_of}
 use Rattle.json_document.specs.Entities.{entities_of}
-use Rattle.json_document.specs.Store.{IsStoreOf, IsStoreFrom, IsStoreFault}
+use Rattle.json_document.specs.Store.{IsStoreFrom, IsStoreFault}
 use Rattle.json_document.specs.Reading.{IsRead, IsReadFrom, IsReadBehindSchema, IsReadBehindPolicies, IsReadBehindStore, IsReadBehindRequest, IsSchemaFrom, IsSchemaFault, document, or_place}
 use Rattle.json_document.specs.declared.document.Document.{Document}
 use Rattle.json_document.specs.declared.place.Place.{Place}

@@ -20,9 +20,13 @@ pub struct Requests {
 
 impl Model for Requests {
     ghost use Rattle.std.specs.Prelude.{List};
+    ghost use Rattle.std.specs.Coded.{coded_list};
     ghost use Rattle.entity_store.specs.declared.request.Request.{Request};
+    ghost use Rattle.entity_store.specs.contracts.request.Request.{the_row as request_row};
 
     ghost Value = { List Request };
+
+    ghost coded = { coded_list request_row.coded };
 
     ghost view = { λ r. r.items.items };
 }

@@ -7,6 +7,7 @@ use Rattle.std.specs.Cmp.{tied_itself}
 use Rattle.std.specs.Option.{option_and_then}
 use Rattle.byte_streams.specs.Steps.{Rose}
 use Rattle.std.proofs.lemmas.Cmp.{nat_list_cmp_total}
+use Rattle.plain_lemmas.proofs.Options.{some_injective}
 use Rattle.policy_names.proofs.Ties.{equal_of}
 use Rattle.policy_names.specs.Uid.{uid_cmp_total}
 use Rattle.policy_values.specs.Value.{Val}
@@ -41,40 +42,14 @@ use Rattle.request_slices.specs.Rules.{KeepRules}
 use Rattle.request_slices.specs.Slice.{env_of, slice, slice_in}
 use Rattle.request_slices.proofs.Same.{response_same}
 use Rattle.request_environments.proofs.Environments.{of_types, are_there}
+use Rattle.entity_manifest.proofs.Manifests.{entry_found, same_type}
 use Rattle.loaded_responses.specs.Loaded.{TriesAreThere, LoadedIsEnough, IsLoadedBy, AreDecidedAlike, RefusalsAreFaults}
 
 -- ---- entries of a manifest
 
 module _ (d : SchemaData) (ps : List PolicyData) where
-  -- an environment that the entry is of
-  record IsOfEntry (envs : List EnvData) (rt : RequestType) (t : Table) : Type 0 where
-    env : EnvData
-    among : IsIn env envs
-    request_type : request_type_in env ≡ Some rt
-    trie : IsLeast (declared_reads d env (typed_conditions d env ps)) (declared_demands d env (typed_conditions d env ps)) t
-
   abbrev Entries : List EnvData → Manifest → Type 0
   Entries envs m = AllZip (λ env e. IsEntryOf d env (typed_conditions d env ps) e) envs m
-
-  same_type : (rt k : RequestType) → is_at (request_type_cmp rt) k ≡ true → rt ≡ k
-  same_type rt k h = exact_request_type rt k (equal_of (request_type_cmp rt k) h)
-
-  entry_found : (envs : List EnvData) (m : Manifest) (rt : RequestType) (t : Table) → Entries envs m → lookup (is_at (request_type_cmp rt)) m ≡ Some t → IsOfEntry envs rt t
-  entry_found [] [] rt t z h = absurd (cc)
-  entry_found [] (e ∷ m) rt t z h = absurd z
-  entry_found (env ∷ envs) [] rt t z h = absurd z
-  entry_found (env ∷ envs) (e ∷ m) rt t z h = by (is_at (request_type_cmp rt) e.0) refl h (entry_found envs m rt t z.1)
-    where
-      by : (b : Bool) → is_at (request_type_cmp rt) e.0 ≡ b → cond b (Some e.1) (lookup (is_at (request_type_cmp rt)) m) ≡ Some t → (lookup (is_at (request_type_cmp rt)) m ≡ Some t → IsOfEntry envs rt t) → IsOfEntry (env ∷ envs) rt t
-      by true f k rest =
-          let same : e.1 ≡ t = cc in
-          record {
-            env = env;
-            among = inl refl;
-            request_type = z.0.request_type ∙ ap Some (sym (same_type rt e.0 f));
-            trie = subst (IsLeast (declared_reads d env (typed_conditions d env ps)) (declared_demands d env (typed_conditions d env ps))) same z.0.trie;
-          }
-      by false f k rest = let r = rest k in record { env = r.env; among = inr r.among; request_type = r.request_type; trie = r.trie }
 
   -- an environment has an entry
   entry_there : (envs : List EnvData) (m : Manifest) → Entries envs m → (env : EnvData) → IsIn env envs → (rt : RequestType) → request_type_in env ≡ Some rt → lookup (is_at (request_type_cmp rt)) m ≡ None → ⊥
@@ -88,12 +63,9 @@ module _ (d : SchemaData) (ps : List PolicyData) where
       by : (b : Bool) → is_at (request_type_cmp rt) e.0 ≡ b → cond b (Some e.1) (lookup (is_at (request_type_cmp rt)) m) ≡ None → (IsIn env envs → (rt : RequestType) → request_type_in env ≡ Some rt → lookup (is_at (request_type_cmp rt)) m ≡ None → ⊥) → (f ≡ env) ⊎ IsIn env envs → ⊥
       by true at k rest j = absurd (cc)
       by false at k rest (inl same) =
-          let is : e.0 ≡ rt = some_same (sym z.0.request_type ∙ ap request_type_in same ∙ typed) in
+          let is : e.0 ≡ rt = some_injective (sym z.0.request_type ∙ ap request_type_in same ∙ typed) in
           no_both (subst (λ x. is_at (request_type_cmp rt) x ≡ true) (sym is) itself) at
         where
-          some_same : {X : Type 0} {x y : X} → Some x ≡ Some y → x ≡ y
-          some_same k = cc
-
           no_both : {b : Bool} → b ≡ true → b ≡ false → ⊥
           no_both k l = absurd (cc (k, l))
       by false at k rest (inr j) = rest j rt typed k

@@ -16,7 +16,8 @@ use table_loader::MemoryRows;
 const GROUP: &str =
     r#"{"schema":{"entityTypes":{"Group":{},"Photo":{},"User":{"memberOf":["Group"]}},"actions":[{"id":["Action","view"],"principals":["User"],"resources":["Photo"]}]},"policies":[{"id":"p0","effect":"permit","principal":{"in":["Group","g"]}}],"entities":[{"id":["User","alice"],"parents":[["Group","g"],["Group","h"]]}]}"#;
 
-// Of alice and of bob, whom the store does not have: whether there is alice, whether she is in g, whether there is bob.
+// Of alice and of bob, whom the store does not have. Of each the rows are asked whether there is such a user, and whether
+// it is in g.
 const BOTH: &str =
     r#"[{"principal":["User","alice"],"action":["Action","view"],"resource":["Photo","x"],"context":{}},{"principal":["User","bob"],"action":["Action","view"],"resource":["Photo","x"],"context":{}}]"#;
 
@@ -80,17 +81,22 @@ fn on_rows(
     let calls = vec![in alloc; failing]?;
     let rows = MemoryRows::from_entities(alloc, &document.entities, &calls)?;
     let mut loader = RowLoader::new(rows);
-    let Document { schema, policies, .. } = document;
+    let Document {
+        schema,
+        policies,
+        ..
+    } = document;
     let answers = decide_batch_on_rows(alloc, schema, policies, requests, &mut loader)?;
     told_all(alloc, &answers)
 }
 
-fn on_store(
-    alloc: Global,
-    document: &Document,
-    requests: &Vec<Request>,
-) -> Result<String, Fail> {
-    let Document { schema, policies, entities, .. } = document;
+fn on_store(alloc: Global, document: &Document, requests: &Vec<Request>) -> Result<String, Fail> {
+    let Document {
+        schema,
+        policies,
+        entities,
+        ..
+    } = document;
     let answers = decide_batch_on_store(alloc, schema, policies, requests, entities)?;
     told_all(alloc, &answers)
 }
@@ -116,7 +122,8 @@ fn requests_are_answered(rt: HostRuntime) -> Result<(), Fail> {
         (BOTH, Some(0), "fault deny "),
         (BOTH, Some(1), "fault deny "),
         (BOTH, Some(2), "allow fault "),
-        (BOTH, Some(3), "allow deny "),
+        (BOTH, Some(3), "allow fault "),
+        (BOTH, Some(4), "allow deny "),
         (MIXED, None, "allow partial refused deny "),
         (MIXED, Some(2), "allow partial refused fault "),
         ("[]", None, ""),

@@ -1,6 +1,8 @@
 -- A level is raised by what errors need, up to the least level.
-use Rattle.std.proofs.Common.{◌≡◌, ◌<◌, ◌≤◌, ℕ, ◌+◌, ◌-◌, max, nat_lt, nat_le, Bool, true, false, ◌&&◌, List, [], ◌∷◌, ◌++◌, map, Option, Some, None, refl, sym, ap, ◌∙◌, subst, inl, inr, arith}
+use Rattle.std.proofs.Common.{◌≡◌, ◌<◌, ◌≤◌, ℕ, ◌+◌, ◌-◌, max, nat_lt, nat_le, Bool, true, false, ◌&&◌, List, [], ◌∷◌, ◌++◌, length, map, Option, Some, None, refl, sym, ap, ◌∙◌, subst, inl, inr, arith}
+use Rattle.std.specs.Prelude.{◌==◌}
 use Rattle.std.specs.List.{list_all, AllByRecursion, flat_map}
+use Rattle.std.proofs.lemmas.Map.Views.{exact_unsigned_eq}
 use Rattle.std.proofs.lemmas.List.Folds.{list_all-append}
 use Rattle.findings.specs.declared.error.ValidationError.{ValidationError}
 use Rattle.findings.specs.declared.error.ValidationError.TheVariants.{EntityDerefLevelViolation}
@@ -12,6 +14,7 @@ use Rattle.level_validate.specs.Errors.{Condition, dereferences_in, PassesIn, Is
 use Rattle.policy_review.specs.Levels.{greatest}
 use Rattle.policy_review.specs.Found.{needed_of, needed_in, needed_by}
 use Rattle.policy_review.proofs.Least.{at_most, all_at_most}
+use Rattle.plain_lemmas.proofs.Lists.{empty_of_length}
 
 pub greater_zero : (o : Option ℕ) → greater o (Some 0) ≡ o
 greater_zero None = refl
@@ -42,12 +45,12 @@ some_within (o ∷ os) k (inl e) m h = by (least os) (ap (λ p. greater (one_mor
     by : (l : Option ℕ) → greater (Some (k + 1)) l ≡ Some m → k + 1 ≤ m
     by None g = absurd (cc)
     by (Some l) g = let same : max (k + 1) l ≡ m = cc in search (arith)
-some_within (o ∷ os) k (inr i) m h = by (one_more o) (least os) refl h
+some_within (o ∷ os) k (inr i) m h = by (one_more o) (least os) (some_within os k i) h
   where
-    by : (p l : Option ℕ) → least os ≡ l → greater p l ≡ Some m → k + 1 ≤ m
-    by None l e g = absurd (cc)
-    by (Some a) None e g = absurd (cc)
-    by (Some a) (Some l) e g = let below = some_within os k i l e in let same : max a l ≡ m = cc in search (arith)
+    by : (p l : Option ℕ) → ((n : ℕ) → l ≡ Some n → k + 1 ≤ n) → greater p l ≡ Some m → k + 1 ≤ m
+    by None l f g = absurd (cc)
+    by (Some a) None f g = absurd (cc)
+    by (Some a) (Some l) f g = let below = f l refl in let same : max a l ≡ m = cc in search (arith)
 
 -- one more than the greatest of those that are there
 abbrev pub top : List (Option ℕ) → ℕ
@@ -99,7 +102,7 @@ module _ (id : List ℕ) (n : ℕ) (os : List (Option ℕ)) where
   pub record IsRaised (m : ℕ) : Type 0 where
     pub same : greater (Some m) (least os) ≡ greater (Some n) (least os)
     pub higher : n < m
-    pub within : m ≤ top os
+    pub nearer : top os - m < top os - n
 
   pub needed_raises : (es : List ValidationError) → (es ≡ [] → ⊥) → AllByRecursion (IsToldOf id n os) es → (m : ℕ) → needed_by es ≡ Some m → IsRaised m
   needed_raises es some h m is = by (subst (IsNeeded n os) is (is_needed es some h))
@@ -108,7 +111,7 @@ module _ (id : List ℕ) (n : ℕ) (os : List (Option ℕ)) where
       by r = record {
         same = with (least os) (λ l e. some_within os r.0 r.3 l e);
         higher = search (arith, r.1, r.2);
-        within = let below = below_top os r.0 r.3 in search (arith, r.1);
+        nearer = let below = below_top os r.0 r.3 in search (arith, r.1, r.2);
       }
         where
           with : (o : Option ℕ) → ((l : ℕ) → o ≡ Some l → r.0 + 1 ≤ l) → greater (Some m) o ≡ greater (Some n) o
@@ -118,6 +121,14 @@ module _ (id : List ℕ) (n : ℕ) (os : List (Option ℕ)) where
   -- where what is needed has no level, there is none
   pub none_needed : (es : List ValidationError) → (es ≡ [] → ⊥) → AllByRecursion (IsToldOf id n os) es → needed_by es ≡ None → greater (Some n) (least os) ≡ None
   none_needed es some h is = ap (greater (Some n)) (none_within os (subst (IsNeeded n os) is (is_needed es some h)))
+
+-- ---- none and some
+
+pub none_counted : {X : Type 0} (xs : List X) (n : ℕ) → length xs ≡ n → (n == 0) ≡ true → xs ≡ []
+none_counted xs n e h = empty_of_length xs (e ∙ exact_unsigned_eq n 0 h)
+
+pub some_counted : {X : Type 0} (xs : List X) (n : ℕ) → length xs ≡ n → (n == 0) ≡ false → xs ≡ [] → ⊥
+some_counted xs n e h is = absurd (cc (sym h ∙ ap (λ k. k == 0) (sym e ∙ ap length is)))
 
 -- ---- where all pass
 

@@ -3,7 +3,7 @@
 ghost use Rattle.std.specs.Prelude.{◌≡◌, IfOk, Some, map, fold, flat_map};
 ghost use Rattle.schema_core.specs.EnvData.{action_in};
 ghost use Rattle.schema_core.specs.RequestEnvs.{env_data_of};
-ghost use Rattle.level_spec.specs.Levels.{greater, least};
+ghost use Rattle.level_spec.specs.Levels.{greater, least, least_level};
 ghost use Rattle.level_validate.specs.Errors.{condition_in, dereferences_in};
 ghost use Rattle.policy_validate.specs.Found.{condition_told};
 ghost use Rattle.policy_review.specs.Found.{needed_by, needed_in, level_told, level_found};
@@ -47,18 +47,42 @@ pub(crate) fn raised_by(
 ) -> Result<Option<u32>, AllocError>
     ensures { IfOk result (λ l. l ≡ greater level (level_told (action_in (env_data_of env.now)) (condition_told check))) }
 {
-    match (level, condition_of(check)) {
-        (Some(level), Some(condition)) => {
-            let mut conditions = Vec::new(alloc);
-            conditions.push((*env, condition))?;
-            raised(alloc, policy_id, level, &conditions)
-        }
-        (None, Some(condition)) => {
+    match condition_of(check) {
+        Some(condition) => raised_past(alloc, policy_id, level, env, condition),
+        None => Ok(level),
+    }
+}
+
+fn raised_past(
+    alloc: Global,
+    policy_id: &Text,
+    level: Option<u32>,
+    env: &RequestEnv<'_>,
+    condition: Expr<Option<Type>>,
+) -> Result<Option<u32>, AllocError>
+    ensures { IfOk result (λ l. l ≡ greater level (least_level (action_in (env_data_of env.now)) condition)) }
+{
+    match level {
+        Some(level) => raised_to(alloc, policy_id, level, env, condition),
+        None => {
             drop(condition);
             Ok(None)
         }
-        (level, None) => Ok(level),
     }
+}
+
+fn raised_to(
+    alloc: Global,
+    policy_id: &Text,
+    level: u32,
+    env: &RequestEnv<'_>,
+    condition: Expr<Option<Type>>,
+) -> Result<Option<u32>, AllocError>
+    ensures { IfOk result (λ l. l ≡ greater (Some level) (least_level (action_in (env_data_of env.now)) condition)) }
+{
+    let mut conditions = Vec::new(alloc);
+    conditions.push((*env, condition))?;
+    raised(alloc, policy_id, level, &conditions)
 }
 
 fn condition_of(check: PolicyCheck) -> Option<Expr<Option<Type>>>

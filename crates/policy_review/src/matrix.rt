@@ -129,13 +129,11 @@ fn add_rows(
     check_is_exact();
     for env in schema.unlinked_request_envs(alloc)? {
         let check = typechecker.typecheck_linked_in(alloc, policy, &env)?;
-        match passed_verdict(&check) {
-            Some(verdict) => add_row(policy.id(), &env, verdict, matrix)?,
-            None => {
-                drop(check);
-                return Ok(false);
-            }
-        }
+        let Some(verdict) = passed_verdict(&check) else {
+            drop(check);
+            return Ok(false);
+        };
+        add_row(policy.id(), &env, verdict, matrix)?;
         *level = raised_by(alloc, policy.id(), *level, &env, check)?;
     }
     Ok(true)

@@ -68,7 +68,9 @@ fn levels_are_least(schema: &ValidatorSchema, policies: &PolicySet)
     ensures { LevelsAreLeast schema.now policies.now }
 {
     least_levels_are_least();
-    let _read = (schema, policies);
+    // These stand in the contract alone.
+    let _schema = schema;
+    let _policies = policies;
 }
 
 // The review; nothing where the policies are not accepted. The checks that accept them give what it says.

@@ -9,7 +9,7 @@ ghost use Rattle.policy_expressions.specs.Tree.{depth_of};
 ghost use Rattle.policy_set.specs.Condition.{condition_of};
 ghost use Rattle.link_spec.specs.Linked.{linked_envs};
 ghost use Rattle.scope_typing.specs.Met.{body_check};
-ghost use Rattle.typecheck_spec.specs.Check.{checked};
+ghost use Rattle.typecheck_spec.specs.Check.{check_walked, checked, condition_walked};
 ghost use Rattle.policy_typecheck.specs.Added.{all_added, same_error};
 ghost use Rattle.typecheck_walk.specs.Answer.{Tells, TellsIn};
 ghost use Rattle.typecheck_walk.specs.Known.{KnowsFunctions};
@@ -267,8 +267,21 @@ impl<'a, 'x> Typechecker<'a, 'x> {
     ) -> Result<(), AllocError>
         ensures { OnOk result ((summary.new, found.new.keys) ≡ told t.now.id (body_check self.now t.now (env_data_of env.now)) (summary.old, found.old.keys)) }
     {
-        let check = check_walk(&self.setting(alloc, env), t.id(), t.non_scope_constraints())?;
+        let check = self.check_walk_in(alloc, env, t.id(), t.non_scope_constraints())?;
         tell_check(summary, found, check)
+    }
+
+    // At any depth.
+    fn check_walk_in<'b>(
+        &self,
+        alloc: Global,
+        env: &'b RequestEnv<'b>,
+        id: &Text,
+        e: &'b Expr<()>,
+    ) -> Result<PolicyCheck, AllocError>
+        ensures { IfOk result (λ r. Tells id.now (check_walked (condition_walked self.now (env_data_of env.now) e.now)) r) }
+    {
+        check_walk(&self.setting(alloc, env), id, e)
     }
 
     // Where conditions are typed in the environment.

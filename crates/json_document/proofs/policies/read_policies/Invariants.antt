@@ -1,4 +1,4 @@
-use Rattle.std.proofs.Common.{◌≡◌, [], drop}
+use Rattle.std.proofs.Common.{◌≡◌, drop}
 use Rattle.serde_json.specs.View.{items_view}
 use Rattle.json_document.specs.Policies.{no_policies, policies_of}
 use Rattle.json_document.proofs.policies.read_policies.Given as goal

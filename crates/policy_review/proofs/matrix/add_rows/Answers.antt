@@ -6,8 +6,8 @@ loop-env-init c = ?
 pub loop-env-preserved : goal.loop-env-preserved
 loop-env-preserved c = ?
 
-pub returns-in-None-passed_verdict : goal.returns-in-None-passed_verdict
-returns-in-None-passed_verdict c = ?
+pub returns-in_default : goal.returns-in_default
+returns-in_default c = ?
 
 pub returns : goal.returns
 returns c = ?

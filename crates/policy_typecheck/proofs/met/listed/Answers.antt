@@ -6,8 +6,8 @@ use Rattle.policy_typecheck.specs.Pointed.{pointed}
 use Rattle.policy_typecheck.proofs.MetActions.{listed_meet, none_meets}
 use Rattle.policy_typecheck.proofs.met.listed.Goals as goal
 
-pub returns-then-are_declared : goal.returns-then-are_declared
-returns-then-are_declared c =
+pub returns-in_ok-ids : goal.returns-in_ok-ids
+returns-in_ok-ids c =
     let s = c.args.schema.now in
     let ids = c.in_ok-ids.ids in
     subst (λ z. IfOk c.among.result (λ r. pointed r.items ≡ z))

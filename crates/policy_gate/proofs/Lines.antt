@@ -29,11 +29,11 @@ module _ (laws : Laws) (d : Document) (made : IsWellMade d) where
   line_is q (Loading e) is = absurd is
   line_is q (Decided r) (whole, conforms, is) = rw is (sym (line_decided laws d made q whole conforms))
 
-  pub lines_are : (qs : List Request) (as : List BatchAnswer) → AllZip IsAnswer qs as → flat_map line_on as ≡ flat_map (request_line d) qs
+  pub lines_are : (qs : List Request) (answers : List BatchAnswer) → AllZip IsAnswer qs answers → flat_map line_on answers ≡ flat_map (request_line d) qs
   lines_are [] [] h = refl
-  lines_are [] (a ∷ as) h = absurd h
+  lines_are [] (a ∷ answers) h = absurd h
   lines_are (q ∷ qs) [] h = absurd h
-  lines_are (q ∷ qs) (a ∷ as) h = rw (line_is q a h.0, lines_are qs as h.1) refl
+  lines_are (q ∷ qs) (a ∷ answers) h = rw (line_is q a h.0, lines_are qs answers h.1) refl
 
   told : (q : Request) (a : BatchAnswer) → IsAnswer q a → IsToldOfStore a
   told q Partial is = tt
@@ -41,16 +41,16 @@ module _ (laws : Laws) (d : Document) (made : IsWellMade d) where
   told q (Loading e) is = is
   told q (Decided r) is = tt
 
-  each_told : (qs : List Request) (as : List BatchAnswer) → AllZip IsAnswer qs as → AllByRecursion IsToldOfStore as
+  each_told : (qs : List Request) (answers : List BatchAnswer) → AllZip IsAnswer qs answers → AllByRecursion IsToldOfStore answers
   each_told [] [] h = tt
-  each_told [] (a ∷ as) h = absurd h
+  each_told [] (a ∷ answers) h = absurd h
   each_told (q ∷ qs) [] h = tt
-  each_told (q ∷ qs) (a ∷ as) h = (told q a h.0, each_told qs as h.1)
+  each_told (q ∷ qs) (a ∷ answers) h = (told q a h.0, each_told qs answers h.1)
 
-  pub all_told : (qs : List Request) (as : List BatchAnswer) → AllZip IsAnswer qs as → All IsToldOfStore as
-  all_told qs as h = All-from_recursion IsToldOfStore as (each_told qs as h)
+  pub all_told : (qs : List Request) (answers : List BatchAnswer) → AllZip IsAnswer qs answers → All IsToldOfStore answers
+  all_told qs answers h = All-from_recursion IsToldOfStore answers (each_told qs answers h)
 
   -- of accepted policies the lines
-  pub answered : HasAcceptedPolicies d → (as : List BatchAnswer) → AllZip IsAnswer d.requests as → (a : Answer) → a.status ≡ status.Done → a.text ≡ flat_map line_on as → IsRefusedOr (refused_policies d) (IsWork Batch d) a
-  answered accepted as is a ends written =
-      subst (λ o. IsRefusedOr o (IsWork Batch d) a) (sym (not_refused laws d accepted)) (ends, written ∙ lines_are d.requests as is)
+  pub answered : HasAcceptedPolicies d → (answers : List BatchAnswer) → AllZip IsAnswer d.requests answers → (a : Answer) → a.status ≡ status.Done → a.text ≡ flat_map line_on answers → IsRefusedOr (refused_policies d) (IsWork Batch d) a
+  answered accepted answers is a ends written =
+      subst (λ o. IsRefusedOr o (IsWork Batch d) a) (sym (not_refused laws d accepted)) (ends, written ∙ lines_are d.requests answers is)
