@@ -6,7 +6,8 @@ use std::test::Fail;
 
 // Each line says a document and, behind ` => `, the status and the text, in which a bar ends a line. A line with # says what
 // the next one shows.
-const REVIEWS: &str = r#"# a principal that is in nothing: false on each request, and it asks for an entity
+const REVIEWS: &str =
+    r#"# a principal that is in nothing: false on each request, and it asks for an entity
 {"schema":$enums,"policies":[{"id":"p0","effect":"permit","body":[{"when":{"in":[{"var":"principal"},{"id":["Bar","bar"]}]}}]}]} => Done never p0: Foo, Action::"a", Bar|level p0: 1|
 # two steps from the request
 {"schema":$people,"policies":[{"id":"p0","effect":"permit","body":[{"when":{"==":[{"get":[{"get":[{"var":"principal"},"manager"]},"name"]},"x"]}}]}]} => Done may p0: User, Action::"view", Photo|level p0: 2|
