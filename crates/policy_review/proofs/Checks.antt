@@ -1,5 +1,5 @@
 -- What checks tell is what typing says, where they pass; and they all pass exactly where the policies are accepted.
-use Rattle.std.proofs.Common.{◌≡◌, ◌≤◌, ◌+◌, ℕ, suc, Bool, true, false, ◌&&◌, List, [], ◌∷◌, map, length, nat_lt, Option, Some, None, is_some, IsTrue, IsSomeAnd, refl, sym, ap, ◌∙◌, subst, if◌then◌else◌, arith}
+use Rattle.std.proofs.Common.{◌≡◌, ◌≤◌, ℕ, suc, Bool, true, false, ◌&&◌, List, [], ◌∷◌, map, length, nat_lt, Option, Some, None, is_some, IsTrue, IsSomeAnd, refl, sym, ap, ◌∙◌, if◌then◌else◌, arith}
 use Rattle.std.proofs.lemmas.Bool.{le-ltb}
 use Rattle.std.specs.Option.{option_map_or}
 use Rattle.std.specs.List.{AllByRecursion, list_all, filter_map, cons_option}
@@ -20,7 +20,7 @@ use Rattle.typecheck_spec.specs.Walked.{findings_of}
 use Rattle.typecheck_walk.specs.Answer.{Tells}
 use Rattle.typecheck_walk.specs.declared.policy_check.PolicyCheck.{PolicyCheck}
 use Rattle.typecheck_walk.specs.declared.policy_check.PolicyCheck.TheVariants as told
-use Rattle.link_spec.specs.Accepted.{IsTyped, IsTypedIn, IsAcceptedTemplate}
+use Rattle.link_spec.specs.Accepted.{IsTypedIn, IsAcceptedTemplate}
 use Rattle.link_spec.specs.Linked.{linked_envs}
 use Rattle.level_spec.specs.Levels.{greater, least_level}
 use Rattle.policy_typecheck.specs.Policies.{passes}
@@ -162,8 +162,8 @@ module _ (schema : SchemaData) (ps : List PolicyData) where
   passed_left [] h = tt
   passed_left (env ∷ envs) h = (
     all_left (λ p. condition_in (checked schema env p.condition)) ps
-    (all_more (PassesEach (env ∷ envs)) (λ p. is_some (condition_in (checked schema env p.condition)) ≡ true)
-    (λ p k. left_passes (checked schema env p.condition) ∙ (and_parts_of (passes_in env p) (list_all (λ v. passes_in v p) envs) k).0) ps h),
+        (all_more (PassesEach (env ∷ envs)) (λ p. is_some (condition_in (checked schema env p.condition)) ≡ true)
+        (λ p k. left_passes (checked schema env p.condition) ∙ (and_parts_of (passes_in env p) (list_all (λ v. passes_in v p) envs) k).0) ps h),
     passed_left envs (all_more (PassesEach (env ∷ envs)) (PassesEach envs) (λ p k. (and_parts_of (passes_in env p) (list_all (λ v. passes_in v p) envs) k).1) ps h),
   )
 

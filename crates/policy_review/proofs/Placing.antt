@@ -1,6 +1,5 @@
 -- Levels are put among others as their policies are placed.
-use Rattle.std.proofs.Common.{◌≡◌, ℕ, Bool, true, false, ◌||◌, cond, List, [], ◌∷◌, ◌++◌, map, fold, Option, Some, refl, sym, ap, ◌∙◌, if◌then◌else◌}
-use Rattle.std.specs.BTreeMap.{insert_entry}
+use Rattle.std.proofs.Common.{◌≡◌, ℕ, Bool, true, false, ◌||◌, cond, List, [], ◌∷◌, ◌++◌, map, fold, Option, refl, sym, ap, ◌∙◌, if◌then◌else◌}
 use Rattle.std.specs.List.{AllByRecursion, filter}
 use Rattle.std.specs.declared.cmp.Ordering.{Ordering}
 use Rattle.std.specs.declared.cmp.Ordering.TheVariants.{Less, Equal, Greater}
@@ -10,10 +9,10 @@ use Rattle.std.proofs.lemmas.Map.Lookups.{exact_bytes}
 use Rattle.policy_names.specs.Uid.{text_cmp}
 use Rattle.policy_expressions.specs.Slots.{has_slot}
 use Rattle.policy_expressions.specs.declared.kinds.SlotId.TheVariants.{Principal, Resource}
-use Rattle.schema_core.specs.EnvData.{EnvData, unlinked_envs}
+use Rattle.schema_core.specs.EnvData.{unlinked_envs}
 use Rattle.schema_core.specs.Schema.{SchemaData}
 use Rattle.policy_set.specs.Data.{PolicyData, TemplateData}
-use Rattle.policy_set.specs.Condition.{scope_part, action_part, condition_of, written_of, IsPolicy}
+use Rattle.policy_set.specs.Condition.{scope_part, action_part, written_of, IsPolicy}
 use Rattle.policy_set.specs.PolicySet.{PolicySetData, placed, is_static, statics, written}
 use Rattle.typecheck_spec.specs.Check.{CheckIsExact}
 use Rattle.link_spec.specs.Accepted.{IsAcceptedTemplate}

@@ -1,5 +1,5 @@
 -- A level is raised by what errors need, up to the least level.
-use Rattle.std.proofs.Common.{◌≡◌, ◌<◌, ◌≤◌, ℕ, ◌+◌, ◌-◌, max, nat_lt, nat_le, Bool, true, false, ◌&&◌, List, [], ◌∷◌, ◌++◌, length, map, Option, Some, None, refl, sym, ap, ◌∙◌, subst, inl, inr, arith}
+use Rattle.std.proofs.Common.{◌≡◌, ◌<◌, ◌≤◌, ℕ, ◌+◌, ◌-◌, max, nat_lt, nat_le, Bool, true, false, ◌&&◌, List, [], ◌∷◌, length, Option, Some, None, refl, sym, ap, ◌∙◌, subst, inl, inr, arith}
 use Rattle.std.specs.Prelude.{◌==◌}
 use Rattle.std.specs.List.{list_all, AllByRecursion, flat_map}
 use Rattle.std.proofs.lemmas.Map.Views.{exact_unsigned_eq}
@@ -9,9 +9,8 @@ use Rattle.findings.specs.declared.error.ValidationError.TheVariants.{EntityDere
 use Rattle.findings.specs.declared.level.EntityDerefViolationKind.{EntityDerefViolationKind}
 use Rattle.findings.specs.declared.level.EntityDerefViolationKind.TheVariants.{MaximumLevelExceeded, LiteralDerefTarget}
 use Rattle.level_spec.specs.Findings.{IsIn}
-use Rattle.level_spec.specs.Levels.{greater, one_more, least, is_below, dereferences}
+use Rattle.level_spec.specs.Levels.{greater, one_more, least, is_below}
 use Rattle.level_validate.specs.Errors.{Condition, dereferences_in, PassesIn, IsToldBy, IsToldOf}
-use Rattle.policy_review.specs.Levels.{greatest}
 use Rattle.policy_review.specs.Found.{needed_of, needed_in, needed_by}
 use Rattle.policy_review.proofs.Least.{at_most, all_at_most}
 use Rattle.plain_lemmas.proofs.Lists.{empty_of_length}
@@ -19,6 +18,10 @@ use Rattle.plain_lemmas.proofs.Lists.{empty_of_length}
 pub greater_zero : (o : Option ℕ) → greater o (Some 0) ≡ o
 greater_zero None = refl
 greater_zero (Some j) = ap Some (search (arith))
+
+pub zero_greater : (o : Option ℕ) → greater (Some 0) o ≡ o
+zero_greater None = refl
+zero_greater (Some j) = ap Some (search (arith))
 
 pub greater_assoc : (o p q : Option ℕ) → greater (greater o p) q ≡ greater o (greater p q)
 greater_assoc None p q = refl

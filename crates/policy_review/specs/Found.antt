@@ -1,5 +1,5 @@
 -- What checks of conditions tell of verdicts and levels.
-use Rattle.std.specs.Prelude.{◌≡◌, ℕ, Bool, List, [], ◌∷◌, Option, Some, None, map, if◌then◌else◌}
+use Rattle.std.specs.Prelude.{◌≡◌, ℕ, Bool, List, Option, Some, None, map, if◌then◌else◌}
 use Rattle.std.specs.BTreeMap.{insert_entry}
 use Rattle.std.specs.List.{list_all}
 use Rattle.std.specs.Option.{option_map_or}
@@ -18,7 +18,7 @@ use Rattle.policy_set.specs.PolicySet.{PolicySetData, is_static}
 use Rattle.typing_spec.specs.Typing.{Typed}
 use Rattle.typecheck_spec.specs.Check.{checked}
 use Rattle.link_spec.specs.Linked.{linked_envs}
-use Rattle.level_spec.specs.Levels.{greater, least_level}
+use Rattle.level_spec.specs.Levels.{least_level}
 use Rattle.policy_typecheck.specs.Policies.{passes}
 use Rattle.typecheck_walk.specs.declared.policy_check.PolicyCheck.{PolicyCheck}
 use Rattle.typecheck_walk.specs.declared.policy_check.PolicyCheck.TheVariants.{Success, Irrelevant, Fail}

@@ -42,7 +42,8 @@ pub(crate) fn add_policies(
     ensures levels { IfOk result (λ b. OnTrue b (levels.new.entries ≡ fold (with_level schema.now) levels.old.entries (statics policies.now))) }
 {
     for policy in policies.policies() {
-        if !add_policy(alloc, schema, typechecker, policy, matrix, levels)? {
+        let passes = add_policy(alloc, schema, typechecker, policy, matrix, levels)?;
+        if !passes {
             return Ok(false);
         }
     }
@@ -105,7 +106,8 @@ fn add_static(
     statics_are_unlinked();
     let _condition = policy.condition();
     let mut level = Some(0);
-    if !add_rows(alloc, schema, typechecker, policy, &mut level, matrix)? {
+    let passes = add_rows(alloc, schema, typechecker, policy, &mut level, matrix)?;
+    if !passes {
         return Ok(false);
     }
     put(levels, policy.id(), level)?;
@@ -134,7 +136,8 @@ fn add_rows(
             return Ok(false);
         };
         add_row(policy.id(), &env, verdict, matrix)?;
-        *level = raised_by(alloc, policy.id(), *level, &env, check)?;
+        let raised = raised_by(alloc, policy.id(), *level, &env, check)?;
+        *level = raised;
     }
     Ok(true)
 }

@@ -117,14 +117,15 @@ fn review_where_left(
     let mut levels = BTreeMap::new(alloc);
     add_templates(alloc, schema, typechecker, policies, &mut levels)?;
     let mut matrix = Vec::new(alloc);
-    if !add_policies(
+    let passes = add_policies(
         alloc,
         schema,
         typechecker,
         policies,
         &mut matrix,
         &mut levels,
-    )? {
+    )?;
+    if !passes {
         return Ok(None);
     }
     let levels = collected(alloc, levels)?;

@@ -1,6 +1,4 @@
-use Rattle.std.specs.List.{AllByRecursion}
 use Rattle.policy_set.specs.PolicySet.{written}
-use Rattle.policy_review.specs.Levels.{HasLeastLevel}
 use Rattle.policy_review.proofs.Least.{each_least}
 use Rattle.policy_review.proofs.reviewer.levels_are_least.Goals as goal
 
