@@ -3,6 +3,7 @@ ghost use Rattle.std.specs.Prelude.{◌≡◌, ◌++◌, IfOk, string_bytes};
 ghost use Rattle.std.specs.List.{flat_map};
 ghost use Rattle.policy_gate.specs.Answer.{IsAnswerTo, level_line, row_line, verdict_word};
 ghost use Rattle.policy_gate.specs.Reply.{reply_view};
+ghost use Rattle.policy_gate.specs.declared.command.Command.{Command};
 
 use crate::answer::told;
 use crate::reply::Reply;
