@@ -48,8 +48,15 @@ pub fn decide_batch<D: EntityLoader>(
     ensures goes_on { Continues (D.state loader.old) (D.state loader.new) }
 {
     let manifest = compute_entity_manifest(alloc, schema, policies)?;
-    let answers =
-        answers_by::<D, Brand>(alloc, schema, policies, &manifest, requests, loader, Blank::new(1))?;
+    let answers = answers_by::<D, Brand>(
+        alloc,
+        schema,
+        policies,
+        &manifest,
+        requests,
+        loader,
+        Blank::new(1),
+    )?;
     Ok(answers)
 }
 
@@ -76,7 +83,9 @@ fn answers_by<D: EntityLoader, L: Ledger>(
     let mut steps = Steps::<L>::new(blank);
     let mut answers = Vec::new(alloc);
     for request in requests {
-        let answer = answer_to(alloc, schema, policies, manifest, request, loader, &mut steps)?;
+        let answer = answer_to(
+            alloc, schema, policies, manifest, request, loader, &mut steps,
+        )?;
         answers.push(answer)?;
     }
     Ok(answers)

@@ -10,6 +10,7 @@ use Rattle.std.specs.Cmp.{tied_itself}
 use Rattle.std.specs.declared.cmp.Ordering.TheVariants.{Less}
 use Rattle.std.proofs.lemmas.Cmp.{eq_by_cmp_equiv}
 use Rattle.std.proofs.lemmas.Map.Keys.{sorted_head, sorted_tail}
+use Rattle.plain_lemmas.proofs.Options.{some_injective}
 use Rattle.policy_names.proofs.Ties.{equal_of}
 use Rattle.policy_names.specs.declared.entity_uid.EntityUID.{EntityUID}
 use Rattle.policy_names.specs.Uid.{uid_cmp, uid_cmp_total}
@@ -110,7 +111,7 @@ env_of_type d valid q rt has env among typed =
     let e = in_map_out (unlinked a.from) env (environments_of a.from) a.gives in
     let named = env_action a.from e.0 e.1 in
     let ids = types_known q.principal q.action q.resource rt has in
-    let same : record { principal = e.0.principal; action = e.0.action; resource = e.0.resource } ≡ rt = some_same (ap request_type_in e.2 ∙ typed) in
+    let same : record { principal = e.0.principal; action = e.0.action; resource = e.0.resource } ≡ rt = some_injective (ap request_type_in e.2 ∙ typed) in
     record {
       linked = record { environment = e.0; context = a.from.context; principal_slot = None; resource_slot = None };
       is = e.2;
@@ -121,9 +122,6 @@ env_of_type d valid q rt has env among typed =
         context = subst (λ u. IsSomeAnd (action_at d u) (λ b. a.from.context ≡ b.context)) named (subst (λ o. IsSomeAnd o (λ b. a.from.context ≡ b.context)) (sym (member_found a.from d.action_ids valid.actions_ascend a.among)) refl);
       };
     }
-  where
-    some_same : {X : Type 0} {x y : X} → Some x ≡ Some y → x ≡ y
-    some_same k = cc
 
 -- ---- the trie of a request
 

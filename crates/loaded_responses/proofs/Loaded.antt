@@ -7,6 +7,7 @@ use Rattle.std.specs.Cmp.{tied_itself}
 use Rattle.std.specs.Option.{option_and_then}
 use Rattle.byte_streams.specs.Steps.{Rose}
 use Rattle.std.proofs.lemmas.Cmp.{nat_list_cmp_total}
+use Rattle.plain_lemmas.proofs.Options.{some_injective}
 use Rattle.policy_names.proofs.Ties.{equal_of}
 use Rattle.policy_names.specs.Uid.{uid_cmp_total}
 use Rattle.policy_values.specs.Value.{Val}
@@ -62,12 +63,9 @@ module _ (d : SchemaData) (ps : List PolicyData) where
       by : (b : Bool) → is_at (request_type_cmp rt) e.0 ≡ b → cond b (Some e.1) (lookup (is_at (request_type_cmp rt)) m) ≡ None → (IsIn env envs → (rt : RequestType) → request_type_in env ≡ Some rt → lookup (is_at (request_type_cmp rt)) m ≡ None → ⊥) → (f ≡ env) ⊎ IsIn env envs → ⊥
       by true at k rest j = absurd (cc)
       by false at k rest (inl same) =
-          let is : e.0 ≡ rt = some_same (sym z.0.request_type ∙ ap request_type_in same ∙ typed) in
+          let is : e.0 ≡ rt = some_injective (sym z.0.request_type ∙ ap request_type_in same ∙ typed) in
           no_both (subst (λ x. is_at (request_type_cmp rt) x ≡ true) (sym is) itself) at
         where
-          some_same : {X : Type 0} {x y : X} → Some x ≡ Some y → x ≡ y
-          some_same k = cc
-
           no_both : {b : Bool} → b ≡ true → b ≡ false → ⊥
           no_both k l = absurd (cc (k, l))
       by false at k rest (inr j) = rest j rt typed k

@@ -81,17 +81,22 @@ fn on_rows(
     let calls = vec![in alloc; failing]?;
     let rows = MemoryRows::from_entities(alloc, &document.entities, &calls)?;
     let mut loader = RowLoader::new(rows);
-    let Document { schema, policies, .. } = document;
+    let Document {
+        schema,
+        policies,
+        ..
+    } = document;
     let answers = decide_batch_on_rows(alloc, schema, policies, requests, &mut loader)?;
     told_all(alloc, &answers)
 }
 
-fn on_store(
-    alloc: Global,
-    document: &Document,
-    requests: &Vec<Request>,
-) -> Result<String, Fail> {
-    let Document { schema, policies, entities, .. } = document;
+fn on_store(alloc: Global, document: &Document, requests: &Vec<Request>) -> Result<String, Fail> {
+    let Document {
+        schema,
+        policies,
+        entities,
+        ..
+    } = document;
     let answers = decide_batch_on_store(alloc, schema, policies, requests, entities)?;
     told_all(alloc, &answers)
 }

@@ -7,6 +7,7 @@ use Rattle.std.specs.Cmp.{tied_itself}
 use Rattle.std.specs.declared.cmp.Ordering.TheVariants.{Less}
 use Rattle.std.proofs.lemmas.Cmp.{eq_by_cmp_equiv}
 use Rattle.std.proofs.lemmas.Map.Keys.{sorted_head, sorted_tail}
+use Rattle.plain_lemmas.proofs.Options.{some_injective}
 use Rattle.policy_names.specs.declared.entity_uid.EntityUID.{EntityUID}
 use Rattle.policy_names.specs.Uid.{uid_cmp, uid_cmp_total, text_cmp}
 use Rattle.entity_store.specs.declared.request.Request.{Request}
@@ -42,13 +43,10 @@ member_found a (x ∷ xs) h (inr i) =
     let later = all_later x.name a xs (sorted_head uid_cmp x.name (map (λ z. z.name) xs) h) i in
     rw ((eq_by_cmp_equiv uid_cmp_total).symm a.name x.name, later) (member_found a xs (sorted_tail uid_cmp x.name (map (λ z. z.name) xs) h) i)
 
-some_same : {X : Type 0} {x y : X} → Some x ≡ Some y → x ≡ y
-some_same k = cc
-
 -- what a request type says of the ids of a request
 pub types_known : (p a r : Option EntityUID) (t : RequestType) → type_of_ids p a r ≡ Some t → ((known p).entity_type ≡ t.principal) × (known a ≡ t.action) × ((known r).entity_type ≡ t.resource)
 types_known (Some p) (Some a) (Some r) t h =
-    let same : record { principal = p.entity_type; action = a; resource = r.entity_type } ≡ t = some_same h in
+    let same : record { principal = p.entity_type; action = a; resource = r.entity_type } ≡ t = some_injective h in
     (ap (λ z. z.principal) same, ap (λ z. z.action) same, ap (λ z. z.resource) same)
 types_known None a r t h = absurd (cc)
 types_known (Some p) None r t h = absurd (cc)
@@ -60,7 +58,7 @@ of_types schema valid env among q t typed has =
     let e = in_map_out (unlinked a.from) env (environments_of a.from) a.gives in
     let named = env_action a.from e.0 e.1 in
     let ids = types_known q.principal q.action q.resource t has in
-    let same : record { principal = e.0.principal; action = e.0.action; resource = e.0.resource } ≡ t = some_same (ap request_type_in e.2 ∙ typed) in
+    let same : record { principal = e.0.principal; action = e.0.action; resource = e.0.resource } ≡ t = some_injective (ap request_type_in e.2 ∙ typed) in
     let found : action_at schema (action_of q) ≡ Some a.from = ap (action_at schema) (ids.1 ∙ sym (ap (λ z. z.action) same) ∙ sym named) ∙ member_found a.from schema.action_ids valid.actions_ascend a.among in
     let is : environment (principal_of q).entity_type a.from.name (resource_of q).entity_type ≡ e.0 =
     λ i. record { principal = (ids.0 ∙ sym (ap (λ z. z.principal) same)) i; action = named i; resource = (ids.2 ∙ sym (ap (λ z. z.resource) same)) i } in
