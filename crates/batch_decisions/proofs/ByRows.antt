@@ -1,5 +1,5 @@
 -- Answers by rows, which never stray, and by a store in memory, of which no call fails.
-use Rattle.std.proofs.Common.{◌≡◌, ◌⊎◌, ℕ, ◌≤◌, ◌+◌, ◌^◌, List, [], ◌∷◌, Option, Some, None, Result, Ok, Err, refl, subst, arith, inl, inr}
+use Rattle.std.proofs.Common.{◌≡◌, ℕ, ◌≤◌, List, [], ◌∷◌, Option, Some, None, Result, Ok, Err, refl, subst, arith, inl, inr}
 use Rattle.std.specs.Prelude.{IfOk, IfSome}
 use Rattle.std.specs.List.{AllZip}
 use Rattle.std.specs.declared.alloc.Global.{Global}
@@ -17,7 +17,7 @@ use Rattle.row_loader.specs.Laws.{IsStoreOrdered}
 use Rattle.batch_decisions.specs.declared.answer.BatchAnswer.{BatchAnswer}
 use Rattle.batch_decisions.specs.declared.answer.BatchAnswer.TheVariants.{Partial, Refused, Loading, Decided}
 use Rattle.loaded_responses.specs.Loaded.{IsTold}
-use Rattle.batch_decisions.specs.Answers.{IsAnswerTo, AreAnswers, IsStoreAnswer, IsRowAnswer, WhyNotGiven, is_fault, faults_in, AreCounted}
+use Rattle.batch_decisions.specs.Answers.{IsAnswerTo, AreAnswers, IsStoreAnswer, IsRowAnswer, is_fault, faults_in, AreCounted}
 use Rattle.batch_decisions.proofs.OneAfterAnother.{goes_on}
 
 -- a loader that never strayed did not stray before

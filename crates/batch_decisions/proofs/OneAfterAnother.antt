@@ -1,5 +1,5 @@
 -- Answers to requests, one after another.
-use Rattle.std.proofs.Common.{◌≡◌, ◌⊎◌, ◌≤◌, ◌+◌, ◌^◌, List, [], ◌∷◌, ◌++◌, refl, sym, ◌∙◌, subst, arith, inl, inr}
+use Rattle.std.proofs.Common.{◌⊎◌, ◌≤◌, ◌+◌, ◌^◌, List, [], ◌∷◌, ◌++◌, refl, sym, ◌∙◌, subst, arith, inl, inr}
 use Rattle.entity_store.specs.declared.request.Request.{Request}
 use Rattle.policy_set.specs.Data.{PolicyData}
 use Rattle.schema_core.specs.Schema.{SchemaData}
@@ -7,7 +7,7 @@ use Rattle.entity_loader.specs.State.{LoaderState, Continues}
 use Rattle.manifest_loading.specs.declared.error.EntitySliceError.TheVariants as error
 use Rattle.batch_decisions.specs.declared.answer.BatchAnswer.{BatchAnswer}
 use Rattle.batch_decisions.specs.declared.answer.BatchAnswer.TheVariants.{Partial, Refused, Loading, Decided}
-use Rattle.batch_decisions.specs.Answers.{IsAnswerTo, AreAnswers, is_fault, faults_in, AreCounted}
+use Rattle.batch_decisions.specs.Answers.{IsAnswerTo, AreAnswers, is_fault, AreCounted}
 use Rattle.batch_decisions.specs.Laws.{FaultsAreCounted}
 
 pub goes_on_here : (l : LoaderState) → Continues l l

@@ -1,28 +1,21 @@
 -- The tries of a computed manifest, and the environments that they are of.
-use Rattle.std.proofs.Common.{◌≡◌, ◌⊎◌, Bool, true, false, List, [], ◌∷◌, map, cond, Option, Some, None, IfSome, IsSomeAnd, refl, sym, ap, ◌∙◌, subst, inl, inr}
+use Rattle.std.proofs.Common.{◌≡◌, ◌⊎◌, Bool, true, false, List, [], ◌∷◌, cond, Option, Some, None, IfSome, IsSomeAnd, refl, sym, ap, ◌∙◌, subst, inl, inr}
 use Rattle.std.specs.Prelude.{filter, if◌then◌else◌, option_map}
 use Rattle.std.specs.BTreeMap.{is_at}
-use Rattle.std.specs.List.{AllByRecursion, AllZip, cons_option, find}
-use Rattle.std.specs.List.Sorted.{IsStrictlySortedBy}
+use Rattle.std.specs.List.{AllZip, cons_option}
 use Rattle.std.specs.Map.{lookup}
 use Rattle.std.specs.Option.{option_and_then}
-use Rattle.std.specs.Cmp.{tied_itself}
-use Rattle.std.specs.declared.cmp.Ordering.TheVariants.{Less}
-use Rattle.std.proofs.lemmas.Cmp.{eq_by_cmp_equiv}
-use Rattle.std.proofs.lemmas.Map.Keys.{sorted_head, sorted_tail}
 use Rattle.plain_lemmas.proofs.Options.{some_injective}
 use Rattle.policy_names.proofs.Ties.{equal_of}
-use Rattle.policy_names.specs.declared.entity_uid.EntityUID.{EntityUID}
-use Rattle.policy_names.specs.Uid.{uid_cmp, uid_cmp_total}
 use Rattle.entity_store.specs.declared.request.Request.{Request}
 use Rattle.entity_store.specs.declared.request.RequestType.{RequestType}
-use Rattle.entity_store.specs.Request.{known, type_of_ids, request_type_of, request_type_cmp, exact_request_type}
+use Rattle.entity_store.specs.Request.{request_type_of, request_type_cmp, exact_request_type}
 use Rattle.access_tries.specs.Paths.{IsLeast}
 use Rattle.access_tries.specs.Table.{Table}
 use Rattle.schema_core.specs.EnvData.{EnvData, LinkedEnvironment, declared_action, request_type_in, unlinked, unlinked_of, unlinked_envs}
-use Rattle.schema_core.specs.Environments.{Environment, environment, environments_at, environments_of}
+use Rattle.schema_core.specs.Environments.{environment, environments_of}
 use Rattle.schema_core.specs.Faults.{IsSchema}
-use Rattle.schema_core.specs.Schema.{ActionData, SchemaData, is_action_named, action_at}
+use Rattle.schema_core.specs.Schema.{SchemaData, action_at}
 use Rattle.policy_set.specs.Data.{PolicyData}
 use Rattle.typing_spec.specs.Conforms.{IsOf}
 use Rattle.typing_spec.specs.Typing.{Typing, types}
@@ -76,7 +69,7 @@ pub record IsOfEntry (d : SchemaData) (ps : List PolicyData) (envs : List EnvDat
   pub request_type : request_type_in env ≡ Some rt
   pub trie : IsLeast (declared_reads d env (typed_conditions d env ps)) (declared_demands d env (typed_conditions d env ps)) t
 
-pub same_type : (rt k : RequestType) → is_at (request_type_cmp rt) k ≡ true → rt ≡ k
+same_type : (rt k : RequestType) → is_at (request_type_cmp rt) k ≡ true → rt ≡ k
 same_type rt k h = exact_request_type rt k (equal_of (request_type_cmp rt k) h)
 
 pub entry_found : (d : SchemaData) (ps : List PolicyData) (envs : List EnvData) (m : Manifest) (rt : RequestType) (t : Table) →

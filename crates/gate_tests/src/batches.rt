@@ -7,14 +7,15 @@ use std::test::Fail;
 
 // Each line says a document and, behind ` => `, the status and the text, in which a bar ends a line. A line with # says what
 // the next one shows.
-const BATCHES: &str = r#"# a request that is allowed, one that is denied, and one of which the principal is not known
+const BATCHES: &str =
+    r#"# a request that is allowed, one that is denied, and one of which the principal is not known
 {"schema":$photos,"policies":[$friends],"entities":[$stored],"requests":[$view,$bob,{"principal":null,"action":["Action","view"],"resource":["Photo","x"],"context":{}}]} => Done {"decision":"Allow","errors":[],"reasons":["p0"]}|{"decision":"Deny","errors":[],"reasons":[]}|{"refused":"entity slicing requires a fully concrete request. Got a partial request"}|
 # a request that breaks a rule does not end the others; its line has the message alone, escaped
 {"schema":$photos,"policies":[$friends],"entities":[$stored],"requests":[{"principal":["Group","g"],"action":["Action","view"],"resource":["Photo","x"],"context":{}},$view,{"principal":["User","alice"],"action":["Action","view"],"resource":["Foo","x"],"context":{}},{"principal":["User","alice"],"action":["Action","nope\"\\\n"],"resource":["Photo","x"],"context":{}},{"principal":["User","alice"],"action":["Action","view"],"resource":["Photo","x"],"context":{"n":1}},{}]} => Done {"refused":"principal type `Group` is not valid for `Action::\"view\"`"}|{"decision":"Allow","errors":[],"reasons":["p0"]}|{"refused":"resource type `Foo` is not declared in the schema"}|{"refused":"request's action `Action::\"nope\\\"\\\\\\n\"` is not declared in the schema"}|{"refused":"context `{n: 1}` is not valid for `Action::\"view\"`"}|{"refused":"entity slicing requires a fully concrete request. Got a partial request"}|
 # an id that is not listed
 {"schema":$enums,"requests":[{"principal":["Foo","fo"],"action":["Action","a"],"resource":["Bar","b"],"context":{}}]} => Done {"refused":"entity `Foo::\"fo\"` is of an enumerated entity type, but `\"fo\"` is not declared as a valid eid"}|
 # an entity that is not stored is no fault of the request
-{"schema":$people,"policies":[{"id":"p0","effect":"permit","body":[{"when":{"==":[{"get":[{"var":"principal"},"name"]},"x"]}}]}],"requests":[{"principal":["User","ghost"],"action":["Action","view"],"resource":["Photo","x"],"context":{}}]} => Done {"decision":"Deny","errors":[["p0","entity `User::\"ghost\"` does not exist"]],"reasons":[]}|
+{"schema":{"entityTypes":{"Photo":{},"User":{"attributes":{"name":"String"}}},"actions":[{"id":["Action","view"],"principals":["User"],"resources":["Photo"]}]},"policies":[{"id":"p0","effect":"permit","body":[{"when":{"==":[{"get":[{"var":"principal"},"name"]},"x"]}}]}],"requests":[{"principal":["User","ghost"],"action":["Action","view"],"resource":["Photo","x"],"context":{}}]} => Done {"decision":"Deny","errors":[["p0","entity `User::\"ghost\"` does not exist"]],"reasons":[]}|
 # no requests: no line
 {"schema":$photos,"requests":[]} => Done 
 # nor where they are absent
@@ -61,7 +62,8 @@ const OTHERS: &str = r#"# a list alone
 {"schema":$photos,"requests":[],"request":$view} => Document document: form|"#;
 
 // Stands for the users' groups and for what is asked of them.
-const USERS: &str = r#"{"schema":$photos,"policies":[{"id":"p0","effect":"permit","principal":{"in":["Group","g"]}}],"entities":[$entities],"requests":[$requests]}"#;
+const USERS: &str =
+    r#"{"schema":$photos,"policies":[{"id":"p0","effect":"permit","principal":{"in":["Group","g"]}}],"entities":[$entities],"requests":[$requests]}"#;
 
 // A table's lines with a policy, an entity and a request in the places of their words.
 fn table(alloc: Global, lines: &str) -> Result<String, Fail> {
@@ -75,7 +77,8 @@ fn table(alloc: Global, lines: &str) -> Result<String, Fail> {
         "$stored",
         r#"{"id":["User","alice"],"parents":[["Group","g"],["Group","h"]]}"#,
     )?;
-    let bob = r#"{"principal":["User","bob"],"action":["Action","view"],"resource":["Photo","x"],"context":{}}"#;
+    let bob =
+        r#"{"principal":["User","bob"],"action":["Action","view"],"resource":["Photo","x"],"context":{}}"#;
     Ok(lines.as_str().replace(alloc, "$bob", bob)?)
 }
 
@@ -116,11 +119,17 @@ fn users(alloc: Global, count: usize) -> Result<(String, String), Fail> {
         } else {
             ("h", "Deny", "")
         };
-        let entity = format!(in alloc; "{{\"id\":[\"User\",\"u{i}\"],\"parents\":[[\"Group\",\"{group}\"]]}}")?;
+        let entity = format!(in alloc;
+            "{{\"id\":[\"User\",\"u{i}\"],\"parents\":[[\"Group\",\"{group}\"]]}}"
+        )?;
         add(&mut entities, entity.as_str())?;
-        let request = format!(in alloc; "{{\"principal\":[\"User\",\"u{i}\"],\"action\":[\"Action\",\"view\"],\"resource\":[\"Photo\",\"x\"],\"context\":{{}}}}")?;
+        let request = format!(in alloc;
+            "{{\"principal\":[\"User\",\"u{i}\"],\"action\":[\"Action\",\"view\"],\"resource\":[\"Photo\",\"x\"],\"context\":{{}}}}"
+        )?;
         add(&mut requests, request.as_str())?;
-        let line = format!(in alloc; "{{\"decision\":\"{decision}\",\"errors\":[],\"reasons\":[{reasons}]}}|")?;
+        let line = format!(in alloc;
+            "{{\"decision\":\"{decision}\",\"errors\":[],\"reasons\":[{reasons}]}}|"
+        )?;
         due.push_str(line.as_str())?;
     }
     let document = USERS.replace(alloc, "$entities", entities.as_str())?;

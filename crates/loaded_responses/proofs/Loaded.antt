@@ -7,12 +7,11 @@ use Rattle.std.specs.Cmp.{tied_itself}
 use Rattle.std.specs.Option.{option_and_then}
 use Rattle.std.proofs.lemmas.Cmp.{nat_list_cmp_total}
 use Rattle.plain_lemmas.proofs.Options.{some_injective}
-use Rattle.policy_names.proofs.Ties.{equal_of}
 use Rattle.policy_names.specs.Uid.{uid_cmp_total}
 use Rattle.policy_values.specs.Value.{Val}
 use Rattle.entity_store.specs.declared.request.Request.{Request}
 use Rattle.entity_store.specs.declared.request.RequestType.{RequestType}
-use Rattle.entity_store.specs.Request.{request_type_of, request_type_cmp, exact_request_type}
+use Rattle.entity_store.specs.Request.{request_type_of, request_type_cmp}
 use Rattle.entity_store.specs.Store.{Store}
 use Rattle.access_tries.specs.Paths.{IsLeast}
 use Rattle.access_tries.specs.Table.{Table}
@@ -41,7 +40,7 @@ use Rattle.request_slices.specs.Rules.{KeepRules}
 use Rattle.request_slices.specs.Slice.{env_of, slice, slice_in}
 use Rattle.request_slices.proofs.Same.{response_same}
 use Rattle.request_environments.proofs.Environments.{of_types, are_there}
-use Rattle.entity_manifest.proofs.Manifests.{entry_found, same_type}
+use Rattle.entity_manifest.proofs.Manifests.{entry_found}
 use Rattle.loaded_responses.specs.Loaded.{TriesAreThere, LoadedIsEnough, IsLoadedBy, AreDecidedAlike, IsFaultOrMemory, RefusalsAreFaults}
 
 -- ---- entries of a manifest

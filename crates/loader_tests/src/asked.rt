@@ -116,8 +116,7 @@ fn asked_on<L: Ledger>(alloc: Global, document: &Document, blank: Blank) -> Resu
     };
     match compute_entity_manifest(alloc, &document.schema, &document.policies) {
         Ok(manifest) => {
-            let loaded =
-                load_entities(alloc, &manifest, &document.request, &mut noter, &mut steps);
+            let loaded = load_entities(alloc, &manifest, &document.request, &mut noter, &mut steps);
             drop(loaded);
             drop(manifest);
             Ok(format!(in alloc; "{}{}", noter.rounds, noter.text.as_str())?)

@@ -1,5 +1,5 @@
 mod Answers
-mod Batch
+mod Lines
 mod Runs
 mod Manifests
 mod Says

@@ -134,9 +134,13 @@ abbrev pub sample_text : ℕ → ℕ → Decision → List ℕ
 sample_text size kept decision =
     codes "entities " ++ (decimal size ++ (codes " kept " ++ (decimal kept ++ (codes " decision " ++ (decision_text decision ++ codes "\n")))))
 
--- the line on a request to which there is no response: JSON without spaces that says why
+-- why there is no response to a request
+abbrev pub refused_json : List ℕ → Data
+refused_json message = object (member (codes "refused") (string message) no_members)
+
+-- its JSON without spaces, and a newline
 unfoldable pub refused_line : List ℕ → List ℕ
-refused_line message = compact_text (object (member (codes "refused") (string message) no_members)) ++ codes "\n"
+refused_line message = compact_text (refused_json message) ++ codes "\n"
 
 -- the line on a request that is whole: the response on the whole store, or the first rule that it breaks
 abbrev pub whole_line : Document → Request → Option RequestValidationError → List ℕ

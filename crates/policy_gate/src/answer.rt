@@ -358,10 +358,7 @@ fn broken_with(
 }
 
 /// What is answered for an entity of the store that breaks a rule, if one does.
-pub(crate) fn refused_store(
-    alloc: Global,
-    document: &Document,
-) -> Result<Option<Reply>, AllocError>
+pub(crate) fn refused_store(alloc: Global, document: &Document) -> Result<Option<Reply>, AllocError>
     ensures { IfOk result (λ o. option_map reply_view o ≡ refused_store document.now) }
 {
     match store_fault(document)? {

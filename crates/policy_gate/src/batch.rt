@@ -1,8 +1,10 @@
 //! Many requests, decided over one store.
 ghost use Rattle.std.specs.Prelude.{◌≡◌, None, IfOk, string_bytes};
 ghost use Rattle.std.specs.List.{All, flat_map};
-ghost use Rattle.policy_gate.specs.Answer.{IsAnswerTo, IsRefusedOr, IsWork, refused_line, refused_policies, refused_store};
+ghost use Rattle.serde_json.specs.View.{view};
+ghost use Rattle.policy_gate.specs.Answer.{IsAnswerTo, IsRefusedOr, IsWork, refused_json, refused_line, refused_policies, refused_store};
 ghost use Rattle.policy_gate.specs.Batch.{IsToldOfStore, line_on};
+ghost use Rattle.policy_gate.specs.declared.command.Command.{Command};
 ghost use Rattle.policy_gate.specs.Reply.{reply_view};
 
 use crate::answer::{is_well_made, refused_store, told};
@@ -90,14 +92,20 @@ fn line_on(alloc: Global, answer: &BatchAnswer) -> Result<String, AllocError>
     }
 }
 
-// Why there is no response to a request.
+// Why there is no response to a request, on a line of its own.
 fn refused_line(alloc: Global, message: &str) -> Result<String, AllocError>
     ensures { IfOk result (λ s. string_bytes s ≡ refused_line message.now) }
+{
+    let mut text = write_refused(alloc, message)?.to_string(alloc)?;
+    text.push_str("\n")?;
+    Ok(text)
+}
+
+fn write_refused(alloc: Global, message: &str) -> Result<Value, AllocError>
+    ensures { IfOk result (λ v. view v ≡ refused_json message.now) }
 {
     let message = Value::try_from_str(alloc, message)?;
     let mut members = Map::new(alloc);
     put(&mut members, alloc, "refused", message)?;
-    let mut text = Value::Object(members).to_string(alloc)?;
-    text.push_str("\n")?;
-    Ok(text)
+    Ok(Value::Object(members))
 }

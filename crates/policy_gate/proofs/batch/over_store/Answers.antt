@@ -1,11 +1,10 @@
-use Rattle.std.proofs.Common.{sym, subst}
+use Rattle.std.proofs.Common.{subst}
 use Rattle.std.specs.List.{AllZip}
-use Rattle.json_document.specs.declared.document.Document.{Document}
 use Rattle.batch_decisions.specs.Answers.{IsStoreAnswer}
 use Rattle.policy_gate.specs.Answer.{IsWork}
 use Rattle.policy_gate.specs.Reply.{reply_view}
 use Rattle.policy_gate.specs.declared.command.Command.TheVariants.{Batch}
-use Rattle.policy_gate.proofs.Batch.{all_told, answered}
+use Rattle.policy_gate.proofs.Lines.{all_told, answered}
 use Rattle.policy_gate.proofs.Manifests.{refused}
 use Rattle.policy_gate.proofs.Results.{more}
 use Rattle.policy_gate.proofs.Says.{conforming_store}
@@ -13,17 +12,17 @@ use Rattle.policy_gate.proofs.batch.over_store.Goals as goal
 
 pub lines_reply-requires : goal.lines_reply-requires
 lines_reply-requires c =
-    let d = c.args.document.now in let as = c.in-Ok.answers.items in
+    let d = c.args.document.now in let answers = c.in-Ok.answers.items in
     let conforms = conforming_store c.laws.ensures d c.is_well_made.ensures c.requires in
-    let are = subst (λ qs. AllZip (IsStoreAnswer d.schema d.policies.policies d.entities) qs as) c.as_vec.ensures (c.in-Ok.ensures.answers conforms) in
-    all_told c.laws.ensures d c.is_well_made.ensures d.requests as are
+    let are = subst (λ qs. AllZip (IsStoreAnswer d.schema d.policies.policies d.entities) qs answers) c.as_vec.ensures (c.in-Ok.ensures.answers conforms) in
+    all_told c.laws.ensures d c.is_well_made.ensures d.requests answers are
 
 pub returns-in-Ok : goal.returns-in-Ok
 returns-in-Ok c =
-    let d = c.args.document.now in let as = c.in-Ok.answers.items in
+    let d = c.args.document.now in let answers = c.in-Ok.answers.items in
     let conforms = conforming_store c.laws.ensures d c.is_well_made.ensures c.requires in
-    let are = subst (λ qs. AllZip (IsStoreAnswer d.schema d.policies.policies d.entities) qs as) c.as_vec.ensures (c.in-Ok.ensures.answers conforms) in
-    more _ _ (λ r is. answered c.laws.ensures d c.is_well_made.ensures c.in-Ok.ensures.accepted as are (reply_view r) is.0 is.1) c.lines_reply.result c.lines_reply.ensures
+    let are = subst (λ qs. AllZip (IsStoreAnswer d.schema d.policies.policies d.entities) qs answers) c.as_vec.ensures (c.in-Ok.ensures.answers conforms) in
+    more _ _ (λ r is. answered c.laws.ensures d c.is_well_made.ensures c.in-Ok.ensures.accepted answers are (reply_view r) is.0 is.1) c.lines_reply.result c.lines_reply.ensures
 
 pub returns-in-Err-Validation : goal.returns-in-Err-Validation
 returns-in-Err-Validation c =

@@ -1,23 +1,20 @@
 -- The lines on many requests are those of the answers over the store.
-use Rattle.std.proofs.Common.{◌≡◌, ◌++◌, ℕ, List, [], ◌∷◌, Bool, true, false, Some, None, refl, sym, ap, ◌∙◌, subst}
+use Rattle.std.proofs.Common.{◌≡◌, List, [], ◌∷◌, refl, sym, ◌∙◌, subst}
 use Rattle.std.proofs.lemmas.List.Elements.{All-from_recursion}
 use Rattle.std.specs.List.{All, AllByRecursion, AllZip, flat_map}
 use Rattle.entity_store.specs.declared.request.Request.{Request}
-use Rattle.entity_store.specs.Request.{IsWhole}
-use Rattle.typing_spec.specs.Conforms.{StoreConforms}
-use Rattle.conformance.specs.RequestRules.{first_request_fault}
 use Rattle.json_document.specs.declared.document.Document.{Document}
 use Rattle.batch_decisions.specs.Answers.{IsStoreAnswer}
 use Rattle.batch_decisions.specs.declared.answer.BatchAnswer.{BatchAnswer}
 use Rattle.batch_decisions.specs.declared.answer.BatchAnswer.TheVariants.{Partial, Refused, Loading, Decided}
-use Rattle.policy_gate.specs.Answer.{IsRefusedOr, IsWellMade, IsWork, batch_text, is_whole, partial_message, refused_line, refused_policies, request_line, whole_line}
+use Rattle.policy_gate.specs.Answer.{IsRefusedOr, IsWellMade, IsWork, refused_policies, request_line}
 use Rattle.policy_gate.specs.Batch.{IsToldOfStore, line_on}
 use Rattle.policy_gate.specs.Headline.{HasAcceptedPolicies}
 use Rattle.policy_gate.specs.Laws.{Laws}
 use Rattle.policy_gate.specs.Reply.{Answer}
 use Rattle.policy_gate.specs.declared.command.Command.TheVariants.{Batch}
 use Rattle.policy_gate.specs.declared.status.Status.TheVariants as status
-use Rattle.policy_gate.proofs.Says.{not_refused, parts_whole, partial_line, line_decided, whole_parts}
+use Rattle.policy_gate.proofs.Says.{not_refused, parts_whole, partial_line, line_decided}
 
 module _ (laws : Laws) (d : Document) (made : IsWellMade d) where
   abbrev IsAnswer : Request → BatchAnswer → Type 0
@@ -29,11 +26,11 @@ module _ (laws : Laws) (d : Document) (made : IsWellMade d) where
   line_is q (Loading e) is = absurd is
   line_is q (Decided r) (whole, conforms, is) = rw is (sym (line_decided laws d made q whole conforms))
 
-  pub lines_are : (qs : List Request) (as : List BatchAnswer) → AllZip IsAnswer qs as → flat_map line_on as ≡ flat_map (request_line d) qs
+  pub lines_are : (qs : List Request) (answers : List BatchAnswer) → AllZip IsAnswer qs answers → flat_map line_on answers ≡ flat_map (request_line d) qs
   lines_are [] [] h = refl
-  lines_are [] (a ∷ as) h = absurd h
+  lines_are [] (a ∷ answers) h = absurd h
   lines_are (q ∷ qs) [] h = absurd h
-  lines_are (q ∷ qs) (a ∷ as) h = rw (line_is q a h.0, lines_are qs as h.1) refl
+  lines_are (q ∷ qs) (a ∷ answers) h = rw (line_is q a h.0, lines_are qs answers h.1) refl
 
   told : (q : Request) (a : BatchAnswer) → IsAnswer q a → IsToldOfStore a
   told q Partial is = tt
@@ -41,16 +38,16 @@ module _ (laws : Laws) (d : Document) (made : IsWellMade d) where
   told q (Loading e) is = is
   told q (Decided r) is = tt
 
-  each_told : (qs : List Request) (as : List BatchAnswer) → AllZip IsAnswer qs as → AllByRecursion IsToldOfStore as
+  each_told : (qs : List Request) (answers : List BatchAnswer) → AllZip IsAnswer qs answers → AllByRecursion IsToldOfStore answers
   each_told [] [] h = tt
-  each_told [] (a ∷ as) h = absurd h
+  each_told [] (a ∷ answers) h = absurd h
   each_told (q ∷ qs) [] h = tt
-  each_told (q ∷ qs) (a ∷ as) h = (told q a h.0, each_told qs as h.1)
+  each_told (q ∷ qs) (a ∷ answers) h = (told q a h.0, each_told qs answers h.1)
 
-  pub all_told : (qs : List Request) (as : List BatchAnswer) → AllZip IsAnswer qs as → All IsToldOfStore as
-  all_told qs as h = All-from_recursion IsToldOfStore as (each_told qs as h)
+  pub all_told : (qs : List Request) (answers : List BatchAnswer) → AllZip IsAnswer qs answers → All IsToldOfStore answers
+  all_told qs answers h = All-from_recursion IsToldOfStore answers (each_told qs answers h)
 
   -- of accepted policies the lines
-  pub answered : HasAcceptedPolicies d → (as : List BatchAnswer) → AllZip IsAnswer d.requests as → (a : Answer) → a.status ≡ status.Done → a.text ≡ flat_map line_on as → IsRefusedOr (refused_policies d) (IsWork Batch d) a
-  answered accepted as is a ends written =
-      subst (λ o. IsRefusedOr o (IsWork Batch d) a) (sym (not_refused laws d accepted)) (ends, written ∙ lines_are d.requests as is)
+  pub answered : HasAcceptedPolicies d → (answers : List BatchAnswer) → AllZip IsAnswer d.requests answers → (a : Answer) → a.status ≡ status.Done → a.text ≡ flat_map line_on answers → IsRefusedOr (refused_policies d) (IsWork Batch d) a
+  answered accepted answers is a ends written =
+      subst (λ o. IsRefusedOr o (IsWork Batch d) a) (sym (not_refused laws d accepted)) (ends, written ∙ lines_are d.requests answers is)

@@ -1,0 +1,6 @@
+pub mod Never
+pub mod Least
+pub mod Raising
+pub mod Checks
+pub mod Placing
+pub mod Steps
