@@ -10,7 +10,8 @@ use Rattle.entity_loader.specs.State.{LoaderState, Continues}
 use Rattle.manifest_loading.specs.declared.error.EntitySliceError.TheVariants as error
 use Rattle.batch_decisions.specs.declared.answer.BatchAnswer.{BatchAnswer}
 use Rattle.batch_decisions.specs.declared.answer.BatchAnswer.TheVariants.{Partial, Refused, Loading, Decided}
-use Rattle.batch_decisions.specs.Answers.{IsTold, IsAnswerTo, AreAnswers, IsAnswerOrFault}
+use Rattle.loaded_responses.specs.Loaded.{IsTold}
+use Rattle.batch_decisions.specs.Answers.{IsAnswerTo, AreAnswers, IsAnswerOrFault}
 use Rattle.batch_decisions.specs.Laws.{AnswersAreWhole}
 
 pub still_told : (old mid : LoaderState) (w : Store) → Continues old mid → IsTold old w → IsTold mid w

@@ -1,6 +1,5 @@
 -- What is answered to many requests.
 use Rattle.std.specs.Prelude.{◌≡◌, ◌⊎◌, ◌≤◌, ◌+◌, ◌^◌, ⊤, ℕ, true, List, [], ◌∷◌, Option, Some, None, IfSome}
-use Rattle.byte_streams.specs.Steps.{Rose}
 use Rattle.entity_store.specs.declared.request.Request.{Request}
 use Rattle.entity_store.specs.Request.{IsWhole}
 use Rattle.entity_store.specs.Store.{Store}
@@ -12,35 +11,19 @@ use Rattle.conformance.specs.RequestRules.{first_request_fault}
 use Rattle.entity_loader.specs.State.{LoaderState, Continues}
 use Rattle.manifest_loading.specs.declared.error.EntitySliceError.{EntitySliceError}
 use Rattle.manifest_loading.specs.declared.error.EntitySliceError.TheVariants as error
-use Rattle.row_loader.specs.Laws.{IsStoreOrdered}
+use Rattle.loaded_responses.specs.Loaded.{OfToldStores, WhyNotLoaded}
 use Rattle.batch_decisions.specs.declared.answer.BatchAnswer.{BatchAnswer}
 use Rattle.batch_decisions.specs.declared.answer.BatchAnswer.TheVariants.{Partial, Refused, Loading, Decided}
 
--- a store in order that a loader tells
-pub record IsTold (l : LoaderState) (w : Store) : Type 0 where
-  pub told : l.store ≡ Some w
-  pub order : IsStoreOrdered w
-
 module _ (schema : SchemaData) (ps : List PolicyData) where
-  -- why a loader that goes from one state to another does not give what a request reads: it failed; the store does not
-  -- conform; or it does not tell its store, and its answers do not agree or are not for what was asked
-  abbrev pub WhyNotLoaded : LoaderState → LoaderState → EntitySliceError → Type 0
-  WhyNotLoaded old new error.LoaderFault = Rose old.faults new.faults
-  WhyNotLoaded old new (error.IncompatibleEntityManifest e) = (w : Store) → IsTold old w → ¬ StoreConforms schema w
-  WhyNotLoaded old new (error.InconsistentLoader uid kept got) = (w : Store) → ¬ IsTold old w
-  WhyNotLoaded old new (error.WrongNumberOfEntities e) = Rose old.strays new.strays × ((w : Store) → ¬ IsTold old w)
-  WhyNotLoaded old new (error.WrongNumberOfAncestors n m) = Rose old.strays new.strays × ((w : Store) → ¬ IsTold old w)
-  WhyNotLoaded old new (error.PartialRequest e) = ⊥
-  WhyNotLoaded old new error.OutOfMemory = ⊥
-
   -- the answer to a request, for which the loader goes from one state to another; where it tells a store that conforms, the
   -- decision is the response on that store
   abbrev pub IsAnswerTo : LoaderState → LoaderState → Request → BatchAnswer → Type 0
   IsAnswerTo old new q Partial = ¬ IsWhole q
   IsAnswerTo old new q (Refused e) = IsWhole q × (first_request_fault schema (λ _. true) q ≡ Some e)
-  IsAnswerTo old new q (Loading e) = IsWhole q × RequestConforms schema q × WhyNotLoaded old new e
+  IsAnswerTo old new q (Loading e) = IsWhole q × RequestConforms schema q × WhyNotLoaded schema old new e
   IsAnswerTo old new q (Decided r) =
-      IsWhole q × RequestConforms schema q × ((w : Store) → IsTold old w → StoreConforms schema w → r ≡ response ps q w)
+      IsWhole q × RequestConforms schema q × OfToldStores schema old (λ w. r ≡ response ps q w)
 
   -- the answers to requests, one after another
   abbrev pub AreAnswers : LoaderState → List Request → List BatchAnswer → LoaderState → Type 0

@@ -4,7 +4,6 @@ ghost use Rattle.std.specs.Prelude.{◌≡◌, ◌≢◌, Err, IfOk, IfErr};
 ghost use Rattle.entity_loader.specs.State.{Continues};
 ghost use Rattle.entity_store.specs.Request.{IsWhole};
 ghost use Rattle.typing_spec.specs.Conforms.{RequestConforms};
-ghost use Rattle.policy_set.specs.PolicySet.{AreKeyedOnce};
 ghost use Rattle.policy_validate.specs.Accepted.{IsAccepted};
 ghost use Rattle.manifest_computation.specs.Computed.{IsManifestOf, WhyNone};
 ghost use Rattle.manifest_loading.specs.declared.error.EntitySliceError.TheVariants.{OutOfMemory};
@@ -15,18 +14,16 @@ use crate::BatchAnswer;
 use conformance::laws::request_rules_are_exact;
 use entity_loader::EntityLoader;
 use entity_store::{Entities, Request};
-use loaded_responses::laws::{loaded_is_enough, refusals_are_faults};
+use loaded_responses::load_for_request;
 use manifest_computation::{EntityManifestError, compute_entity_manifest};
 use manifest_core::EntityManifest;
-use manifest_loading::{EntitySliceError, Steps, load_entities};
-use policy_set::laws::{have_keys_once, is_policy_set};
+use manifest_loading::{EntitySliceError, Steps};
 use policy_set::{PolicySet, decide};
 use request_slices::{SliceForRequestError, check_request};
 use schema_core::ValidatorSchema;
 use std::alloc::{AllocError, Global};
 use std::marker::Brand;
 use std::sync::ledger::{Blank, Ledger};
-use store_order::request_is_ordered;
 
 /// An answer for each request, in their order: `Partial` exactly where an entry of the request is not known; else `Refused`
 /// exactly where it breaks a rule, with the first one; else the response on what the loader gives for it, or why that is
@@ -79,7 +76,6 @@ fn answers_by<D: EntityLoader, L: Ledger>(
         (D.state loader.old) requests.now.items answers.items (D.state loader.new)) }
     ensures goes_on { Continues (D.state loader.old) (D.state loader.new) }
 {
-    have_keys_once(policies);
     let mut steps = Steps::<L>::new(blank);
     let mut answers = Vec::new(alloc);
     for request in requests {
@@ -102,7 +98,6 @@ fn answer_to<D: EntityLoader, L: Ledger>(
     steps: &mut Steps<L>,
 ) -> Result<BatchAnswer, AllocError>
     requires accepted { IsAccepted schema.now policies.now }
-    requires once { AreKeyedOnce policies.now.policies }
     requires manifest { IsManifestOf schema.now policies.now.policies manifest.now }
     ensures answer { IfOk result (IsAnswerTo schema.now policies.now.policies
         (D.state loader.old) (D.state loader.new) request.now) }
@@ -132,7 +127,6 @@ fn loaded_answer<D: EntityLoader, L: Ledger>(
     steps: &mut Steps<L>,
 ) -> Result<BatchAnswer, AllocError>
     requires accepted { IsAccepted schema.now policies.now }
-    requires once { AreKeyedOnce policies.now.policies }
     requires manifest { IsManifestOf schema.now policies.now.policies manifest.now }
     requires whole { IsWhole request.now }
     requires conforms { RequestConforms schema.now request.now }
@@ -140,13 +134,8 @@ fn loaded_answer<D: EntityLoader, L: Ledger>(
         (D.state loader.old) (D.state loader.new) request.now) }
     ensures goes_on { Continues (D.state loader.old) (D.state loader.new) }
 {
-    loaded_is_enough();
-    refusals_are_faults();
-    // for the proof: the names of a schema's actions ascend, and so do a set's ids and a context's keys
-    let _actions = schema.action_ids();
-    is_policy_set(policies);
-    request_is_ordered(request);
-    let loaded = load_entities(alloc, manifest, request, loader, steps);
+    let loaded =
+        load_for_request(alloc, schema, policies, manifest, request, loader, steps);
     answer_of(alloc, policies, request, loaded)
 }
 

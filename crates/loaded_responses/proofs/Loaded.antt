@@ -5,7 +5,6 @@ use Rattle.std.specs.List.{AllZip}
 use Rattle.std.specs.Map.{lookup}
 use Rattle.std.specs.Cmp.{tied_itself}
 use Rattle.std.specs.Option.{option_and_then}
-use Rattle.byte_streams.specs.Steps.{Rose}
 use Rattle.std.proofs.lemmas.Cmp.{nat_list_cmp_total}
 use Rattle.plain_lemmas.proofs.Options.{some_injective}
 use Rattle.policy_names.specs.Uid.{uid_cmp_total}
@@ -42,7 +41,7 @@ use Rattle.request_slices.specs.Slice.{env_of, slice, slice_in}
 use Rattle.request_slices.proofs.Same.{response_same}
 use Rattle.request_environments.proofs.Environments.{of_types, are_there}
 use Rattle.entity_manifest.proofs.Manifests.{entry_found}
-use Rattle.loaded_responses.specs.Loaded.{TriesAreThere, LoadedIsEnough, IsLoadedBy, AreDecidedAlike, RefusalsAreFaults}
+use Rattle.loaded_responses.specs.Loaded.{TriesAreThere, LoadedIsEnough, IsLoadedBy, AreDecidedAlike, IsFaultOrMemory, RefusalsAreFaults}
 
 -- ---- entries of a manifest
 
@@ -73,10 +72,10 @@ module _ (d : SchemaData) (ps : List PolicyData) where
 
 module _ (d : SchemaData) (valid : IsSchema d) (ps : List PolicyData) (m : Manifest) (q : Request) where
   -- the trie is that of what the conditions read and ask for in the request's environment
-  record IsTrieFor (t : Table) : Type 0 where
-    env : EnvData
-    is : env_of d q ≡ Some env
-    trie : IsLeast (declared_reads d env (typed_conditions d env ps)) (declared_demands d env (typed_conditions d env ps)) t
+  pub record IsTrieFor (t : Table) : Type 0 where
+    pub env : EnvData
+    pub is : env_of d q ≡ Some env
+    pub trie : IsLeast (declared_reads d env (typed_conditions d env ps)) (declared_demands d env (typed_conditions d env ps)) t
 
   entries_of : (ps : List PolicyData) → IsManifestOf d ps m → (m ≡ []) ⊎ Entries d ps (unlinked_envs d) m
   entries_of [] i = inl i
@@ -85,7 +84,7 @@ module _ (d : SchemaData) (valid : IsSchema d) (ps : List PolicyData) (m : Manif
   none_in_nothing : (rt : RequestType) (t : Table) → m ≡ [] → lookup (is_at (request_type_cmp rt)) m ≡ Some t → ⊥
   none_in_nothing rt t e k = let no : None ≡ Some t = sym (ap (lookup (is_at (request_type_cmp rt))) e) ∙ k in absurd (cc)
 
-  trie_is : IsManifestOf d ps m → (t : Table) → trie_for m q ≡ Some t → IsTrieFor t
+  pub trie_is : IsManifestOf d ps m → (t : Table) → trie_for m q ≡ Some t → IsTrieFor t
   trie_is is t h = by (request_type_of q) refl h
     where
       by : (o : Option RequestType) → request_type_of q ≡ o → option_and_then (λ rt. lookup (is_at (request_type_cmp rt)) m) o ≡ Some t → IsTrieFor t
@@ -131,7 +130,7 @@ loaded_enough slices d valid policies set once m computed q whole rules exact s 
 
 -- ---- refusals
 
-faults_alone : (P : Val → Type 0) → ((v : Val) → ¬ P v) → (old new : LoaderState) (e : EntitySliceError) → IsRight P old new e → ((e ≡ error.LoaderFault) × Rose old.faults new.faults) ⊎ (e ≡ error.OutOfMemory)
+faults_alone : (P : Val → Type 0) → ((v : Val) → ¬ P v) → (old new : LoaderState) (e : EntitySliceError) → IsRight P old new e → IsFaultOrMemory old new e
 faults_alone P none old new (error.PartialRequest e) h = absurd h
 faults_alone P none old new (error.IncompatibleEntityManifest e) h = absurd (none e.value h)
 faults_alone P none old new (error.WrongNumberOfEntities e) h = absurd h
@@ -143,6 +142,6 @@ faults_alone P none old new error.OutOfMemory h = inr refl
 pub refused : ComputedManifestsFit → RefusalsAreFaults
 refused fit schema valid ps m is q request s store old new e h = by (trie_for m q) refl
   where
-    by : (o : Option Table) → trie_for m q ≡ o → ((e ≡ error.LoaderFault) × Rose old.faults new.faults) ⊎ (e ≡ error.OutOfMemory)
+    by : (o : Option Table) → trie_for m q ≡ o → IsFaultOrMemory old new e
     by None i = inr (h.without i)
     by (Some t) i = faults_alone (SticksAt t q s) (fit schema valid ps m is q request s store t i) old new e (h.right t i)
