@@ -134,8 +134,7 @@ fn loaded_answer<D: EntityLoader, L: Ledger>(
         (D.state loader.old) (D.state loader.new) request.now) }
     ensures goes_on { Continues (D.state loader.old) (D.state loader.new) }
 {
-    let loaded =
-        load_for_request(alloc, schema, policies, manifest, request, loader, steps);
+    let loaded = load_for_request(alloc, schema, policies, manifest, request, loader, steps);
     answer_of(alloc, policies, request, loaded)
 }
 

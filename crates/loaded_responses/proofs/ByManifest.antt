@@ -165,7 +165,7 @@ module _ (sticks : Table → Val → Type 0) (covered : LoadedIsEnough) (faults 
         without h =
             let empty : s ≡ [] = loads.none whole h in
             let least : slice schema policies.policies q w ≡ [] =
-                ap (λ ps. slice schema ps q w) (tries_there schema policies.policies m computed q whole conforms h) ∙ no_slice schema q w in
+            ap (λ ps. slice schema ps q w) (tries_there schema policies.policies m computed q whole conforms h) ∙ no_slice schema q w in
             record {
               enough = (needed [] [] q [], least ∙ sym (ap (part (needed [] [] q [])) empty));
               part = (needed [] [] q w, empty ∙ sym (nothing_kept [] q w w));

@@ -90,5 +90,13 @@ pub fn load_slice<L: Ledger>(
     // for the proof: the ids of a store ascend
     let _entities = entities.iter();
     let mut loader = EntitySlicer::new(entities);
-    load_for_request(alloc, schema, policies, manifest, request, &mut loader, steps)
+    load_for_request(
+        alloc,
+        schema,
+        policies,
+        manifest,
+        request,
+        &mut loader,
+        steps,
+    )
 }
