@@ -16,6 +16,8 @@ mod expressions;
 #[cfg(test)]
 mod hostile;
 #[cfg(test)]
+mod reviews;
+#[cfg(test)]
 mod runs;
 #[cfg(test)]
 mod schemas;

@@ -5,11 +5,11 @@ use std::alloc::Global;
 use std::test::Fail;
 
 const USAGE: &str =
-    "usage: check | level N | request | manifest | slice | decide | sample SEED SIZE | batch\n";
+    "usage: check | level N | request | manifest | slice | decide | sample SEED SIZE | batch | review\n";
 
 // The same, with a bar for the end of the line.
 pub(crate) const USAGE_LINE: &str =
-    "usage: check | level N | request | manifest | slice | decide | sample SEED SIZE | batch|";
+    "usage: check | level N | request | manifest | slice | decide | sample SEED SIZE | batch | review|";
 
 fn owned(alloc: Global, words: &[&str]) -> Result<Vec<String>, Fail> {
     let mut owned = Vec::new(alloc);

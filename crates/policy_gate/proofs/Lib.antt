@@ -4,3 +4,4 @@ mod Runs
 mod Manifests
 mod Says
 mod Results
+mod Reviews

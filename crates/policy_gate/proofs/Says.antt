@@ -21,13 +21,17 @@ use Rattle.policy_gate.specs.Reply.{Answer, answer}
 use Rattle.policy_gate.specs.declared.status.Status.{Status}
 use Rattle.policy_gate.specs.declared.status.Status.TheVariants as status
 use Rattle.policy_gate.specs.declared.command.Command.{Command}
-use Rattle.policy_gate.specs.declared.command.Command.TheVariants.{Check, Level, Request as Conformance, Manifest, Slice, Decide, Sample, Batch}
+use Rattle.policy_gate.specs.declared.command.Command.TheVariants.{Check, Level, Request as Conformance, Manifest, Slice, Decide, Sample, Batch, Review}
 use Rattle.json_document.proofs.OneReading.{one_reading}
 use Rattle.conformance.specs.RequestRules.{first_request_fault}
 use Rattle.policy_set.specs.Response.{response}
 use Rattle.json_response.specs.SliceJson.{response_text}
 use Rattle.conformance.proofs.Options.{none_first, none_rest, neither, none_inside}
 use Rattle.request_slices.specs.Enough.{IsEnough}
+use Rattle.std.specs.List.{AllByRecursion}
+use Rattle.policy_set.specs.Data.{TemplateData}
+use Rattle.policy_set.specs.PolicySet.{written}
+use Rattle.policy_review.specs.Levels.{HasLeastLevel}
 
 -- ---- refusals
 
@@ -78,6 +82,7 @@ refuses Manifest d = refuses_with (found_in d).errors (found_in d)
 refuses Slice d = refuses_decision d
 refuses Decide d = refuses_decision d
 refuses (Sample seed size) d = refuses_decision d
+refuses Review d = refuses_with (found_in d).errors (found_in d)
 refuses Batch d = either (refused_store d) (refused_policies d) (refuses_store d) (refuses_with (found_in d).errors (found_in d))
 
 no_refusal : (s : Status) → IsRefusal s → s ≡ status.Done → ⊥
@@ -196,6 +201,7 @@ module _ (laws : Laws) (d : Document) where
     kept_all Slice h = keeps h
     kept_all Decide h = keeps h
     kept_all (Sample seed size) h = keeps h
+    kept_all Review h = not_refused h
     kept_all Batch h = neither (refused_store d) (refused_policies d) (store_not_refused h.store) (not_refused h.policies)
 
     -- ---- what 0 says
@@ -223,6 +229,18 @@ module _ (laws : Laws) (d : Document) where
     says Slice text none is = let rules = keeping none in (rules, sliced text rules is)
     says Decide text none is = let rules = keeping none in (rules, decided text rules is)
     says (Sample seed size) text none is = let rules = keeping none in (rules, record { written = is; enough = enough rules })
+    says Review text none is =
+        let policies = accepted none in
+        record {
+          written = is;
+          accepted = policies;
+          never = laws.never d.schema made.schema d.policies made.policies made.keys policies;
+          least = all_least (written d.policies);
+        }
+      where
+        all_least : (ts : List TemplateData) → AllByRecursion (HasLeastLevel d.schema) ts
+        all_least [] = tt
+        all_least (t ∷ ts) = (laws.least d.schema t, all_least ts)
     says Batch text none is = record {
       written = is;
       decided = λ q rules. record { written = line_decided q rules.whole rules.request; allowed = laws.outcomes d.schema made.schema d.policies made.policies made.keys q d.entities rules };
@@ -281,6 +299,7 @@ found_policies laws Manifest d h = not_accepted laws d h
 found_policies laws Slice d h = not_accepted laws d (found_data d (refused_policies d) (found_behind (refused_partial d) (option_or (refused_data d) (refused_policies d)) (no_partial d) h))
 found_policies laws (Sample seed size) d h = not_accepted laws d (found_data d (refused_policies d) (found_behind (refused_partial d) (option_or (refused_data d) (refused_policies d)) (no_partial d) h))
 found_policies laws Decide d h = not_accepted laws d (found_data d (refused_policies d) (found_behind (refused_partial d) (option_or (refused_data d) (refused_policies d)) (no_partial d) h))
+found_policies laws Review d h = not_accepted laws d h
 found_policies laws Batch d h = not_accepted laws d (found_behind (refused_store d) (refused_policies d) (no_store d) h)
 
 found_answer : (r : Option Answer) (W : List ℕ → Type 0) (text : List ℕ) → IsRefusedOr r W (answer status.Findings text) → IsFound r

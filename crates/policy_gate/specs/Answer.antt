@@ -24,7 +24,7 @@ use Rattle.policy_validate.specs.Accepted.{findings_of}
 use Rattle.policy_validate.specs.Levels.{level_findings_of}
 use Rattle.conformance.specs.RequestRules.{first_request_fault}
 use Rattle.conformance.specs.StoreRules.{first_store_fault}
-use Rattle.conformance_errors.specs.Written.{request_message, request_text, entity_text}
+use Rattle.conformance_errors.specs.Written.{id_text, request_message, request_text, entity_text}
 use Rattle.conformance_errors.specs.declared.request_error.RequestValidationError.{RequestValidationError}
 use Rattle.conformance_errors.specs.declared.store_rule.StoreRule.{StoreRule}
 use Rattle.request_slices.specs.Slice.{slice}
@@ -33,10 +33,16 @@ use Rattle.manifest_core.specs.Manifest.{Manifest}
 use Rattle.manifest_core.specs.ManifestJson.{manifest_data}
 use Rattle.manifest_computation.specs.Computed.{IsManifestOf}
 use Rattle.json_response.specs.SliceJson.{decision_text, slice_text, response_text}
+use Rattle.policy_typecheck.specs.declared.verdict.Verdict.{Verdict}
+use Rattle.policy_typecheck.specs.declared.verdict.Verdict.TheVariants.{Never, May}
+use Rattle.policy_review.specs.Levels.{levels_of}
+use Rattle.policy_review.specs.Matrix.{matrix_of}
+use Rattle.policy_review.specs.declared.rows.PolicyLevel.{PolicyLevel}
+use Rattle.policy_review.specs.declared.rows.ReviewRow.{ReviewRow}
 use Rattle.policy_gate.specs.Command.{shape_of}
 use Rattle.policy_gate.specs.Reply.{Answer, answer}
 use Rattle.policy_gate.specs.declared.command.Command.{Command}
-use Rattle.policy_gate.specs.declared.command.Command.TheVariants.{Check, Level, Request as Conformance, Manifest as Reads, Slice, Decide, Sample, Batch}
+use Rattle.policy_gate.specs.declared.command.Command.TheVariants.{Check, Level, Request as Conformance, Manifest as Reads, Slice, Decide, Sample, Batch, Review}
 use Rattle.policy_gate.specs.declared.status.Status.{Status}
 use Rattle.policy_gate.specs.declared.status.Status.TheVariants as status
 
@@ -120,6 +126,7 @@ refusal Slice d = refused_decision d
 refusal Decide d = refused_decision d
 refusal (Sample seed size) d = refused_decision d
 refusal Batch d = refused_batch d
+refusal Review d = refused_policies d
 
 -- the document's store restricted to what its policies read on its request
 abbrev pub slice_of : Document → Store
@@ -155,8 +162,32 @@ request_line d q = if is_whole q then whole_line d q (first_request_fault d.sche
 abbrev pub batch_text : Document → List ℕ
 batch_text d = flat_map (request_line d) d.requests
 
+-- what stands for a verdict
+abbrev pub verdict_word : Verdict → List ℕ
+verdict_word Never = codes "never"
+verdict_word May = codes "may"
+
+-- the line on whether a policy can be true on requests of a type
+abbrev pub row_line : ReviewRow → List ℕ
+row_line r =
+    verdict_word r.verdict ++ (codes " " ++ (r.policy_id ++ (codes ": "
+    ++ (r.request_type.principal ++ (codes ", " ++ (id_text r.request_type.action ++ (codes ", " ++ (r.request_type.resource ++ codes "\n"))))))))
+
+-- the least level, or that there is none
+abbrev pub level_word : Option ℕ → List ℕ
+level_word (Some n) = decimal n
+level_word None = codes "none"
+
+-- the line on the least level of a template or static policy
+abbrev pub level_line : PolicyLevel → List ℕ
+level_line l = codes "level " ++ (l.policy_id ++ (codes ": " ++ (level_word l.level ++ codes "\n")))
+
+-- a line for each row of the review of the document's policies, and then one for each least level
+abbrev pub review_text : Document → List ℕ
+review_text d = flat_map row_line (matrix_of d.schema d.policies) ++ flat_map level_line (levels_of d.schema d.policies)
+
 -- the text is that of the command's work: the findings; that all conforms; the manifest of the policies; the restricted store, with the response on it; the response on
--- the whole store; the line on the restricted store; a line for each request
+-- the whole store; the line on the restricted store; a line for each request; the review of the policies
 abbrev pub IsWork : Command → Document → List ℕ → Type 0
 IsWork Check d text = text ≡ findings_text (found_in d)
 IsWork (Level n) d text = text ≡ findings_text (found_at n d)
@@ -166,6 +197,7 @@ IsWork Slice d text = text ≡ slice_text (response d.policies.policies d.reques
 IsWork Decide d text = text ≡ response_text (response d.policies.policies d.request d.entities)
 IsWork (Sample seed size) d text = text ≡ sample_text size (length (slice_of d)) (response d.policies.policies d.request (slice_of d)).decision
 IsWork Batch d text = text ≡ batch_text d
+IsWork Review d text = text ≡ review_text d
 
 -- the refusal, where there is one, or else the work
 abbrev pub IsRefusedOr : Option Answer → (List ℕ → Type 0) → Answer → Type 0

@@ -6,7 +6,7 @@ use Rattle.json_document.specs.declared.shape.Shape.{Shape}
 use Rattle.json_document.specs.declared.shape.Shape.TheVariants as shape
 use Rattle.json_samples.specs.Sample.{sample_document}
 use Rattle.policy_gate.specs.declared.command.Command.{Command}
-use Rattle.policy_gate.specs.declared.command.Command.TheVariants.{Check, Level, Request, Manifest, Slice, Decide, Sample, Batch}
+use Rattle.policy_gate.specs.declared.command.Command.TheVariants.{Check, Level, Request, Manifest, Slice, Decide, Sample, Batch, Review}
 
 -- a command of one word
 abbrev pub one_word : List ℕ → Option Command
@@ -16,7 +16,8 @@ one_word word =
     (if bytes_eq word (codes "manifest") then Some Manifest else
     (if bytes_eq word (codes "slice") then Some Slice else
     (if bytes_eq word (codes "decide") then Some Decide else
-    (if bytes_eq word (codes "batch") then Some Batch else None)))))
+    (if bytes_eq word (codes "batch") then Some Batch else
+    (if bytes_eq word (codes "review") then Some Review else None))))))
 
 -- a command of two words: a level is a number, up to 200, of digits with no zero in front of others
 abbrev pub two_words : List ℕ → List ℕ → Option Command
@@ -49,6 +50,7 @@ own_document Manifest = None
 own_document Slice = None
 own_document Decide = None
 own_document Batch = None
+own_document Review = None
 
 -- what a document for a command asks about: one request, but for many at once
 abbrev pub shape_of : Command → Shape

@@ -17,9 +17,10 @@ use Rattle.json_response.specs.SliceJson.{slice_text, response_text}
 use Rattle.json_values.specs.Json.{json_of}
 use Rattle.manifest_core.specs.Manifest.{Manifest as Tries}
 use Rattle.manifest_computation.specs.Computed.{IsManifestOf}
-use Rattle.policy_gate.specs.Answer.{batch_text, found_in, found_at, manifest_text, request_fault, request_line, sample_text, slice_of}
+use Rattle.policy_review.specs.Laws.{NeversAreNeverTrue, LevelsAreLeast}
+use Rattle.policy_gate.specs.Answer.{batch_text, found_in, found_at, manifest_text, request_fault, request_line, review_text, sample_text, slice_of}
 use Rattle.policy_gate.specs.declared.command.Command.{Command}
-use Rattle.policy_gate.specs.declared.command.Command.TheVariants.{Check, Level, Request, Manifest, Slice, Decide, Sample, Batch}
+use Rattle.policy_gate.specs.declared.command.Command.TheVariants.{Check, Level, Request, Manifest, Slice, Decide, Sample, Batch, Review}
 
 -- the document of the shape that the bytes are
 abbrev pub IsDocumentOf : Shape → List ℕ → Document → Type 0
@@ -62,6 +63,7 @@ KeepsRulesOf Slice d = KeepsRules d
 KeepsRulesOf Decide d = KeepsRules d
 KeepsRulesOf (Sample seed size) d = KeepsRules d
 KeepsRulesOf Batch d = IsReadyForRequests d
+KeepsRulesOf Review d = HasAcceptedPolicies d
 
 -- the policies keep what the command asks of policies
 abbrev pub HasPoliciesFor : Command → Document → Type 0
@@ -115,6 +117,14 @@ pub record IsBatch (d : Document) (text : List ℕ) : Type 0 where
   pub decided : (q : ARequest) → KeepRules d.schema d.policies q d.entities → IsDecidedLine d q
   pub rules : IsReadyForRequests d
 
+-- the text has a line for each row and each least level of the review of the document's policies, which are accepted. Of what a row says never,
+-- the policy is true on no request of the row's type and on no store, where both conform; and each level is the least at which the policy passes
+pub record IsReviewed (d : Document) (text : List ℕ) : Type 0 where
+  pub written : text ≡ review_text d
+  pub accepted : HasAcceptedPolicies d
+  pub never : NeversAreNeverTrue d.schema d.policies
+  pub least : LevelsAreLeast d.schema d.policies
+
 -- what 0 says
 abbrev pub Says : Command → Document → List ℕ → Type 0
 Says Check d text = IsChecked d text
@@ -125,3 +135,4 @@ Says Slice d text = KeepsRules d × IsSliced d text
 Says Decide d text = KeepsRules d × IsDecided d text
 Says (Sample seed size) d text = KeepsRules d × IsSampled size d text
 Says Batch d text = IsBatch d text
+Says Review d text = IsReviewed d text

@@ -2,6 +2,7 @@
 use Rattle.conformance.specs.Laws.{RequestRulesAreExact, StoreRulesAreExact}
 use Rattle.policy_validate.specs.Laws.{NoErrorsWhereAccepted}
 use Rattle.policy_validate.specs.Levels.{NoErrorsWhereAcceptedAt, AcceptedLevelsAreSound}
+use Rattle.policy_review.specs.Laws.{NeverIsNeverTrue, LeastLevelsAreLeast}
 use Rattle.request_slices.specs.Enough.{OutcomesAreAllowed, SlicesAreEnough}
 
 pub record Laws : Type 0 where
@@ -15,3 +16,6 @@ pub record Laws : Type 0 where
   pub levels : AcceptedLevelsAreSound
   pub slices : SlicesAreEnough
   pub outcomes : OutcomesAreAllowed
+  -- what a review says never of is never true, and its levels are the least
+  pub never : NeverIsNeverTrue
+  pub least : LeastLevelsAreLeast

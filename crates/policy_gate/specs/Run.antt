@@ -15,7 +15,7 @@ use Rattle.policy_gate.specs.declared.status.Status.TheVariants.{Done, Findings,
 
 -- for words that are no command
 abbrev pub usage : Answer
-usage = answer Usage (codes "usage: check | level N | request | manifest | slice | decide | sample SEED SIZE | batch\n")
+usage = answer Usage (codes "usage: check | level N | request | manifest | slice | decide | sample SEED SIZE | batch | review\n")
 
 -- for a source that failed before its end
 abbrev pub read_fault : Answer

@@ -17,6 +17,7 @@ use crate::batch::batch;
 use crate::command::{Command, shape_of};
 use crate::laws::laws;
 use crate::reply::{Reply, reply_with};
+use crate::review::reviewed;
 use crate::status::Status;
 use conformance::laws::all_functions_are_known;
 use conformance::{
@@ -101,6 +102,7 @@ fn reply_to(alloc: Global, command: Command, document: &Document) -> Result<Repl
         Command::Decide => decided(alloc, document),
         Command::Sample { seed, size } => sampled(alloc, document, seed, size),
         Command::Batch => batch(alloc, document),
+        Command::Review => reviewed(alloc, document),
     }
 }
 

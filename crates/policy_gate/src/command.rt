@@ -37,6 +37,8 @@ pub enum Command {
     },
     /// Decide on each of the document's requests, over its whole store.
     Batch,
+    /// Say on which types of requests each policy can be true, and the least level at which each passes.
+    Review,
 }
 
 fn one_word(word: &str) -> Option<Command>
@@ -49,6 +51,7 @@ fn one_word(word: &str) -> Option<Command>
         "slice" => Some(Command::Slice),
         "decide" => Some(Command::Decide),
         "batch" => Some(Command::Batch),
+        "review" => Some(Command::Review),
         _ => None,
     }
 }
@@ -134,7 +137,8 @@ pub(crate) fn own_document(alloc: Global, command: Command) -> Result<Option<Str
         | Command::Manifest
         | Command::Slice
         | Command::Decide
-        | Command::Batch => Ok(None),
+        | Command::Batch
+        | Command::Review => Ok(None),
     }
 }
 

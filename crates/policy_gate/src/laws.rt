@@ -3,12 +3,13 @@
 ghost use Rattle.policy_gate.specs.Laws.{Laws};
 
 use conformance::laws::{request_rules_are_exact, store_rules_are_exact};
+use policy_review::laws::{least_levels_are_least, never_is_never_true};
 use policy_validate::laws::{
     accepted_levels_are_sound, no_errors_where_accepted, no_errors_where_accepted_at,
 };
 use request_slices::laws::{outcomes_are_allowed, slices_are_enough};
 
-/// The laws on policies, requests, stores and slices.
+/// The laws on policies, requests, stores, slices and reviews.
 pub(crate) fn laws()
     ensures { Laws }
 {
@@ -19,4 +20,6 @@ pub(crate) fn laws()
     accepted_levels_are_sound();
     slices_are_enough();
     outcomes_are_allowed();
+    never_is_never_true();
+    least_levels_are_least();
 }

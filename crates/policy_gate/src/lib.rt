@@ -6,6 +6,7 @@ mod batch;
 mod command;
 mod laws;
 mod reply;
+mod review;
 mod runner;
 mod status;
 

@@ -7,7 +7,7 @@ ghost use Rattle.policy_gate.specs.Answer.{IsAnswer};
 ghost use Rattle.policy_gate.specs.Command.{command_of, own_document, shape_of};
 ghost use Rattle.json_document.specs.declared.document.Document.{Document};
 ghost use Rattle.json_document.specs.declared.shape.Shape.TheVariants as shape;
-ghost use Rattle.policy_gate.specs.Headline.{HasPoliciesFor, IsBatch, IsChecked, IsCheckedAt, IsConforming, IsDecided, IsDocumentOf, IsManifested, IsSampled, IsSliced, KeepsRules, KeepsRulesOf};
+ghost use Rattle.policy_gate.specs.Headline.{HasPoliciesFor, IsBatch, IsChecked, IsCheckedAt, IsConforming, IsDecided, IsDocumentOf, IsManifested, IsReviewed, IsSampled, IsSliced, KeepsRules, KeepsRulesOf};
 ghost use Rattle.policy_gate.specs.Reply.{answer, reply_view};
 ghost use Rattle.policy_gate.specs.Run.{Cause, Gives, IsDue, IsDueAfterReading, IsDueFor, IsGiven, IsToWorkOn, Reads, Runs};
 ghost use Rattle.json_samples.specs.Sample.{sample_document};
@@ -22,7 +22,7 @@ use byte_streams::{DOCUMENT_LIMIT, ReadError, Sink, Source, read_document_bytes,
 use std::alloc::{AllocError, Global};
 
 const USAGE: &str =
-    "usage: check | level N | request | manifest | slice | decide | sample SEED SIZE | batch\n";
+    "usage: check | level N | request | manifest | slice | decide | sample SEED SIZE | batch | review\n";
 
 const READ_FAULT: &str = "read fault\n";
 
@@ -193,6 +193,14 @@ pub fn run<S: Source, K: Sink>(
         → result ≡ Status.Done
         → (bytes : List ℕ) × (text : List ℕ) × WasRead (S.state source.old) (S.state source.new) bytes
         × ((document : Document) × IsDocumentOf shape.Batch bytes document × IsBatch document text)
+        × Appends (K.state sink.old).holds (K.state sink.new).holds text }
+
+    // Where `review` ends with 0 the document's policies are accepted, and the text says on which types of requests each can be true, and at which least
+    // level it passes: what it says never of is true on no request of that type and on no store, where both conform.
+    ensures reviewed { command_of (map string_bytes words.now.items) ≡ Some Command.Review
+        → result ≡ Status.Done
+        → (bytes : List ℕ) × (text : List ℕ) × WasRead (S.state source.old) (S.state source.new) bytes
+        × ((document : Document) × IsDocumentOf shape.Whole bytes document × IsReviewed document text)
         × Appends (K.state sink.old).holds (K.state sink.new).holds text }
 
     // A command finds errors in the policies of no other documents than those whose policies are not accepted, for `level` at the level.

@@ -9,4 +9,6 @@ returns c = record {
   levels = c.accepted_levels_are_sound.ensures;
   slices = c.slices_are_enough.ensures;
   outcomes = c.outcomes_are_allowed.ensures;
+  never = c.never_is_never_true.ensures;
+  least = c.least_levels_are_least.ensures;
 }
