@@ -28,7 +28,7 @@ module _ (errors : NoErrorsWhereAccepted) (d : Document) (a : Answer) where
   other_work (e ∷ es) found V W some h = h
 
   -- of others what is found of them
-  refused_by : (HasAcceptedPolicies d → ⊥) → (W : List _ → Type 0) (found : Findings) → found ≡ findings_of d.schema d.policies → IsRefusedOr (refused_with found.errors found) (λ text. text ≡ findings_text found) a → IsRefusedOr (refused_policies d) W a
+  pub refused_by : (HasAcceptedPolicies d → ⊥) → (W : List _ → Type 0) (found : Findings) → found ≡ findings_of d.schema d.policies → IsRefusedOr (refused_with found.errors found) (λ text. text ≡ findings_text found) a → IsRefusedOr (refused_policies d) W a
   unfolding found_in
   refused_by fails W found is h =
       other_work (findings_of d.schema d.policies).errors (findings_of d.schema d.policies) (λ text. text ≡ findings_text (findings_of d.schema d.policies)) W
