@@ -1,5 +1,5 @@
 -- What loading by a computed manifest promises.
-use Rattle.std.proofs.Common.{◌≡◌, ◌⊎◌, Bool, true, List, [], ◌∷◌, Option, Some, None, Result, Ok, Err, IfSome, refl, sym, ap, ◌∙◌, subst, inl, inr}
+use Rattle.std.proofs.Common.{◌≡◌, Bool, true, List, [], ◌∷◌, Option, Some, None, Result, Ok, Err, IfSome, refl, sym, ap, ◌∙◌, subst, inl, inr}
 use Rattle.std.specs.Prelude.{◌≢◌, IfErr, IfOk, map}
 use Rattle.std.specs.List.Sorted.{IsStrictlySortedBy}
 use Rattle.policy_names.specs.Uid.{uid_cmp}
@@ -36,7 +36,6 @@ use Rattle.manifest_loading.specs.declared.error.EntitySliceError.{EntitySliceEr
 use Rattle.manifest_loading.specs.declared.error.EntitySliceError.TheVariants as error
 use Rattle.manifest_core.specs.Manifest.{Manifest, trie_for}
 use Rattle.manifest_computation.specs.Computed.{IsManifestOf}
-use Rattle.entity_manifest.specs.Computed.{IsRightRefusal}
 use Rattle.loaded_responses.specs.Loaded.{LoadedIsEnough, AreDecidedAlike, RefusalsAreFaults, IsFaultOrMemory, IsTold, OfToldStores, WhyNotLoaded}
 use Rattle.loaded_responses.proofs.Loaded.{trie_is, tries_there}
 

@@ -1,5 +1,5 @@
 -- A store in memory as a loader.
-use Rattle.std.proofs.Common.{◌≡◌, ◌⊎◌, Bool, true, false, cond, List, [], ◌∷◌, Option, Some, None, Result, Ok, Err, subst, inl, inr, arith}
+use Rattle.std.proofs.Common.{◌≡◌, Bool, true, false, cond, [], ◌∷◌, Some, Result, Ok, Err, subst, inl, inr, arith}
 use Rattle.std.specs.Prelude.{IfErr, map, find}
 use Rattle.std.specs.List.{AllByRecursion}
 use Rattle.std.specs.List.Sorted.{IsStrictlySortedBy}
