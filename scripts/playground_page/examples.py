@@ -22,11 +22,14 @@ GROUPS = (
 
 
 def examples():
-    """All examples: those in Cedar's files with their requests, then documents."""
+    """All examples: those in Cedar's files with their requests, then documents. A document with many requests is none:
+    the page has no `batch`."""
     found = [of_files(folder) for folder in sorted((EXAMPLES / "cedar").iterdir()) if folder.is_dir()]
     for group, pattern in GROUPS:
         for path in sorted(EXAMPLES.glob(pattern)):
-            found.append(example(path, group, {"document": {"document": path.read_text(encoding="utf-8")}}, []))
+            text = path.read_text(encoding="utf-8")
+            if "requests" not in json.loads(text):
+                found.append(example(path, group, {"document": {"document": text}}, []))
     return found
 
 
