@@ -2,8 +2,8 @@
 
 use entity_manifest::{EntityManifest, compute_entity_manifest, slice_entities, slice_for_request};
 use extension_types::{ExtensionSchemas, all_objects};
+use json_document::{Document, parse_json, read_document};
 use policy_core::{Decimal, Entities};
-use policy_gate::{Document, parse_json, read_document};
 use policy_scope::ValidationResult;
 use policy_typecheck::{PolicyCheck, Typechecker};
 use policy_types::{SubtypeMode, is_subtype};

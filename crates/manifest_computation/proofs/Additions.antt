@@ -24,11 +24,11 @@ pub both_ok : {A E : Type 0} (P Q R : Type 0) → (P → Q → R) → (r : Resul
 both_ok P Q R f (Ok a) p q = f p q
 both_ok P Q R f (Err e) p q = tt
 
-empty_leads : (es : Address) → leads [] es ≡ false
+pub empty_leads : (es : Address) → leads [] es ≡ false
 empty_leads [] = refl
 empty_leads (e ∷ es) = refl
 
-empty_marks : (es : Address) → is_marked [] es ≡ false
+pub empty_marks : (es : Address) → is_marked [] es ≡ false
 empty_marks [] = refl
 empty_marks (e ∷ es) = refl
 
@@ -49,7 +49,7 @@ module _ (schema : SchemaData) (env : EnvData) where
       ∙ ap (list_any f) (map-append address_of (declared_reads schema env ts) (declared_reads schema env us))
       ∙ list_any-append f (map address_of (declared_reads schema env ts)) (map address_of (declared_reads schema env us))
 
-  any_demand : (f : Address → Bool) (ts us : List Typed) →
+  pub any_demand : (f : Address → Bool) (ts us : List Typed) →
       list_any f (map demand_of (declared_demands schema env (ts ++ us))) ≡ (list_any f (map demand_of (declared_demands schema env ts)) || list_any f (map demand_of (declared_demands schema env us)))
   any_demand f ts us =
       ap (λ ds. list_any f (map demand_of (filter (are_declared schema env) ds))) (demands_append ts us)
@@ -57,7 +57,7 @@ module _ (schema : SchemaData) (env : EnvData) where
       ∙ ap (list_any f) (map-append demand_of (declared_demands schema env ts) (declared_demands schema env us))
       ∙ list_any-append f (map demand_of (declared_demands schema env ts)) (map demand_of (declared_demands schema env us))
 
-  goes_append : (es : Address) (ts us : List Typed) → goes_along schema env (ts ++ us) es ≡ (goes_along schema env ts es || goes_along schema env us es)
+  pub goes_append : (es : Address) (ts us : List Typed) → goes_along schema env (ts ++ us) es ≡ (goes_along schema env ts es || goes_along schema env us es)
   goes_append es ts us =
       (λ i. any_read (is_front es) ts us i || any_demand (is_front es) ts us i)
       ∙ or_exchange (list_any (is_front es) (map address_of (declared_reads schema env ts))) (list_any (is_front es) (map address_of (declared_reads schema env us)))

@@ -31,7 +31,7 @@ use Rattle.plain_lemmas.proofs.Lists.{empty_of_length}
 request_types_total : IsTotalOrder request_type_cmp
 request_types_total = then_total (on_total (λ t. t.action) uid_cmp_total) (then_total (on_total (λ t. t.principal) nat_list_cmp_total) (on_total (λ t. t.resource) nat_list_cmp_total))
 
-at_seam : {X : Type 0} (P : X → Type 0) (xs : List X) (y : X) (ys : List X) → AllByRecursion P (xs ++ y ∷ ys) → P y
+pub at_seam : {X : Type 0} (P : X → Type 0) (xs : List X) (y : X) (ys : List X) → AllByRecursion P (xs ++ y ∷ ys) → P y
 at_seam P [] y ys h = h.0
 at_seam P (x ∷ xs) y ys h = at_seam P xs y ys h.1
 
@@ -41,7 +41,7 @@ zip_last R [] (v ∷ ys) x y h r = absurd h
 zip_last R (u ∷ xs) [] x y h r = absurd h
 zip_last R (u ∷ xs) (v ∷ ys) x y h r = (h.0, zip_last R xs ys x y h.1 r)
 
-before_types : (e f : EnvData) (p q : RequestType) → request_type_in e ≡ Some p → request_type_in f ≡ Some q → IsBefore e f → request_type_cmp q p ≡ Greater
+pub before_types : (e f : EnvData) (p q : RequestType) → request_type_in e ≡ Some p → request_type_in f ≡ Some q → IsBefore e f → request_type_cmp q p ≡ Greater
 before_types (declared_action e) (declared_action f) p q h k b =
     let ep : record { action = e.environment.action; principal = e.environment.principal; resource = e.environment.resource } ≡ p = cc h in
     let fq : record { action = f.environment.action; principal = f.environment.principal; resource = f.environment.resource } ≡ q = cc k in
@@ -58,21 +58,21 @@ next_behind schema ps (e ∷ done) [] env rest q is h b = absurd h
 next_behind schema ps (e ∷ done) (x ∷ m) env rest q is h b =
     (before_types e env x.0 q h.0.0.request_type is (at_seam (IsBefore e) done env rest b.0), next_behind schema ps done m env rest q is h.1 b.1)
 
-split_at : {X : Type 0} (xs : List X) (i : ℕ) (d : X) → i < length xs → xs ≡ take i xs ++ get_or xs i d ∷ drop (i + 1) xs
+pub split_at : {X : Type 0} (xs : List X) (i : ℕ) (d : X) → i < length xs → xs ≡ take i xs ++ get_or xs i d ∷ drop (i + 1) xs
 split_at xs i d h = sym (take-append-drop i xs) ∙ ap (λ l. take i xs ++ l) (at_drop_more (λ ys. ys) xs i d h)
 
-taken_one_more : {X : Type 0} (xs : List X) (i : ℕ) (d : X) → i < length xs → take (i + 1) xs ≡ take i xs ++ get_or xs i d ∷ []
+pub taken_one_more : {X : Type 0} (xs : List X) (i : ℕ) (d : X) → i < length xs → take (i + 1) xs ≡ take i xs ++ get_or xs i d ∷ []
 taken_one_more xs i d h = let e : i + 1 ≡ suc i = omega arith in ap (λ n. take n xs) e ∙ take-suc xs i d h
 
 -- the environment at a place of a list in which those of a schema stand
 module _ (schema : SchemaData) (ok : IsSchema schema) (ps : List PolicyData) (items : List RequestEnv) (same : map env_data_of items ≡ unlinked_envs schema) (i : ℕ) (env : RequestEnv) (is : env ≡ get_or items i env) (h : i < length items) where
-  abbrev done : List EnvData
+  abbrev pub done : List EnvData
   done = map env_data_of (take i items)
 
-  abbrev rest : List EnvData
+  abbrev pub rest : List EnvData
   rest = map env_data_of (drop (i + 1) items)
 
-  whole : unlinked_envs schema ≡ done ++ env_data_of env ∷ rest
+  pub whole : unlinked_envs schema ≡ done ++ env_data_of env ∷ rest
   whole =
       sym same ∙ ap (map env_data_of) (split_at items i env h ∙ ap (λ e. take i items ++ e ∷ drop (i + 1) items) (sym is))
       ∙ map-append env_data_of (take i items) (env ∷ drop (i + 1) items)

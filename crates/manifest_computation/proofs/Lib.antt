@@ -1,4 +1,4 @@
-mod Ascending
-mod Entries
+pub mod Ascending
+pub mod Entries
 mod Settled
 pub mod Additions

@@ -9,3 +9,4 @@ mod tries;
 
 pub use compute::compute_entity_manifest;
 pub use error::EntityManifestError;
+pub use tries::add_trie_of;

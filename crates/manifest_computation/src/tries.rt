@@ -45,8 +45,8 @@ pub(crate) fn tries_of(
     Ok(Some(tries))
 }
 
-// Adds the trie of an environment, whose request type is the greatest yet.
-fn add_trie_of(
+/// Adds the trie of an environment, whose request type is the greatest yet.
+pub fn add_trie_of(
     env: &RequestEnv<'_>,
     trie: RootAccessTrie,
     tries: &mut BTreeMap<RequestType, RootAccessTrie>,

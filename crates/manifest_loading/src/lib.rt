@@ -10,7 +10,6 @@ mod load;
 mod manifest;
 mod rounds;
 mod slice;
-mod steps;
 
 pub use error::{
     EntitySliceError, IncompatibleEntityManifestError, PartialRequestError,
@@ -19,4 +18,4 @@ pub use error::{
 pub use load::load_trie;
 pub use manifest::load_entities;
 pub use slice::slice_entities;
-pub use steps::Steps;
+pub use step_counts::Steps;

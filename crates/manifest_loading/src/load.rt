@@ -26,7 +26,6 @@ use crate::ancestors::with_ancestors;
 use crate::error::{EntitySliceError, PartialRequestError};
 use crate::keeping::refusal;
 use crate::rounds::load_rounds;
-use crate::steps::Steps;
 use access_tries::RootAccessTrie;
 use entity_loader::EntityLoader;
 use entity_store::{Entities, Entity, Request};
@@ -34,6 +33,7 @@ use policy_names::EntityUID;
 use std::alloc::{AllocError, Global};
 use std::collections::BTreeMap;
 use std::sync::ledger::Ledger;
+use step_counts::Steps;
 use trie_traversal::first_places;
 
 /// The entities that the paths of the trie reach on the request, each with what is read of it and those of its ancestors that

@@ -22,7 +22,6 @@ use crate::answers::answers_for;
 use crate::error::EntitySliceError;
 use crate::keeping::take_answers;
 use crate::lent::{lent_tries, requests_of};
-use crate::steps::Steps;
 use access_tries::Node;
 use entity_loader::EntityLoader;
 use entity_store::Entity;
@@ -30,6 +29,7 @@ use policy_names::EntityUID;
 use std::alloc::{AllocError, Global};
 use std::collections::{BTreeMap, BTreeSet};
 use std::sync::ledger::Ledger;
+use step_counts::Steps;
 use trie_traversal::{Place, ask};
 
 /// What was asked for, and what is kept of the answers.

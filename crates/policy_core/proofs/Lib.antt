@@ -3,3 +3,4 @@ mod EvalSteps
 mod IdSteps
 pub mod LawSteps
 mod LikeSteps
+mod PieceSteps

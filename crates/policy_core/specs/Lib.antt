@@ -4,4 +4,5 @@ pub mod Eval
 pub mod Laws
 pub mod Like
 pub mod Operators
+pub mod Pieces
 pub mod Show

@@ -7,6 +7,7 @@ pub mod laws;
 mod like;
 mod operators;
 mod outcome;
+mod pieces;
 
 pub use entity_store::{Context, Entities, EntitiesError, Entity, Request, RequestType};
 pub use eval::evaluate;

@@ -1,2 +1,3 @@
 pub mod Made
+mod MetSteps
 pub mod Once

@@ -1,6 +1,7 @@
 //! The rules on the names and the scope of a policy, and what is found where they are broken.
 #![tactic(auto)]
 
+mod met;
 mod names;
 mod plain_scope;
 mod scope;

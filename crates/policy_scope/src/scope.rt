@@ -7,8 +7,9 @@ ghost use Rattle.policy_names.specs.Uid.{text_cmp, uid_eq};
 ghost use Rattle.policy_set.specs.Condition.{written_of};
 ghost use Rattle.schema_core.specs.Schema.{action_at, type_below};
 ghost use Rattle.schema_core.specs.Within.{is_action_within};
-ghost use Rattle.policy_scope.specs.Scope.{action_meets, equal_meets, in_meets, type_meets, are_met, some_action_meets, types_for, some_type, only_descendants, in_would_fix, scope_findings, application_findings};
+ghost use Rattle.policy_scope.specs.Scope.{action_meets, equal_meets, in_meets, type_meets, are_met, types_for, only_descendants, in_would_fix, scope_findings, application_findings};
 
+use crate::met::{Asked, some_met};
 use findings::InvalidActionApplication;
 use policy_names::{EntityType, EntityUID, Text};
 use policy_set::{
@@ -70,7 +71,7 @@ fn application(
     ensures { IfOk result (λ found. found.items ≡ scope_findings schema.now policy_id.now principal.now action.now resource.now) }
 {
     let mut found = Vec::new(alloc);
-    if !some_action_meets(schema, principal, action, resource) {
+    if !some_met(schema, action, &Asked::Applies(principal, resource)) {
         found.push(InvalidActionApplication {
             source_loc: None,
             policy_id: policy_id.try_clone()?,
@@ -79,25 +80,6 @@ fn application(
         })?;
     }
     Ok(found)
-}
-
-// Whether some declared action meets the scope of these parts.
-fn some_action_meets(
-    schema: &ValidatorSchema,
-    principal: &PrincipalOrResourceConstraint,
-    constraint: &ActionConstraint,
-    resource: &PrincipalOrResourceConstraint,
-) -> bool
-    ensures { result ≡ some_action_meets schema.now principal.now constraint.now resource.now }
-{
-    for action in schema.action_ids() {
-        if action_meets(schema, constraint, action)
-            && are_met(schema, principal, resource, action)
-        {
-            return true;
-        }
-    }
-    false
 }
 
 /// Whether the action meets what a scope asks of the action: it is the named one, or it is one of the list or a descendant of
@@ -120,7 +102,7 @@ pub fn action_meets(
 }
 
 // Whether each of these actions is declared.
-fn are_declared(schema: &ValidatorSchema, uids: &[EntityUID]) -> bool
+pub(crate) fn are_declared(schema: &ValidatorSchema, uids: &[EntityUID]) -> bool
     ensures { result ≡ list_all (λ u. is_some (action_at schema.now u)) uids.now }
 {
     uids.iter().all(|uid| schema.get_action_id(uid).is_some())
@@ -154,7 +136,7 @@ fn is_action_within(schema: &ValidatorSchema, uid: &EntityUID, above: &EntityUID
 }
 
 // Whether the action has a principal type and a resource type that meet the other parts.
-fn are_met(
+pub(crate) fn are_met(
     schema: &ValidatorSchema,
     principal: &PrincipalOrResourceConstraint,
     resource: &PrincipalOrResourceConstraint,
@@ -243,13 +225,13 @@ fn type_below(schema: &ValidatorSchema, ty: &EntityType, above: &EntityType) -> 
 
 // The part of a request that a constraint is on.
 #[derive(Clone, Copy)]
-enum Side {
+pub(crate) enum Side {
     Principal,
     Resource,
 }
 
 // The types that the action applies to on this side.
-fn types_for(side: Side, action: &ValidatorActionId) -> &BTreeSet<EntityType>
+pub(crate) fn types_for(side: Side, action: &ValidatorActionId) -> &BTreeSet<EntityType>
     ensures { result.now.keys ≡ types_for side action.now }
 {
     match side {
@@ -285,47 +267,16 @@ fn only_descendants(
 ) -> bool
     ensures { result ≡ only_descendants schema.now side constraint.now ty.now }
 {
-    !some_type_is(schema, side, constraint, ty) && some_type_below(schema, side, constraint, ty)
-}
-
-// Whether the type is among the types of the actions that meet the constraint.
-fn some_type_is(
-    schema: &ValidatorSchema,
-    side: Side,
-    constraint: &ActionConstraint,
-    ty: &EntityType,
-) -> bool
-    ensures { result ≡ some_type schema.now side constraint.now (λ other. is_eq (text_cmp ty.now other)) }
-{
-    for action in schema.action_ids() {
-        if action_meets(schema, constraint, action) && types_for(side, action).contains(ty) {
-            return true;
-        }
-    }
-    false
-}
-
-// Whether some type of the actions that meet the constraint is among the descendants of this one.
-fn some_type_below(
-    schema: &ValidatorSchema,
-    side: Side,
-    constraint: &ActionConstraint,
-    above: &EntityType,
-) -> bool
-    ensures { result ≡ some_type schema.now side constraint.now (λ ty. type_below schema.now ty above.now) }
-{
-    for action in schema.action_ids() {
-        if action_meets(schema, constraint, action)
-            && some_below(schema, above, types_for(side, action))
-        {
-            return true;
-        }
-    }
-    false
+    !some_met(schema, constraint, &Asked::Type(side, ty))
+        && some_met(schema, constraint, &Asked::Below(side, ty))
 }
 
 // Whether some type of the set is among the descendants of this one.
-fn some_below(schema: &ValidatorSchema, above: &EntityType, types: &BTreeSet<EntityType>) -> bool
+pub(crate) fn some_below(
+    schema: &ValidatorSchema,
+    above: &EntityType,
+    types: &BTreeSet<EntityType>,
+) -> bool
     ensures { result ≡ list_any (λ ty. type_below schema.now ty above.now) types.now.keys }
 {
     for ty in types {

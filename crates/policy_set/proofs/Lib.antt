@@ -1,6 +1,7 @@
 pub mod Depths
-mod Each
+pub mod Each
 pub mod Linked
 mod Plain
 mod Sets
 mod Written
+pub mod Removal

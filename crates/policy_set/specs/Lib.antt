@@ -4,3 +4,4 @@ pub mod Links
 pub mod PolicySet
 pub mod Allowed
 pub mod Response
+pub mod Removal

@@ -15,6 +15,6 @@ pub use constraint::{
 };
 pub use decision::decide;
 pub use policy::Policy;
-pub use policy_set::{PolicySet, PolicySetError};
+pub use policy_set::{PolicySet, PolicySetError, RemovalError};
 pub use response::{Decision, PolicyFailure, Response};
 pub use template::{Template, TemplateError};

@@ -155,8 +155,8 @@ impl Policy {
         }
     }
 
-    // The policy as it would be written by itself.
-    pub(crate) fn written(&self) -> &Template
+    /// The policy as it would be written by itself: a link with its own scope.
+    pub fn written(&self) -> &Template
         ensures { result.now ≡ written_of self.now }
     {
         &self.template

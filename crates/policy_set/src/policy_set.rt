@@ -6,6 +6,7 @@ use policy_expressions::SlotId;
 use policy_expressions::laws::keys_are_once;
 use policy_names::{EntityUID, Text};
 use std::alloc::{AllocError, Global};
+use std::cmp::Ordering;
 use std::collections::BTreeMap;
 use std::collections::btree_map::Values;
 use std::marker::Model;
@@ -61,8 +62,19 @@ impl From<AllocError> for PolicySetError {
     }
 }
 
+/// Why an entry is not removed from a set.
+#[derive(Clone, Copy, Debug, thiserror::Error)]
+pub enum RemovalError<'a> {
+    /// No entry of the set has this id.
+    #[error("unknown policy `{0}`")]
+    UnknownPolicy(&'a Text),
+    /// A link of the set stands on the template with this id.
+    #[error("template in use: `{0}`")]
+    TemplateInUse(&'a Text),
+}
+
 impl PolicySet {
-    ghost use Rattle.std.specs.Prelude.{◌≡◌, IsTrue, false, [], length, map, OnErr, MatchResult, None, IfOk, OnOk, IsSomeAnd};
+    ghost use Rattle.std.specs.Prelude.{◌≡◌, IsTrue, false, [], length, map, OnErr, MatchResult, None, IfOk, IfErr, OnOk, IsSomeAnd};
     ghost use Rattle.std.specs.Option.{option_copied};
     ghost use Rattle.std.specs.List.{AllByRecursion};
     ghost use Rattle.std.specs.List.Sorted.{IsStrictlySortedBy};
@@ -71,6 +83,7 @@ impl PolicySet {
     ghost use Rattle.policy_set.specs.Data.{TemplateData, PolicyData};
     ghost use Rattle.policy_set.specs.Condition.{IsPolicy, has_scope_slot, static_of};
     ghost use Rattle.policy_set.specs.Links.{linked_policy};
+    ghost use Rattle.policy_set.specs.Removal.{is_linked, removal_fault, without, IsNotRemoved};
     ghost use Rattle.policy_set.specs.PolicySet.{template_at, policy_at, is_taken, with_template, with_policy, written, links, id_fault, link_fault, template_fault, slot_values, IsNotAdded, IsToLink, IsLinkedIn};
 
     /// A set without templates and policies.
@@ -207,6 +220,44 @@ impl PolicySet {
         Ok(())
     }
 
+    /// Removes the template, static policy or link with the id, and takes no memory. Errs, in this order, with `UnknownPolicy` where no
+    /// entry has the id, and with `TemplateInUse` where a link stands on it. On an error the set is unchanged.
+    pub fn remove<'a>(&mut self, id: &'a Text) -> Result<(), RemovalError<'a>>
+        ensures removed { OnOk result ((removal_fault self.old id.now ≡ None) × (self.new ≡ without id.now self.old)) }
+        ensures refused { IfErr result (IsNotRemoved self.old id.now) }
+        ensures unchanged { OnErr result (self.new ≡ self.old) }
+    {
+        if !self.is_taken(id) {
+            return Err(RemovalError::UnknownPolicy(id));
+        }
+        if self.is_linked(id) {
+            return Err(RemovalError::TemplateInUse(id));
+        }
+        self.take_out(id);
+        Ok(())
+    }
+
+    // Whether a link stands on the template with the id.
+    fn is_linked(&self, id: &Text) -> bool
+        ensures { result ≡ is_linked self.now id.now }
+    {
+        for policy in self.policies() {
+            if stands_on(policy, id) {
+                return true;
+            }
+        }
+        false
+    }
+
+    // Takes what has the id out of the set.
+    fn take_out(&mut self, id: &Text)
+        requires { removal_fault self.old id.now ≡ None }
+        ensures { self.new ≡ without id.now self.old }
+    {
+        let _template = self.templates.remove(id);
+        let _policy = self.policies.remove(id);
+    }
+
     /// How many policies there are, static ones and links.
     pub fn len(&self) -> usize
         ensures { result ≡ length self.now.policies }
@@ -278,7 +329,9 @@ impl PolicySet {
     }
 }
 
-ghost use Rattle.std.specs.Prelude.{◌≡◌, OnOk, OnErr, IfOk, Some};
+ghost use Rattle.std.specs.Prelude.{◌≡◌, false, OnOk, OnErr, IfOk, Some};
+ghost use Rattle.std.specs.Option.{option_map_or};
+ghost use Rattle.std.specs.Ordering.{is_eq};
 ghost use Rattle.policy_set.specs.PolicySet.{AreKeyedOnce, IsNotAdded, IsPolicySet};
 ghost use Rattle.policy_set.specs.declared.policy_set.PolicySetError.TheVariants.{DuplicateId};
 ghost use Rattle.std.specs.BTreeMap.{IsOrdered, insert_entry, values};
@@ -312,6 +365,16 @@ fn collected<'a>(
         templates.push(template)?;
     }
     Ok(templates)
+}
+
+// Whether the policy is a link of the template with the id.
+fn stands_on(policy: &Policy, id: &Text) -> bool
+    ensures { result ≡ option_map_or (λ l. is_eq (text_cmp id.now l.template)) policy.now.link false }
+{
+    match policy.template() {
+        Some(template) => id.cmp(template) == Ordering::Equal,
+        None => false,
+    }
 }
 
 // That the id of the template is taken.

@@ -1,5 +1,6 @@
 pub mod AllWritten
 pub mod Empty
+mod Entries
 pub mod KnownNames
 pub mod NoErrors
 pub mod OwnConditions

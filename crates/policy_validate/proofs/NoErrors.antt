@@ -90,7 +90,7 @@ module _ (schema : SchemaData) where
   known_slots : (p : PolicyData) → IfSome p.link AreKnown → slot_type_findings schema p ≡ []
   known_slots p h = ap (distinct entity_type_cmp) (kept_none (entity_type_finding schema p.id) (map (λ u. (an_id u, None)) (ids_given p.link)) (known_ids p.id p.link h))
 
-  link_kept : (p : PolicyData) → errors_of_link schema p ≡ [] → KeepsLinkRules schema p
+  pub link_kept : (p : PolicyData) → errors_of_link schema p ≡ [] → KeepsLinkRules schema p
   link_kept p h =
       let e = parts_empty (map UnrecognizedEntityType (slot_type_findings schema p)) (map InvalidActionApplication (application_findings schema (written_of p))) h in
       record {

@@ -8,3 +8,4 @@ pub mod Found
 pub mod ConditionLaws
 pub mod Rules
 pub mod AcceptanceLaws
+pub mod Entries

@@ -1,5 +1,6 @@
 //! What holds of the sets of policies that are accepted.
 
+ghost use Rattle.policy_validate.specs.Entries.{AcceptanceIsByEntry, EntriesAreAccepted, FindingsFollowEntries};
 ghost use Rattle.policy_validate.specs.Laws.{NoErrorsWhereAccepted, AcceptedAreTyped, AcceptedAreSound};
 ghost use Rattle.policy_validate.specs.Levels.{LevelErrorsOfAreExact, NoErrorsWhereAcceptedAt, AcceptedLevelsAreSound};
 
@@ -15,6 +16,24 @@ pub fn no_errors_where_accepted()
     check_is_exact();
     refusals_are_told();
 }
+
+/// An entry of which no error is found is accepted by itself.
+pub fn entries_are_accepted()
+    ensures { EntriesAreAccepted }
+{
+    check_is_exact();
+    refusals_are_told();
+}
+
+/// A set is accepted with one more entry that is accepted by itself, and without any of its entries.
+pub fn acceptance_is_by_entry()
+    ensures { AcceptanceIsByEntry }
+{}
+
+/// The findings on a set are those of its entries: of all that is written, and then of all links, in the order of the ids.
+pub fn findings_are_by_entry()
+    ensures { FindingsFollowEntries }
+{}
 
 /// In an accepted set the condition of each policy has a type in every environment of the schema.
 pub fn accepted_are_typed()

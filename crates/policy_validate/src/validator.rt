@@ -1,15 +1,18 @@
 //! The validator.
 
-ghost use Rattle.std.specs.Prelude.{◌≡◌, ◌↔◌, ◌++◌, [], map, flat_map, IfOk, OnOk};
+ghost use Rattle.std.specs.Prelude.{◌≡◌, ◌↔◌, ◌≤◌, ◌+◌, ◌++◌, [], length, map, flat_map, IfOk, OnOk};
 ghost use Rattle.std.specs.List.{AllByRecursion};
 ghost use Rattle.findings.specs.declared.error.ValidationError.TheVariants as error;
 ghost use Rattle.schema_core.specs.EnvData.{unlinked_envs};
 ghost use Rattle.link_spec.specs.Accepted.{IsTypedIn};
-ghost use Rattle.policy_set.specs.PolicySet.{written, links};
+ghost use Rattle.link_spec.specs.Linked.{linked_envs};
+ghost use Rattle.policy_set.specs.PolicySet.{IsTaken, written, links};
 ghost use Rattle.policy_validate.specs.Accepted.{typing_errors, errors_of_written, errors_of_link, warnings_of, findings_of, IsAccepted};
+ghost use Rattle.policy_validate.specs.Entries.{findings_of_entry, findings_of_policy, findings_of_written, steps_of_entry, steps_of_policy};
 
 use crate::laws::{accepted_are_typed, no_errors_where_accepted};
 use extension_types::{ExtensionSchemas, all_objects};
+use policy_names::Text;
 use policy_scope::{
     InvalidActionApplication, InvalidEnumEntity, UnrecognizedActionId, UnrecognizedEntityType,
     ValidationError, ValidationResult, ValidationWarning, validate_action_ids,
@@ -18,10 +21,12 @@ use policy_scope::{
 };
 use policy_set::laws::is_policy_set;
 use policy_set::{Policy, PolicySet, Template};
-use policy_typecheck::Typechecker;
+use policy_typecheck::{Typechecker, linked_request_envs};
 use schema_core::{ValidationMode, ValidatorSchema};
 use std::alloc::{AllocError, Global};
 use std::marker::Model;
+use std::sync::ledger::Ledger;
+use step_counts::Steps;
 
 /// Validates policies against a schema.
 #[derive(Debug, Drop)]
@@ -77,6 +82,91 @@ impl<'a> Validator<'a> {
         let typechecker = Typechecker::new(self.schema, &extensions, mode);
         checked(alloc, self.schema, &typechecker, policies)
     }
+
+    /// The findings on the entry of the set that has the id, in strict mode: of a template or a static policy its own errors
+    /// and warnings, of a link its own errors, each as [`Validator::validate`] has them. A step is counted for each environment
+    /// in which a condition is typed; the condition of a link is not.
+    pub fn validate_entry<L: Ledger>(
+        &self,
+        alloc: Global,
+        policies: &PolicySet,
+        id: &Text,
+        steps: &mut Steps<L>,
+    ) -> Result<ValidationResult, AllocError>
+        requires { IsTaken policies.now id.now }
+        ensures found { IfOk result (λ found. found ≡ findings_of_entry self.now policies.now id.now) }
+        ensures steps { steps.new ≤ steps.old + steps_of_entry self.now policies.now id.now }
+    {
+        if let Some(template) = policies.template(id) {
+            return written_findings(alloc, self.schema, template, steps);
+        }
+        match policies.policy(id) {
+            Some(policy) => policy_findings(alloc, self.schema, policy, steps),
+            None => Ok(ValidationResult::new(Vec::new(alloc), Vec::new(alloc))),
+        }
+    }
+}
+
+// The findings on a policy, static or a link.
+fn policy_findings<L: Ledger>(
+    alloc: Global,
+    schema: &ValidatorSchema,
+    policy: &Policy,
+    steps: &mut Steps<L>,
+) -> Result<ValidationResult, AllocError>
+    ensures found { IfOk result (λ found. found ≡ findings_of_policy schema.now policy.now) }
+    ensures steps { steps.new ≤ steps.old + steps_of_policy schema.now policy.now }
+{
+    if policy.is_static() {
+        written_findings(alloc, schema, policy.written(), steps)
+    } else {
+        let mut errors = Vec::new(alloc);
+        add_link(alloc, schema, policy, &mut errors)?;
+        Ok(ValidationResult::new(errors, Vec::new(alloc)))
+    }
+}
+
+// The findings on a template or a static policy.
+fn written_findings<L: Ledger>(
+    alloc: Global,
+    schema: &ValidatorSchema,
+    template: &Template,
+    steps: &mut Steps<L>,
+) -> Result<ValidationResult, AllocError>
+    ensures found { IfOk result (λ found. found ≡ findings_of_written schema.now template.now) }
+    ensures steps { steps.new ≤ steps.old + length (linked_envs schema.now template.now) }
+{
+    let objects = all_objects(alloc)?;
+    let extensions = ExtensionSchemas::all_available(alloc, &objects)?;
+    let typechecker = Typechecker::new(schema, &extensions, ValidationMode::Strict);
+    let mut errors = Vec::new(alloc);
+    let mut warnings = Vec::new(alloc);
+    count_environments(alloc, schema, template, steps)?;
+    add_written(
+        alloc,
+        schema,
+        &typechecker,
+        template,
+        &mut errors,
+        &mut warnings,
+    )?;
+    Ok(ValidationResult::new(errors, warnings))
+}
+
+// Counts a step for each environment in which the condition of a template or a static policy is to be typed.
+fn count_environments<L: Ledger>(
+    alloc: Global,
+    schema: &ValidatorSchema,
+    template: &Template,
+    steps: &mut Steps<L>,
+) -> Result<(), AllocError>
+    ensures { steps.new ≤ steps.old + length (linked_envs schema.now template.now) }
+{
+    let envs = linked_request_envs(alloc, schema, template)?;
+    for _env in 0..envs.len() {
+        steps.tick();
+    }
+    Ok(())
 }
 
 // All findings, and what holds where there is no error among them.

@@ -1,10 +1,10 @@
-use Rattle.std.proofs.Common.{sym, ap, ◌∙◌}
+use Rattle.std.proofs.Common.{◌≡◌, IfOk, sym, ap, subst, ◌∙◌}
 use Rattle.policy_core.proofs.LikeSteps.{matches_left, matches_behind}
 use Rattle.policy_core.proofs.like.matches.Goals as goal
 
 pub returns-in-Wildcard : goal.returns-in-Wildcard
 returns-in-Wildcard c =
-    c.some_tail_matches.ensures ∙ ap matches_left c.in-Wildcard.ensures ∙ sym (matches_behind c.args.pattern.now c.args.text.now)
+    subst (λ m. IfOk c.some_tail_matches.result (λ b. b ≡ m)) (ap matches_left c.in-Wildcard.ensures ∙ sym (matches_behind c.args.pattern.now c.args.text.now)) c.some_tail_matches.ensures
 
 pub returns-in-Whole : goal.returns-in-Whole
 returns-in-Whole c =

@@ -1,0 +1,13 @@
+mod Adding
+mod Calls
+mod Computed
+mod Each
+mod Edits
+mod Keeping
+mod Others
+mod Outcomes
+mod Refusals
+mod Remaining
+mod Taking
+mod Unions
+mod Walking

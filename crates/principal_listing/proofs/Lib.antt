@@ -1,0 +1,6 @@
+mod Keeping
+mod Listed
+mod Loaded
+mod Pages
+mod Ready
+mod Refusals

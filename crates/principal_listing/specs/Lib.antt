@@ -1,0 +1,6 @@
+pub mod Allowed
+pub mod CheckSteps
+pub mod Laws
+pub mod Pages
+pub mod Ready
+pub mod Refused

@@ -1,0 +1,36 @@
+-- What principals are decided by.
+use Rattle.std.specs.Prelude.{◌≡◌, ◌&&◌, ℕ, Bool, false, List, Option, IfSome}
+use Rattle.std.specs.Option.{option_copied, option_map_or}
+use Rattle.hierarchy.specs.Reaches.{has}
+use Rattle.policy_names.specs.declared.entity_uid.EntityUID.{EntityUID}
+use Rattle.policy_names.specs.Uid.{text_cmp}
+use Rattle.entity_store.specs.declared.request.Request.{Request}
+use Rattle.entity_store.specs.Request.{action_of}
+use Rattle.policy_set.specs.PolicySet.{IsPolicySet, AreKeyedOnce}
+use Rattle.schema_core.specs.Faults.{IsSchema}
+use Rattle.schema_core.specs.Schema.{ActionData, action_at}
+use Rattle.store_order.specs.Order.{AreOrdered}
+use Rattle.row_loader.specs.Laws.{IsStoreOrdered}
+use Rattle.manifest_computation.specs.Computed.{IsManifestOf}
+use Rattle.principal_listing.specs.Allowed.{KeepOtherRules}
+use Rattle.principal_listing.specs.Pages.{comes_after}
+use Rattle.principal_listing.specs.declared.candidates.Listing.{Listing}
+
+-- whether an action, where it is declared, applies to principals of the type
+abbrev pub takes : Option ActionData → List ℕ → Bool
+takes a n = option_map_or (λ a. has text_cmp a.principals n) a false
+
+-- whether an id comes after another, if there is one, and is of a type to which the action applies
+abbrev pub is_candidate : Option ActionData → Option EntityUID → EntityUID → Bool
+is_candidate a x u = comes_after x u && takes a u.entity_type
+
+-- every rule holds that does not speak of the principal, the manifest is that of the policies, and all is in order
+pub record IsReady (l : Listing) (q : Request) : Type 0 where
+  pub rules : KeepOtherRules l.schema.now l.policies.now q l.entities.now
+  pub action : option_copied l.action ≡ action_at l.schema.now (action_of q)
+  pub manifest : IsManifestOf l.schema.now l.policies.now.policies l.manifest.now
+  pub schema : IsSchema l.schema.now
+  pub set : IsPolicySet l.policies.now
+  pub keyed : AreKeyedOnce l.policies.now.policies
+  pub store : IsStoreOrdered l.entities.now
+  pub context : IfSome q.context AreOrdered

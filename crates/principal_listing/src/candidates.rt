@@ -1,0 +1,148 @@
+//! Whether principals of a store may do what a request asks.
+
+ghost use Rattle.std.specs.Prelude.{◌≡◌, ◌&&◌, IfOk, IfErr};
+ghost use Rattle.std.specs.Option.{option_copied};
+ghost use Rattle.entity_store.specs.Request.{IsWhole};
+ghost use Rattle.policy_set.specs.Response.{response};
+ghost use Rattle.reads_spec.specs.Among.{IsIn};
+ghost use Rattle.request_slices.specs.Rules.{KeepRules};
+ghost use Rattle.manifest_loading.specs.declared.error.EntitySliceError.TheVariants.{OutOfMemory};
+ghost use Rattle.loaded_responses.specs.Loaded.{AreDecidedAlike};
+ghost use Rattle.principal_listing.specs.Allowed.{passed_over, is_allow, is_allowed};
+ghost use Rattle.principal_listing.specs.Pages.{comes_after};
+ghost use Rattle.principal_listing.specs.Ready.{IsReady, takes, is_candidate};
+
+use crate::laws::candidates_keep_rules;
+use entity_loader::EntitySlicer;
+use entity_store::{Entities, Entity, Request};
+use loaded_responses::laws::{loaded_is_enough, refusals_are_faults};
+use manifest_core::EntityManifest;
+use manifest_loading::{EntitySliceError, Steps, load_entities};
+use policy_names::{EntityType, EntityUID};
+use policy_set::{Decision, PolicySet, decide};
+use schema_core::{ValidatorActionId, ValidatorSchema};
+use std::alloc::{AllocError, Global};
+use std::sync::ledger::Ledger;
+
+/// What principals are decided by.
+#[derive(Drop)]
+pub(crate) struct Listing<'a> {
+    /// The schema.
+    pub(crate) schema: &'a ValidatorSchema,
+    /// The request's action, where it is declared.
+    pub(crate) action: Option<&'a ValidatorActionId>,
+    /// The policies, which are accepted.
+    pub(crate) policies: &'a PolicySet,
+    /// Their manifest.
+    pub(crate) manifest: &'a EntityManifest,
+    /// The whole store.
+    pub(crate) entities: &'a Entities,
+}
+
+/// Whether a principal of the store is one of those that come after this id, if there is one, and may do what is asked. The
+/// request becomes the principal's where the policies are asked.
+pub(crate) fn is_listed<L: Ledger>(
+    alloc: Global,
+    listing: &Listing<'_>,
+    asked: &mut Request,
+    after: Option<&EntityUID>,
+    entity: &Entity,
+    steps: &mut Steps<L>,
+) -> Result<bool, AllocError>
+    requires ready { IsReady listing.now (passed_over asked.old) }
+    requires entity { IsIn entity.now listing.now.entities.now }
+    ensures listed { IfOk result (λ b. b ≡ (comes_after (option_copied after.entry) entity.now.uid
+        && is_allowed listing.now.schema.now listing.now.policies.now.policies asked.old listing.now.entities.now entity.now.uid)) }
+    ensures asked { passed_over asked.new ≡ passed_over asked.old }
+{
+    candidates_keep_rules();
+    let uid = entity.uid();
+    if !is_candidate(listing.action, after, uid) {
+        return Ok(false);
+    }
+    let principal = uid.try_clone()?;
+    asked.principal = Some(principal);
+    is_allowed(alloc, listing, asked, steps)
+}
+
+// Whether the id comes after that one, and is of a type to which the action applies.
+fn is_candidate(
+    action: Option<&ValidatorActionId>,
+    after: Option<&EntityUID>,
+    uid: &EntityUID,
+) -> bool
+    ensures { result ≡ is_candidate (option_copied action.entry) (option_copied after.entry) uid.now }
+{
+    comes_after(after, uid) && applies_to(action, &uid.entity_type)
+}
+
+// Whether the id comes after this one; each does, where there is none.
+fn comes_after(after: Option<&EntityUID>, uid: &EntityUID) -> bool
+    ensures { result ≡ comes_after (option_copied after.entry) uid.now }
+{
+    match after {
+        Some(after) => after < uid,
+        None => true,
+    }
+}
+
+// Whether the action, where it is declared, applies to principals of the type.
+fn applies_to(action: Option<&ValidatorActionId>, name: &EntityType) -> bool
+    ensures { result ≡ takes (option_copied action.entry) name.now }
+{
+    match action {
+        Some(action) => action.applies_to_principals().contains(name),
+        None => false,
+    }
+}
+
+// Whether the decision on the request, which keeps every rule, is Allow.
+fn is_allowed<L: Ledger>(
+    alloc: Global,
+    listing: &Listing<'_>,
+    asked: &Request,
+    steps: &mut Steps<L>,
+) -> Result<bool, AllocError>
+    requires ready { IsReady listing.now (passed_over asked.now) }
+    requires rules { KeepRules listing.now.schema.now listing.now.policies.now asked.now listing.now.entities.now }
+    ensures { IfOk result (λ b. b ≡ is_allow (response listing.now.policies.now.policies asked.now listing.now.entities.now).decision) }
+{
+    match load_candidate(alloc, listing, asked, steps) {
+        Ok(slice) => allowed_on(alloc, listing.policies, asked, &slice),
+        Err(_) => Err(AllocError),
+    }
+}
+
+// Whether the decision on the entities is Allow.
+fn allowed_on(
+    alloc: Global,
+    policies: &PolicySet,
+    asked: &Request,
+    entities: &Entities,
+) -> Result<bool, AllocError>
+    requires { IsWhole asked.now }
+    ensures { IfOk result (λ b. b ≡ is_allow (response policies.now.policies asked.now entities.now).decision) }
+{
+    match decide(alloc, policies, asked, entities)?.decision() {
+        Decision::Allow => Ok(true),
+        Decision::Deny => Ok(false),
+    }
+}
+
+// What the manifest reads of the store on the request, which keeps every rule, by look-ups.
+fn load_candidate<L: Ledger>(
+    alloc: Global,
+    listing: &Listing<'_>,
+    asked: &Request,
+    steps: &mut Steps<L>,
+) -> Result<Entities, EntitySliceError>
+    requires ready { IsReady listing.now (passed_over asked.now) }
+    requires rules { KeepRules listing.now.schema.now listing.now.policies.now asked.now listing.now.entities.now }
+    ensures decided { IfOk result (λ s. AreDecidedAlike listing.now.policies.now.policies asked.now s listing.now.entities.now) }
+    ensures memory { IfErr result (λ e. e ≡ OutOfMemory) }
+{
+    loaded_is_enough();
+    refusals_are_faults();
+    let mut loader = EntitySlicer::new(listing.entities);
+    load_entities(alloc, listing.manifest, asked, &mut loader, steps)
+}
