@@ -5,7 +5,7 @@ ghost use Rattle.access_tries.specs.EdgeView.{edge_in};
 ghost use Rattle.access_tries.specs.Paths.{edge_of};
 
 use policy_expressions::Var;
-use policy_names::{EntityUID, Text};
+use policy_values::{EntityUID, Text};
 use std::alloc::{AllocError, Global};
 use std::marker::Model;
 

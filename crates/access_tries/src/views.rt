@@ -3,7 +3,7 @@
 ghost use Rattle.std.specs.Prelude.{◌≡◌, [], map, MatchOption};
 ghost use Rattle.std.specs.Iterator.{YieldsFirstBy, item_count};
 ghost use Rattle.std.specs.List.Sorted.{IsStrictlySortedBy};
-ghost use Rattle.policy_names.specs.Uid.{text_cmp};
+ghost use Rattle.policy_values.specs.Uid.{text_cmp};
 ghost use Rattle.access_tries.specs.Edges.{root_cmp};
 ghost use Rattle.access_tries.specs.Table.{Ascend, IsTable};
 ghost use Rattle.access_tries.specs.Views.{view_marks, LeadsNowhere, LeadsTo, number_at, children_of, roots_of, AreChildren, AreRoots};
@@ -13,7 +13,7 @@ ghost use Rattle.access_tries.specs.declared.edge.Edge.TheVariants.{Field, AnyTa
 use crate::edge::{Edge, EdgeRef, EntityRoot};
 use crate::order::compare_to;
 use crate::table::{Link, Node, links_of, mark_of};
-use policy_names::Text;
+use policy_values::Text;
 use std::marker::Model;
 
 /// What is read of a value, as it stands in a trie.

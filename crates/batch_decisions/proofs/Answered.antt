@@ -10,7 +10,7 @@ use Rattle.typing_spec.specs.Conforms.{RequestConforms}
 use Rattle.entity_loader.specs.State.{LoaderState}
 use Rattle.manifest_loading.specs.declared.error.EntitySliceError.{EntitySliceError}
 use Rattle.manifest_loading.specs.declared.error.EntitySliceError.TheVariants as error
-use Rattle.loaded_responses.specs.Loaded.{AreDecidedAlike, OfToldStores, WhyNotLoaded}
+use Rattle.entity_manifest.specs.Loaded.{AreDecidedAlike, OfToldStores, WhyNotLoaded}
 use Rattle.batch_decisions.specs.declared.answer.BatchAnswer.{BatchAnswer}
 use Rattle.batch_decisions.specs.Answers.{IsAnswerTo}
 use Rattle.batch_decisions.specs.Loaded.{answer_of}

@@ -16,7 +16,7 @@ use Rattle.manifest_loading.specs.declared.error.EntitySliceError.TheVariants as
 use Rattle.row_loader.specs.Laws.{IsStoreOrdered}
 use Rattle.batch_decisions.specs.declared.answer.BatchAnswer.{BatchAnswer}
 use Rattle.batch_decisions.specs.declared.answer.BatchAnswer.TheVariants.{Partial, Refused, Loading, Decided}
-use Rattle.loaded_responses.specs.Loaded.{IsTold}
+use Rattle.entity_manifest.specs.Loaded.{IsTold}
 use Rattle.batch_decisions.specs.Answers.{IsAnswerTo, AreAnswers, IsStoreAnswer, IsRowAnswer, is_fault, faults_in, AreCounted}
 use Rattle.batch_decisions.proofs.OneAfterAnother.{goes_on}
 

@@ -10,7 +10,7 @@ use Rattle.entity_loader.specs.State.{LoaderState, Continues}
 use Rattle.manifest_loading.specs.declared.error.EntitySliceError.TheVariants as error
 use Rattle.batch_decisions.specs.declared.answer.BatchAnswer.{BatchAnswer}
 use Rattle.batch_decisions.specs.declared.answer.BatchAnswer.TheVariants.{Partial, Refused, Loading, Decided}
-use Rattle.loaded_responses.specs.Loaded.{IsTold}
+use Rattle.entity_manifest.specs.Loaded.{IsTold}
 use Rattle.batch_decisions.specs.Answers.{IsAnswerTo, AreAnswers, IsAnswerOrFault}
 use Rattle.batch_decisions.specs.Laws.{AnswersAreWhole}
 

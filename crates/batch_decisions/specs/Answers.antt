@@ -11,7 +11,7 @@ use Rattle.conformance.specs.RequestRules.{first_request_fault}
 use Rattle.entity_loader.specs.State.{LoaderState, Continues}
 use Rattle.manifest_loading.specs.declared.error.EntitySliceError.{EntitySliceError}
 use Rattle.manifest_loading.specs.declared.error.EntitySliceError.TheVariants as error
-use Rattle.loaded_responses.specs.Loaded.{OfToldStores, WhyNotLoaded}
+use Rattle.entity_manifest.specs.Loaded.{OfToldStores, WhyNotLoaded}
 use Rattle.batch_decisions.specs.declared.answer.BatchAnswer.{BatchAnswer}
 use Rattle.batch_decisions.specs.declared.answer.BatchAnswer.TheVariants.{Partial, Refused, Loading, Decided}
 

@@ -8,7 +8,7 @@ use Rattle.schema_core.specs.Schema.{SchemaData}
 use Rattle.typing_spec.specs.Conforms.{StoreConforms}
 use Rattle.entity_loader.specs.State.{LoaderState}
 use Rattle.batch_decisions.specs.declared.answer.BatchAnswer.{BatchAnswer}
-use Rattle.loaded_responses.specs.Loaded.{IsTold}
+use Rattle.entity_manifest.specs.Loaded.{IsTold}
 use Rattle.batch_decisions.specs.Answers.{AreAnswers, IsAnswerOrFault, AreCounted}
 
 -- where the loader tells a store that conforms, each answer is that on this store, or a fault

@@ -3,10 +3,10 @@ use Rattle.std.proofs.Common.{◌≡◌, ℕ, Bool, true, false, ◌||◌, cond,
 use Rattle.std.specs.Prelude.{option_map}
 use Rattle.std.specs.List.{list_any, find}
 use Rattle.std.specs.Ordering.{is_eq}
-use Rattle.policy_names.specs.Uid.{text_cmp}
+use Rattle.policy_values.specs.Uid.{text_cmp}
 use Rattle.policy_expressions.specs.Functions.{functions, function_of}
-use Rattle.extension_types.specs.Table.{function_at, is_function, typed}
-use Rattle.extension_types.specs.Types.{FunctionType, Extensions}
+use Rattle.typing_spec.specs.Table.{function_at, is_function, typed}
+use Rattle.typing_spec.specs.Types.{FunctionType, Extensions}
 use Rattle.conformance.specs.declared.misfits.Constructor.{Constructor}
 use Rattle.conformance.specs.declared.misfits.Constructor.TheVariants.{Decimal, Ip, Datetime, Duration}
 use Rattle.conformance.specs.Misfits.{name_of, knows}

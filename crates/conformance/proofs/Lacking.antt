@@ -12,15 +12,15 @@ use Rattle.std.proofs.lemmas.List.Folds.{list_all-append}
 use Rattle.std.proofs.lemmas.Map.Keys.{sorted_head, sorted_tail}
 use Rattle.std.proofs.lemmas.Map.Lookups.{CmpEqualImpliesEq}
 use Rattle.std.proofs.lemmas.Map.Views.{tells_apart}
-use Rattle.hierarchy.specs.Reaches.{has}
-use Rattle.hierarchy.specs.Least.{IsLeastIfAny, lower_of}
-use Rattle.hierarchy.proofs.Least.{IsRest, least_here, rest_more, none_left, IsLeastIfAny-same, lower_least}
-use Rattle.policy_names.specs.declared.entity_uid.EntityUID.{EntityUID}
-use Rattle.policy_names.specs.Uid.{uid_cmp, uid_cmp_total, exact_uid}
-use Rattle.policy_names.specs.Basename.{is_action_type}
+use Rattle.policy_values.specs.Reaches.{has}
+use Rattle.policy_values.specs.Least.{IsLeastIfAny, lower_of}
+use Rattle.policy_values.proofs.Least.{IsRest, least_here, rest_more, none_left, IsLeastIfAny-same, lower_least}
+use Rattle.policy_values.specs.declared.entity_uid.EntityUID.{EntityUID}
+use Rattle.policy_values.specs.Uid.{uid_cmp, uid_cmp_total, exact_uid}
+use Rattle.policy_values.specs.Basename.{is_action_type}
 use Rattle.entity_store.specs.Store.{StoredEntity, Store, is_named, entity_at}
 use Rattle.entity_store.specs.FromParents.{ids_of}
-use Rattle.hierarchy.proofs.Keyed.{value_named}
+use Rattle.policy_values.proofs.Keyed.{value_named}
 use Rattle.schema_core.specs.Schema.{SchemaData, ActionData, action_at, action_below}
 use Rattle.conformance_errors.specs.declared.store_rule.StoreRule.{StoreRule}
 use Rattle.conformance_errors.specs.declared.store_rule.StoreRule.TheVariants.{ActionNotDeclared, ActionHasAttributes, ActionHasTags, ActionAncestorsDiffer}

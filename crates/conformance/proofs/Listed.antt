@@ -1,9 +1,9 @@
 -- Ids that are listed.
 use Rattle.std.proofs.Common.{◌≡◌, ℕ, Bool, true, false, ◌&&◌, List, Option, Some, None, is_none, IsSome, refl, sym, ap, ◌∙◌, if◌then◌else◌}
 use Rattle.std.specs.Option.{option_or, option_map, option_map_or, option_and_then}
-use Rattle.hierarchy.specs.Reaches.{has}
-use Rattle.policy_names.specs.declared.entity_uid.EntityUID.{EntityUID}
-use Rattle.policy_names.specs.Uid.{text_cmp}
+use Rattle.policy_values.specs.Reaches.{has}
+use Rattle.policy_values.specs.declared.entity_uid.EntityUID.{EntityUID}
+use Rattle.policy_values.specs.Uid.{text_cmp}
 use Rattle.policy_values.specs.Value.{Val, truth, long, string, entity, set, rec, decimal, ip, datetime, duration, Vals, no_vals, val, Fields, no_fields, field}
 use Rattle.schema_core.specs.Kinds.{Kind, standard, enumerated}
 use Rattle.schema_core.specs.Schema.{SchemaData, TypeData, type_at}

@@ -1,7 +1,7 @@
 -- Ids of enumerated types that their types do not list.
 use Rattle.std.specs.Prelude.{Option, Some, None, if◌then◌else◌}
 use Rattle.std.specs.Option.{option_or}
-use Rattle.policy_names.specs.declared.entity_uid.EntityUID.{EntityUID}
+use Rattle.policy_values.specs.declared.entity_uid.EntityUID.{EntityUID}
 use Rattle.policy_values.specs.Value.{Val, entity, set, rec, Vals, no_vals, val, Fields, no_fields, field}
 use Rattle.schema_core.specs.Schema.{SchemaData}
 use Rattle.typing_spec.specs.Conforms.{is_listed}

@@ -10,8 +10,8 @@ use Rattle.schema_types.specs.Ty.{Ty}
 use Rattle.type_relations.specs.Member.{Member}
 use Rattle.typing_spec.specs.Conforms.{RequestConforms, StoreConforms}
 use Rattle.policy_expressions.specs.Functions.{function_of}
-use Rattle.extension_types.specs.Table.{function_at, typed}
-use Rattle.extension_types.specs.Types.{Extensions}
+use Rattle.typing_spec.specs.Table.{function_at, typed}
+use Rattle.typing_spec.specs.Types.{Extensions}
 use Rattle.conformance.specs.Misfits.{knows, misfit}
 use Rattle.conformance.specs.RequestRules.{first_request_fault}
 use Rattle.conformance.specs.StoreRules.{first_store_fault}

@@ -4,7 +4,7 @@ use Rattle.std.specs.Option.{option_or}
 use Rattle.std.specs.Ordering.{is_eq}
 use Rattle.std.specs.declared.cmp.Ordering.{Ordering}
 use Rattle.std.specs.declared.cmp.Ordering.TheVariants.{Less}
-use Rattle.policy_names.specs.Uid.{text_cmp}
+use Rattle.policy_values.specs.Uid.{text_cmp}
 use Rattle.policy_values.specs.Value.{Val, truth, long, string, entity as id, set, rec, decimal, ip, datetime, duration, Vals, no_vals, val, Fields, no_fields, field}
 use Rattle.schema_types.specs.declared.kinds.Primitive.TheVariants.{Bool as BoolType, Long, String}
 use Rattle.schema_types.specs.declared.kinds.OpenTag.{OpenTag}
@@ -13,8 +13,8 @@ use Rattle.schema_types.specs.Names.{has_name}
 use Rattle.schema_types.specs.Attrs.{attr_at}
 use Rattle.schema_types.specs.Ty.{Ty, true_type, false_type, primitive, any_set, set_of, record_of, any_entity, entity, action, extension, Attrs, no_attrs, attr, is_open}
 use Rattle.type_relations.specs.Member.{has_field, type_of}
-use Rattle.extension_types.specs.Types.{Extensions}
-use Rattle.extension_types.specs.Table.{is_function}
+use Rattle.typing_spec.specs.Types.{Extensions}
+use Rattle.typing_spec.specs.Table.{is_function}
 use Rattle.conformance.specs.declared.misfits.Constructor.{Constructor}
 use Rattle.conformance.specs.declared.misfits.Constructor.TheVariants.{Decimal, Ip, Datetime, Duration}
 use Rattle.conformance.specs.declared.misfits.Misfit.{Misfit}

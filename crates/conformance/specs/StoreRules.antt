@@ -2,10 +2,10 @@
 use Rattle.std.specs.Prelude.{◌≡◌, ℕ, Bool, true, false, not, ◌&&◌, ◌||◌, List, [], ◌∷◌, Option, Some, None, is_some, IsSome, option_map, if◌then◌else◌}
 use Rattle.std.specs.Option.{option_or, option_and_then, option_map_or}
 use Rattle.std.specs.List.{list_all}
-use Rattle.hierarchy.specs.Reaches.{has}
-use Rattle.policy_names.specs.declared.entity_uid.EntityUID.{EntityUID}
-use Rattle.policy_names.specs.Uid.{text_cmp, uid_cmp}
-use Rattle.policy_names.specs.Basename.{is_action_type}
+use Rattle.policy_values.specs.Reaches.{has}
+use Rattle.policy_values.specs.declared.entity_uid.EntityUID.{EntityUID}
+use Rattle.policy_values.specs.Uid.{text_cmp, uid_cmp}
+use Rattle.policy_values.specs.Basename.{is_action_type}
 use Rattle.policy_values.specs.Value.{Val, Fields, no_fields, field}
 use Rattle.entity_store.specs.Store.{StoredEntity, Store, entity_at}
 use Rattle.schema_types.specs.declared.ty.AttributeType.{AttributeType}

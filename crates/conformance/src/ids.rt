@@ -3,7 +3,7 @@
 ghost use Rattle.std.specs.Prelude.{◌≡◌, None, Some, IfOk, if◌then◌else◌};
 ghost use Rattle.std.specs.Option.{option_copied};
 ghost use Rattle.std.specs.Ordering.{is_eq};
-ghost use Rattle.policy_names.specs.Uid.{text_cmp};
+ghost use Rattle.policy_values.specs.Uid.{text_cmp};
 ghost use Rattle.policy_values.specs.Value.{vals_of, fields_of};
 ghost use Rattle.schema_types.specs.Names.{has_name};
 ghost use Rattle.schema_core.specs.KindView.{kind_of};
@@ -12,8 +12,7 @@ ghost use Rattle.policy_scope.specs.Names.{choices_without, choices_in, others_l
 ghost use Rattle.conformance.specs.Ids.{unlisted_in, unlisted_in_all, unlisted_in_fields};
 
 use findings::{InvalidEnumEntityError, ListOf};
-use policy_names::{Eid, EntityUID, Text};
-use policy_values::{Value, ValueKind};
+use policy_values::{Eid, EntityUID, Text, Value, ValueKind};
 use schema_core::{ValidatorEntityTypeKind, ValidatorSchema};
 use std::alloc::{AllocError, Global};
 use std::cmp::Ordering;

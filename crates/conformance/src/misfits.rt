@@ -3,18 +3,16 @@
 ghost use Rattle.std.specs.Prelude.{◌≡◌};
 ghost use Rattle.std.specs.Option.{option_copied, option_map};
 ghost use Rattle.std.specs.Ordering.{is_eq};
-ghost use Rattle.policy_names.specs.Uid.{text_cmp};
-ghost use Rattle.policy_values.specs.Value.{vals_of, fields_of};
+ghost use Rattle.policy_values.specs.Uid.{text_cmp};
+ghost use Rattle.policy_values.specs.Value.{vals_of, fields_of, rec};
 ghost use Rattle.schema_types.specs.Ty.{primitive, extension, record_of, is_open};
 ghost use Rattle.schema_types.specs.TyView.{kind_of};
-ghost use Rattle.policy_values.specs.Value.{rec};
 ghost use Rattle.type_relations.specs.Member.{has_field, type_of};
 ghost use Rattle.conformance.specs.Misfits.{name_of, knows, fits_if, first_of, earlier, first_missing, misfit_field, extension_misfit, misfit, misfit_all, misfit_fields};
 ghost use Rattle.conformance.specs.Keyed.{at_key};
 
-use extension_types::ExtensionSchemas;
-use policy_names::{EntityType, Name, Text};
-use policy_values::{Value, ValueKind};
+use typing_spec::ExtensionSchemas;
+use policy_values::{EntityType, Name, Text, Value, ValueKind};
 use schema_types::{
     AttributeType, Attributes, EntityRecordKind, OpenTag, Primitive, Type, TypeKind,
 };

@@ -17,9 +17,8 @@ use crate::{
     UndeclaredResourceTypeError,
 };
 use entity_store::{Context, Request};
-use extension_types::ExtensionSchemas;
-use policy_names::{EntityType, EntityUID, Text};
-use policy_values::try_clone_fields;
+use typing_spec::ExtensionSchemas;
+use policy_values::{EntityType, EntityUID, Text, try_clone_fields};
 use schema_core::{OpenTag, ValidatorActionId, ValidatorSchema};
 use std::alloc::{AllocError, Global};
 use std::collections::BTreeSet;

@@ -1,8 +1,8 @@
 -- What is said of an action that does not apply to a type.
 use Rattle.std.specs.Prelude.{ℕ, List, refl}
 use Rattle.std.specs.Coded.{Coded, coded×, coded_ℕ, coded_list, code_by}
-use Rattle.policy_names.specs.declared.entity_uid.EntityUID.{EntityUID}
-use Rattle.policy_names.specs.Uid.{coded_uid}
+use Rattle.policy_values.specs.declared.entity_uid.EntityUID.{EntityUID}
+use Rattle.policy_values.specs.Uid.{coded_uid}
 
 -- the principal's type, the action, and the types of principals to which it applies
 pub record InvalidPrincipalType : Type 0 where

@@ -4,7 +4,7 @@ use Rattle.std.specs.Prelude.{ℕ, ◌-◌, Bool, true, false, not, ◌&&◌, �
 use Rattle.std.specs.Fmt.{signed_decimal}
 use Rattle.std.specs.List.{list_all}
 use Rattle.std.specs.Str.{bytes_eq}
-use Rattle.policy_names.specs.Show.{uid_text}
+use Rattle.policy_values.specs.Show.{uid_text}
 use Rattle.policy_ext.specs.Decimal.{decimal_text}
 use Rattle.policy_ext.specs.IpText.{range_text}
 use Rattle.policy_values.specs.Value.{Val, truth, long, string, entity, set, rec, decimal, ip, datetime, duration, Vals, no_vals, val, Fields, no_fields, field}

@@ -1,7 +1,7 @@
 -- How it is written that a request or a store does not conform.
 use Rattle.std.specs.Prelude.{ℕ, List, [], ◌∷◌, ◌++◌, Option, Some, None, codes}
-use Rattle.policy_names.specs.declared.entity_uid.EntityUID.{EntityUID}
-use Rattle.policy_names.specs.Show.{uid_text}
+use Rattle.policy_values.specs.declared.entity_uid.EntityUID.{EntityUID}
+use Rattle.policy_values.specs.Show.{uid_text}
 use Rattle.policy_values.specs.Value.{rec}
 use Rattle.findings.specs.Texts.{enum_entity_text, enum_help}
 use Rattle.finding_messages.specs.Written.{help_line}

@@ -2,7 +2,7 @@
 
 use entity_store::Context;
 use findings::InvalidEnumEntityError;
-use policy_names::{EntityType, EntityUID, Quoted, Text};
+use policy_values::{EntityType, EntityUID, Quoted, Text};
 use std::alloc::AllocError;
 use std::marker::Model;
 use thiserror::Error;

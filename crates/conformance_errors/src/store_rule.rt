@@ -3,7 +3,7 @@
 ghost use Rattle.std.specs.Prelude.{Some};
 ghost use Rattle.conformance_errors.specs.RuleText.{rule_text};
 
-use policy_names::{EntityUID, Text};
+use policy_values::{EntityUID, Text};
 use std::alloc::AllocError;
 use std::fmt;
 use thiserror::Error;

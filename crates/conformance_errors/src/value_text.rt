@@ -10,8 +10,7 @@ ghost use Rattle.findings.specs.Texts.{string_text};
 ghost use Rattle.conformance_errors.specs.ValueText.{is_head, is_tail, is_component, key_text, truth_text, field_text, value_text, elements_text, further_elements, fields_text, further_fields};
 
 use policy_ext::{Decimal, IpAddr};
-use policy_names::{Quoted, Text};
-use policy_values::{Value, ValueKind};
+use policy_values::{Quoted, Text, Value, ValueKind};
 use std::alloc::{AllocError, Global};
 use std::collections::BTreeMap;
 use std::fmt::Write;

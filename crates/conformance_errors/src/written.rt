@@ -9,7 +9,7 @@ use crate::value_text::write_record;
 use crate::{EntityDoesNotConform, InvalidContextError, RequestValidationError};
 use finding_messages::{Diagnostic, add_help};
 use policy_expressions::Loc;
-use policy_names::{EntityType, EntityUID, Text};
+use policy_values::{EntityType, EntityUID, Text};
 use std::alloc::{AllocError, Global};
 use std::fmt::Write;
 

@@ -8,11 +8,11 @@ use Rattle.std.specs.Cmp.{both_ways}
 use Rattle.std.specs.Cmp.Lexicographic.{nat_list_cmp_total}
 use Rattle.std.proofs.lemmas.Bool.{false≢true}
 use Rattle.std.proofs.lemmas.Map.Lookups.{exact_bytes}
-use Rattle.hierarchy.specs.Reaches.{has}
-use Rattle.policy_names.specs.declared.entity_uid.EntityUID.{EntityUID}
-use Rattle.policy_names.specs.Uid.{text_cmp, uid_cmp, uid_cmp_total, exact_uid}
+use Rattle.policy_values.specs.Reaches.{has}
+use Rattle.policy_values.specs.declared.entity_uid.EntityUID.{EntityUID}
+use Rattle.policy_values.specs.Uid.{text_cmp, uid_cmp, uid_cmp_total, exact_uid}
 use Rattle.core_schema.specs.Descriptions.{type_described, action_described}
-use Rattle.schema_declarations.proofs.SameKeys.{has-Contains}
+use Rattle.schema_core.proofs.SameKeys.{has-Contains}
 use Rattle.schema_core.specs.Schema.{SchemaData, TypeData, ActionData, type_at, action_at, type_below, action_below, HasTypeDescendant, HasActionDescendant}
 use Rattle.core_schema.specs.Described.{described_type, described_action, described_types, described_actions, ancestors_of}
 use Rattle.core_schema.proofs.Kept.{kept_within}

@@ -13,8 +13,8 @@ use Rattle.std.proofs.lemmas.List.Folds.{list_any-append}
 use Rattle.std.proofs.lemmas.List.Kept.{IsStrictlySortedBy-filter}
 use Rattle.std.proofs.lemmas.Map.Lookups.{CmpEqualImpliesEq}
 use Rattle.std.proofs.lemmas.Map.Views.{tells_apart}
-use Rattle.hierarchy.specs.Reaches.{has}
-use Rattle.hierarchy.proofs.SameSorted.{same_sorted}
+use Rattle.policy_values.specs.Reaches.{has}
+use Rattle.policy_values.proofs.SameSorted.{same_sorted}
 
 kept_step : (a b d h h' : Bool) → (a ≡ true → d ≡ b) → h' ≡ (d && h) → cond b (a || h') h' ≡ (d && (a || h))
 kept_step true true true h h' e i = refl

@@ -3,7 +3,7 @@ use Rattle.std.proofs.Common.{◌≡◌, ℕ, List, [], ◌∷◌, Bool, true, f
 use Rattle.std.specs.BTreeMap.{is_at}
 use Rattle.std.specs.Map.{lookup}
 use Rattle.std.specs.Option.{option_map}
-use Rattle.policy_names.specs.Uid.{text_cmp}
+use Rattle.policy_values.specs.Uid.{text_cmp}
 use Rattle.schema_types.specs.SchemaView.{schema_attrs_of}
 use Rattle.core_schema.specs.Descriptions.{attr_type_at}
 use Rattle.schema_types.specs.declared.schema_type.SchemaAttribute.{SchemaAttribute}

@@ -4,8 +4,8 @@ use Rattle.std.specs.List.{filter, starts_with}
 use Rattle.std.specs.Option.{option_map, option_or, unwrap_or}
 use Rattle.std.specs.Ordering.{is_eq}
 use Rattle.std.specs.Str.{bytes_eq}
-use Rattle.policy_names.specs.declared.entity_uid.EntityUID.{EntityUID}
-use Rattle.policy_names.specs.Uid.{text_cmp, uid_cmp}
+use Rattle.policy_values.specs.declared.entity_uid.EntityUID.{EntityUID}
+use Rattle.policy_values.specs.Uid.{text_cmp, uid_cmp}
 use Rattle.schema_types.specs.Attrs.{attr_at}
 use Rattle.schema_types.specs.Ty.{Ty, Attrs, no_attrs, attr}
 

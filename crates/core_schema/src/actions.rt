@@ -5,7 +5,7 @@ ghost use Rattle.schema_core.specs.Faults.{IsSchema};
 ghost use Rattle.core_schema.specs.Described.{ancestors_of, action_of};
 
 use entity_store::Entity;
-use policy_names::EntityUID;
+use policy_values::EntityUID;
 use schema_core::ValidatorSchema;
 use std::alloc::{AllocError, Global};
 use std::collections::BTreeMap;

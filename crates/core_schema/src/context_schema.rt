@@ -6,7 +6,7 @@ ghost use Rattle.schema_core.specs.Schema.{action_at};
 ghost use Rattle.core_schema.specs.Described.{context_of};
 
 use crate::plain_types::record_type;
-use policy_names::EntityUID;
+use policy_values::EntityUID;
 use schema_core::laws::schema_contexts_are_plain;
 use schema_core::{Attributes, SchemaType, ValidatorSchema};
 use std::alloc::{AllocError, Global};

@@ -10,7 +10,7 @@ ghost use Rattle.core_schema.specs.Described.{listed_in, parents_of, described_t
 
 use crate::plain_types::{same_attributes, same_type};
 use crate::traits::DescribedType;
-use policy_names::{Eid, EntityType, Text};
+use policy_values::{Eid, EntityType, Text};
 use schema_core::laws::schema_types_are_plain;
 use schema_core::{SchemaType, ValidatorEntityType, ValidatorEntityTypeKind, ValidatorSchema};
 use std::alloc::{AllocError, Global};

@@ -6,7 +6,7 @@ ghost use Rattle.schema_core.specs.Schema.{SchemaData};
 
 use crate::{CoreSchema, RequestValidationError};
 use entity_store::Request;
-use extension_types::ExtensionSchemas;
+use typing_spec::ExtensionSchemas;
 use schema_core::ValidatorSchema;
 use std::alloc::Global;
 

@@ -9,7 +9,7 @@ use crate::actions::action_entity;
 use crate::basenames::basename_of;
 use crate::traits::Schema;
 use entity_store::Entity;
-use policy_names::{EntityType, EntityUID};
+use policy_values::{EntityType, EntityUID};
 use schema_core::ValidatorSchema;
 use std::alloc::{AllocError, Global};
 use std::marker::Model;

@@ -6,7 +6,7 @@ ghost use Rattle.schema_types.specs.Ty.{Ty};
 ghost use Rattle.schema_types.specs.SchemaView.{schema_attrs_of};
 ghost use Rattle.core_schema.specs.Descriptions.{TypeDescription, ActionDescription, attr_type_at, required_keys, type_described, action_described, with_basename};
 
-use policy_names::{Eid, EntityType, EntityUID, Text};
+use policy_values::{Eid, EntityType, EntityUID, Text};
 use schema_types::{SchemaAttribute, SchemaAttributes, SchemaType};
 use std::alloc::{AllocError, Global};
 use std::collections::{BTreeMap, BTreeSet};

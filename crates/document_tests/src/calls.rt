@@ -1,9 +1,9 @@
 //! Calls that no command makes yet: that they succeed, and what they tell.
 
-use capabilities::{Capability, CapabilitySet};
+use typing_spec::{Capability, CapabilitySet};
 use json_document::{parse_json, read_schema};
 use policy_expressions::{Expr, Var};
-use policy_names::Text;
+use policy_values::Text;
 use schema_core::{RequestEnv, ValidatorSchema, euid_literal};
 use std::alloc::Global;
 use std::test::Fail;

@@ -12,7 +12,7 @@ use json_expressions::{Bounded, read_expr};
 use json_response::write_value;
 use json_values::{parse_json, with_item};
 use policy_core::{EvalError, Expr, Outcome, Value, ValueKind, evaluate, try_clone_fields};
-use policy_names::{Eid, EntityType, EntityUID, Name, Text};
+use policy_values::{Eid, EntityType, EntityUID, Name, Text};
 use serde_json::Value as Json;
 use std::alloc::{AllocError, Global};
 use std::collections::{BTreeMap, BTreeSet};

@@ -11,7 +11,7 @@ use Rattle.entity_loader.specs.declared.loader.EntityRequest.{EntityRequest}
 use Rattle.entity_loader.specs.declared.loader.AncestorsRequest.{AncestorsRequest}
 use Rattle.entity_loader.specs.Answers.{Fits, IsHonest, IsHonestList, IsListed}
 use Rattle.std.specs.List.{AllZip}
-use Rattle.policy_names.specs.declared.entity_uid.EntityUID.{EntityUID}
+use Rattle.policy_values.specs.declared.entity_uid.EntityUID.{EntityUID}
 use Rattle.plain_lemmas.proofs.Lists.{zip_length}
 
 -- one more of each

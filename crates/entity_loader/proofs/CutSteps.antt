@@ -8,7 +8,7 @@ use Rattle.std.specs.Map.{keys_of}
 use Rattle.std.specs.Ordering.{ordering_reverse}
 use Rattle.std.specs.declared.cmp.Ordering.TheVariants.{Less}
 use Rattle.std.proofs.lemmas.Cmp.{nat_list_cmp_total}
-use Rattle.policy_names.specs.Uid.{text_cmp}
+use Rattle.policy_values.specs.Uid.{text_cmp}
 use Rattle.policy_values.specs.Maps.{IsNext}
 use Rattle.policy_values.specs.Value.{Val, Fields, field, fields_of, size_of, size_of_fields}
 use Rattle.policy_values.proofs.MapSteps.{keys_of-append}

@@ -10,8 +10,7 @@ ghost use Rattle.entity_loader.specs.Asked.{asked, asked_by, by_tag, some_leads,
 
 use access_tries::{Node, TrieRef};
 use entity_store::Entity;
-use policy_names::{EntityUID, Text};
-use policy_values::{Value, ValueKind, push_entry};
+use policy_values::{EntityUID, Text, Value, ValueKind, push_entry};
 use std::alloc::{AllocError, Global};
 use std::collections::{BTreeMap, BTreeSet};
 

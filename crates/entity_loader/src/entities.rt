@@ -5,7 +5,7 @@ ghost use Rattle.reads_spec.specs.Merge.{united, merge_entities};
 
 use crate::values::merge_fields;
 use entity_store::Entity;
-use policy_names::EntityUID;
+use policy_values::EntityUID;
 use std::alloc::{AllocError, Global};
 use std::collections::BTreeSet;
 

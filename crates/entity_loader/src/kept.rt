@@ -2,14 +2,14 @@
 
 ghost use Rattle.std.specs.Prelude.{◌≡◌, OnOk, IfOk, IfErr, cond, Some};
 ghost use Rattle.std.specs.BTreeMap.{get};
-ghost use Rattle.policy_names.specs.declared.entity_uid.EntityUID.{EntityUID};
-ghost use Rattle.policy_names.specs.Uid.{uid_cmp, uid_eq};
+ghost use Rattle.policy_values.specs.declared.entity_uid.EntityUID.{EntityUID};
+ghost use Rattle.policy_values.specs.Uid.{uid_cmp, uid_eq};
 ghost use Rattle.entity_loader.specs.Kept.{kept_with, WhyNotKept};
 ghost use Rattle.reads_spec.specs.Merge.{merge_entities};
 
 use crate::entities::merge_entities;
 use entity_store::Entity;
-use policy_names::EntityUID;
+use policy_values::EntityUID;
 use std::alloc::{AllocError, Global};
 use std::collections::BTreeMap;
 

@@ -4,14 +4,14 @@ ghost use Rattle.std.specs.Prelude.{◌≡◌, ◌⊎◌, map, length, Some, Err
 ghost use Rattle.std.specs.List.{AllZip};
 ghost use Rattle.std.specs.List.Sorted.{IsStrictlySortedBy};
 ghost use Rattle.byte_streams.specs.Steps.{Rose};
-ghost use Rattle.policy_names.specs.Uid.{uid_cmp};
+ghost use Rattle.policy_values.specs.Uid.{uid_cmp};
 ghost use Rattle.entity_store.specs.Store.{Store};
 ghost use Rattle.entity_loader.specs.Answers.{Fits, IsHonest, IsHonestList};
 ghost use Rattle.entity_loader.specs.State.{LoaderState, Continues, Ticks};
 
 use access_tries::TrieRef;
 use entity_store::Entity;
-use policy_names::EntityUID;
+use policy_values::EntityUID;
 use std::alloc::{AllocError, AllocFailed, Global};
 
 /// Why nothing was loaded. It carries nothing: a loader keeps what its database said itself.

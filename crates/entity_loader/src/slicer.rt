@@ -2,13 +2,13 @@
 
 ghost use Rattle.std.specs.Prelude.{◌≡◌, true, Contains, IfOk};
 ghost use Rattle.std.specs.List.{AllZip};
-ghost use Rattle.policy_names.specs.declared.entity_uid.EntityUID.{EntityUID};
+ghost use Rattle.policy_values.specs.declared.entity_uid.EntityUID.{EntityUID};
 ghost use Rattle.entity_loader.specs.Answers.{IsHonest, IsHonestList, IsListed};
 
 use crate::cut::cut_along;
 use crate::loader::{AncestorsRequest, EntityAnswer, EntityLoader, EntityRequest, LoadError};
 use entity_store::{Entities, Entity};
-use policy_names::EntityUID;
+use policy_values::EntityUID;
 use std::alloc::{AllocError, Global};
 
 /// A loader over a store, which answers just what is asked. No call fails but for want of memory.

@@ -3,13 +3,12 @@
 ghost use Rattle.std.specs.Prelude.{◌≡◌, IfOk, OnOk};
 ghost use Rattle.std.specs.BTreeMap.{IsOrdered, insert_entry};
 ghost use Rattle.std.specs.Option.{option_map, option_copied};
-ghost use Rattle.policy_names.specs.Uid.{text_cmp};
+ghost use Rattle.policy_values.specs.Uid.{text_cmp};
 ghost use Rattle.policy_values.specs.Value.{fields_of};
 ghost use Rattle.reads_spec.specs.Merge.{merge, merge_fields};
 ghost use Rattle.entity_loader.specs.Merged.{merged_with};
 
-use policy_names::Text;
-use policy_values::{Value, ValueKind, try_clone_fields};
+use policy_values::{Text, Value, ValueKind, try_clone_fields};
 use std::alloc::{AllocError, Global};
 use std::collections::BTreeMap;
 

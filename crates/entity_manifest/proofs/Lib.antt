@@ -6,3 +6,6 @@ mod Sticking
 mod Conforming
 pub mod Manifests
 mod Loading
+pub mod ByManifest
+pub mod Loaded
+pub mod OfStore

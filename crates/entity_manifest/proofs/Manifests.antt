@@ -6,7 +6,7 @@ use Rattle.std.specs.List.{AllZip, cons_option}
 use Rattle.std.specs.Map.{lookup}
 use Rattle.std.specs.Option.{option_and_then}
 use Rattle.plain_lemmas.proofs.Options.{some_injective}
-use Rattle.policy_names.proofs.Ties.{equal_of}
+use Rattle.policy_values.proofs.Ties.{equal_of}
 use Rattle.entity_store.specs.declared.request.Request.{Request}
 use Rattle.entity_store.specs.declared.request.RequestType.{RequestType}
 use Rattle.entity_store.specs.Request.{request_type_of, request_type_cmp, exact_request_type}
@@ -26,7 +26,7 @@ use Rattle.policy_validate.specs.Typed.{typed_conditions}
 use Rattle.store_slices.proofs.LeastSteps.{declared_trie}
 use Rattle.manifest_core.specs.Manifest.{Manifest, trie_for}
 use Rattle.manifest_computation.specs.Computed.{IsEntryOf, IsManifestOf}
-use Rattle.request_environments.proofs.Environments.{env_action, member_found, types_known}
+use Rattle.manifest_computation.proofs.Environments.{env_action, member_found, types_known}
 use Rattle.entity_manifest.specs.DeclaredPaths.{IsDeclaredTrie}
 use Rattle.entity_manifest.specs.Computed.{ComputedTriesAreDeclared}
 use Rattle.entity_manifest.proofs.Conditions.{Asks, AsksIds, asks_both, none_asked, types_fine}

@@ -3,7 +3,7 @@ use Rattle.std.proofs.Common.{◌≡◌, ◌⊎◌, ℕ, Bool, true, false, ◌&
 use Rattle.std.specs.List.{AllByRecursion}
 use Rattle.std.specs.Option.{option_map}
 use Rattle.std.proofs.lemmas.Bool.{and_parts}
-use Rattle.policy_names.specs.declared.entity_uid.EntityUID.{EntityUID}
+use Rattle.policy_values.specs.declared.entity_uid.EntityUID.{EntityUID}
 use Rattle.policy_values.specs.Value.{Val, truth, long, string, entity as id, set, rec, decimal, ip, datetime, duration, Fields, no_fields, field}
 use Rattle.entity_store.specs.declared.request.Request.{Request}
 use Rattle.entity_store.specs.Store.{StoredEntity, Store, entity_at}

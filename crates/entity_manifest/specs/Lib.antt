@@ -1,3 +1,4 @@
 pub mod DeclaredPaths
 pub mod Sticking
 pub mod Computed
+pub mod Loaded

@@ -3,13 +3,16 @@
 #![tactic(auto)]
 
 pub mod laws;
+mod loading;
+pub mod loading_laws;
 
 pub use access_tries::{AccessPath, AccessTrie, EntityRoot, RootAccessTrie, RootTrieRef, TrieRef};
 pub use entity_loader::{
     AncestorsRequest, EntityAnswer, EntityLoader, EntityRequest, EntitySlicer, LoadError,
     cut_along, cut_entity, merge_entities, merge_values,
 };
-pub use manifest_computation::{EntityManifestError, compute_entity_manifest};
+pub use loading::{load_for_request, load_slice};
+pub use manifest_computation::{EntityManifestError, SliceForRequestError, compute_entity_manifest, slice_for_request};
 pub use manifest_core::{
     EntityManifest, EntityManifestFromJsonError, MismatchedEntityManifestError,
     MismatchedMissingEntityError, MismatchedNotStrictSchemaError,
@@ -19,5 +22,4 @@ pub use manifest_loading::{
     WrongNumberOfEntitiesError, load_entities, load_trie, slice_entities,
 };
 pub use path_analysis::EntityManifestAnalysisResult;
-pub use request_slices::{SliceForRequestError, slice_for_request};
 pub use store_slices::restricted_store;

@@ -3,7 +3,7 @@ use Rattle.std.proofs.Common.{◌≡◌, ℕ, ◌↔◌, cond, List, [], ◌∷�
 use Rattle.std.specs.Ordering.{is_eq}
 use Rattle.std.specs.Map.{lookup}
 use Rattle.std.specs.BTreeMap.{is_at}
-use Rattle.policy_names.specs.Uid.{text_cmp}
+use Rattle.policy_values.specs.Uid.{text_cmp}
 use Rattle.policy_values.specs.Value.{Val, no_fields, fields_of, field_at}
 
 pub field_found : (k : List ℕ) (es : List (List ℕ × Val)) → lookup (is_at (text_cmp k)) es ≡ field_at (fields_of es) k

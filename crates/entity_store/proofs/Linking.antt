@@ -4,14 +4,14 @@ use Rattle.std.specs.List.Sorted.{IsStrictlySortedBy}
 use Rattle.std.specs.Option.{is_some, option_map, option_map_or, IsSomeAnd, IfSome}
 use Rattle.std.specs.BTreeSet.{BTreeSet}
 use Rattle.std.proofs.lemmas.Bool.{false≢true}
-use Rattle.hierarchy.specs.Reaches.{Reaches, at, Leads, IsClosure}
-use Rattle.hierarchy.specs.Least.{IsLeast}
-use Rattle.hierarchy.specs.Repeated.{IsRepeated}
-use Rattle.hierarchy.proofs.Keyed.{value_named}
-use Rattle.hierarchy.proofs.Least.{IsLeast-same}
-use Rattle.hierarchy.proofs.Reaches.{Leads-is_some, Reaches-map}
-use Rattle.policy_names.specs.declared.entity_uid.EntityUID.{EntityUID}
-use Rattle.policy_names.specs.Uid.{uid_cmp, exact_uid}
+use Rattle.policy_values.specs.Reaches.{Reaches, at, Leads, IsClosure}
+use Rattle.policy_values.specs.Least.{IsLeast}
+use Rattle.policy_values.specs.Repeated.{IsRepeated}
+use Rattle.policy_values.proofs.Keyed.{value_named}
+use Rattle.policy_values.proofs.Least.{IsLeast-same}
+use Rattle.policy_values.proofs.Reaches.{Leads-is_some, Reaches-map}
+use Rattle.policy_values.specs.declared.entity_uid.EntityUID.{EntityUID}
+use Rattle.policy_values.specs.Uid.{uid_cmp, exact_uid}
 use Rattle.entity_store.specs.Store.{StoredEntity, entity_at}
 use Rattle.entity_store.specs.FromParents.{ids_of, Lists, IsOwnAncestor, IsFromParents, without_links}
 use Rattle.entity_store.specs.Linked.{links_of, linked}

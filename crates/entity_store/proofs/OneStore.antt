@@ -7,10 +7,10 @@ use Rattle.std.specs.List.Sorted.{IsStrictlySortedBy}
 use Rattle.std.proofs.lemmas.List.Elements.{recursion_from_All}
 use Rattle.std.proofs.lemmas.Map.Views.{btree_set_contains_iff}
 use Rattle.std.specs.Cmp.{both_ways}
-use Rattle.hierarchy.specs.Reaches.{has, Reaches}
-use Rattle.hierarchy.proofs.SameSorted.{same_sorted, same_values}
-use Rattle.policy_names.specs.declared.entity_uid.EntityUID.{EntityUID}
-use Rattle.policy_names.specs.Uid.{uid_cmp, uid_cmp_total, exact_uid}
+use Rattle.policy_values.specs.Reaches.{has, Reaches}
+use Rattle.policy_values.proofs.SameSorted.{same_sorted, same_values}
+use Rattle.policy_values.specs.declared.entity_uid.EntityUID.{EntityUID}
+use Rattle.policy_values.specs.Uid.{uid_cmp, uid_cmp_total, exact_uid}
 use Rattle.entity_store.specs.Store.{StoredEntity, is_named, entity_at}
 use Rattle.entity_store.specs.FromParents.{IsFromParents, Lists, without_links}
 

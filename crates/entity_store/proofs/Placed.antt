@@ -9,11 +9,11 @@ use Rattle.std.proofs.lemmas.List.{map-append, append-nil}
 use Rattle.std.proofs.lemmas.List.Elements.{Contains-append_left, Contains-append_right, Contains-push}
 use Rattle.std.proofs.lemmas.List.Folds.{find-append}
 use Rattle.std.proofs.lemmas.Map.Views.{tells_apart}
-use Rattle.hierarchy.specs.Reaches.{at}
-use Rattle.hierarchy.specs.Repeated.{IsRepeated}
-use Rattle.hierarchy.proofs.Repeated.{repeated_append, repeated_push}
-use Rattle.policy_names.specs.declared.entity_uid.EntityUID.{EntityUID}
-use Rattle.policy_names.specs.Uid.{uid_cmp, uid_cmp_total, exact_uid}
+use Rattle.policy_values.specs.Reaches.{at}
+use Rattle.policy_values.specs.Repeated.{IsRepeated}
+use Rattle.policy_values.proofs.Repeated.{repeated_append, repeated_push}
+use Rattle.policy_values.specs.declared.entity_uid.EntityUID.{EntityUID}
+use Rattle.policy_values.specs.Uid.{uid_cmp, uid_cmp_total, exact_uid}
 use Rattle.entity_store.specs.Store.{StoredEntity, is_named, entity_at}
 use Rattle.entity_store.specs.FromParents.{ids_of}
 use Rattle.entity_store.specs.Entries.{AreStored}

@@ -7,10 +7,10 @@ use Rattle.std.specs.List.{AllByRecursion}
 use Rattle.std.specs.List.Sorted.{IsStrictlySortedBy}
 use Rattle.std.specs.Map.{values_of}
 use Rattle.std.specs.BTreeMap.{BTreeMap, IsOrdered, insert_entry, values}
-use Rattle.hierarchy.specs.Keyed.{with_value}
-use Rattle.hierarchy.proofs.Keyed.{value_put, own_put}
-use Rattle.policy_names.specs.declared.entity_uid.EntityUID.{EntityUID}
-use Rattle.policy_names.specs.Uid.{uid_cmp, exact_uid}
+use Rattle.policy_values.specs.Keyed.{with_value}
+use Rattle.policy_values.proofs.Keyed.{value_put, own_put}
+use Rattle.policy_values.specs.declared.entity_uid.EntityUID.{EntityUID}
+use Rattle.policy_values.specs.Uid.{uid_cmp, exact_uid}
 use Rattle.entity_store.specs.Ascending.{IsAbove}
 use Rattle.entity_store.specs.Entries.{AreStored}
 use Rattle.entity_store.specs.Store.{StoredEntity}

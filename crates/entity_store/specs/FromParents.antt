@@ -2,11 +2,11 @@
 use Rattle.std.specs.Prelude.{◌≡◌, ◌↔◌, ⊤, List, [], All, Contains, IsSomeAnd, map}
 use Rattle.std.specs.List.Sorted.{IsStrictlySortedBy}
 use Rattle.std.specs.Option.{option_map}
-use Rattle.hierarchy.specs.Reaches.{Reaches}
-use Rattle.hierarchy.specs.Least.{IsLeast}
-use Rattle.hierarchy.specs.Repeated.{IsRepeated}
-use Rattle.policy_names.specs.declared.entity_uid.EntityUID.{EntityUID}
-use Rattle.policy_names.specs.Uid.{uid_cmp}
+use Rattle.policy_values.specs.Reaches.{Reaches}
+use Rattle.policy_values.specs.Least.{IsLeast}
+use Rattle.policy_values.specs.Repeated.{IsRepeated}
+use Rattle.policy_values.specs.declared.entity_uid.EntityUID.{EntityUID}
+use Rattle.policy_values.specs.Uid.{uid_cmp}
 use Rattle.entity_store.specs.declared.entities.EntitiesError.{EntitiesError}
 use Rattle.entity_store.specs.declared.entities.EntitiesError.TheVariants.{Duplicate, Cycle, OutOfMemory}
 use Rattle.entity_store.specs.Store.{StoredEntity, entity_at}

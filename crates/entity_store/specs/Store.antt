@@ -2,8 +2,8 @@
 use Rattle.std.specs.Prelude.{Bool, List, Option, find, refl}
 use Rattle.std.specs.Ordering.{is_eq}
 use Rattle.std.specs.Coded.{Coded, coded×, coded_list, code_by}
-use Rattle.policy_names.specs.declared.entity_uid.EntityUID.{EntityUID}
-use Rattle.policy_names.specs.Uid.{uid_cmp, coded_uid}
+use Rattle.policy_values.specs.declared.entity_uid.EntityUID.{EntityUID}
+use Rattle.policy_values.specs.Uid.{uid_cmp, coded_uid}
 use Rattle.policy_values.specs.Value.{Fields}
 use Rattle.policy_values.specs.ValueCode.{coded_fields}
 

@@ -4,8 +4,7 @@ ghost use Rattle.std.specs.Prelude.{◌≡◌, ◌↔◌, IfOk, IsTrue};
 ghost use Rattle.std.specs.Option.{option_copied};
 ghost use Rattle.policy_values.specs.Value.{no_fields, fields_of, field_at};
 
-use policy_names::Text;
-use policy_values::{Value, try_clone_fields};
+use policy_values::{Text, Value, try_clone_fields};
 use std::alloc::{AllocError, Global};
 use std::collections::BTreeMap;
 use std::marker::Model;

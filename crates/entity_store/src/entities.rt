@@ -5,17 +5,16 @@ ghost use Rattle.std.specs.List.Sorted.{IsStrictlySortedBy};
 ghost use Rattle.std.specs.Option.{option_map};
 ghost use Rattle.std.specs.Ordering.{is_eq};
 ghost use Rattle.std.specs.BTreeMap as tree;
-ghost use Rattle.hierarchy.specs.Least.{IsLeastIfAny};
-ghost use Rattle.hierarchy.specs.Repeated.{IsRepeated};
-ghost use Rattle.policy_names.specs.Uid.{uid_cmp};
+ghost use Rattle.policy_values.specs.Least.{IsLeastIfAny};
+ghost use Rattle.policy_values.specs.Repeated.{IsRepeated};
+ghost use Rattle.policy_values.specs.Uid.{uid_cmp};
 ghost use Rattle.entity_store.specs.Store.{entity_at};
 ghost use Rattle.entity_store.specs.Entries.{AreStored};
 ghost use Rattle.entity_store.specs.Linked.{links_of, linked};
 ghost use Rattle.entity_store.specs.FromParents.{ids_of};
 
 use crate::Entity;
-use hierarchy::{SharedSteps, Steps, closure_of, first_own, least_repeated};
-use policy_names::EntityUID;
+use policy_values::{EntityUID, SharedSteps, Steps, closure_of, first_own, least_repeated};
 use std::alloc::{AllocError, Global};
 use std::collections::BTreeMap;
 use std::collections::btree_map::Values;
@@ -48,7 +47,7 @@ impl Entities {
     ghost use Rattle.std.specs.Option.{option_copied};
     ghost use Rattle.std.specs.List.Sorted.{IsStrictlySortedBy};
     ghost use Rattle.std.specs.Map.Iter.{ShowsInOrder, deref};
-    ghost use Rattle.policy_names.specs.Uid.{uid_cmp};
+    ghost use Rattle.policy_values.specs.Uid.{uid_cmp};
     ghost use Rattle.entity_store.specs.Store.{StoredEntity, entity_at};
     ghost use Rattle.entity_store.specs.FromParents.{IsFromAncestors, IsFromParents, IsRefused, IsRepeatedly};
 

@@ -3,12 +3,10 @@
 ghost use Rattle.std.specs.Prelude.{◌≡◌, ◌↔◌, IsTrue, IfOk, Contains};
 ghost use Rattle.std.specs.Option.{option_copied};
 ghost use Rattle.std.specs.List.Sorted.{IsStrictlySortedBy};
-ghost use Rattle.policy_names.specs.Uid.{uid_cmp};
+ghost use Rattle.policy_values.specs.Uid.{uid_cmp};
 ghost use Rattle.policy_values.specs.Value.{fields_of, field_at};
 
-use hierarchy::SharedSet;
-use policy_names::{EntityUID, Text};
-use policy_values::Value;
+use policy_values::{EntityUID, SharedSet, Text, Value};
 use std::alloc::AllocError;
 use std::collections::{BTreeMap, BTreeSet};
 use std::marker::Model;
@@ -38,7 +36,7 @@ impl Model for Entity {
     ghost view = { λ e. record { uid = e.uid; attrs = fields_of e.attrs.entries; ancestors = (chosen e.shared e.own).keys; tags = fields_of e.tags.entries } };
 
     ghost use Rattle.std.specs.List.Sorted.{IsStrictlySortedBy};
-    ghost use Rattle.policy_names.specs.Uid.{uid_cmp};
+    ghost use Rattle.policy_values.specs.Uid.{uid_cmp};
 
     ghost invariant = { λ e. IsStrictlySortedBy uid_cmp (chosen e.shared e.own).keys };
 }

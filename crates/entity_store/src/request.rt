@@ -4,8 +4,7 @@ ghost use Rattle.std.specs.Prelude.{◌≡◌, ◌↔◌, IfOk, IsTrue};
 ghost use Rattle.entity_store.specs.Request.{IsWhole, request_type_of};
 
 use crate::Context;
-use hierarchy::Key;
-use policy_names::{EntityType, EntityUID};
+use policy_values::{EntityType, EntityUID, Key};
 use std::alloc::AllocError;
 
 /// A question: may this principal do this action on this resource, in this context? An entry that is none is not

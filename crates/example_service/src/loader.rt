@@ -2,8 +2,7 @@
 
 use entity_loader::{AncestorsRequest, EntityAnswer, EntityLoader, EntityRequest, LoadError};
 use entity_store::Entity;
-use policy_names::{EntityUID, Text};
-use policy_values::Value;
+use policy_values::{EntityUID, Text, Value};
 use std::alloc::Global;
 use std::collections::{BTreeMap, BTreeSet};
 

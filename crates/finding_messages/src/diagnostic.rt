@@ -4,7 +4,7 @@ ghost use Rattle.std.specs.Prelude.{◌≡◌, ℕ, List, Option, IfOk};
 ghost use Rattle.policy_expressions.specs.declared.kinds.Loc.{Loc as Place};
 
 use policy_expressions::Loc;
-use policy_names::Text;
+use policy_values::Text;
 use std::alloc::{AllocError, Global};
 
 /// What a finding says, what may help, and where it was found.

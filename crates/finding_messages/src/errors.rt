@@ -6,7 +6,7 @@ ghost use Rattle.findings.specs.Errors.{error_message, error_help, error_place, 
 use crate::Diagnostic;
 use findings::{ValidationError, ValidationWarning};
 use policy_expressions::Loc;
-use policy_names::Text;
+use policy_values::Text;
 use std::alloc::{AllocError, Global};
 
 impl Diagnostic for ValidationError {

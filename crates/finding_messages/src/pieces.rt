@@ -5,7 +5,7 @@ ghost use Rattle.std.specs.List.{join_by};
 ghost use Rattle.schema_types.specs.TyText.{ty_text};
 ghost use Rattle.findings.specs.Texts.{for_policy, string_text, in_a_row, all_of, hint_text, if_one_type_text, type_or_this};
 
-use policy_names::{Eid, EntityType, Quoted, Text};
+use policy_values::{Eid, EntityType, Quoted, Text};
 use schema_types::{EntityLUB, LubHelp, Type};
 use std::alloc::{AllocError, Global};
 use std::fmt;

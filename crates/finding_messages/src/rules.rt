@@ -11,7 +11,7 @@ use findings::{
     InvalidEnumEntityError, TooDeep, UnrecognizedActionId, UnrecognizedEntityType,
 };
 use policy_expressions::Loc;
-use policy_names::Text;
+use policy_values::Text;
 use std::alloc::{AllocError, Global};
 
 impl Diagnostic for UnrecognizedEntityType {

@@ -13,7 +13,7 @@ use findings::{
     UnsafeOptionalAttributeAccess, UnsafeTagAccess, WrongNumberArguments,
 };
 use policy_expressions::Loc;
-use policy_names::{Name, Text};
+use policy_values::{Name, Text};
 use std::alloc::{AllocError, Global};
 
 impl Diagnostic for UnexpectedType {

@@ -5,7 +5,7 @@ ghost use Rattle.finding_messages.specs.Written.{place_text, help_line, finding_
 
 use crate::{Diagnostic, ValidationResult};
 use policy_expressions::Loc;
-use policy_names::Text;
+use policy_values::Text;
 use std::alloc::{AllocError, Global};
 use std::fmt::Write;
 

@@ -7,7 +7,7 @@ ghost use Rattle.findings.specs.Texts.{guard_of, guard_text};
 
 use crate::ListOf;
 use policy_expressions::{Expr, ExprKind, Var};
-use policy_names::{EntityUID, Text};
+use policy_values::{EntityUID, Text};
 use schema_core::RequestEnv;
 use schema_types::{EntityLUB, EntityRecordKind, Type, TypeKind};
 use std::alloc::{AllocError, Global};

@@ -4,7 +4,7 @@ ghost use Rattle.std.specs.Prelude.{◌≡◌, Some};
 ghost use Rattle.std.specs.Fmt.{decimal};
 
 use policy_expressions::Loc;
-use policy_names::Text;
+use policy_values::Text;
 use std::fmt;
 
 /// How many dereferences of entities lead from the request to an entity.

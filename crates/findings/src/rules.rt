@@ -2,7 +2,7 @@
 
 use crate::ListOf;
 use policy_expressions::Loc;
-use policy_names::{Eid, EntityType, EntityUID, Text};
+use policy_values::{Eid, EntityType, EntityUID, Text};
 
 /// A type of a literal, or one that `is` tests for, is neither declared nor a type of actions.
 #[derive(Debug, Drop, PartialEq, Eq, Hash)]

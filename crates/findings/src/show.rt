@@ -10,7 +10,7 @@ use crate::{
     AttributeAccess, EntityDerefViolationKind, ListOf, LubContext, UnexpectedTypeHelp,
     UnrecognizedActionIdHelp,
 };
-use policy_names::{EntityType, Text};
+use policy_values::{EntityType, Text};
 use schema_types::EntityLUB;
 use std::fmt;
 use std::fmt::Display;

@@ -2,7 +2,7 @@
 
 use crate::{AttributeAccess, ListOf, LubContext, UnexpectedTypeHelp};
 use policy_expressions::Loc;
-use policy_names::{EntityType, Name, Text};
+use policy_values::{EntityType, Name, Text};
 use schema_types::{EntityLUB, LubHelp, Type};
 
 /// An operand has none of the types that its operator takes.

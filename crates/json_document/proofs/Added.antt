@@ -1,7 +1,7 @@
 -- What is added to a set at an index, and for what fault it is not.
 use Rattle.std.proofs.Common.{◌≡◌, ◌∙◌, ℕ, Option, Some, None, Ok, ap, refl, sym}
 use Rattle.std.specs.Prelude.{IsSomeAnd}
-use Rattle.policy_names.specs.declared.entity_uid.EntityUID.{EntityUID}
+use Rattle.policy_values.specs.declared.entity_uid.EntityUID.{EntityUID}
 use Rattle.policy_set.specs.Data.{TemplateData}
 use Rattle.policy_set.specs.Links.{linked_policy}
 use Rattle.policy_set.specs.PolicySet.{PolicySetData, slot_values, with_policy}

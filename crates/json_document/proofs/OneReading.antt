@@ -2,7 +2,7 @@
 use Rattle.std.proofs.Common.{◌≡◌, List, [], inl, inr, Option, Some, None, Result, Ok, Err, sym, ◌∙◌, ap, subst}
 use Rattle.std.specs.Prelude.{IfSome, IsSomeAnd}
 use Rattle.serde_json.specs.Data.{Data}
-use Rattle.hierarchy.proofs.Repeated.{earlier_at}
+use Rattle.policy_values.proofs.Repeated.{earlier_at}
 use Rattle.entity_store.specs.Store.{StoredEntity, Store}
 use Rattle.entity_store.specs.FromParents.{IsFromParents, ids_of}
 use Rattle.entity_store.proofs.OneStore.{one_store}
@@ -13,8 +13,8 @@ use Rattle.json_schema.specs.Schema.{schema_of}
 use Rattle.schema_core.specs.Entries.{Declarations}
 use Rattle.schema_core.specs.Declarations.{IsSchemaOf, declared_outline}
 use Rattle.schema_core.proofs.OneSchema.{one_schema}
-use Rattle.schema_declarations.specs.declared.fault.SchemaFault.{SchemaFault}
-use Rattle.schema_declarations.specs.declared.fault.SchemaFault.TheVariants as refused
+use Rattle.schema_core.specs.declared.fault.SchemaFault.{SchemaFault}
+use Rattle.schema_core.specs.declared.fault.SchemaFault.TheVariants as refused
 use Rattle.json_document.specs.Faults.{Then}
 use Rattle.json_document.specs.Parts.{DocumentParts, parts_of}
 use Rattle.json_document.specs.Policies.{no_policies, policies_of}

@@ -7,7 +7,7 @@ use Rattle.schema_core.specs.Declarations.{IsSchemaOf, IsRefused}
 use Rattle.schema_core.specs.Entries.{Declarations}
 use Rattle.schema_core.specs.Schema.{SchemaData}
 use Rattle.json_schema.specs.Schema.{schema_of}
-use Rattle.schema_declarations.specs.declared.fault.SchemaFault.TheVariants as refused
+use Rattle.schema_core.specs.declared.fault.SchemaFault.TheVariants as refused
 use Rattle.serde_json.specs.Data.{Data}
 use Rattle.json_document.specs.Faults.{Then}
 use Rattle.json_document.specs.Parts.{DocumentParts, parts_of}

@@ -1,7 +1,7 @@
 -- Requests in JSON.
 use Rattle.std.specs.Prelude.{ℕ, List, [], ◌∷◌, ◌++◌, length, if◌then◌else◌, Option, Some, None, option_map, option_and_then, is_some, Result, Ok, Err, codes}
 use Rattle.std.specs.Option.{option_map_or}
-use Rattle.policy_names.specs.declared.entity_uid.EntityUID.{EntityUID}
+use Rattle.policy_values.specs.declared.entity_uid.EntityUID.{EntityUID}
 use Rattle.policy_values.specs.Value.{Fields, fields_of}
 use Rattle.entity_store.specs.declared.request.Request.{Request}
 use Rattle.serde_json.specs.Data.{Data, Items, no_items, item}

@@ -1,9 +1,9 @@
 -- The store that the entities of a document make.
 use Rattle.std.specs.Prelude.{◌≡◌, ⊤, List, [], Result, Ok, Err}
 use Rattle.std.specs.Ordering.{nat_cmp}
-use Rattle.hierarchy.specs.Least.{IsLeast}
-use Rattle.hierarchy.specs.Repeated.{IsRepeated, StandsEarlier}
-use Rattle.policy_names.specs.declared.entity_uid.EntityUID.{EntityUID}
+use Rattle.policy_values.specs.Least.{IsLeast}
+use Rattle.policy_values.specs.Repeated.{IsRepeated, StandsEarlier}
+use Rattle.policy_values.specs.declared.entity_uid.EntityUID.{EntityUID}
 use Rattle.entity_store.specs.Store.{StoredEntity, Store}
 use Rattle.entity_store.specs.FromParents.{ids_of, IsFromParents, IsRefused}
 use Rattle.entity_store.specs.declared.entities.EntitiesError.{EntitiesError}

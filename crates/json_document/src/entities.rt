@@ -4,7 +4,7 @@ ghost use Rattle.std.specs.Prelude.{◌≡◌, [], IfOk, option_map};
 ghost use Rattle.serde_json.specs.View.{view, items_view, members_view};
 ghost use Rattle.json_values.specs.Json.{has_only};
 ghost use Rattle.json_document.specs.Entities.{entities_of, entity_names, entity_of, given_entity_of, index_from, with_uids};
-ghost use Rattle.policy_names.specs.Uid.{uid_eq};
+ghost use Rattle.policy_values.specs.Uid.{uid_eq};
 ghost use Rattle.entity_store.specs.FromParents.{ids_of};
 ghost use Rattle.json_document.specs.Faults.{ComesTo};
 
@@ -12,7 +12,7 @@ use crate::fields::read_attrs_and_tags;
 use crate::{DocumentFault, Place};
 use entity_store::Entity;
 use json_values::{has_only, list_items, read_uid_like};
-use policy_names::EntityUID;
+use policy_values::EntityUID;
 use serde_json::{Map, Value};
 use std::alloc::{AllocError, Global};
 use std::cmp::Ordering;

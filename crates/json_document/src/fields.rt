@@ -6,8 +6,7 @@ ghost use Rattle.serde_json.specs.View.{view};
 ghost use Rattle.json_document.specs.Fields.{fields_in, both_of};
 
 use json_values::read_fields;
-use policy_names::Text;
-use policy_values::Value;
+use policy_values::{Text, Value};
 use serde_json::Value as Json;
 use std::alloc::{AllocError, Global};
 use std::collections::BTreeMap;

@@ -6,7 +6,7 @@ ghost use Rattle.json_document.specs.Request.{context_of, entries_of, given_requ
 
 use entity_store::{Context, Request};
 use json_values::{has_only, read_fields, read_uid};
-use policy_names::EntityUID;
+use policy_values::EntityUID;
 use serde_json::Value as Json;
 use std::alloc::{AllocError, Global};
 

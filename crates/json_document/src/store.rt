@@ -2,9 +2,9 @@
 
 ghost use Rattle.std.specs.Prelude.{◌≡◌, ℕ, IfOk};
 ghost use Rattle.std.specs.Ordering.{nat_cmp};
-ghost use Rattle.hierarchy.specs.Least.{IsLeast};
-ghost use Rattle.hierarchy.specs.Repeated.{IsRepeated, StandsEarlier};
-ghost use Rattle.policy_names.specs.declared.entity_uid.EntityUID.{EntityUID};
+ghost use Rattle.policy_values.specs.Least.{IsLeast};
+ghost use Rattle.policy_values.specs.Repeated.{IsRepeated, StandsEarlier};
+ghost use Rattle.policy_values.specs.declared.entity_uid.EntityUID.{EntityUID};
 ghost use Rattle.serde_json.specs.View.{items_view};
 ghost use Rattle.json_document.specs.Entities.{entities_of};
 ghost use Rattle.json_document.specs.Faults.{MayComeTo};
@@ -13,8 +13,7 @@ ghost use Rattle.json_document.specs.Store.{IsStoreOf, IsRepeatedIfDuplicate, Is
 use crate::entities::{ids_of, index_of, read_entities};
 use crate::{DocumentFault, Place};
 use entity_store::{Entities, EntitiesError};
-use hierarchy::first_repeated;
-use policy_names::EntityUID;
+use policy_values::{EntityUID, first_repeated};
 use serde_json::Value;
 use std::alloc::{AllocError, Global};
 

@@ -16,7 +16,7 @@ use crate::reads::{
 };
 use json_values::{read_uid, with_field, with_item};
 use policy_expressions::{Expr, Literal, Loc, Pattern, UnaryOp};
-use policy_names::{EntityType, Name, Text};
+use policy_values::{EntityType, Name, Text};
 use serde_json::{Map, Number, Value};
 use std::alloc::{AllocError, Global};
 use std::collections::BTreeMap;

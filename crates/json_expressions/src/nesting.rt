@@ -3,8 +3,7 @@
 ghost use Rattle.std.specs.Prelude.{◌≡◌, IfOk, option_map};
 ghost use Rattle.json_expressions.specs.Nesting.{all_within, fields_within};
 
-use policy_names::Text;
-use policy_values::push_entry;
+use policy_values::{Text, push_entry};
 use std::alloc::{AllocError, Global};
 use std::collections::BTreeMap;
 

@@ -9,7 +9,7 @@ ghost use Rattle.json_expressions.specs.Parts.{elements_of, called_name_of, loc_
 
 use json_values::{pair, read_name, with_item};
 use policy_expressions::{Loc, Pattern, PatternElem};
-use policy_names::{EntityType, Name, Text};
+use policy_values::{EntityType, Name, Text};
 use serde_json::Value;
 use std::alloc::{AllocError, Global};
 

@@ -10,7 +10,7 @@ use crate::forms::{Junction, ListForm};
 use crate::lists::{only, two};
 use crate::nesting::{Bounded, take_all, take_fields};
 use policy_expressions::{BinaryOp, BuildError, Expr, Loc, Pattern, UnaryOp};
-use policy_names::{EntityType, Name, Text};
+use policy_values::{EntityType, Name, Text};
 use std::alloc::{AllocError, Global};
 use std::collections::BTreeMap;
 

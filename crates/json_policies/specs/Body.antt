@@ -5,9 +5,8 @@ use Rattle.serde_json.specs.Data.{Data, Items, no_items, item}
 use Rattle.serde_json.specs.Find.{as_object}
 use Rattle.policy_expressions.specs.Tree.{conj, unary}
 use Rattle.policy_expressions.specs.declared.kinds.UnaryOp.TheVariants.{Not}
-use Rattle.policy_expressions.specs.Plain.{Plain}
+use Rattle.policy_expressions.specs.Plain.{Plain, unmarked}
 use Rattle.policy_set.specs.Condition.{anything}
-use Rattle.policy_expressions.specs.Plain.{unmarked}
 use Rattle.json_expressions.specs.Exprs.{expr_of}
 use Rattle.json_expressions.specs.declared.nesting.Bounded.{Bounded}
 use Rattle.json_expressions.specs.declared.nesting.Bounded.TheVariants.{Within}

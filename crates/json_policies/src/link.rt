@@ -6,7 +6,7 @@ ghost use Rattle.json_policies.specs.Link.{given_id, link_of};
 
 use json_values::{has_only, read_uid};
 use policy_expressions::SlotValues;
-use policy_names::{EntityUID, Text};
+use policy_values::{EntityUID, Text};
 use serde_json::Value;
 use std::alloc::{AllocError, Global};
 

@@ -1,6 +1,6 @@
 -- Values as JSON.
 use Rattle.std.specs.Prelude.{ℕ, List, codes}
-use Rattle.policy_names.specs.declared.entity_uid.EntityUID.{EntityUID}
+use Rattle.policy_values.specs.declared.entity_uid.EntityUID.{EntityUID}
 use Rattle.policy_ext.specs.Decimal.{decimal_text}
 use Rattle.policy_ext.specs.IpText.{range_text}
 use Rattle.policy_values.specs.Value.{Val, truth, long, string, entity, set, rec, decimal, ip, datetime, duration, Vals, no_vals, val, Fields, no_fields, field}

@@ -10,8 +10,7 @@ ghost use Rattle.json_response.specs.ValueJson.{pair_data, uid_data, alone, valu
 ghost use Rattle.json_response.specs.ReadBack.{IsReadBack, IsWritten};
 
 use policy_ext::{Decimal, IpAddr};
-use policy_names::{EntityUID, Text};
-use policy_values::{Value, ValueKind};
+use policy_values::{EntityUID, Text, Value, ValueKind};
 use serde_json::{Map, Value as Json, put};
 use std::alloc::{AllocError, Global};
 use std::collections::BTreeMap;

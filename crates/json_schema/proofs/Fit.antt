@@ -5,20 +5,20 @@ use Rattle.std.specs.List.{AllByRecursion}
 use Rattle.std.specs.Option.{option_map_or}
 use Rattle.std.proofs.lemmas.Bool.{and_from}
 use Rattle.std.proofs.lemmas.Map.Lookups.{exact_bytes}
-use Rattle.policy_names.specs.declared.entity_uid.EntityUID.{EntityUID}
-use Rattle.policy_names.specs.Uid.{text_cmp}
-use Rattle.policy_names.proofs.Ties.{equal_of}
+use Rattle.policy_values.specs.declared.entity_uid.EntityUID.{EntityUID}
+use Rattle.policy_values.specs.Uid.{text_cmp}
+use Rattle.policy_values.proofs.Ties.{equal_of}
 use Rattle.schema_types.specs.declared.ty.AttributeType.{AttributeType}
 use Rattle.schema_types.specs.Ty.{Ty, set_of, entity, extension, Attrs}
 use Rattle.schema_types.specs.TyView.{attrs_of}
-use Rattle.hierarchy.specs.Reaches.{has}
+use Rattle.policy_values.specs.Reaches.{has}
 use Rattle.schema_core.specs.Declarations.{IsRefused, declared_outline, type_entry_at, action_entry_at}
 use Rattle.schema_core.specs.Entries.{TypeEntry, ActionEntry, Declarations}
 use Rattle.schema_core.specs.Inside.{some_inside, some_within, is_of_extension, is_known_extension, is_held, are_held, attrs_extend}
 use Rattle.schema_core.specs.Kinds.{standard, enumerated, is_enum, kind_extends, is_held_kind}
 use Rattle.schema_core.specs.Outline.{IsNamedExtension}
-use Rattle.schema_declarations.specs.declared.fault.SchemaFault.{SchemaFault}
-use Rattle.schema_declarations.specs.declared.fault.SchemaFault.TheVariants.{DuplicateAction, ActionTypeDeclared, EmptyEnum, NotAnAction, UndeclaredType, UndeclaredAction, ActionCycle, EnumHasAncestor, NotClosed, ActionNotClosed, BadType, BadContext, UnknownExtension, OutOfMemory}
+use Rattle.schema_core.specs.declared.fault.SchemaFault.{SchemaFault}
+use Rattle.schema_core.specs.declared.fault.SchemaFault.TheVariants.{DuplicateAction, ActionTypeDeclared, EmptyEnum, NotAnAction, UndeclaredType, UndeclaredAction, ActionCycle, EnumHasAncestor, NotClosed, ActionNotClosed, BadType, BadContext, UnknownExtension, OutOfMemory}
 use Rattle.serde_json.specs.Data as json
 use Rattle.serde_json.specs.Data.{Data, null, boolean, number, array, object, Items, no_items, item, Members, no_members, member}
 use Rattle.serde_json.specs.Find.{get, as_array, as_object}

@@ -1,6 +1,6 @@
 -- The names of the extension types are names.
 use Rattle.std.proofs.Common.{◌≡◌, ◌⊎◌, inl, inr, ℕ, List, [], true, codes, refl}
-use Rattle.policy_names.specs.Name.{IsName}
+use Rattle.policy_values.specs.Name.{IsName}
 use Rattle.json_values.specs.Names.{is_name, is_name_after}
 use Rattle.json_values.proofs.NameTest.{name_told}
 

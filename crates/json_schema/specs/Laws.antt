@@ -2,8 +2,8 @@
 use Rattle.std.specs.Prelude.{◌≡◌, Bool, true, false, IsTrue, Some}
 use Rattle.schema_core.specs.Declarations.{IsRefused}
 use Rattle.schema_core.specs.Entries.{Declarations}
-use Rattle.schema_declarations.specs.declared.fault.SchemaFault.{SchemaFault}
-use Rattle.schema_declarations.specs.declared.fault.SchemaFault.TheVariants.{EnumHasAncestor, NotClosed, ActionNotClosed, BadType, BadContext, UnknownExtension}
+use Rattle.schema_core.specs.declared.fault.SchemaFault.{SchemaFault}
+use Rattle.schema_core.specs.declared.fault.SchemaFault.TheVariants.{EnumHasAncestor, NotClosed, ActionNotClosed, BadType, BadContext, UnknownExtension}
 use Rattle.serde_json.specs.Data.{Data}
 use Rattle.json_schema.specs.Schema.{schema_of}
 

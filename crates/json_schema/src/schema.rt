@@ -9,7 +9,7 @@ use crate::types::{read_attributes, read_type};
 use json_values::{
     has_only, list_items, read_names, read_type_name, read_uid, read_uids, with_item,
 };
-use policy_names::{Eid, EntityType, Text};
+use policy_values::{Eid, EntityType, Text};
 use schema_core::{ActionDeclaration, SchemaDeclarations, TypeDeclaration};
 use schema_types::{Attributes, Type};
 use serde_json::{Map, Value};

@@ -1,7 +1,7 @@
 //! Types and attributes in JSON.
 
 ghost use Rattle.std.specs.Prelude.{◌≡◌, ◌∷◌, [], IfOk, Some, option_map};
-ghost use Rattle.policy_names.specs.Name.{IsName};
+ghost use Rattle.policy_values.specs.Name.{IsName};
 ghost use Rattle.schema_types.specs.Ty.{set_of, record_of, entity, extension};
 ghost use Rattle.schema_types.specs.TyView.{attrs_of};
 ghost use Rattle.schema_types.specs.declared.kinds.OpenTag.TheVariants.{ClosedAttributes};
@@ -10,7 +10,7 @@ ghost use Rattle.json_values.specs.Names.{name_of};
 ghost use Rattle.json_schema.specs.Types.{type_named, type_form, type_of, type_of_members, attributes_of, attributes_of_members, attribute, optional, attribute_form, attribute_of, attribute_of_members};
 
 use json_values::{read_name, with_field};
-use policy_names::{Name, Text};
+use policy_values::{Name, Text};
 use schema_types::{AttributeType, Attributes, OpenTag, Type};
 use serde_json::{Map, Value};
 use std::alloc::{AllocError, Global};

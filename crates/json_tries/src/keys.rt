@@ -13,7 +13,7 @@ ghost use Rattle.json_tries.specs.Reading.{variable_of, root_form, root_of, edge
 use access_tries::{Edge, EntityRoot, compare};
 use json_values::{lone_member, pair, read_uid};
 use policy_expressions::Var;
-use policy_names::Text;
+use policy_values::Text;
 use serde_json::Value;
 use std::alloc::{AllocError, Global};
 use std::cmp::Ordering;

@@ -4,7 +4,7 @@ use Rattle.std.specs.declared.cmp.Ordering.TheVariants.{Less}
 use Rattle.std.specs.List.{AllByRecursion}
 use Rattle.std.specs.List.Sorted.{IsStrictlySortedBy}
 use Rattle.std.specs.Map.{keys_of}
-use Rattle.policy_names.specs.Uid.{text_cmp}
+use Rattle.policy_values.specs.Uid.{text_cmp}
 use Rattle.policy_values.specs.Maps.{IsNext}
 use Rattle.policy_values.proofs.MapSteps.{next-seam, keys_of-append}
 use Rattle.json_values.specs.Lists.{with_field}

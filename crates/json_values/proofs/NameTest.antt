@@ -7,8 +7,8 @@ use Rattle.std.proofs.lemmas.Bool.Decides.{nat_tests, Decides-and, Decides-like,
 use Rattle.std.proofs.lemmas.List.{append-nil}
 use Rattle.std.proofs.lemmas.List.Folds.{list_all-append}
 use Rattle.std.proofs.lemmas.Slice.Eq.{bytes_eq-Decides}
-use Rattle.policy_names.specs.Name.{IsHead, IsTail, IsComponent, IsName, last, then, IsFront}
-use Rattle.policy_names.proofs.NameFront.{name_front, name_step, name_stops}
+use Rattle.policy_values.specs.Name.{IsHead, IsTail, IsComponent, IsName, last, then, IsFront}
+use Rattle.policy_values.proofs.NameFront.{name_front, name_step, name_stops}
 use Rattle.json_values.specs.Names.{is_head, is_tail, is_component, is_name_after, is_name, name_of_text}
 
 head_told : (c : ℕ) → Decides (is_head c) (IsHead c)

@@ -4,8 +4,7 @@ ghost use Rattle.std.specs.Prelude.{◌≡◌, ◌∷◌, [], ◌++◌, IfOk};
 ghost use Rattle.std.specs.BTreeMap.{keys};
 ghost use Rattle.policy_values.specs.Maps.{IsNext};
 
-use policy_names::Text;
-use policy_values::push_entry;
+use policy_values::{Text, push_entry};
 use std::alloc::{AllocError, Global};
 use std::collections::BTreeMap;
 

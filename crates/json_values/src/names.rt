@@ -5,7 +5,7 @@ ghost use Rattle.serde_json.specs.View.{view, items_view, members_view};
 ghost use Rattle.serde_json.specs.Find.{as_str};
 ghost use Rattle.json_values.specs.Names.{name_of, name_of_text, names_of, names_of_items, uid_of, uid_of_items, uid_of_parts, uids_of, uids_of_items};
 
-use policy_names::{Eid, EntityType, EntityUID, Name, Text};
+use policy_values::{Eid, EntityType, EntityUID, Name, Text};
 use serde_json::Value;
 use std::alloc::{AllocError, Global};
 

@@ -10,8 +10,7 @@ ghost use Rattle.json_values.specs.Values.{text_form, time_form, extension_form,
 
 use crate::{read_uid, with_field, with_item};
 use policy_ext::{DateTimeValue, Duration};
-use policy_names::Text;
-use policy_values::{Value, read_datetime, read_decimal, read_duration, read_ip};
+use policy_values::{Text, Value, read_datetime, read_decimal, read_duration, read_ip};
 use serde_json::{Map, Value as Json};
 use std::alloc::{AllocError, Global};
 use std::collections::BTreeMap;

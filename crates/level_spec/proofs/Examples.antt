@@ -1,7 +1,7 @@
 -- Levels of conditions, and stores cut at them.
 use Rattle.std.proofs.Common.{◌≡◌, ℕ, true, List, [], ◌∷◌, Option, Some, None, map, inl, refl, codes}
 use Rattle.std.specs.Prelude.{option_map}
-use Rattle.policy_names.specs.declared.entity_uid.EntityUID.{EntityUID}
+use Rattle.policy_values.specs.declared.entity_uid.EntityUID.{EntityUID}
 use Rattle.policy_values.specs.Value.{entity as id_value, set, no_vals, val, Fields, no_fields, field}
 use Rattle.entity_store.specs.declared.request.Request.{Request}
 use Rattle.entity_store.specs.Store.{StoredEntity, Store}
@@ -17,8 +17,8 @@ use Rattle.policy_expressions.specs.declared.kinds.BinaryOp.{BinaryOp}
 use Rattle.policy_expressions.specs.declared.kinds.BinaryOp.TheVariants.{In, GetTag, HasTag}
 use Rattle.policy_expressions.specs.Tree.{lit, var, ite, conj, binary, attr, has, is_type, rec, no_named, named, Mark}
 use Rattle.policy_expressions.specs.Plain.{Plain}
-use Rattle.capabilities.specs.Capability.{Capability, has_cap}
-use Rattle.capabilities.specs.CapabilityLaws.{known_decides, alike_itself}
+use Rattle.typing_spec.specs.Capability.{Capability, has_cap}
+use Rattle.typing_spec.specs.CapabilityLaws.{known_decides, alike_itself}
 use Rattle.typing_spec.specs.Signatures.{bool_type}
 use Rattle.typing_spec.specs.Typing.{tag_known, types}
 use Rattle.level_spec.specs.Cut.{cut}

@@ -19,8 +19,8 @@ use Rattle.schema_core.specs.EnvData.{LinkedEnvironment, declared_action}
 use Rattle.schema_core.specs.Faults.{IsSchema}
 use Rattle.schema_core.specs.Schema.{SchemaData}
 use Rattle.policy_expressions.specs.Plain.{Plain}
-use Rattle.capabilities.specs.Capability.{Capability, has_cap}
-use Rattle.capabilities.specs.Holds.{AllHold}
+use Rattle.typing_spec.specs.Capability.{Capability, has_cap}
+use Rattle.typing_spec.specs.Holds.{AllHold}
 use Rattle.typing_spec.specs.Conforms.{RequestConforms, StoreConforms, IsOf}
 use Rattle.policy_expressions.specs.Keys.{HasKeysOnce, HaveKeysOnce, AreKeysOnce}
 use Rattle.typing_spec.specs.Sound.{IsOfType, Fulfils}

@@ -1,9 +1,9 @@
 -- Levels of links and of policies without slots.
 use Rattle.std.proofs.Common.{◌≡◌, ℕ, true, false, List, [], Option, Some, None, IsTrue, refl, subst, IfSome, IsSomeAnd}
 use Rattle.std.proofs.lemmas.List.Folds.{list_all-append}
-use Rattle.hierarchy.specs.Reaches.{has}
-use Rattle.policy_names.specs.declared.entity_uid.EntityUID.{EntityUID}
-use Rattle.policy_names.specs.Uid.{text_cmp}
+use Rattle.policy_values.specs.Reaches.{has}
+use Rattle.policy_values.specs.declared.entity_uid.EntityUID.{EntityUID}
+use Rattle.policy_values.specs.Uid.{text_cmp}
 use Rattle.entity_store.specs.declared.request.Request.{Request}
 use Rattle.entity_store.specs.Request.{principal_of, action_of, resource_of}
 use Rattle.entity_store.specs.Store.{Store}

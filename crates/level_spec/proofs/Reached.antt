@@ -8,13 +8,13 @@ use Rattle.std.specs.declared.cmp.Ordering.TheVariants.{Less, Equal, Greater}
 use Rattle.std.proofs.lemmas.Bool.{or_left, or_right}
 use Rattle.std.proofs.lemmas.Cmp.{tied_itself}
 use Rattle.std.proofs.lemmas.List.Folds.{list_any-append}
-use Rattle.policy_names.specs.declared.entity_uid.EntityUID.{EntityUID}
-use Rattle.policy_names.specs.Uid.{text_cmp, uid_cmp, uid_cmp_total, exact_uid, uid_eq}
+use Rattle.policy_values.specs.declared.entity_uid.EntityUID.{EntityUID}
+use Rattle.policy_values.specs.Uid.{text_cmp, uid_cmp, uid_cmp_total, exact_uid, uid_eq}
 use Rattle.policy_values.specs.Value.{Val, rec, Fields, no_fields, field, field_at}
 use Rattle.entity_store.specs.declared.request.Request.{Request}
 use Rattle.entity_store.specs.Store.{StoredEntity, Store, entity_at, is_named}
 use Rattle.level_spec.specs.Cut.{ids_in, ids_in_fields, ids_held, ids_asked, is_among, entities_among, reach, cut}
-use Rattle.policy_names.proofs.Ties.{equal_of}
+use Rattle.policy_values.proofs.Ties.{equal_of}
 
 pub same_uid : (x y : EntityUID) → uid_eq x y ≡ true → x ≡ y
 same_uid x y h = exact_uid x y (equal_of (uid_cmp x y) h)

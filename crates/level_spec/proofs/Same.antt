@@ -3,7 +3,7 @@ use Rattle.std.proofs.Common.{◌≡◌, ℕ, Bool, true, false, ◌&&◌, ◌||
 use Rattle.std.specs.Prelude.{Result, Ok, Err}
 use Rattle.std.specs.List.{list_all}
 use Rattle.std.proofs.lemmas.List.Folds.{list_all-append}
-use Rattle.policy_names.specs.declared.entity_uid.EntityUID.{EntityUID}
+use Rattle.policy_values.specs.declared.entity_uid.EntityUID.{EntityUID}
 use Rattle.policy_values.specs.Value.{Val, truth, string, entity, set, Vals, no_vals, val}
 use Rattle.entity_store.specs.declared.request.Request.{Request}
 use Rattle.entity_store.specs.Request.{action_of}
@@ -14,7 +14,7 @@ use Rattle.policy_core.specs.declared.outcome.EvalError.{EvalError}
 use Rattle.policy_core.specs.declared.outcome.Outcome.{Outcome}
 use Rattle.policy_core.specs.declared.outcome.Outcome.TheVariants.{Value, Error}
 use Rattle.policy_core.specs.Calls.{call_outcome}
-use Rattle.policy_names.specs.Uid.{uid_eq}
+use Rattle.policy_values.specs.Uid.{uid_eq}
 use Rattle.policy_core.specs.Operators.{above, or_within, within, within_any, in_value, attr_of, attr_value, has_of, has_value, tag_of, get_tag_value, has_tag_of, has_tag_value, unary_value, binary_value, like_value, is_value}
 use Rattle.policy_core.specs.Eval.{truth_of, truth_outcome, choose, with_value, in_front, set_outcome, record_outcome, eval, eval_all, eval_named}
 use Rattle.policy_expressions.specs.Tree.{Tree, lit, var, slot, ite, conj, disj, unary, binary, attr, has, like, is_type, call, set as set_tree, rec as rec_tree, Trees, no_trees, tree, Named, no_named, named, Mark}

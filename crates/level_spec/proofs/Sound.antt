@@ -1,7 +1,7 @@
 -- Levels are sound.
 use Rattle.std.proofs.Common.{◌≡◌, true, [], Option, Some, None, sym, ◌∙◌}
 use Rattle.std.specs.Prelude.{IfSome}
-use Rattle.policy_names.specs.declared.entity_uid.EntityUID.{EntityUID}
+use Rattle.policy_values.specs.declared.entity_uid.EntityUID.{EntityUID}
 use Rattle.entity_store.specs.Request.{action_of}
 use Rattle.policy_core.specs.Eval.{eval}
 use Rattle.schema_core.specs.EnvData.{declared_action}

@@ -1,13 +1,13 @@
 -- What is reached from a request in a number of steps, and a store cut to it.
 use Rattle.std.specs.Prelude.{ℕ, zero, suc, Bool, List, [], ◌∷◌, ◌++◌, filter}
 use Rattle.std.specs.List.{list_any, flat_map}
-use Rattle.policy_names.specs.declared.entity_uid.EntityUID.{EntityUID}
+use Rattle.policy_values.specs.declared.entity_uid.EntityUID.{EntityUID}
 use Rattle.policy_values.specs.Value.{Val, entity, set, rec, Vals, no_vals, val, Fields, no_fields, field}
 use Rattle.entity_store.specs.declared.request.Request.{Request}
 use Rattle.entity_store.specs.Request.{principal_of, action_of, resource_of}
 use Rattle.entity_store.specs.Store.{StoredEntity, Store}
 use Rattle.policy_core.specs.Eval.{known_fields}
-use Rattle.policy_names.specs.Uid.{uid_eq}
+use Rattle.policy_values.specs.Uid.{uid_eq}
 
 -- all ids anywhere in a value
 abbrev mutual

@@ -1,6 +1,6 @@
 -- The least level at which an expression passes.
 use Rattle.std.specs.Prelude.{◌≡◌, ◌<◌, ℕ, true, false, Option, MatchOption}
-use Rattle.policy_names.specs.declared.entity_uid.EntityUID.{EntityUID}
+use Rattle.policy_values.specs.declared.entity_uid.EntityUID.{EntityUID}
 use Rattle.typing_spec.specs.Typing.{Typed}
 use Rattle.level_spec.specs.Levels.{passes, least_level}
 

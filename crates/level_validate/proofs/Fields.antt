@@ -1,6 +1,6 @@
 -- A record literal of which a field is asked for, field by field.
 use Rattle.std.specs.Prelude.{ℕ, List, Option, Some, None}
-use Rattle.policy_names.specs.declared.entity_uid.EntityUID.{EntityUID}
+use Rattle.policy_values.specs.declared.entity_uid.EntityUID.{EntityUID}
 use Rattle.schema_types.specs.Ty.{Ty}
 use Rattle.policy_expressions.specs.declared.kinds.Loc.{Loc}
 use Rattle.policy_expressions.specs.Tree.{Named, Mark}

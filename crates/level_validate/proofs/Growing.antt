@@ -5,13 +5,13 @@ use Rattle.std.specs.declared.cmp.Ordering.{Ordering}
 use Rattle.std.specs.declared.cmp.Ordering.TheVariants.{Less, Equal, Greater}
 use Rattle.std.proofs.lemmas.Cmp.{eq_by_cmp_equiv}
 use Rattle.std.proofs.lemmas.List.Folds.{list_any-append}
-use Rattle.policy_names.specs.declared.entity_uid.EntityUID.{EntityUID}
-use Rattle.policy_names.specs.Uid.{uid_cmp, uid_cmp_total, uid_eq, exact_uid}
+use Rattle.policy_values.specs.declared.entity_uid.EntityUID.{EntityUID}
+use Rattle.policy_values.specs.Uid.{uid_cmp, uid_cmp_total, uid_eq, exact_uid}
 use Rattle.level_spec.specs.Cut.{is_among}
 use Rattle.level_spec.specs.Hops.{Within}
 use Rattle.level_validate.specs.Fresh.{AreFresh}
 use Rattle.plain_lemmas.proofs.Booleans.{or_false, or_of_cond}
-use Rattle.policy_names.proofs.Ties.{equal_of}
+use Rattle.policy_values.proofs.Ties.{equal_of}
 
 -- some of the ids are added to those that were reached before, and some are left
 pub record AreAdded (before ids left reached fresh : List EntityUID) : Type 0 where

@@ -9,7 +9,7 @@ use Rattle.policy_expressions.specs.declared.kinds.Loc.{Loc}
 use Rattle.schema_core.specs.EnvData.{action_in}
 use Rattle.schema_core.specs.RequestEnvs.{env_data_of}
 use Rattle.schema_core.specs.declared.request_env.RequestEnv.{RequestEnv}
-use Rattle.policy_names.specs.declared.entity_uid.EntityUID.{EntityUID}
+use Rattle.policy_values.specs.declared.entity_uid.EntityUID.{EntityUID}
 use Rattle.policy_scope.specs.Names.{distinct}
 use Rattle.typing_spec.specs.Typing.{Typed}
 use Rattle.level_spec.specs.Levels.{dereferences, passes}

@@ -1,6 +1,6 @@
 -- Ids added to those that are reached.
 use Rattle.std.specs.Prelude.{◌≡◌, true, false, ◌||◌, List}
-use Rattle.policy_names.specs.declared.entity_uid.EntityUID.{EntityUID}
+use Rattle.policy_values.specs.declared.entity_uid.EntityUID.{EntityUID}
 use Rattle.level_spec.specs.Cut.{is_among}
 use Rattle.level_spec.specs.Hops.{Within}
 

@@ -1,7 +1,7 @@
 -- A set of what was found.
 use Rattle.std.specs.Prelude.{◌≡◌, ℕ, List, Option}
 use Rattle.std.specs.BTreeSet.{BTreeSet, contains}
-use Rattle.hierarchy.specs.Reaches.{has}
+use Rattle.policy_values.specs.Reaches.{has}
 use Rattle.policy_expressions.specs.declared.kinds.Loc.{Loc}
 use Rattle.level_spec.specs.Findings.{LevelFault}
 use Rattle.level_validate.specs.Faults.{parts_of, parts_cmp, fault_cmp}

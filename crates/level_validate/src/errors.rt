@@ -15,7 +15,7 @@ use crate::laws::level_errors_are_exact;
 use crate::walk::{Checked, check};
 use findings::ValidationError;
 use policy_expressions::{Expr, Loc};
-use policy_names::Text;
+use policy_values::Text;
 use schema_core::RequestEnv;
 use schema_types::Type;
 use std::alloc::{AllocError, Global};

@@ -6,7 +6,7 @@ ghost use Rattle.level_validate.specs.Errors.{level_error};
 
 use findings::{EntityDerefLevelViolation, EntityDerefViolationKind, ValidationError};
 use policy_expressions::Loc;
-use policy_names::Text;
+use policy_values::Text;
 use std::alloc::AllocError;
 
 /// What is found at one place of a condition.

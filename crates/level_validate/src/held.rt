@@ -2,7 +2,7 @@
 
 ghost use Rattle.std.specs.Prelude.{◌≡◌, ◌++◌, IfOk, OnOk, map};
 ghost use Rattle.std.specs.Map.Iter.{deref};
-ghost use Rattle.policy_names.specs.declared.entity_uid.EntityUID.{EntityUID};
+ghost use Rattle.policy_values.specs.declared.entity_uid.EntityUID.{EntityUID};
 ghost use Rattle.policy_values.specs.Value.{vals_of, fields_of};
 ghost use Rattle.entity_store.specs.Request.{IsWhole};
 ghost use Rattle.level_spec.specs.Cut.{ids_in, ids_in_all, ids_in_fields, ids_held, ids_asked};

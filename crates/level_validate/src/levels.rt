@@ -2,13 +2,13 @@
 
 ghost use Rattle.std.specs.Prelude.{◌≡◌, ◌<◌, IfSome};
 ghost use Rattle.std.specs.Option.{option_copied};
-ghost use Rattle.policy_names.specs.Uid.{uid_eq};
+ghost use Rattle.policy_values.specs.Uid.{uid_eq};
 ghost use Rattle.policy_expressions.specs.Tree.{depth_of};
 ghost use Rattle.type_relations.specs.Join.{is_entity};
 ghost use Rattle.level_spec.specs.Levels.{is_reached, gives_entity, greater, one_more, literal_level};
 
 use policy_expressions::{Expr, Literal};
-use policy_names::EntityUID;
+use policy_values::EntityUID;
 use schema_types::{EntityRecordKind, Type, TypeKind};
 use std::cmp::Ordering;
 

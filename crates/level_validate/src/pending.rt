@@ -1,6 +1,6 @@
 //! Fields that are asked for.
 
-use policy_names::Text;
+use policy_values::Text;
 
 /// The fields that are asked for of the record that a target gives, the outermost first.
 #[derive(Drop)]

@@ -2,7 +2,7 @@
 
 ghost use Rattle.std.specs.Prelude.{◌≡◌, IfOk, map, suc};
 ghost use Rattle.std.specs.Map.Iter.{deref};
-ghost use Rattle.policy_names.specs.declared.entity_uid.EntityUID.{EntityUID};
+ghost use Rattle.policy_values.specs.declared.entity_uid.EntityUID.{EntityUID};
 ghost use Rattle.entity_store.specs.Request.{IsWhole};
 ghost use Rattle.level_spec.specs.Cut.{entities_among, cut};
 ghost use Rattle.level_validate.specs.Fresh.{AreFresh};

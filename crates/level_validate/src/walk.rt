@@ -12,7 +12,7 @@ use crate::fault::Fault;
 use crate::levels::{gives_entity, greater, is_reached, literal_level, one_more};
 use crate::pending::Pending;
 use policy_expressions::{BinaryOp, Expr, ExprKind, Literal, Loc};
-use policy_names::{EntityUID, Text};
+use policy_values::{EntityUID, Text};
 use schema_types::Type;
 use std::alloc::AllocError;
 use std::cmp::Ordering;

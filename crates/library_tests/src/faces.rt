@@ -1,7 +1,7 @@
 //! The crates that callers name, which pass on the calls of those behind them.
 
 use entity_manifest::{EntityManifest, compute_entity_manifest, slice_entities, slice_for_request};
-use extension_types::{ExtensionSchemas, all_objects};
+use typing_spec::{ExtensionSchemas, all_objects};
 use json_document::{Document, parse_json, read_document};
 use policy_core::{Decimal, Entities};
 use policy_scope::ValidationResult;

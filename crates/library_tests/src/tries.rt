@@ -2,7 +2,7 @@
 
 use access_tries::{AccessPath, AccessTrie, Edge, EntityRoot, RootAccessTrie, Step, all_of};
 use policy_expressions::Var;
-use policy_names::Text;
+use policy_values::Text;
 use std::alloc::{AllocError, Global};
 use std::test::Fail;
 

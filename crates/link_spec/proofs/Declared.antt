@@ -6,16 +6,15 @@ use Rattle.std.specs.Ordering.{is_eq}
 use Rattle.std.specs.Cmp.{tied_itself}
 use Rattle.std.proofs.lemmas.Cmp.{nat_list_cmp_total}
 use Rattle.std.proofs.lemmas.List.Folds.{Any-from_list_any}
-use Rattle.hierarchy.specs.Reaches.{has}
-use Rattle.policy_names.specs.declared.entity_uid.EntityUID.{EntityUID}
-use Rattle.policy_names.specs.Basename.{is_action_type}
-use Rattle.policy_names.specs.Uid.{text_cmp, uid_cmp, uid_cmp_total, exact_uid}
+use Rattle.policy_values.specs.Reaches.{has}
+use Rattle.policy_values.specs.declared.entity_uid.EntityUID.{EntityUID}
+use Rattle.policy_values.specs.Basename.{is_action_type}
+use Rattle.policy_values.specs.Uid.{text_cmp, uid_cmp, uid_cmp_total, exact_uid}
 use Rattle.policy_expressions.specs.declared.kinds.SlotValues.{SlotValues}
 use Rattle.schema_types.specs.Ty.{entity}
 use Rattle.schema_core.specs.EnvData.{id_type, literal_type}
 use Rattle.schema_core.specs.Faults.{IsSchema}
-use Rattle.schema_core.specs.Schema.{TypeData, ActionData, SchemaData, type_at, action_at}
-use Rattle.schema_core.specs.Schema.{type_below}
+use Rattle.schema_core.specs.Schema.{TypeData, ActionData, SchemaData, type_at, action_at, type_below}
 use Rattle.policy_set.specs.declared.constraint.EntityReference.TheVariants.{Slot}
 use Rattle.policy_set.specs.declared.constraint.PrincipalOrResourceConstraint.{PrincipalOrResourceConstraint}
 use Rattle.policy_set.specs.declared.constraint.PrincipalOrResourceConstraint.TheVariants.{Eq, In, IsIn}

@@ -1,7 +1,7 @@
 -- Worked cases.
 use Rattle.std.proofs.Common.{◌≡◌, ℕ, true, false, List, [], ◌∷◌, Option, Some, None, refl}
 use Rattle.std.specs.Prelude.{codes, option_map, map}
-use Rattle.policy_names.specs.declared.entity_uid.EntityUID.{EntityUID}
+use Rattle.policy_values.specs.declared.entity_uid.EntityUID.{EntityUID}
 use Rattle.policy_expressions.specs.declared.kinds.Literal.TheVariants as literal
 use Rattle.policy_expressions.specs.declared.kinds.BinaryOp.TheVariants.{Less}
 use Rattle.policy_expressions.specs.declared.kinds.SlotValues.{SlotValues}
@@ -11,7 +11,7 @@ use Rattle.schema_core.specs.EnvData.{principal_slot_in, unlinked}
 use Rattle.schema_core.specs.Environments.{environment}
 use Rattle.schema_core.specs.Kinds.{standard}
 use Rattle.schema_core.specs.Schema.{TypeData, ActionData, SchemaData}
-use Rattle.policy_expressions.specs.Plain.{Plain}
+use Rattle.policy_expressions.specs.Plain.{Plain, unmarked}
 use Rattle.typing_spec.specs.Signatures.{bool_type}
 use Rattle.typing_spec.specs.Typing.{types}
 use Rattle.policy_set.specs.declared.constraint.EntityReference.TheVariants.{Slot}
@@ -21,7 +21,6 @@ use Rattle.policy_set.specs.declared.constraint.PrincipalOrResourceConstraint.Th
 use Rattle.policy_set.specs.declared.constraint.ActionConstraint.TheVariants as action
 use Rattle.policy_set.specs.Data.{TemplateData}
 use Rattle.policy_set.specs.Condition.{anything, condition_of}
-use Rattle.policy_expressions.specs.Plain.{unmarked}
 use Rattle.policy_set.specs.Links.{own_condition, linked_of}
 use Rattle.link_spec.specs.Linked.{types_around, linked_env, linked_envs}
 use Rattle.findings.specs.Mentioned.{is_known_type}

@@ -8,7 +8,7 @@ use Rattle.schema_types.specs.Ty.{Ty, true_type, false_type, primitive}
 use Rattle.schema_core.specs.EnvData.{EnvData}
 use Rattle.schema_core.specs.Schema.{SchemaData}
 use Rattle.policy_expressions.specs.Plain.{Plain}
-use Rattle.capabilities.specs.Capability.{Capability}
+use Rattle.typing_spec.specs.Capability.{Capability}
 use Rattle.typing_spec.specs.Rules.{and_type}
 use Rattle.typing_spec.specs.Typing.{Typed, Typing, typing, at, unreached, and_caps, and_typing, types}
 use Rattle.link_spec.specs.Laws.{IsFilled, same, both, left, IsSameOrFalse, IsFilledTyping, FollowsTyping}

@@ -1,9 +1,9 @@
 -- What holds in each environment of a template holds, for each request that conforms, in that where an entity of the variable's type stands for each slot.
 use Rattle.std.proofs.Common.{ℕ, List, IsTrue, IfSome}
 use Rattle.std.specs.List.{AllByRecursion}
-use Rattle.hierarchy.specs.Reaches.{has}
-use Rattle.policy_names.specs.declared.entity_uid.EntityUID.{EntityUID}
-use Rattle.policy_names.specs.Uid.{text_cmp}
+use Rattle.policy_values.specs.Reaches.{has}
+use Rattle.policy_values.specs.declared.entity_uid.EntityUID.{EntityUID}
+use Rattle.policy_values.specs.Uid.{text_cmp}
 use Rattle.schema_core.specs.EnvData.{EnvData}
 use Rattle.schema_core.specs.Environments.{environment, environments_of}
 use Rattle.schema_core.specs.Schema.{SchemaData, action_at}

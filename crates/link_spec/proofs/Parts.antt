@@ -4,8 +4,8 @@ use Rattle.std.specs.Prelude.{option_map, if◌then◌else◌}
 use Rattle.std.specs.Option.{option_and_then}
 use Rattle.std.specs.Ordering.{is_eq}
 use Rattle.std.proofs.lemmas.Map.Lookups.{exact_bytes}
-use Rattle.policy_names.specs.declared.entity_uid.EntityUID.{EntityUID}
-use Rattle.policy_names.specs.Uid.{text_cmp}
+use Rattle.policy_values.specs.declared.entity_uid.EntityUID.{EntityUID}
+use Rattle.policy_values.specs.Uid.{text_cmp}
 use Rattle.policy_expressions.specs.declared.kinds.BinaryOp.TheVariants.{Eq as IsEqual, In as IsIn}
 use Rattle.policy_expressions.specs.declared.kinds.Literal.TheVariants as literal
 use Rattle.policy_expressions.specs.declared.kinds.SlotId.{SlotId}
@@ -15,12 +15,12 @@ use Rattle.policy_expressions.specs.declared.kinds.Var.TheVariants as variable
 use Rattle.type_relations.specs.Join.{is_entity}
 use Rattle.policy_expressions.specs.Slots.{has_slot, some_has_slot}
 use Rattle.policy_expressions.specs.Tree.{lit, var, slot, conj, binary}
-use Rattle.policy_names.proofs.Ties.{equal_of}
+use Rattle.policy_values.proofs.Ties.{equal_of}
 use Rattle.schema_types.specs.Ty.{Ty, false_type, entity}
 use Rattle.schema_core.specs.EnvData.{EnvData, unlinked, literal_type}
 use Rattle.schema_core.specs.Environments.{Environment}
 use Rattle.schema_core.specs.Schema.{ActionData, SchemaData}
-use Rattle.policy_expressions.specs.Plain.{Plain}
+use Rattle.policy_expressions.specs.Plain.{Plain, unmarked}
 use Rattle.schema_core.specs.Within.{is_type_within}
 use Rattle.typing_spec.specs.Rules.{bool_if, strict_join, is_entity_set, equal_type, possible, type_in}
 use Rattle.typing_spec.specs.Signatures.{bool_type}
@@ -31,7 +31,6 @@ use Rattle.policy_set.specs.declared.constraint.PrincipalOrResourceConstraint.Th
 use Rattle.policy_set.specs.declared.constraint.ActionConstraint.{ActionConstraint}
 use Rattle.policy_set.specs.declared.constraint.ActionConstraint.TheVariants as action
 use Rattle.policy_set.specs.Condition.{anything, compared, of_type, scope_part, literals, action_part, asks_slot}
-use Rattle.policy_expressions.specs.Plain.{unmarked}
 use Rattle.policy_set.specs.Links.{linked}
 use Rattle.link_spec.specs.Laws.{with_id as slot_filled, FollowsTyping, own_slot}
 use Rattle.link_spec.specs.Linked.{linked_env}

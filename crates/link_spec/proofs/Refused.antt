@@ -3,14 +3,14 @@ use Rattle.std.proofs.Common.{ℕ, Bool, true, false, List, [], ◌∷◌, cond,
 use Rattle.std.specs.Cmp.{tied_itself}
 use Rattle.std.specs.List.{AllByRecursion, find}
 use Rattle.std.specs.Ordering.{is_eq}
-use Rattle.policy_names.specs.declared.entity_uid.EntityUID.{EntityUID}
-use Rattle.policy_names.specs.Uid.{uid_cmp_total}
+use Rattle.policy_values.specs.declared.entity_uid.EntityUID.{EntityUID}
+use Rattle.policy_values.specs.Uid.{uid_cmp_total}
 use Rattle.schema_core.specs.EnvData.{EnvData, action_type_in, id_type, literal_type}
 use Rattle.schema_core.specs.Environments.{Environment, environment, environments_of, environments_at}
 use Rattle.schema_core.specs.Schema.{TypeData, ActionData, SchemaData, is_action_named, type_at, action_at}
 use Rattle.policy_set.specs.Data.{TemplateData}
 use Rattle.policy_set.specs.Condition.{condition_of}
-use Rattle.typecheck_spec.specs.Check.{checked, TellsWhy, RefusalIsTold}
+use Rattle.typecheck_rules.specs.Check.{checked, TellsWhy, RefusalIsTold}
 use Rattle.link_spec.specs.Laws.{RefusalsAreTold}
 use Rattle.link_spec.specs.Linked.{linked_env, slot_types, linked_envs_with, linked_envs_at, linked_envs_of, linked_envs}
 use Rattle.link_spec.proofs.Links.{all_more, to_mapped, to_each}

@@ -2,7 +2,7 @@
 use Rattle.std.proofs.Common.{◌≡◌, ℕ, Bool, true, false, ◌&&◌, ◌||◌, List, [], ◌∷◌, ◌++◌, Option, Some, None, is_some, refl, ap}
 use Rattle.std.specs.Prelude.{option_map, if◌then◌else◌}
 use Rattle.std.specs.Option.{option_and_then, option_map_or}
-use Rattle.policy_names.specs.declared.entity_uid.EntityUID.{EntityUID}
+use Rattle.policy_values.specs.declared.entity_uid.EntityUID.{EntityUID}
 use Rattle.policy_expressions.specs.declared.kinds.BinaryOp.{BinaryOp}
 use Rattle.policy_expressions.specs.declared.kinds.BinaryOp.TheVariants.{Eq, In}
 use Rattle.policy_expressions.specs.declared.kinds.Literal.TheVariants as literal
@@ -17,7 +17,7 @@ use Rattle.schema_core.specs.Environments.{Environment}
 use Rattle.schema_core.specs.Schema.{ActionData, SchemaData}
 use Rattle.type_relations.specs.Join.{is_entity}
 use Rattle.policy_expressions.specs.Plain.{Plain}
-use Rattle.capabilities.specs.Capability.{Capability, has_cap}
+use Rattle.typing_spec.specs.Capability.{Capability, has_cap}
 use Rattle.typing_spec.specs.Environment.{type_of_variable, known_id, known_ids, listed_ids}
 use Rattle.typing_spec.specs.Rules as rule
 use Rattle.typing_spec.specs.Rules.{is_entity_set, id_in, in_listed, in_type, equal_type, binary_type}

@@ -2,9 +2,9 @@
 use Rattle.std.proofs.Common.{◌≡◌, ℕ, ◌+◌, max, Bool, true, false, ◌&&◌, ◌||◌, List, [], ◌∷◌, map, cond, Option, Some, None, is_some, IsTrue, refl, sym, ap, subst, ◌∙◌, IfSome, IsSomeAnd}
 use Rattle.std.specs.Prelude.{flat_map}
 use Rattle.std.specs.List.{AllByRecursion, find}
-use Rattle.hierarchy.specs.Reaches.{has}
-use Rattle.policy_names.specs.declared.entity_uid.EntityUID.{EntityUID}
-use Rattle.policy_names.specs.Uid.{text_cmp, uid_cmp, exact_uid}
+use Rattle.policy_values.specs.Reaches.{has}
+use Rattle.policy_values.specs.declared.entity_uid.EntityUID.{EntityUID}
+use Rattle.policy_values.specs.Uid.{text_cmp, uid_cmp, exact_uid}
 use Rattle.entity_store.specs.declared.request.Request.{Request}
 use Rattle.entity_store.specs.Request.{principal_of, action_of, resource_of}
 use Rattle.entity_store.specs.Store.{Store}
@@ -13,7 +13,7 @@ use Rattle.policy_expressions.specs.declared.kinds.SlotId.TheVariants.{Principal
 use Rattle.policy_core.specs.Eval.{eval}
 use Rattle.policy_expressions.specs.Slots.{has_slot}
 use Rattle.policy_expressions.specs.Tree.{depth_of}
-use Rattle.policy_names.proofs.Ties.{equal_of}
+use Rattle.policy_values.proofs.Ties.{equal_of}
 use Rattle.schema_core.specs.EnvData.{LinkedEnvironment, declared_action, unlinked, unlinked_of}
 use Rattle.schema_core.specs.Environments.{Environment, environment, environments_of, environments_at}
 use Rattle.schema_core.specs.Schema.{ActionData, SchemaData, is_action_named, action_at}

@@ -1,7 +1,7 @@
 -- Templates and links that are accepted.
 use Rattle.std.specs.Prelude.{◌≤◌, List, [], Option, IsTrue, IfSome, IsSomeAnd}
 use Rattle.std.specs.List.{AllByRecursion}
-use Rattle.policy_names.specs.declared.entity_uid.EntityUID.{EntityUID}
+use Rattle.policy_values.specs.declared.entity_uid.EntityUID.{EntityUID}
 use Rattle.policy_expressions.specs.declared.kinds.SlotValues.{SlotValues}
 use Rattle.policy_expressions.specs.Tree.{depth_of}
 use Rattle.schema_core.specs.Schema.{SchemaData}
@@ -14,7 +14,7 @@ use Rattle.policy_set.specs.Condition.{condition_of}
 use Rattle.policy_set.specs.Links.{linked_of}
 use Rattle.link_spec.specs.Linked.{linked_envs}
 use Rattle.findings.specs.Mentioned.{is_known_type}
-use Rattle.typecheck_spec.specs.Names.{has_known_names}
+use Rattle.typecheck_rules.specs.Names.{has_known_names}
 use Rattle.policy_scope.specs.Scope.{is_applicable}
 
 module _ (schema : SchemaData) where

@@ -1,7 +1,7 @@
 -- Links are typed, since their templates are.
 use Rattle.std.specs.Prelude.{◌≡◌, ◌⊎◌, ◌&&◌, ℕ, Bool, true, false, List, [], Option, Some, None, IfSome, IsSomeAnd, IsTrue}
 use Rattle.std.specs.List.{AllByRecursion}
-use Rattle.policy_names.specs.declared.entity_uid.EntityUID.{EntityUID}
+use Rattle.policy_values.specs.declared.entity_uid.EntityUID.{EntityUID}
 use Rattle.policy_expressions.specs.declared.kinds.BinaryOp.{BinaryOp}
 use Rattle.policy_expressions.specs.declared.kinds.Literal.TheVariants as literal
 use Rattle.policy_expressions.specs.declared.kinds.SlotId.{SlotId}
@@ -15,22 +15,22 @@ use Rattle.entity_store.specs.Store.{Store}
 use Rattle.typing_spec.specs.Conforms.{RequestConforms, StoreConforms}
 use Rattle.typing_spec.specs.Conditions.{IsCondition}
 use Rattle.policy_expressions.specs.Keys.{HasKeysOnce}
-use Rattle.hierarchy.specs.Reaches.{has}
-use Rattle.policy_names.specs.Uid.{text_cmp}
+use Rattle.policy_values.specs.Reaches.{has}
+use Rattle.policy_values.specs.Uid.{text_cmp}
 use Rattle.schema_types.specs.Ty.{Ty, false_type}
 use Rattle.schema_core.specs.Environments.{Environment, environment}
 use Rattle.schema_core.specs.EnvData.{unlinked, unlinked_envs}
 use Rattle.schema_core.specs.Faults.{IsSchema}
 use Rattle.schema_core.specs.Schema.{ActionData, SchemaData, action_at}
 use Rattle.policy_expressions.specs.Plain.{Plain}
-use Rattle.capabilities.specs.Capability.{Capability}
+use Rattle.typing_spec.specs.Capability.{Capability}
 use Rattle.typing_spec.specs.Typing.{Typed, Typing, unreached, types}
 use Rattle.policy_set.specs.declared.constraint.PrincipalOrResourceConstraint.{PrincipalOrResourceConstraint}
 use Rattle.policy_set.specs.Data.{TemplateData}
 use Rattle.policy_set.specs.Condition.{condition_of, asks_slot}
 use Rattle.policy_set.specs.Links.{own_condition, linked_of, HasPlainBody, Fills}
-use Rattle.typecheck_spec.specs.Check.{checked, TellsWhy}
-use Rattle.typecheck_spec.specs.Names.{has_known_names}
+use Rattle.typecheck_rules.specs.Check.{checked, TellsWhy}
+use Rattle.typecheck_rules.specs.Names.{has_known_names}
 use Rattle.link_spec.specs.Linked.{linked_env, linked_envs}
 use Rattle.policy_scope.specs.Scope.{is_applicable}
 use Rattle.link_spec.specs.Accepted.{IsTyped, IsTypedIn, IsAcceptedTemplate, IsAcceptedLink}

@@ -2,7 +2,7 @@
 
 ghost use Rattle.link_spec.specs.Laws.{SlotsAreNotRead, LinksFollowTemplates, LinksAreTyped, StaticsAreTyped, TypedEverywhere, LinksHaveKeysOnce, TypedAreSound, LinksAreSound, StaticsAreSound, LinksAreWrittenOut, FilledKeeps, StaticsAreUnlinked, RefusalsAreTold};
 
-use typecheck_spec::laws::refusal_is_told;
+use typecheck_rules::laws::refusal_is_told;
 use typing_spec::laws::conditions_are_sound;
 
 /// The typing of an expression without slots does not depend on what stands for the slots.

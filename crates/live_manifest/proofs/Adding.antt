@@ -6,9 +6,9 @@ use Rattle.std.specs.BTreeMap.{UpdatesBy, get}
 use Rattle.std.specs.declared.vec.Vec.{Vec}
 use Rattle.std.specs.declared.alloc.Global.{Global}
 use Rattle.std.specs.Ordering.{is_eq}
-use Rattle.hierarchy.specs.Keyed.{has_key, value_at, with_value}
+use Rattle.policy_values.specs.Keyed.{has_key, value_at, with_value}
 use Rattle.plain_lemmas.proofs.Lists.{zip_length}
-use Rattle.policy_names.specs.Uid.{text_cmp}
+use Rattle.policy_values.specs.Uid.{text_cmp}
 use Rattle.access_tries.specs.Table.{Table}
 use Rattle.schema_core.specs.EnvData.{EnvData, unlinked_envs}
 use Rattle.schema_core.specs.Faults.{IsSchema}

@@ -1,10 +1,10 @@
 -- What is kept over an edit.
 use Rattle.std.proofs.Common.{◌≡◌, ℕ, false, List, Option, Some, None, IfSome, refl, sym, ap, ◌∙◌, subst}
 use Rattle.std.specs.Prelude.{is_some}
-use Rattle.hierarchy.specs.Keyed.{has_key}
-use Rattle.hierarchy.proofs.Keyed.{value_named}
+use Rattle.policy_values.specs.Keyed.{has_key}
+use Rattle.policy_values.proofs.Keyed.{value_named}
 use Rattle.std.proofs.lemmas.Map.Lookups.{exact_bytes}
-use Rattle.policy_names.specs.Uid.{text_cmp}
+use Rattle.policy_values.specs.Uid.{text_cmp}
 use Rattle.schema_core.specs.Schema.{SchemaData}
 use Rattle.policy_set.specs.Data.{PolicyData, TemplateData}
 use Rattle.policy_set.specs.PolicySet.{IsPolicySet, PolicySetData, is_taken, policy_at, template_at, with_policy, with_template}

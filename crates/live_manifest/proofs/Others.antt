@@ -1,20 +1,19 @@
 -- The tries of the policies that are left, taken one by one.
 use Rattle.std.proofs.Common.{◌≡◌, ℕ, Bool, true, false, cond, List, [], ◌∷◌, ◌++◌, append_assoc, Some, refl, sym, ap, ◌∙◌, subst}
-use Rattle.std.specs.Prelude.{filter, not}
+use Rattle.std.specs.Prelude.{filter, not, IsSomeAnd}
 use Rattle.std.specs.BTreeMap.{get}
 use Rattle.std.specs.List.{AllZip}
 use Rattle.std.specs.Ordering.{is_eq}
 use Rattle.std.specs.declared.vec.Vec.{Vec}
 use Rattle.std.specs.declared.alloc.Global.{Global}
 use Rattle.plain_lemmas.proofs.Lists.{append_empty}
-use Rattle.policy_names.specs.Uid.{text_cmp}
+use Rattle.policy_values.specs.Uid.{text_cmp}
 use Rattle.access_tries.specs.Table.{Table}
 use Rattle.schema_core.specs.Schema.{SchemaData}
 use Rattle.policy_set.specs.Data.{PolicyData}
 use Rattle.policy_set.specs.Removal.{is_another_policy}
 use Rattle.live_manifest.specs.Adding.{Tries}
 use Rattle.live_manifest.specs.Tries.{HasTriesOf, HaveTries}
-use Rattle.std.specs.Prelude.{IsSomeAnd}
 
 module _ (schema : SchemaData) (m : Tries) (id : List ℕ) where
   abbrev AreOf : List PolicyData → List (Vec Table Global) → Type 0

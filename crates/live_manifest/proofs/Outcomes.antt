@@ -5,7 +5,7 @@ use Rattle.std.specs.BTreeMap.{UpdatesBy, is_at}
 use Rattle.std.specs.Map.{lookup}
 use Rattle.std.specs.Option.{option_or}
 use Rattle.plain_lemmas.proofs.Options.{none_of_no_some}
-use Rattle.policy_names.specs.Uid.{text_cmp}
+use Rattle.policy_values.specs.Uid.{text_cmp}
 use Rattle.schema_core.specs.Schema.{SchemaData}
 use Rattle.finding_messages.specs.Findings.{Findings}
 use Rattle.policy_set.specs.Data.{PolicyData, TemplateData}

@@ -10,10 +10,10 @@ use Rattle.std.specs.Ordering.{is_eq, match_ordering}
 use Rattle.std.proofs.lemmas.Cmp.{nat_list_cmp_total}
 use Rattle.std.proofs.lemmas.Map.Lookups.{exact_bytes}
 use Rattle.std.proofs.lemmas.Map.Views.{tells_apart}
-use Rattle.hierarchy.specs.Keyed.{has_key, value_at, with_value}
+use Rattle.policy_values.specs.Keyed.{has_key, value_at, with_value}
 use Rattle.plain_lemmas.proofs.Booleans.{or_false_parts}
 use Rattle.plain_lemmas.proofs.Options.{none_of_no_some}
-use Rattle.policy_names.specs.Uid.{text_cmp}
+use Rattle.policy_values.specs.Uid.{text_cmp}
 use Rattle.policy_set.specs.Data.{LinkData, PolicyData, TemplateData}
 use Rattle.policy_set.specs.PolicySet.{IsLinkOf, IsLinkedIn, IsPolicySet, PolicySetData, fault_if, id_fault, is_taken, policy_at, template_at, with_policy, with_template}
 use Rattle.policy_set.specs.Removal.{IsNotRemoved, is_linked, removal_fault, without, unknown_policy, template_in_use}

@@ -5,8 +5,8 @@ use Rattle.std.specs.List.{list_any, cons_option}
 use Rattle.std.specs.declared.cmp.Ordering.{Ordering}
 use Rattle.std.specs.declared.cmp.Ordering.TheVariants.{Less, Equal, Greater}
 use Rattle.std.specs.Ordering.{is_eq, match_ordering}
-use Rattle.hierarchy.specs.Keyed.{has_key, value_at, with_value}
-use Rattle.policy_names.specs.Uid.{text_cmp}
+use Rattle.policy_values.specs.Keyed.{has_key, value_at, with_value}
+use Rattle.policy_values.specs.Uid.{text_cmp}
 use Rattle.access_tries.specs.Edges.{Address}
 use Rattle.access_tries.specs.Paths.{IsUnion, demand_of, is_same}
 use Rattle.access_tries.specs.Table.{Table}

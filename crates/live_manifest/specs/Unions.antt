@@ -1,7 +1,7 @@
 -- The trie of a set of policies is the union of those of its policies.
 use Rattle.std.specs.Prelude.{◌≡◌, false, List, [], ◌∷◌, ◌++◌, None}
-use Rattle.hierarchy.specs.Keyed.{value_at, with_value}
-use Rattle.policy_names.specs.Uid.{text_cmp}
+use Rattle.policy_values.specs.Keyed.{value_at, with_value}
+use Rattle.policy_values.specs.Uid.{text_cmp}
 use Rattle.access_tries.specs.Paths.{IsLeast, IsUnion}
 use Rattle.access_tries.specs.Edges.{Address}
 use Rattle.access_tries.specs.Table.{Table, leads, is_marked}

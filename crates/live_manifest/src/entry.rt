@@ -11,10 +11,10 @@ ghost use Rattle.live_manifest.specs.Tries.{AreFoundTries, IsFoundTrie};
 
 use crate::LiveManifestError;
 use access_tries::RootAccessTrie;
-use extension_types::{ExtensionSchemas, all_objects};
+use typing_spec::{ExtensionSchemas, all_objects};
 use path_analysis::conditions_trie;
 use policy_expressions::Expr;
-use policy_names::Text;
+use policy_values::Text;
 use policy_set::{Policy, PolicySet};
 use policy_typecheck::{PolicyCheck, Typechecker};
 use policy_validate::Validator;

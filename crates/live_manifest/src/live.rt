@@ -10,7 +10,7 @@ use access_tries::RootAccessTrie;
 use link_spec::laws::statics_are_unlinked;
 use manifest_core::EntityManifest;
 use policy_expressions::SlotId;
-use policy_names::{EntityUID, Text};
+use policy_values::{EntityUID, Text};
 use policy_set::laws::is_policy_set;
 use policy_set::{PolicySet, PolicySetError, Template};
 use policy_validate::condition_laws::each_found_is_typed;

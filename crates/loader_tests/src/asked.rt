@@ -10,7 +10,7 @@ use entity_loader::{
 use json_document::Document;
 use manifest_computation::compute_entity_manifest;
 use manifest_loading::{Steps, load_entities};
-use policy_names::EntityUID;
+use policy_values::EntityUID;
 use std::alloc::{AllocError, Global};
 use std::marker::Brand;
 use std::sync::ledger::{Blank, Ledger};

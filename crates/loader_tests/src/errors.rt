@@ -2,7 +2,7 @@
 
 use manifest_core::MismatchedMissingEntityError;
 use manifest_loading::WrongNumberOfEntitiesError;
-use policy_names::{Eid, EntityType, EntityUID, Name, Text};
+use policy_values::{Eid, EntityType, EntityUID, Name, Text};
 use std::test::Fail;
 
 #[test]

@@ -2,8 +2,7 @@
 
 use entity_loader::{AncestorsRequest, EntityAnswer, EntityLoader, EntityRequest, LoadError};
 use entity_store::{Entities, Entity};
-use policy_names::EntityUID;
-use policy_values::try_clone_fields;
+use policy_values::{EntityUID, try_clone_fields};
 use std::alloc::{AllocError, Global};
 
 /// How a loader answers.

@@ -8,7 +8,7 @@ use Rattle.std.specs.declared.cmp.Ordering.TheVariants.{Greater}
 use Rattle.std.proofs.lemmas.Cmp.{nat_list_cmp_total}
 use Rattle.std.proofs.lemmas.List.{map-append, take-append-drop, at_drop_more}
 use Rattle.std.proofs.Math.Seq.{take-suc}
-use Rattle.policy_names.specs.Uid.{uid_cmp_total}
+use Rattle.policy_values.specs.Uid.{uid_cmp_total}
 use Rattle.access_tries.specs.Table.{Table}
 use Rattle.entity_store.specs.Request.{request_type_cmp}
 use Rattle.entity_store.specs.declared.request.RequestType.{RequestType}

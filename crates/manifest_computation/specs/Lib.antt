@@ -1,3 +1,9 @@
+pub mod Slice
+pub mod Rules
+pub mod Enough
+pub mod Refused
+pub mod CheckSteps
+pub mod Environments
 pub mod Computed
 pub mod Found
 pub mod Gathered

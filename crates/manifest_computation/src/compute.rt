@@ -15,7 +15,7 @@ use crate::EntityManifestError;
 use crate::tries::tries_of;
 use access_tries::RootAccessTrie;
 use entity_store::RequestType;
-use extension_types::{ExtensionSchemas, all_objects};
+use typing_spec::{ExtensionSchemas, all_objects};
 use manifest_core::EntityManifest;
 use policy_set::PolicySet;
 use policy_set::laws::is_policy_set;

@@ -4,7 +4,7 @@ use Rattle.std.specs.List.{AllByRecursion}
 use Rattle.std.specs.Option.{option_and_then}
 use Rattle.std.specs.declared.cmp.Ordering.TheVariants.{Greater}
 use Rattle.std.specs.Coded.{Coded, coded_list, coded×}
-use Rattle.hierarchy.specs.Reaches.{at}
+use Rattle.policy_values.specs.Reaches.{at}
 use Rattle.entity_store.specs.declared.request.Request.{Request}
 use Rattle.entity_store.specs.declared.request.RequestType.{RequestType}
 use Rattle.entity_store.specs.contracts.request.RequestType.{the_row as request_type_row}

@@ -4,7 +4,7 @@ use Rattle.std.specs.List.{list_any}
 use Rattle.std.specs.Ordering.{is_eq}
 use Rattle.entity_store.specs.declared.request.RequestType.{RequestType}
 use Rattle.entity_store.specs.Request.{request_type_cmp}
-use Rattle.hierarchy.specs.Reaches.{at}
+use Rattle.policy_values.specs.Reaches.{at}
 use Rattle.schema_types.specs.Ty.{never}
 use Rattle.schema_core.specs.Schema.{SchemaData}
 use Rattle.access_tries.specs.Edges.{Address}

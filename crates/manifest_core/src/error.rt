@@ -1,6 +1,6 @@
 //! Why there is no manifest.
 
-use policy_names::EntityUID;
+use policy_values::EntityUID;
 use std::alloc::AllocError;
 use thiserror::Error;
 

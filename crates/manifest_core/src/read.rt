@@ -1,7 +1,7 @@
 //! The typed tries of entries.
 
 ghost use Rattle.std.specs.Prelude.{◌≡◌, ◌↔◌, IfOk, OnOk, IsSome};
-ghost use Rattle.hierarchy.specs.Repeated.{IsRepeated};
+ghost use Rattle.policy_values.specs.Repeated.{IsRepeated};
 ghost use Rattle.entity_store.specs.declared.request.RequestType.{RequestType as RequestTypeData};
 ghost use Rattle.manifest_core.specs.Reading.{types_of};
 ghost use Rattle.manifest_core.specs.Said.{IsTypedOf, IsPut, AreTypedOf};
@@ -10,7 +10,7 @@ use crate::declared::declared_trie;
 use crate::listing::Entry;
 use access_tries::RootAccessTrie;
 use entity_store::RequestType;
-use hierarchy::first_repeated;
+use policy_values::first_repeated;
 use json_tries::trie_of_places;
 use schema_core::ValidatorSchema;
 use std::alloc::{AllocError, Global};

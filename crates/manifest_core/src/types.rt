@@ -18,7 +18,7 @@ use crate::error::{
 use access_tries::{Edge, EntityRoot};
 use entity_store::RequestType;
 use policy_expressions::Var;
-use policy_names::{EntityType, EntityUID, Text};
+use policy_values::{EntityType, EntityUID, Text};
 use schema_core::{ValidatorSchema, euid_literal};
 use schema_types::{Attributes, EntityLUB, EntityRecordKind, OpenTag, Type, TypeKind};
 use std::alloc::{AllocError, Global};

@@ -5,8 +5,8 @@ use Rattle.std.specs.List.{list_any, AllZip, AllByRecursion}
 use Rattle.std.specs.List.Sorted.{IsStrictlySortedBy}
 use Rattle.std.specs.Ordering.{is_eq, ordering_reverse}
 use Rattle.std.specs.declared.cmp.Ordering.TheVariants.{Less}
-use Rattle.policy_names.specs.declared.entity_uid.EntityUID.{EntityUID}
-use Rattle.policy_names.specs.Uid.{uid_cmp, uid_eq, uid_cmp_total}
+use Rattle.policy_values.specs.declared.entity_uid.EntityUID.{EntityUID}
+use Rattle.policy_values.specs.Uid.{uid_cmp, uid_eq, uid_cmp_total}
 use Rattle.entity_store.specs.Store.{StoredEntity, Store}
 use Rattle.reads_spec.proofs.Lists.{same_uid, uid_self}
 use Rattle.entity_loader.specs.declared.loader.EntityRequest.{EntityRequest}

@@ -8,8 +8,8 @@ use Rattle.std.specs.Cmp.{nat_cmp_total}
 use Rattle.std.specs.declared.cmp.Ordering.TheVariants.{Less}
 use Rattle.std.proofs.lemmas.Cmp.{tied_itself, nat_list_cmp_total}
 use Rattle.std.proofs.lemmas.Bool.{and_parts, and_from, or_cases, false≢true}
-use Rattle.policy_names.specs.declared.entity_uid.EntityUID.{EntityUID}
-use Rattle.policy_names.specs.Uid.{text_cmp, uid_eq}
+use Rattle.policy_values.specs.declared.entity_uid.EntityUID.{EntityUID}
+use Rattle.policy_values.specs.Uid.{text_cmp, uid_eq}
 use Rattle.entity_store.specs.declared.request.Request.{Request}
 use Rattle.entity_store.specs.Store.{StoredEntity, Store, entity_at}
 use Rattle.policy_values.specs.Value.{Val, truth, long, string, entity, set, rec, decimal, ip, datetime, duration, Fields, no_fields, field, field_at}
@@ -22,7 +22,7 @@ use Rattle.access_tries.specs.Edges.{Address, rank, first_text, second_text, edg
 use Rattle.access_tries.specs.Paths.{edge_of}
 use Rattle.access_tries.specs.Table.{Table, at_path, has_mark, links_at}
 use Rattle.access_tries.specs.Views.{ViewData, whole}
-use Rattle.policy_names.proofs.Ties.{equal_of}
+use Rattle.policy_values.proofs.Ties.{equal_of}
 use Rattle.reads_spec.specs.Merge.{IsBelowAll, IsOrdered, AreOrdered, IsEntityOrdered}
 use Rattle.reads_spec.specs.Paths.{Step, along, any_tag}
 use Rattle.reads_spec.specs.Restrict.{values_in, root_value, step, walk}

@@ -1,7 +1,7 @@
 -- An honest loader is refused for a path that sticks, for a fault, or for want of memory.
 use Rattle.std.proofs.Common.{◌≡◌, ◌<◌, length, Bool, ◌&&◌, List, Option, Some, None, sym, ap, ◌∙◌, subst}
 use Rattle.std.specs.Prelude.{IsSomeAnd}
-use Rattle.policy_names.specs.Uid.{uid_eq}
+use Rattle.policy_values.specs.Uid.{uid_eq}
 use Rattle.entity_store.specs.declared.request.Request.{Request}
 use Rattle.entity_store.specs.Store.{StoredEntity, Store, entity_at}
 use Rattle.policy_values.specs.Value.{Val}

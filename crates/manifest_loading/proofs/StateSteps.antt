@@ -2,8 +2,8 @@
 use Rattle.std.proofs.Common.{◌≡◌, ◌<◌, length, Bool, true, false, ◌&&◌, ◌||◌, List, [], ◌∷◌, map, Option, Some, None, refl, sym, ap, ◌∙◌, subst, inl, inr}
 use Rattle.std.specs.List.{list_any}
 use Rattle.std.proofs.lemmas.Bool.{and_parts, and_from, or_cases, false≢true}
-use Rattle.policy_names.specs.declared.entity_uid.EntityUID.{EntityUID}
-use Rattle.policy_names.specs.Uid.{uid_eq}
+use Rattle.policy_values.specs.declared.entity_uid.EntityUID.{EntityUID}
+use Rattle.policy_values.specs.Uid.{uid_eq}
 use Rattle.entity_store.specs.declared.request.Request.{Request}
 use Rattle.entity_store.specs.Store.{StoredEntity, Store, entity_at}
 use Rattle.access_tries.specs.declared.edge.Edge.TheVariants.{AnyTag}

@@ -6,8 +6,8 @@ use Rattle.std.specs.List.Sorted.{IsStrictlySortedBy}
 use Rattle.std.specs.Map.{keys_of, values_of, lookup}
 use Rattle.std.specs.Ordering.{ordering_reverse}
 use Rattle.std.specs.declared.cmp.Ordering.TheVariants.{Less}
-use Rattle.policy_names.specs.declared.entity_uid.EntityUID.{EntityUID}
-use Rattle.policy_names.specs.Uid.{uid_cmp, uid_eq, uid_cmp_total}
+use Rattle.policy_values.specs.declared.entity_uid.EntityUID.{EntityUID}
+use Rattle.policy_values.specs.Uid.{uid_cmp, uid_eq, uid_cmp_total}
 use Rattle.entity_store.specs.Ascending.{IsAbove}
 use Rattle.entity_store.specs.Store.{StoredEntity, Store, entity_at}
 use Rattle.reads_spec.proofs.Lists.{same_uid, uid_self}

@@ -1,7 +1,7 @@
 -- Why nothing is loaded.
 use Rattle.std.specs.Prelude.{◌≡◌, ◌≢◌, ◌⊎◌, None, IsSomeAnd, Result, Ok, Err}
 use Rattle.byte_streams.specs.Steps.{Rose}
-use Rattle.policy_names.specs.declared.entity_uid.EntityUID.{EntityUID}
+use Rattle.policy_values.specs.declared.entity_uid.EntityUID.{EntityUID}
 use Rattle.entity_store.specs.Store.{StoredEntity}
 use Rattle.policy_values.specs.Value.{Val}
 use Rattle.reads_spec.specs.Merge.{merge_entities}

@@ -1,7 +1,7 @@
 -- What is kept of the answers of a round.
 use Rattle.std.specs.Prelude.{◌≡◌, cond, List, Option, Some, None, IsSomeAnd}
-use Rattle.policy_names.specs.declared.entity_uid.EntityUID.{EntityUID}
-use Rattle.policy_names.specs.Uid.{uid_eq}
+use Rattle.policy_values.specs.declared.entity_uid.EntityUID.{EntityUID}
+use Rattle.policy_values.specs.Uid.{uid_eq}
 use Rattle.entity_store.specs.Store.{StoredEntity}
 use Rattle.reads_spec.specs.Merge.{merge_entities}
 use Rattle.access_tries.specs.Table.{Table}

@@ -1,6 +1,6 @@
 -- Stores in order.
 use Rattle.std.specs.Prelude.{◌≡◌, Some}
-use Rattle.policy_names.specs.declared.entity_uid.EntityUID.{EntityUID}
+use Rattle.policy_values.specs.declared.entity_uid.EntityUID.{EntityUID}
 use Rattle.entity_store.specs.Store.{StoredEntity, Store, entity_at}
 use Rattle.reads_spec.specs.Merge.{IsEntityOrdered}
 

@@ -1,7 +1,7 @@
 -- Why loading is refused of a loader that tells its store.
 use Rattle.std.specs.Prelude.{◌≡◌, ◌⊎◌, Bool, true, false, List, Some}
 use Rattle.byte_streams.specs.Steps.{Rose}
-use Rattle.policy_names.specs.declared.entity_uid.EntityUID.{EntityUID}
+use Rattle.policy_values.specs.declared.entity_uid.EntityUID.{EntityUID}
 use Rattle.entity_store.specs.declared.request.Request.{Request}
 use Rattle.entity_store.specs.Store.{StoredEntity, Store, entity_at}
 use Rattle.policy_values.specs.Value.{Val}

@@ -3,8 +3,8 @@
 ghost use Rattle.std.specs.Prelude.{◌≡◌, ◌≤◌, ◌+◌, ℕ, length, map, None, Some, cond, IfOk, IfErr, OnOk};
 ghost use Rattle.std.specs.BTreeMap.{get};
 ghost use Rattle.std.specs.List.Sorted.{IsStrictlySortedBy};
-ghost use Rattle.policy_names.specs.declared.entity_uid.EntityUID.{EntityUID};
-ghost use Rattle.policy_names.specs.Uid.{uid_cmp, uid_eq};
+ghost use Rattle.policy_values.specs.declared.entity_uid.EntityUID.{EntityUID};
+ghost use Rattle.policy_values.specs.Uid.{uid_cmp, uid_eq};
 ghost use Rattle.entity_store.specs.Store.{Store};
 ghost use Rattle.entity_loader.specs.State.{Continues};
 ghost use Rattle.manifest_loading.specs.Answering.{AreUnderIds, AreHonest, IsPut, IsStray, IsStrayAnswer, AreStray, answered};
@@ -13,7 +13,7 @@ ghost use Rattle.manifest_loading.specs.Causes.{CauseOf, IsRight};
 use crate::error::{EntitySliceError, WrongNumberOfEntitiesError};
 use entity_loader::{EntityAnswer, EntityLoader, EntityRequest, LoadError};
 use entity_store::Entity;
-use policy_names::EntityUID;
+use policy_values::EntityUID;
 use std::alloc::{AllocError, Global};
 use std::collections::BTreeMap;
 

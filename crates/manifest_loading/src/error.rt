@@ -1,8 +1,7 @@
 //! Why nothing is loaded.
 
 use entity_store::Entity;
-use policy_names::EntityUID;
-use policy_values::Value;
+use policy_values::{EntityUID, Value};
 use std::alloc::AllocError;
 use thiserror::Error;
 

@@ -4,12 +4,12 @@ ghost use Rattle.std.specs.Prelude.{◌≡◌, map, IfOk, OnOk};
 ghost use Rattle.std.specs.BTreeMap.{get};
 ghost use Rattle.std.specs.List.Sorted.{IsStrictlySortedBy};
 ghost use Rattle.access_tries.specs.Table.{IsTable};
-ghost use Rattle.policy_names.specs.Uid.{uid_cmp};
+ghost use Rattle.policy_values.specs.Uid.{uid_cmp};
 ghost use Rattle.manifest_loading.specs.Lending.{view_in, AreLent, Lends, IsUnited, request_of};
 
 use access_tries::{AccessTrie, Node, TrieRef};
 use entity_loader::EntityRequest;
-use policy_names::EntityUID;
+use policy_values::EntityUID;
 use std::alloc::{AllocError, Global};
 use std::collections::{BTreeMap, BTreeSet};
 use trie_traversal::Place;

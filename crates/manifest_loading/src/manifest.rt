@@ -13,7 +13,7 @@ ghost use Rattle.manifest_loading.specs.Ordered.{HasOrder};
 ghost use Rattle.manifest_loading.specs.Right.{SticksAt};
 ghost use Rattle.manifest_loading.specs.Rounds.{Sticks};
 ghost use Rattle.manifest_loading.specs.declared.error.EntitySliceError.TheVariants.{OutOfMemory};
-ghost use Rattle.policy_names.specs.Uid.{uid_cmp};
+ghost use Rattle.policy_values.specs.Uid.{uid_cmp};
 ghost use Rattle.reads_spec.specs.Merge.{IsOrdered};
 ghost use Rattle.reads_spec.specs.Paths.{AccessPath, Demand};
 ghost use Rattle.reads_spec.specs.Restrict.{root_value};

@@ -12,7 +12,7 @@ use crate::path_type::{PathType, path_type};
 use crate::setting::Setting;
 use crate::shape::longer;
 use access_tries::{AccessPath, Step};
-use policy_names::Text;
+use policy_values::Text;
 use schema_types::{Attributes, EntityRecordKind, Type, TypeKind};
 use std::alloc::{AllocError, Global};
 

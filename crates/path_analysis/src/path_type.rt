@@ -13,7 +13,7 @@ ghost use Rattle.path_analysis.specs.PathView.{type_in};
 use crate::setting::Setting;
 use access_tries::{AccessPath, EntityRoot, Step};
 use policy_expressions::Var;
-use policy_names::{EntityType, Text};
+use policy_values::{EntityType, Text};
 use schema_core::{RequestEnv, ValidatorSchema, euid_literal};
 use schema_types::{
     AttributeType, Attributes, DeclaredAttributes, EntityLUB, EntityRecordKind, Type, TypeKind,

@@ -8,7 +8,7 @@ ghost use Rattle.path_analysis.specs.Analysis.{from_shape, without_shape, united
 
 use crate::shape::Shape;
 use access_tries::{AccessPath, EntityRoot, Step};
-use policy_names::Text;
+use policy_values::Text;
 use std::alloc::{AllocError, Global};
 use std::marker::Model;
 

@@ -8,7 +8,7 @@ ghost use Rattle.path_analysis.specs.ShapeView.{shape_in, one_of_all, field_shap
 
 use crate::found::add_if_longer;
 use access_tries::{AccessPath, EntityRoot, Step};
-use policy_names::Text;
+use policy_values::Text;
 use std::alloc::{AllocError, Global};
 use std::collections::{BTreeMap, BTreeSet};
 use std::marker::Model;

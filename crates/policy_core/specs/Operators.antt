@@ -3,8 +3,8 @@ use Rattle.std.specs.Prelude.{ℕ, Bool, false, not, ◌||◌, ℤ, ◌+ℤ◌, 
 use Rattle.std.specs.List.{list_any}
 use Rattle.std.specs.Ordering.{is_eq}
 use Rattle.std.specs.Str.{chars}
-use Rattle.policy_names.specs.declared.entity_uid.EntityUID.{EntityUID}
-use Rattle.policy_names.specs.Uid.{text_cmp, uid_eq}
+use Rattle.policy_values.specs.declared.entity_uid.EntityUID.{EntityUID}
+use Rattle.policy_values.specs.Uid.{text_cmp, uid_eq}
 use Rattle.policy_values.specs.Value.{Val, truth, long, string, entity, set, rec, datetime, duration, Vals, no_vals, val, field_at}
 use Rattle.policy_values.specs.ValueOrder.{val_cmp}
 use Rattle.policy_values.specs.Sets.{is_empty, is_element, has_all, has_some}

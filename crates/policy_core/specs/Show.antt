@@ -1,6 +1,6 @@
 -- How errors print.
 use Rattle.std.specs.Prelude.{ℕ, List, ◌++◌, codes}
-use Rattle.policy_names.specs.Show.{uid_text}
+use Rattle.policy_values.specs.Show.{uid_text}
 use Rattle.policy_core.specs.declared.outcome.EvalError.{EvalError}
 use Rattle.policy_core.specs.declared.outcome.EvalError.TheVariants.{MissingEntity, MissingAttribute, MissingTag, TypeFault, IntegerOverflow, ExtensionOverflow, ExtensionText, UnknownFunction, Arity}
 

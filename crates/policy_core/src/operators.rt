@@ -5,7 +5,7 @@ ghost use Rattle.std.specs.Option.{option_copied};
 ghost use Rattle.policy_values.specs.Value.{entity, vals_of};
 ghost use Rattle.policy_core.specs.Operators.{unary_value, fit, long_of, compared, calculated, contains_value, contains_all_value, contains_any_value, get_tag_value, has_tag_of, has_tag_value, in_value, binary_value, above, within, within_any, attr_value, found_or, has_value, like_value, is_value};
 ghost use Rattle.std.specs.Ordering.{is_eq};
-ghost use Rattle.policy_names.specs.Uid.{text_cmp};
+ghost use Rattle.policy_values.specs.Uid.{text_cmp};
 
 use crate::like::is_like;
 use crate::{

@@ -1,7 +1,7 @@
 -- Expressions with literals in the places of slots: they are as deep and have the same keys, and without any literal they are
 -- the same.
 use Rattle.std.proofs.Common.{◌≡◌, ℕ, List, [], ◌∷◌, map, Option, Some, None, ap, refl, arith}
-use Rattle.policy_names.specs.declared.entity_uid.EntityUID.{EntityUID}
+use Rattle.policy_values.specs.declared.entity_uid.EntityUID.{EntityUID}
 use Rattle.policy_expressions.specs.declared.kinds.SlotId.{SlotId}
 use Rattle.policy_expressions.specs.declared.kinds.SlotId.TheVariants.{Principal, Resource}
 use Rattle.policy_expressions.specs.declared.kinds.SlotValues.{SlotValues}

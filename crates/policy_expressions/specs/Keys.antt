@@ -1,7 +1,7 @@
 -- Records with each of their keys once.
 use Rattle.std.specs.Prelude.{◌≡◌, ⊤, ℕ, false, List}
 use Rattle.std.specs.Ordering.{is_eq}
-use Rattle.policy_names.specs.Uid.{text_cmp}
+use Rattle.policy_values.specs.Uid.{text_cmp}
 use Rattle.policy_expressions.specs.Tree.{Tree, lit, var, slot, ite, conj, disj, unary, binary, attr, has, like, is_type, call, set, rec, Trees, no_trees, tree, Named, no_named, named}
 
 -- the key is none of the record's

@@ -7,7 +7,7 @@ ghost use Rattle.policy_expressions.specs.Keys.{HasKeysOnce, HaveKeysOnce, AreKe
 ghost use Rattle.policy_expressions.specs.Slots.{filled};
 
 use crate::{BinaryOp, Literal, Loc, Note, Pattern, SlotId, SlotValues, UnaryOp, Var};
-use policy_names::{EntityType, Name, Text};
+use policy_values::{EntityType, Name, Text};
 use std::alloc::{AllocError, Global};
 use std::collections::BTreeMap;
 use std::fmt;

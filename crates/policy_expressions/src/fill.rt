@@ -7,8 +7,7 @@ ghost use Rattle.policy_expressions.specs.TreeView.{tree_of};
 
 use crate::expr::around;
 use crate::{Expr, ExprKind, Literal, Note, SlotValues};
-use policy_names::Text;
-use policy_values::push_entry;
+use policy_values::{Text, push_entry};
 use std::alloc::{AllocError, Global};
 use std::collections::BTreeMap;
 

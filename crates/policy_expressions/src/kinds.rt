@@ -4,7 +4,7 @@ ghost use Rattle.std.specs.Prelude.{◌≡◌, IfOk};
 ghost use Rattle.std.specs.Option.{option_copied};
 ghost use Rattle.policy_expressions.specs.Slots.{value_of};
 
-use policy_names::{EntityUID, Text};
+use policy_values::{EntityUID, Text};
 use std::alloc::AllocError;
 
 /// Where an expression stands in its source: from the byte `start` up to the byte before `end`.

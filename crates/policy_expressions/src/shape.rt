@@ -5,7 +5,7 @@ ghost use Rattle.policy_expressions.specs.Tree.{trees_of, named_of};
 ghost use Rattle.policy_expressions.specs.Shape.{SameShape, SameShapes, SameNamed};
 
 use crate::{BinaryOp, Expr, ExprKind, Literal, Pattern, SlotId, UnaryOp, Var};
-use policy_names::{EntityType, Name, Text};
+use policy_values::{EntityType, Name, Text};
 use std::collections::BTreeMap;
 
 impl<T> Expr<T> {

@@ -5,7 +5,7 @@ ghost use Rattle.policy_expressions.specs.Tree.{trees_of, named_of};
 ghost use Rattle.policy_expressions.specs.Slots.{has_slot, some_has_slot, some_named_has_slot};
 
 use crate::{Expr, ExprKind};
-use policy_names::Text;
+use policy_values::Text;
 use std::collections::BTreeMap;
 
 impl<T> Expr<T> {

@@ -4,8 +4,7 @@ use Rattle.std.proofs.Math.Nat.{pow-suc}
 use Rattle.std.proofs.lemmas.Bool.{eqb-false}
 use Rattle.std.proofs.lemmas.Fmt.{digits_is_IsNumeral}
 use Rattle.std.proofs.lemmas.Nat.{shr-shr}
-use Rattle.std.specs.Fmt.{digits}
-use Rattle.std.specs.Fmt.{digits_onto, digit_glyph}
+use Rattle.std.specs.Fmt.{digits, digits_onto, digit_glyph}
 use Rattle.std.specs.Str.Parse.{digits_value}
 use Rattle.policy_ext.specs.declared.ip_addr.Family.{Family}
 use Rattle.policy_ext.specs.declared.ip_addr.Family.TheVariants.{V4, V6}

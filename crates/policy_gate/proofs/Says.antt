@@ -2,7 +2,7 @@
 use Rattle.std.proofs.Common.{◌≡◌, ◌⊎◌, ◌&&◌, ℕ, Bool, true, false, List, [], ◌∷◌, inl, inr, Option, Some, None, is_some, IsSome, IfSome, IsSomeAnd, IsTrue, Ok, Err, sym, ◌∙◌, ap, refl, subst, if◌then◌else◌}
 use Rattle.std.specs.Option.{option_or, option_map}
 use Rattle.serde_json.specs.Data.{Data}
-use Rattle.policy_names.specs.declared.entity_uid.EntityUID.{EntityUID}
+use Rattle.policy_values.specs.declared.entity_uid.EntityUID.{EntityUID}
 use Rattle.policy_values.specs.Value.{Fields}
 use Rattle.entity_store.specs.declared.request.Request.{Request}
 use Rattle.entity_store.specs.Request.{IsWhole}
@@ -27,7 +27,7 @@ use Rattle.conformance.specs.RequestRules.{first_request_fault}
 use Rattle.policy_set.specs.Response.{response}
 use Rattle.json_response.specs.SliceJson.{response_text}
 use Rattle.conformance.proofs.Options.{none_first, none_rest, neither, none_inside}
-use Rattle.request_slices.specs.Enough.{IsEnough}
+use Rattle.manifest_computation.specs.Enough.{IsEnough}
 use Rattle.std.specs.List.{AllByRecursion}
 use Rattle.policy_set.specs.Data.{TemplateData}
 use Rattle.policy_set.specs.PolicySet.{written}

@@ -4,7 +4,7 @@ use Rattle.std.specs.Option.{option_or}
 use Rattle.std.specs.List.{flat_map}
 use Rattle.serde_json.specs.Data.{Data, object, string, member, no_members}
 use Rattle.json_values.specs.Json.{json_of}
-use Rattle.policy_names.specs.declared.entity_uid.EntityUID.{EntityUID}
+use Rattle.policy_values.specs.declared.entity_uid.EntityUID.{EntityUID}
 use Rattle.entity_store.specs.declared.request.Request.{Request}
 use Rattle.entity_store.specs.Store.{Store}
 use Rattle.policy_set.specs.PolicySet.{IsPolicySet, AreKeyedOnce}
@@ -27,7 +27,7 @@ use Rattle.conformance.specs.StoreRules.{first_store_fault}
 use Rattle.conformance_errors.specs.Written.{id_text, request_message, request_text, entity_text}
 use Rattle.conformance_errors.specs.declared.request_error.RequestValidationError.{RequestValidationError}
 use Rattle.conformance_errors.specs.declared.store_rule.StoreRule.{StoreRule}
-use Rattle.request_slices.specs.Slice.{slice}
+use Rattle.manifest_computation.specs.Slice.{slice}
 use Rattle.serde_json.specs.Written.{compact_text}
 use Rattle.manifest_core.specs.Manifest.{Manifest}
 use Rattle.manifest_core.specs.ManifestJson.{manifest_data}

@@ -11,8 +11,8 @@ use Rattle.finding_messages.specs.Written.{findings_text}
 use Rattle.typing_spec.specs.Conforms.{StoreConforms}
 use Rattle.policy_validate.specs.Accepted.{IsAccepted}
 use Rattle.policy_validate.specs.Levels.{IsAcceptedAt, CutIsEnough}
-use Rattle.request_slices.specs.Enough.{IsEnough}
-use Rattle.request_slices.specs.Rules.{KeepRules}
+use Rattle.manifest_computation.specs.Enough.{IsEnough}
+use Rattle.manifest_computation.specs.Rules.{KeepRules}
 use Rattle.json_response.specs.SliceJson.{slice_text, response_text}
 use Rattle.json_values.specs.Json.{json_of}
 use Rattle.manifest_core.specs.Manifest.{Manifest as Tries}

@@ -3,7 +3,7 @@ use Rattle.conformance.specs.Laws.{RequestRulesAreExact, StoreRulesAreExact}
 use Rattle.policy_validate.specs.Laws.{NoErrorsWhereAccepted}
 use Rattle.policy_validate.specs.Levels.{NoErrorsWhereAcceptedAt, AcceptedLevelsAreSound}
 use Rattle.policy_review.specs.Laws.{NeverIsNeverTrue, LeastLevelsAreLeast}
-use Rattle.request_slices.specs.Enough.{OutcomesAreAllowed, SlicesAreEnough}
+use Rattle.manifest_computation.specs.Enough.{OutcomesAreAllowed, SlicesAreEnough}
 
 pub record Laws : Type 0 where
   -- no error is found exactly where the policies are accepted, at a level too

@@ -23,10 +23,9 @@ pub use json_document::{
 pub use json_expressions::{Bounded, read_expr};
 pub use json_response::write_value;
 pub use json_values::parse_json;
-pub use manifest_computation::compute_entity_manifest;
+pub use manifest_computation::{compute_entity_manifest, slice_for_request};
 pub use policy_scope::{ValidationResult, findings_text};
 pub use policy_set::{Decision, Response, decide};
 pub use policy_validate::{ValidationMode, Validator};
-pub use request_slices::slice_for_request;
 pub use runner::run;
 pub use status::Status;

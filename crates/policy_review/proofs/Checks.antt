@@ -3,7 +3,7 @@ use Rattle.std.proofs.Common.{◌≡◌, ◌≤◌, ℕ, suc, Bool, true, false,
 use Rattle.std.proofs.lemmas.Bool.{le-ltb}
 use Rattle.std.specs.Option.{option_map_or}
 use Rattle.std.specs.List.{AllByRecursion, list_all, filter_map, cons_option}
-use Rattle.policy_names.specs.declared.entity_uid.EntityUID.{EntityUID}
+use Rattle.policy_values.specs.declared.entity_uid.EntityUID.{EntityUID}
 use Rattle.findings.specs.Finding.{Finding}
 use Rattle.schema_types.specs.declared.kinds.Primitive.TheVariants.{Bool as BoolType}
 use Rattle.schema_types.specs.Ty.{Ty, true_type, false_type, primitive}
@@ -15,8 +15,8 @@ use Rattle.policy_set.specs.Data.{PolicyData, TemplateData}
 use Rattle.policy_set.specs.Condition.{condition_of}
 use Rattle.typing_spec.specs.Operands.{is_boolean}
 use Rattle.typing_spec.specs.Typing.{Typed, Typing, types}
-use Rattle.typecheck_spec.specs.Check.{Check, Success, Irrelevant, Fail, TooDeep, check_of, check_by, checked, condition_walked, CheckIsExact}
-use Rattle.typecheck_spec.specs.Walked.{findings_of}
+use Rattle.typecheck_rules.specs.Check.{Check, Success, Irrelevant, Fail, TooDeep, check_of, check_by, checked, condition_walked, CheckIsExact}
+use Rattle.typecheck_rules.specs.Walked.{findings_of}
 use Rattle.typecheck_walk.specs.Answer.{Tells}
 use Rattle.typecheck_walk.specs.declared.policy_check.PolicyCheck.{PolicyCheck}
 use Rattle.typecheck_walk.specs.declared.policy_check.PolicyCheck.TheVariants as told

@@ -19,7 +19,7 @@ use Rattle.reads_spec.specs.Among.{IsIn}
 use Rattle.policy_typecheck.specs.Verdict.{verdict_by, verdict_of}
 use Rattle.policy_typecheck.specs.declared.verdict.Verdict.TheVariants.{Never, May}
 use Rattle.policy_validate.specs.Laws.{AcceptedAreSound}
-use Rattle.request_environments.specs.Environments.{EnvironmentsAreOfTypes}
+use Rattle.manifest_computation.specs.Environments.{EnvironmentsAreOfTypes}
 use Rattle.policy_review.specs.Laws.{NeverIsNeverTrue}
 use Rattle.plain_lemmas.proofs.Options.{some_injective}
 

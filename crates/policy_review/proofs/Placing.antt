@@ -6,7 +6,7 @@ use Rattle.std.specs.declared.cmp.Ordering.TheVariants.{Less, Equal, Greater}
 use Rattle.std.specs.Ordering.{match_ordering}
 use Rattle.std.proofs.lemmas.List.Sums.{fold-append}
 use Rattle.std.proofs.lemmas.Map.Lookups.{exact_bytes}
-use Rattle.policy_names.specs.Uid.{text_cmp}
+use Rattle.policy_values.specs.Uid.{text_cmp}
 use Rattle.policy_expressions.specs.Slots.{has_slot}
 use Rattle.policy_expressions.specs.declared.kinds.SlotId.TheVariants.{Principal, Resource}
 use Rattle.schema_core.specs.EnvData.{unlinked_envs}
@@ -14,7 +14,7 @@ use Rattle.schema_core.specs.Schema.{SchemaData}
 use Rattle.policy_set.specs.Data.{PolicyData, TemplateData}
 use Rattle.policy_set.specs.Condition.{scope_part, action_part, written_of, IsPolicy}
 use Rattle.policy_set.specs.PolicySet.{PolicySetData, placed, is_static, statics, written}
-use Rattle.typecheck_spec.specs.Check.{CheckIsExact}
+use Rattle.typecheck_rules.specs.Check.{CheckIsExact}
 use Rattle.link_spec.specs.Accepted.{IsAcceptedTemplate}
 use Rattle.link_spec.specs.Laws.{StaticsAreUnlinked}
 use Rattle.policy_validate.proofs.OwnConditions.{part_slot}

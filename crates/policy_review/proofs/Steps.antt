@@ -8,7 +8,7 @@ use Rattle.schema_core.specs.Schema.{SchemaData}
 use Rattle.policy_set.specs.Data.{PolicyData}
 use Rattle.policy_set.specs.Condition.{written_of}
 use Rattle.policy_set.specs.PolicySet.{PolicySetData, is_static, statics}
-use Rattle.typecheck_spec.specs.Check.{checked}
+use Rattle.typecheck_rules.specs.Check.{checked}
 use Rattle.level_spec.specs.Levels.{greater}
 use Rattle.policy_typecheck.specs.Policies.{passes}
 use Rattle.policy_typecheck.specs.Verdict.{verdict_of}

@@ -3,8 +3,8 @@ use Rattle.std.specs.Prelude.{◌≡◌, ℕ, Bool, List, Option, Some, None, ma
 use Rattle.std.specs.BTreeMap.{insert_entry}
 use Rattle.std.specs.List.{list_all}
 use Rattle.std.specs.Option.{option_map_or}
-use Rattle.policy_names.specs.Uid.{text_cmp}
-use Rattle.policy_names.specs.declared.entity_uid.EntityUID.{EntityUID}
+use Rattle.policy_values.specs.Uid.{text_cmp}
+use Rattle.policy_values.specs.declared.entity_uid.EntityUID.{EntityUID}
 use Rattle.policy_expressions.specs.Plain.{Plain}
 use Rattle.schema_core.specs.EnvData.{EnvData, action_in, unlinked_envs}
 use Rattle.schema_core.specs.Schema.{SchemaData}
@@ -16,7 +16,7 @@ use Rattle.policy_set.specs.Data.{PolicyData, TemplateData}
 use Rattle.policy_set.specs.Condition.{condition_of, written_of}
 use Rattle.policy_set.specs.PolicySet.{PolicySetData, is_static}
 use Rattle.typing_spec.specs.Typing.{Typed}
-use Rattle.typecheck_spec.specs.Check.{checked}
+use Rattle.typecheck_rules.specs.Check.{checked}
 use Rattle.link_spec.specs.Linked.{linked_envs}
 use Rattle.level_spec.specs.Levels.{least_level}
 use Rattle.policy_typecheck.specs.Policies.{passes}

@@ -11,7 +11,7 @@ ghost use Rattle.policy_review.specs.Found.{needed_by, needed_in, level_told, le
 use findings::{EntityDerefViolationKind, ValidationError};
 use level_validate::level_errors;
 use policy_expressions::Expr;
-use policy_names::Text;
+use policy_values::Text;
 use policy_set::Template;
 use policy_typecheck::{PolicyCheck, Typechecker, linked_request_envs};
 use schema_core::{RequestEnv, ValidatorSchema};

@@ -5,7 +5,7 @@ ghost use Rattle.std.specs.Bool.{OnTrue};
 ghost use Rattle.std.specs.BTreeMap.{insert_entry};
 ghost use Rattle.std.specs.List.{list_all};
 ghost use Rattle.std.specs.Option.{option_to_list};
-ghost use Rattle.policy_names.specs.Uid.{text_cmp};
+ghost use Rattle.policy_values.specs.Uid.{text_cmp};
 ghost use Rattle.schema_core.specs.EnvData.{request_type_in, unlinked_envs};
 ghost use Rattle.schema_core.specs.RequestEnvs.{env_data_of};
 ghost use Rattle.policy_set.specs.Condition.{written_of};
@@ -18,13 +18,13 @@ ghost use Rattle.policy_review.specs.Found.{passed_verdict, level_found_in, pass
 use crate::levels::{level_of, raised_by};
 use crate::rows::ReviewRow;
 use link_spec::laws::statics_are_unlinked;
-use policy_names::Text;
+use policy_values::Text;
 use policy_set::{Policy, PolicySet};
 use policy_typecheck::{PolicyCheck, Typechecker, Verdict};
 use schema_core::{RequestEnv, ValidatorSchema};
 use std::alloc::{AllocError, Global};
 use std::collections::BTreeMap;
-use typecheck_spec::laws::check_is_exact;
+use typecheck_rules::laws::check_is_exact;
 
 /// Adds the rows of all policies, and the levels of static ones. Answers whether each condition passes its check in every
 /// environment of the schema: then all is added.

@@ -1,7 +1,7 @@
 //! What a review says.
 
 use entity_store::RequestType;
-use policy_names::Text;
+use policy_values::Text;
 use policy_typecheck::Verdict;
 
 /// Whether a policy can be true on requests of a type.

@@ -4,7 +4,7 @@ use Rattle.std.specs.Prelude.{option_map}
 use Rattle.std.specs.Option.{option_map_or}
 use Rattle.std.specs.Borrow.{Bor}
 use Rattle.policy_expressions.specs.declared.kinds.Loc.{Loc}
-use Rattle.policy_names.specs.declared.entity_uid.EntityUID.{EntityUID}
+use Rattle.policy_values.specs.declared.entity_uid.EntityUID.{EntityUID}
 use Rattle.schema_core.specs.Schema.{SchemaData}
 use Rattle.findings.specs.declared.rules.UnrecognizedEntityType.{UnrecognizedEntityType}
 use Rattle.findings.specs.declared.rules.UnrecognizedActionId.{UnrecognizedActionId}
@@ -12,7 +12,7 @@ use Rattle.findings.specs.declared.rules.InvalidEnumEntity.{InvalidEnumEntity}
 use Rattle.findings.specs.Mentioned.{an_id}
 use Rattle.policy_scope.specs.Names.{loc_cmp, entity_type_cmp, action_id_cmp, enum_cmp, action_id_hint, choices_without, enum_finding}
 use Rattle.policy_scope.proofs.Once.{order}
-use Rattle.policy_names.specs.Uid.{uid_cmp_total}
+use Rattle.policy_values.specs.Uid.{uid_cmp_total}
 use Rattle.std.specs.Cmp.{IsTotalOrder, on_total, then_total, nat_cmp_total}
 use Rattle.std.specs.Cmp.Lexicographic.{nat_list_cmp_total, options_total}
 

@@ -9,10 +9,10 @@ use Rattle.std.specs.Ordering.{is_eq}
 use Rattle.std.proofs.lemmas.Cmp.{eq_by_cmp_equiv}
 use Rattle.std.proofs.lemmas.Map.Keys.{sorted_head, sorted_tail}
 use Rattle.std.proofs.lemmas.Map.Views.{tells_apart}
-use Rattle.hierarchy.specs.Reaches.{has}
+use Rattle.policy_values.specs.Reaches.{has}
 use Rattle.plain_lemmas.proofs.Booleans.{or_false}
-use Rattle.policy_names.specs.declared.entity_uid.EntityUID.{EntityUID}
-use Rattle.policy_names.specs.Uid.{uid_cmp, uid_cmp_total, uid_eq, exact_uid}
+use Rattle.policy_values.specs.declared.entity_uid.EntityUID.{EntityUID}
+use Rattle.policy_values.specs.Uid.{uid_cmp, uid_cmp_total, uid_eq, exact_uid}
 use Rattle.policy_set.specs.declared.constraint.ActionConstraint.TheVariants.{In}
 use Rattle.policy_scope.specs.Scope.{action_meets}
 use Rattle.schema_core.specs.Faults.{IsSchema}

@@ -6,7 +6,7 @@ use Rattle.std.specs.Ordering.{is_eq}
 use Rattle.std.specs.BTreeSet.{BTreeSet, contains}
 use Rattle.std.proofs.lemmas.Cmp.{eq_by_cmp_equiv}
 use Rattle.std.proofs.lemmas.List.Folds.{list_any-append}
-use Rattle.hierarchy.specs.Reaches.{has}
+use Rattle.policy_values.specs.Reaches.{has}
 use Rattle.policy_scope.specs.Names.{with_new}
 
 module _ {X K : Type 0} (cmp : X → X → Ordering) (make : K → X) where

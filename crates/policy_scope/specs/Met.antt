@@ -2,7 +2,7 @@
 use Rattle.std.specs.Prelude.{◌&&◌, Bool}
 use Rattle.std.specs.List.{list_any}
 use Rattle.std.specs.Ordering.{is_eq}
-use Rattle.policy_names.specs.Uid.{text_cmp}
+use Rattle.policy_values.specs.Uid.{text_cmp}
 use Rattle.schema_core.specs.Schema.{SchemaData, ActionData, type_below}
 use Rattle.policy_scope.specs.Scope.{are_met, types_for}
 use Rattle.policy_scope.specs.declared.met.Asked.{Asked}

@@ -5,9 +5,9 @@ use Rattle.std.specs.List.{filter_map, starts_with}
 use Rattle.std.specs.Option.{option_cmp, option_and_then}
 use Rattle.std.specs.Ordering.{nat_cmp, ordering_then}
 use Rattle.std.specs.declared.cmp.Ordering.{Ordering}
-use Rattle.hierarchy.specs.Reaches.{has}
-use Rattle.policy_names.specs.declared.entity_uid.EntityUID.{EntityUID}
-use Rattle.policy_names.specs.Uid.{text_cmp, uid_cmp}
+use Rattle.policy_values.specs.Reaches.{has}
+use Rattle.policy_values.specs.declared.entity_uid.EntityUID.{EntityUID}
+use Rattle.policy_values.specs.Uid.{text_cmp, uid_cmp}
 use Rattle.policy_expressions.specs.declared.kinds.Loc.{Loc}
 use Rattle.policy_expressions.specs.Plain.{Plain}
 use Rattle.policy_set.specs.Data.{LinkData, PolicyData}

@@ -2,7 +2,7 @@
 use Rattle.std.specs.Prelude.{◌&&◌, not, if◌then◌else◌, Bool, true, false, ℕ, List, [], ◌∷◌, None, is_some}
 use Rattle.std.specs.List.{list_any, list_all}
 use Rattle.std.specs.Ordering.{is_eq}
-use Rattle.policy_names.specs.Uid.{text_cmp, uid_eq}
+use Rattle.policy_values.specs.Uid.{text_cmp, uid_eq}
 use Rattle.policy_set.specs.Data.{TemplateData}
 use Rattle.policy_set.specs.declared.constraint.EntityReference.{EntityReference}
 use Rattle.policy_set.specs.declared.constraint.EntityReference.TheVariants.{EUID, Slot}

@@ -2,14 +2,14 @@
 
 ghost use Rattle.std.specs.Prelude.{◌≡◌};
 ghost use Rattle.std.specs.List.{list_any};
-ghost use Rattle.policy_names.specs.Uid.{uid_eq};
+ghost use Rattle.policy_values.specs.Uid.{uid_eq};
 ghost use Rattle.schema_core.specs.Faults.{IsSchema};
 ghost use Rattle.schema_core.specs.Within.{is_action_within};
 ghost use Rattle.policy_scope.specs.Met.{has_asked, some_has};
 ghost use Rattle.policy_scope.specs.Scope.{action_meets};
 
 use crate::scope::{Side, are_declared, are_met, some_below, types_for};
-use policy_names::{EntityType, EntityUID};
+use policy_values::{EntityType, EntityUID};
 use policy_set::{ActionConstraint, PrincipalOrResourceConstraint};
 use schema_core::{ValidatorActionId, ValidatorSchema};
 use std::collections::BTreeSet;

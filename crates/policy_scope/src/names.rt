@@ -7,8 +7,8 @@ ghost use Rattle.findings.specs.Mentioned.{type_of, names_in, names_in_all, name
 ghost use Rattle.policy_scope.specs.Names.{distinct, entity_type_cmp, entity_type_finding, entity_type_findings, slot_type_findings, action_id_findings, enum_findings, choices_without, others_listed, choices_in, action_id_hint, occurs_in};
 ghost use Rattle.std.specs.List.{filter_map};
 ghost use Rattle.std.specs.Ordering.{is_eq};
-ghost use Rattle.hierarchy.specs.Reaches.{has};
-ghost use Rattle.policy_names.specs.Uid.{text_cmp};
+ghost use Rattle.policy_values.specs.Reaches.{has};
+ghost use Rattle.policy_values.specs.Uid.{text_cmp};
 ghost use Rattle.policy_set.specs.Condition.{condition_of};
 ghost use Rattle.schema_core.specs.KindView.{kind_of};
 ghost use Rattle.policy_scope.specs.Literals.{mentioned, pair_of};
@@ -18,7 +18,7 @@ use findings::{
     UnrecognizedActionIdHelp, UnrecognizedEntityType,
 };
 use policy_expressions::{Expr, ExprKind, Literal, Loc, SlotValues};
-use policy_names::{Eid, EntityType, EntityUID, Text};
+use policy_values::{Eid, EntityType, EntityUID, Text};
 use policy_set::{Policy, Template};
 use schema_core::{ValidatorEntityTypeKind, ValidatorSchema};
 use std::alloc::{AllocError, Global};

@@ -6,7 +6,7 @@ ghost use Rattle.schema_core.specs.EnvData.{literal_type};
 ghost use Rattle.policy_scope.specs.PlainScope.{are_plain_actions, is_action_of, is_plain_action, is_plain_reference, is_plain_scope, is_plain_side};
 
 use crate::scope::same_type;
-use policy_names::{EntityType, EntityUID};
+use policy_values::{EntityType, EntityUID};
 use policy_set::{ActionConstraint, EntityReference, PrincipalOrResourceConstraint};
 use schema_core::ValidatorSchema;
 

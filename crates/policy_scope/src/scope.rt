@@ -3,7 +3,7 @@
 ghost use Rattle.std.specs.Prelude.{◌≡◌, IfOk, is_some};
 ghost use Rattle.std.specs.List.{list_all, list_any};
 ghost use Rattle.std.specs.Ordering.{is_eq};
-ghost use Rattle.policy_names.specs.Uid.{text_cmp, uid_eq};
+ghost use Rattle.policy_values.specs.Uid.{text_cmp, uid_eq};
 ghost use Rattle.policy_set.specs.Condition.{written_of};
 ghost use Rattle.schema_core.specs.Schema.{action_at, type_below};
 ghost use Rattle.schema_core.specs.Within.{is_action_within};
@@ -11,7 +11,7 @@ ghost use Rattle.policy_scope.specs.Scope.{action_meets, equal_meets, in_meets, 
 
 use crate::met::{Asked, some_met};
 use findings::InvalidActionApplication;
-use policy_names::{EntityType, EntityUID, Text};
+use policy_values::{EntityType, EntityUID, Text};
 use policy_set::{
     ActionConstraint, EntityReference, Policy, PrincipalOrResourceConstraint, Template,
 };

@@ -1,6 +1,6 @@
 -- A scope is five deep at most, so that the body alone decides whether a condition is too deep.
 use Rattle.std.proofs.Common.{◌<◌, ◌≤◌, ◌↔◌, List, [], ◌∷◌, arith}
-use Rattle.policy_names.specs.declared.entity_uid.EntityUID.{EntityUID}
+use Rattle.policy_values.specs.declared.entity_uid.EntityUID.{EntityUID}
 use Rattle.policy_expressions.specs.Tree.{depth_of, deepest}
 use Rattle.policy_expressions.specs.declared.kinds.BinaryOp.{BinaryOp}
 use Rattle.policy_expressions.specs.declared.kinds.SlotId.{SlotId}

@@ -4,7 +4,7 @@ use Rattle.std.specs.List.{AllByRecursion}
 use Rattle.std.specs.declared.cmp.Ordering.{Ordering}
 use Rattle.std.specs.declared.cmp.Ordering.TheVariants.{Less, Equal, Greater}
 use Rattle.std.specs.Ordering.{match_ordering}
-use Rattle.hierarchy.specs.Keyed.{with_value}
+use Rattle.policy_values.specs.Keyed.{with_value}
 
 module _ {K V : Type 0} (cmp : K → K → Ordering) (key : V → K) (P : V → Type 0) (v : V) (p : P v) where
   pub each_with : (vs : List V) → AllByRecursion P vs → AllByRecursion P (with_value cmp key v vs)

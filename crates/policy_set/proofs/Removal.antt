@@ -8,13 +8,13 @@ use Rattle.std.specs.Ordering.{is_eq}
 use Rattle.std.specs.declared.cmp.Ordering.TheVariants.{Less}
 use Rattle.std.proofs.lemmas.Map.Lookups.{exact_bytes}
 use Rattle.std.proofs.lemmas.Map.Views.{tells_apart}
-use Rattle.policy_names.specs.Uid.{text_cmp}
+use Rattle.policy_values.specs.Uid.{text_cmp}
 use Rattle.policy_set.specs.Data.{TemplateData, PolicyData, LinkData}
 use Rattle.policy_set.specs.Condition.{IsPolicy}
 use Rattle.policy_set.specs.PolicySet.{PolicySetData, template_at, is_taken, IsPolicySet, IsToLink, IsLinkOf, IsLinkedIn, HoldsSet}
 use Rattle.std.specs.Map.{keys_of, values_of, remove_entry}
 use Rattle.std.specs.BTreeMap.{BTreeMap, IsOrdered, is_at, values}
-use Rattle.hierarchy.specs.Keyed.{AreAtTheirKeys}
+use Rattle.policy_values.specs.Keyed.{AreAtTheirKeys}
 use Rattle.policy_set.proofs.Sets.{set_of}
 use Rattle.policy_set.specs.Removal.{without, is_linked, removal_fault, is_another_template, is_another_policy, unknown_policy, template_in_use}
 

@@ -10,9 +10,9 @@ use Rattle.std.proofs.lemmas.Map.Lookups.{exact_bytes}
 use Rattle.std.proofs.lemmas.Map.Views.{tells_apart}
 use Rattle.std.specs.Map.{values_of}
 use Rattle.std.specs.BTreeMap.{BTreeMap, IsOrdered, values, insert_entry}
-use Rattle.hierarchy.specs.Keyed.{AreAtTheirKeys, value_at, with_value}
-use Rattle.hierarchy.proofs.Keyed.{keys_ascend, value_named, value_put, own_put}
-use Rattle.policy_names.specs.Uid.{text_cmp}
+use Rattle.policy_values.specs.Keyed.{AreAtTheirKeys, value_at, with_value}
+use Rattle.policy_values.proofs.Keyed.{keys_ascend, value_named, value_put, own_put}
+use Rattle.policy_values.specs.Uid.{text_cmp}
 use Rattle.policy_set.specs.Data.{TemplateData, LinkData, PolicyData}
 use Rattle.policy_expressions.specs.declared.kinds.SlotValues.{SlotValues}
 use Rattle.policy_set.specs.Condition.{IsPolicy}

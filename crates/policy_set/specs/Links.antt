@@ -1,6 +1,6 @@
 -- Links of templates: the template with the link's ids in the places of its slots.
 use Rattle.std.specs.Prelude.{◌≡◌, ℕ, false, List, Option, Some, None, is_some}
-use Rattle.policy_names.specs.declared.entity_uid.EntityUID.{EntityUID}
+use Rattle.policy_values.specs.declared.entity_uid.EntityUID.{EntityUID}
 use Rattle.policy_expressions.specs.declared.kinds.SlotValues.{SlotValues}
 use Rattle.policy_expressions.specs.Slots.{has_slot, filled}
 use Rattle.policy_set.specs.Data.{TemplateData, PolicyData}

@@ -5,9 +5,9 @@ use Rattle.std.specs.BTreeMap.{BTreeMap, values}
 use Rattle.std.specs.Coded.{Coded, coded_list, coded×, code_by}
 use Rattle.std.specs.List.{AllByRecursion}
 use Rattle.std.specs.List.Sorted.{IsStrictlySortedBy}
-use Rattle.hierarchy.specs.Keyed.{AreAtTheirKeys, value_at, with_value}
-use Rattle.policy_names.specs.Uid.{text_cmp}
-use Rattle.policy_names.specs.declared.entity_uid.EntityUID.{EntityUID}
+use Rattle.policy_values.specs.Keyed.{AreAtTheirKeys, value_at, with_value}
+use Rattle.policy_values.specs.Uid.{text_cmp}
+use Rattle.policy_values.specs.declared.entity_uid.EntityUID.{EntityUID}
 use Rattle.policy_expressions.specs.declared.kinds.SlotId.{SlotId}
 use Rattle.policy_expressions.specs.declared.kinds.SlotId.TheVariants.{Principal, Resource}
 use Rattle.policy_expressions.specs.declared.kinds.SlotValues.{SlotValues}

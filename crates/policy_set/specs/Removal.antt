@@ -3,7 +3,7 @@ use Rattle.std.specs.Prelude.{◌≡◌, ℕ, Bool, false, not, List, Option, So
 use Rattle.std.specs.List.{list_any}
 use Rattle.std.specs.Option.{option_map_or}
 use Rattle.std.specs.Ordering.{is_eq}
-use Rattle.policy_names.specs.Uid.{text_cmp}
+use Rattle.policy_values.specs.Uid.{text_cmp}
 use Rattle.policy_set.specs.Data.{TemplateData, PolicyData}
 use Rattle.policy_set.specs.PolicySet.{PolicySetData, is_taken}
 use Rattle.policy_set.specs.declared.policy_set.RemovalError.{RemovalError}

@@ -5,7 +5,7 @@ ghost use Rattle.std.specs.Option.{option_copied};
 ghost use Rattle.policy_set.specs.Condition.{is_slot, asks_slot};
 ghost use Rattle.policy_set.specs.Links.{with_id, linked};
 
-use policy_names::{EntityType, EntityUID};
+use policy_values::{EntityType, EntityUID};
 use std::alloc::AllocError;
 use std::marker::Model;
 
@@ -125,8 +125,8 @@ pub struct ActionList {
 impl Model for ActionList {
     ghost use Rattle.std.specs.Prelude.{List};
     ghost use Rattle.std.specs.Coded.{coded_list};
-    ghost use Rattle.policy_names.specs.Uid.{coded_uid};
-    ghost use Rattle.policy_names.specs.declared.entity_uid.EntityUID.{EntityUID};
+    ghost use Rattle.policy_values.specs.Uid.{coded_uid};
+    ghost use Rattle.policy_values.specs.declared.entity_uid.EntityUID.{EntityUID};
 
     ghost Value = { List EntityUID };
 

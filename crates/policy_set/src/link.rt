@@ -5,7 +5,7 @@ ghost use Rattle.policy_set.specs.PolicySet.{given, slot_count, slot_values, slo
 
 use crate::{PolicySetError, PrincipalOrResourceConstraint, Template};
 use policy_expressions::{SlotId, SlotValues};
-use policy_names::{EntityUID, Text};
+use policy_values::{EntityUID, Text};
 use std::marker::Model;
 
 // The id of the template that is linked, and the ids that the link gives for its slots.

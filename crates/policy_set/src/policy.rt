@@ -9,7 +9,7 @@ ghost use Rattle.policy_set.specs.Links.{Fills, linked_policy};
 use crate::link::Link;
 use crate::{ActionConstraint, Effect, PrincipalOrResourceConstraint, Template};
 use policy_expressions::{Expr, SlotValues};
-use policy_names::Text;
+use policy_values::Text;
 use std::alloc::{AllocError, Global};
 use std::marker::Model;
 

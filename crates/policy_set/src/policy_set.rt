@@ -4,7 +4,7 @@ use crate::link::{check_slots, slot_values};
 use crate::{Policy, Template};
 use policy_expressions::SlotId;
 use policy_expressions::laws::keys_are_once;
-use policy_names::{EntityUID, Text};
+use policy_values::{EntityUID, Text};
 use std::alloc::{AllocError, Global};
 use std::cmp::Ordering;
 use std::collections::BTreeMap;
@@ -79,7 +79,7 @@ impl PolicySet {
     ghost use Rattle.std.specs.List.{AllByRecursion};
     ghost use Rattle.std.specs.List.Sorted.{IsStrictlySortedBy};
     ghost use Rattle.std.specs.Map.Iter.{ShowsInOrder, deref};
-    ghost use Rattle.policy_names.specs.Uid.{text_cmp};
+    ghost use Rattle.policy_values.specs.Uid.{text_cmp};
     ghost use Rattle.policy_set.specs.Data.{TemplateData, PolicyData};
     ghost use Rattle.policy_set.specs.Condition.{IsPolicy, has_scope_slot, static_of};
     ghost use Rattle.policy_set.specs.Links.{linked_policy};
@@ -335,7 +335,7 @@ ghost use Rattle.std.specs.Ordering.{is_eq};
 ghost use Rattle.policy_set.specs.PolicySet.{AreKeyedOnce, IsNotAdded, IsPolicySet};
 ghost use Rattle.policy_set.specs.declared.policy_set.PolicySetError.TheVariants.{DuplicateId};
 ghost use Rattle.std.specs.BTreeMap.{IsOrdered, insert_entry, values};
-ghost use Rattle.policy_names.specs.Uid.{text_cmp};
+ghost use Rattle.policy_values.specs.Uid.{text_cmp};
 
 /// In a set the ids ascend and stand once among templates and policies, and each link is that of a template of the set.
 pub fn is_policy_set(set: &PolicySet)

@@ -9,7 +9,7 @@ ghost use Rattle.policy_set.specs.Links.{linked_of, own_condition};
 
 use crate::{ActionConstraint, Effect, EntityReference, PrincipalOrResourceConstraint};
 use policy_expressions::{BinaryOp, BuildError, Expr, ExprKind, Literal, SlotId, SlotValues, Var};
-use policy_names::{EntityType, EntityUID, Text};
+use policy_values::{EntityType, EntityUID, Text};
 use std::alloc::{AllocError, Global};
 use std::marker::Model;
 

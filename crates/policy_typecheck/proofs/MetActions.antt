@@ -13,9 +13,9 @@ use Rattle.std.proofs.lemmas.List.Elements.{filter_agree}
 use Rattle.std.proofs.lemmas.List.Folds.{list_any-append}
 use Rattle.std.proofs.lemmas.Map.Keys.{sorted_head, sorted_tail}
 use Rattle.std.proofs.lemmas.Map.Views.{tells_apart}
-use Rattle.policy_names.specs.declared.entity_uid.EntityUID.{EntityUID}
-use Rattle.policy_names.specs.Uid.{uid_cmp, uid_cmp_total, uid_eq, exact_uid}
-use Rattle.hierarchy.specs.Reaches.{has}
+use Rattle.policy_values.specs.declared.entity_uid.EntityUID.{EntityUID}
+use Rattle.policy_values.specs.Uid.{uid_cmp, uid_cmp_total, uid_eq, exact_uid}
+use Rattle.policy_values.specs.Reaches.{has}
 use Rattle.plain_lemmas.proofs.Booleans.{or_cases, or_false, or_left_true, or_right_true}
 use Rattle.policy_set.specs.declared.constraint.ActionConstraint.TheVariants.{In}
 use Rattle.policy_scope.specs.Scope.{action_meets}

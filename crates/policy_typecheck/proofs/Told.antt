@@ -12,10 +12,10 @@ use Rattle.link_spec.specs.Linked.{linked_envs}
 use Rattle.policy_scope.specs.PlainScope.{is_plain_scope}
 use Rattle.findings.specs.declared.error.ValidationError.{ValidationError}
 use Rattle.findings.specs.contracts.error.ValidationErrorEq.TheImpl.Laws.{laws-law}
-use Rattle.typecheck_spec.specs.Check.{Check, Success, Irrelevant, Fail, TooDeep}
-use Rattle.scope_typing.specs.Met.{body_check, met_envs}
-use Rattle.scope_typing.proofs.Steps.{IsStep, same_asked}
-use Rattle.scope_typing.proofs.Folds.{checks_follow}
+use Rattle.typecheck_rules.specs.Check.{Check, Success, Irrelevant, Fail, TooDeep}
+use Rattle.link_spec.specs.Met.{body_check, met_envs}
+use Rattle.link_spec.proofs.Steps.{IsStep, same_asked}
+use Rattle.link_spec.proofs.Folds.{checks_follow}
 use Rattle.typecheck_walk.specs.declared.policy_check.PolicyCheck.{PolicyCheck}
 use Rattle.typecheck_walk.specs.declared.policy_check.PolicyCheck.TheVariants as code
 use Rattle.policy_typecheck.specs.Added.{added, all_added, same_error}

@@ -10,8 +10,8 @@ use Rattle.schema_core.specs.Schema.{SchemaData}
 use Rattle.policy_expressions.specs.Plain.{Plain}
 use Rattle.policy_expressions.specs.Tree.{depth_of}
 use Rattle.typing_spec.specs.Typing.{Typed, Typing, types}
-use Rattle.typecheck_spec.specs.Check.{Check, Success, Irrelevant, Fail, TooDeep, check_of, check_by, checked, condition_walked, CheckIsExact}
-use Rattle.typecheck_spec.specs.Walked.{findings_of}
+use Rattle.typecheck_rules.specs.Check.{Check, Success, Irrelevant, Fail, TooDeep, check_of, check_by, checked, condition_walked, CheckIsExact}
+use Rattle.typecheck_rules.specs.Walked.{findings_of}
 use Rattle.typecheck_walk.specs.Answer.{Tells}
 use Rattle.typecheck_walk.specs.declared.policy_check.PolicyCheck.{PolicyCheck}
 use Rattle.typecheck_walk.specs.declared.policy_check.PolicyCheck.TheVariants as code

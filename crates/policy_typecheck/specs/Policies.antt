@@ -9,7 +9,7 @@ use Rattle.link_spec.specs.Linked.{linked_envs}
 use Rattle.findings.specs.declared.error.ValidationError.{ValidationError}
 use Rattle.findings.specs.declared.error.ValidationWarning.{ValidationWarning}
 use Rattle.findings.specs.declared.error.ValidationWarning.TheVariants as warning
-use Rattle.typecheck_spec.specs.Check.{Check, Success, Irrelevant, checked}
+use Rattle.typecheck_rules.specs.Check.{Check, Success, Irrelevant, checked}
 use Rattle.policy_typecheck.specs.Added.{added, same_warning}
 use Rattle.typecheck_walk.specs.Answer.{errors_of, too_deep}
 

@@ -5,7 +5,7 @@ use Rattle.schema_core.specs.Schema.{SchemaData}
 use Rattle.policy_set.specs.Data.{TemplateData}
 use Rattle.policy_set.specs.Condition.{condition_of}
 use Rattle.findings.specs.declared.error.ValidationError.{ValidationError}
-use Rattle.typecheck_spec.specs.Check.{Check, checked}
+use Rattle.typecheck_rules.specs.Check.{Check, checked}
 use Rattle.policy_typecheck.specs.declared.policies.Summary.{Summary}
 use Rattle.policy_typecheck.specs.Added.{all_added, same_error}
 use Rattle.typecheck_walk.specs.Answer.{errors_of}

@@ -6,14 +6,14 @@ ghost use Rattle.schema_core.specs.Environments.{environment};
 ghost use Rattle.schema_core.specs.Faults.{IsSchema};
 ghost use Rattle.schema_core.specs.RequestEnvs.{env_data_of};
 ghost use Rattle.policy_typecheck.specs.Told.{all_told};
-ghost use Rattle.scope_typing.specs.Met.{body_check, met_at, met_envs, met_with};
+ghost use Rattle.link_spec.specs.Met.{body_check, met_at, met_envs, met_with};
 
 use crate::Typechecker;
 use crate::met::met_actions;
 use crate::policies::Summary;
 use findings::ValidationError;
 use indexmap::IndexSet;
-use policy_names::EntityType;
+use policy_values::EntityType;
 use policy_scope::type_meets;
 use policy_set::Template;
 use schema_core::{RequestEnv, ValidatorActionId};

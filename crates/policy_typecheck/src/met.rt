@@ -2,19 +2,18 @@
 
 ghost use Rattle.std.specs.Prelude.{◌≡◌, ◌||◌, filter, is_some, IfOk, OnOk};
 ghost use Rattle.std.specs.List.{list_all, list_any};
-ghost use Rattle.hierarchy.specs.Reaches.{has};
-ghost use Rattle.policy_names.specs.declared.entity_uid.EntityUID.{EntityUID as Uid};
-ghost use Rattle.policy_names.specs.Uid.{uid_cmp, uid_eq};
+ghost use Rattle.policy_values.specs.Reaches.{has};
+ghost use Rattle.policy_values.specs.declared.entity_uid.EntityUID.{EntityUID as Uid};
+ghost use Rattle.policy_values.specs.Uid.{uid_cmp, uid_eq};
 ghost use Rattle.schema_core.specs.Faults.{IsSchema};
 ghost use Rattle.schema_core.specs.Schema.{action_at};
 ghost use Rattle.schema_core.specs.Within.{is_action_within};
 ghost use Rattle.policy_scope.specs.Scope.{action_meets};
 ghost use Rattle.policy_typecheck.specs.Pointed.{pointed};
 
-use policy_names::EntityUID;
+use policy_values::EntityUID;
 use policy_set::ActionConstraint;
-use schema_core::{ValidatorActionId, ValidatorSchema};
-use schema_declarations::add_all;
+use schema_core::{ValidatorActionId, ValidatorSchema, add_all};
 use std::alloc::{AllocError, Global};
 use std::collections::BTreeSet;
 

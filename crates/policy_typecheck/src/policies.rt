@@ -10,7 +10,7 @@ use crate::PolicyCheck;
 use crate::added::{add_errors, add_warning, missing};
 use findings::{ImpossiblePolicy, ValidationError, ValidationWarning};
 use indexmap::IndexSet;
-use policy_names::Text;
+use policy_values::Text;
 use std::alloc::{AllocError, Global};
 
 /// What the checks so far come to.

@@ -2,12 +2,12 @@
 
 ghost use Rattle.std.specs.Prelude.{◌≡◌, ◌∷◌, [], Some, map, IfOk};
 ghost use Rattle.std.specs.Option.{option_copied};
-ghost use Rattle.hierarchy.specs.Reaches.{has};
-ghost use Rattle.policy_names.specs.Uid.{text_cmp};
+ghost use Rattle.policy_values.specs.Reaches.{has};
+ghost use Rattle.policy_values.specs.Uid.{text_cmp};
 ghost use Rattle.link_spec.specs.Linked.{slot_types, types_above, types_around};
 ghost use Rattle.policy_typecheck.specs.Pointed.{pointed};
 
-use policy_names::EntityType;
+use policy_values::EntityType;
 use policy_set::{EntityReference, PrincipalOrResourceConstraint};
 use schema_core::{ValidatorEntityType, ValidatorSchema};
 use std::alloc::{AllocError, Global};

@@ -1,5 +1,5 @@
-pub use Rattle.capabilities.specs.Capability
-pub use Rattle.capabilities.specs.Holds
+pub use Rattle.typing_spec.specs.Capability
+pub use Rattle.typing_spec.specs.Holds
 pub use Rattle.type_relations.specs.Attributes
 pub use Rattle.type_relations.specs.Consistent
 pub use Rattle.type_relations.specs.Join

@@ -7,8 +7,8 @@ use Rattle.std.specs.declared.cmp.Ordering.{Ordering}
 use Rattle.std.specs.declared.cmp.Ordering.TheVariants.{Less, Equal, Greater}
 use Rattle.std.specs.Ordering.{is_eq, match_ordering, ordering_reverse}
 use Rattle.std.proofs.lemmas.Cmp.{nat_list_cmp_total}
-use Rattle.hierarchy.specs.Keyed.{has_key, with_value}
-use Rattle.policy_names.specs.Uid.{text_cmp}
+use Rattle.policy_values.specs.Keyed.{has_key, with_value}
+use Rattle.policy_values.specs.Uid.{text_cmp}
 use Rattle.policy_set.specs.Data.{TemplateData, PolicyData}
 use Rattle.policy_set.specs.Condition.{written_of}
 use Rattle.policy_set.specs.PolicySet.{PolicySetData, template_at, is_static, statics, written, IsPolicySet}

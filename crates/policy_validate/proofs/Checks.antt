@@ -13,8 +13,8 @@ use Rattle.policy_expressions.specs.Plain.{Plain}
 use Rattle.policy_set.specs.Data.{PolicyData}
 use Rattle.typing_spec.specs.Operands.{is_boolean}
 use Rattle.typing_spec.specs.Typing.{Typed, Typing, types}
-use Rattle.typecheck_spec.specs.Check.{Check, Success, Irrelevant, Fail, TooDeep, check_of, check_by, checked, condition_walked, CheckIsExact}
-use Rattle.typecheck_spec.specs.Walked.{findings_of}
+use Rattle.typecheck_rules.specs.Check.{Check, Success, Irrelevant, Fail, TooDeep, check_of, check_by, checked, condition_walked, CheckIsExact}
+use Rattle.typecheck_rules.specs.Walked.{findings_of}
 use Rattle.link_spec.specs.Accepted.{IsTyped}
 use Rattle.policy_typecheck.specs.Answer.{Tells}
 use Rattle.typecheck_walk.specs.declared.policy_check.PolicyCheck.{PolicyCheck}

@@ -7,9 +7,9 @@ use Rattle.std.specs.List.Sorted.{IsStrictlySortedBy}
 use Rattle.std.specs.Ordering.{is_eq, ordering_reverse}
 use Rattle.std.specs.declared.cmp.Ordering.TheVariants.{Less}
 use Rattle.std.proofs.lemmas.Cmp.{nat_list_cmp_total}
-use Rattle.hierarchy.specs.Keyed.{value_at}
+use Rattle.policy_values.specs.Keyed.{value_at}
 use Rattle.plain_lemmas.proofs.Lists.{all_of_map}
-use Rattle.policy_names.specs.Uid.{text_cmp}
+use Rattle.policy_values.specs.Uid.{text_cmp}
 use Rattle.schema_core.specs.Schema.{SchemaData}
 use Rattle.policy_set.specs.Data.{TemplateData, PolicyData}
 use Rattle.policy_set.specs.Condition.{static_of, written_of}

@@ -7,7 +7,7 @@ use Rattle.std.specs.Ordering.{match_ordering}
 use Rattle.std.specs.declared.cmp.Ordering.{Ordering}
 use Rattle.std.specs.declared.cmp.Ordering.TheVariants.{Less, Equal, Greater}
 use Rattle.findings.specs.declared.error.ValidationError.TheVariants.{UnrecognizedEntityType, InvalidEnumEntity, UnrecognizedActionId, InvalidActionApplication}
-use Rattle.policy_names.specs.Uid.{text_cmp}
+use Rattle.policy_values.specs.Uid.{text_cmp}
 use Rattle.policy_expressions.specs.Tree.{depth_of}
 use Rattle.schema_core.specs.EnvData.{unlinked_envs}
 use Rattle.schema_core.specs.Schema.{SchemaData}
@@ -16,7 +16,7 @@ use Rattle.policy_set.specs.Data.{TemplateData, PolicyData}
 use Rattle.policy_set.specs.PolicySet.{PolicySetData, placed, statics, is_static, written, links, IsToLink, IsPolicySet}
 use Rattle.policy_scope.specs.Names.{entity_type_findings, enum_findings, action_id_findings, slot_type_findings}
 use Rattle.policy_scope.specs.Scope.{application_findings}
-use Rattle.typecheck_spec.specs.Check.{Check, Success, Irrelevant, Fail, TooDeep, checked, CheckIsExact}
+use Rattle.typecheck_rules.specs.Check.{Check, Success, Irrelevant, Fail, TooDeep, checked, CheckIsExact}
 use Rattle.policy_typecheck.specs.Added.{all_added, same_error}
 use Rattle.policy_typecheck.specs.Answer.{errors_of, too_deep}
 use Rattle.policy_typecheck.specs.Policies.{passes, is_too_deep, checks_of, is_accepted}

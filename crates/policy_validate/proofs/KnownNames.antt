@@ -2,9 +2,9 @@
 use Rattle.std.proofs.Common.{◌≡◌, ℕ, Bool, true, false, ◌&&◌, List, [], Option, Some, None, IsTrue, refl, ap, if◌then◌else◌}
 use Rattle.std.specs.Option.{option_map, option_map_or, option_and_then}
 use Rattle.std.specs.List.{AllByRecursion, filter_map}
-use Rattle.hierarchy.specs.Reaches.{has}
-use Rattle.policy_names.specs.declared.entity_uid.EntityUID.{EntityUID}
-use Rattle.policy_names.specs.Uid.{text_cmp}
+use Rattle.policy_values.specs.Reaches.{has}
+use Rattle.policy_values.specs.declared.entity_uid.EntityUID.{EntityUID}
+use Rattle.policy_values.specs.Uid.{text_cmp}
 use Rattle.policy_expressions.specs.declared.kinds.Loc.{Loc}
 use Rattle.policy_expressions.specs.Plain.{Plain}
 use Rattle.schema_core.specs.Kinds.{Kind, standard, enumerated}
@@ -12,7 +12,7 @@ use Rattle.schema_core.specs.Schema.{SchemaData, TypeData, type_at}
 use Rattle.typing_spec.specs.Conforms.{is_listed, is_listed_in}
 use Rattle.findings.specs.Mentioned.{Mentioned, an_id, a_type, type_of, names_in, is_known_type, is_known_action}
 use Rattle.policy_scope.specs.Names.{distinct, entity_type_cmp, action_id_cmp, enum_cmp, entity_type_finding, entity_type_findings, action_id_finding, action_id_findings, choices_in, others_listed, enum_finding, enum_findings}
-use Rattle.typecheck_spec.specs.Names.{is_known_name, has_known_names}
+use Rattle.typecheck_rules.specs.Names.{is_known_name, has_known_names}
 use Rattle.policy_validate.proofs.Empty.{none_grown, none_kept, kept_none, all_pass, pass_all, all_more, all_both}
 use Rattle.plain_lemmas.proofs.Booleans.{and_parts_of}
 

@@ -17,9 +17,9 @@ use Rattle.typing_spec.specs.Typing.{Typed, Typing, types}
 use Rattle.policy_set.specs.Data.{TemplateData}
 use Rattle.policy_set.specs.Condition.{condition_of}
 use Rattle.policy_set.specs.PolicySet.{written, links}
-use Rattle.typecheck_spec.specs.Check.{Check, check_of, check_by, checked, condition_walked, TooDeep, CheckIsExact}
-use Rattle.typecheck_spec.specs.Check as check
-use Rattle.typecheck_spec.specs.Walked.{findings_of}
+use Rattle.typecheck_rules.specs.Check.{Check, check_of, check_by, checked, condition_walked, TooDeep, CheckIsExact}
+use Rattle.typecheck_rules.specs.Check as check
+use Rattle.typecheck_rules.specs.Walked.{findings_of}
 use Rattle.link_spec.specs.Accepted.{IsTyped, IsTypedIn, IsAcceptedTemplate}
 use Rattle.link_spec.specs.Laws.{RefusalsAreTold}
 use Rattle.link_spec.specs.Linked.{linked_envs}

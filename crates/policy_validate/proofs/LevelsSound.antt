@@ -1,8 +1,8 @@
 -- Levels are sound, of policies of accepted sets.
 use Rattle.std.proofs.Common.{◌≡◌, ℕ, true, false, not, ◌||◌, Option, Some, None, is_some, IfSome, IsSomeAnd, refl, sym, ap, ◌∙◌, subst}
 use Rattle.std.specs.List.{AllByRecursion}
-use Rattle.hierarchy.specs.Keyed.{has_key}
-use Rattle.policy_names.specs.Uid.{text_cmp}
+use Rattle.policy_values.specs.Keyed.{has_key}
+use Rattle.policy_values.specs.Uid.{text_cmp}
 use Rattle.policy_expressions.specs.Keys.{HasKeysOnce}
 use Rattle.policy_expressions.specs.Plain.{Plain}
 use Rattle.policy_expressions.specs.Slots.{has_slot}

@@ -2,9 +2,9 @@
 use Rattle.std.proofs.Common.{◌≡◌, ℕ, Bool, true, false, List, [], ◌∷◌, ◌++◌, map, Option, Some, None, IfSome, IsTrue, refl, ap, if◌then◌else◌}
 use Rattle.std.specs.Prelude.{option_to_list}
 use Rattle.std.specs.List.{AllByRecursion, flat_map}
-use Rattle.hierarchy.specs.Reaches.{has}
+use Rattle.policy_values.specs.Reaches.{has}
 use Rattle.findings.specs.declared.error.ValidationError.TheVariants.{UnrecognizedEntityType, InvalidEnumEntity, UnrecognizedActionId, InvalidActionApplication}
-use Rattle.policy_names.specs.declared.entity_uid.EntityUID.{EntityUID}
+use Rattle.policy_values.specs.declared.entity_uid.EntityUID.{EntityUID}
 use Rattle.schema_core.specs.Schema.{SchemaData}
 use Rattle.policy_set.specs.Data.{TemplateData, PolicyData, LinkData}
 use Rattle.policy_set.specs.Condition.{condition_of, written_of}
@@ -12,7 +12,7 @@ use Rattle.policy_set.specs.PolicySet.{PolicySetData, written, links}
 use Rattle.findings.specs.Mentioned.{an_id, is_known_type}
 use Rattle.policy_scope.specs.Names.{distinct, entity_type_cmp, entity_type_finding, entity_type_findings, enum_findings, action_id_findings, ids_given, slot_type_findings}
 use Rattle.policy_scope.specs.Scope.{application_finding, application_findings, is_applicable}
-use Rattle.typecheck_spec.specs.Check.{CheckIsExact}
+use Rattle.typecheck_rules.specs.Check.{CheckIsExact}
 use Rattle.link_spec.specs.Accepted.{IsAcceptedTemplate, HasKnownType}
 use Rattle.link_spec.specs.Laws.{RefusalsAreTold}
 use Rattle.policy_validate.specs.Accepted.{typing_errors, errors_of_written, errors_of_link, findings_of, KeepsLinkRules, IsAccepted}

@@ -1,8 +1,8 @@
 -- In an accepted set no policy's own condition is deeper than 200.
 use Rattle.std.proofs.Common.{◌≡◌, ◌≤◌, true, not, Option, Some, None, is_some, IfSome, IsSomeAnd, refl, sym, ap, subst}
 use Rattle.std.specs.List.{AllByRecursion}
-use Rattle.hierarchy.specs.Keyed.{has_key}
-use Rattle.policy_names.specs.Uid.{text_cmp}
+use Rattle.policy_values.specs.Keyed.{has_key}
+use Rattle.policy_values.specs.Uid.{text_cmp}
 use Rattle.policy_expressions.specs.Tree.{depth_of}
 use Rattle.policy_set.specs.Data.{TemplateData, PolicyData, LinkData}
 use Rattle.policy_set.specs.Condition.{written_of, IsPolicy}

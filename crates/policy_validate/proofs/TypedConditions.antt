@@ -13,8 +13,8 @@ use Rattle.typing_spec.specs.Operands.{is_boolean}
 use Rattle.typing_spec.specs.Typing.{Typed, Typing, types}
 use Rattle.policy_set.specs.Data.{TemplateData}
 use Rattle.policy_set.specs.Condition.{condition_of}
-use Rattle.typecheck_spec.specs.Check.{Check, check_of, check_by, checked, condition_walked, TooDeep, CheckIsExact, TellsWhy}
-use Rattle.typecheck_spec.specs.Walked.{findings_of}
+use Rattle.typecheck_rules.specs.Check.{Check, check_of, check_by, checked, condition_walked, TooDeep, CheckIsExact, TellsWhy}
+use Rattle.typecheck_rules.specs.Walked.{findings_of}
 use Rattle.link_spec.specs.Accepted.{IsTyped, IsTypedIn}
 use Rattle.link_spec.specs.Linked.{linked_envs}
 use Rattle.policy_typecheck.specs.Added.{all_added, same_error}

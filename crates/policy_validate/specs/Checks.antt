@@ -1,7 +1,7 @@
 -- What a check leaves of a condition.
 use Rattle.std.specs.Prelude.{Option, Some, None}
 use Rattle.typing_spec.specs.Typing.{Typed}
-use Rattle.typecheck_spec.specs.Check.{Check, Success, Irrelevant, Fail, TooDeep}
+use Rattle.typecheck_rules.specs.Check.{Check, Success, Irrelevant, Fail, TooDeep}
 
 -- the typed condition, where the check succeeds or finds it false
 abbrev pub condition_in : Check → Option Typed

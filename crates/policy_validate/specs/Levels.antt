@@ -14,7 +14,7 @@ use Rattle.schema_core.specs.Schema.{SchemaData}
 use Rattle.findings.specs.declared.error.ValidationError.{ValidationError}
 use Rattle.finding_messages.specs.Findings.{Findings}
 use Rattle.typing_spec.specs.Conforms.{RequestConforms, StoreConforms}
-use Rattle.typecheck_spec.specs.Check.{checked}
+use Rattle.typecheck_rules.specs.Check.{checked}
 use Rattle.link_spec.specs.Linked.{linked_envs}
 use Rattle.level_spec.specs.Cut.{cut}
 use Rattle.level_spec.specs.Policies.{PassesAt}

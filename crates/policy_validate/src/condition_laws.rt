@@ -3,7 +3,7 @@
 ghost use Rattle.policy_validate.specs.ConditionLaws.{EachFoundIsTyped, FoundAreTyped};
 
 use link_spec::laws::links_are_written_out;
-use typecheck_spec::laws::check_is_exact;
+use typecheck_rules::laws::check_is_exact;
 
 /// Of accepted policies the conditions that checks leave in an environment are those that typing gives, where each has a type there.
 pub fn found_are_typed()

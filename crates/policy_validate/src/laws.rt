@@ -7,7 +7,7 @@ ghost use Rattle.policy_validate.specs.Levels.{LevelErrorsOfAreExact, NoErrorsWh
 use level_spec::laws::{link_levels_are_sound, static_levels_are_sound};
 use level_validate::laws::level_errors_are_exact;
 use link_spec::laws::{links_are_typed, refusals_are_told, statics_are_typed, typed_are_sound};
-use typecheck_spec::laws::check_is_exact;
+use typecheck_rules::laws::check_is_exact;
 
 /// No error is found exactly where the set is accepted.
 pub fn no_errors_where_accepted()

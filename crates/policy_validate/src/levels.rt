@@ -11,7 +11,7 @@ ghost use Rattle.policy_validate.specs.Told.{level_condition_told};
 use crate::Validator;
 use crate::laws::{accepted_levels_are_sound, no_errors_where_accepted_at};
 use crate::validator::{add_all_links, add_written};
-use extension_types::{ExtensionSchemas, all_objects};
+use typing_spec::{ExtensionSchemas, all_objects};
 use level_validate::level_errors;
 use policy_expressions::Expr;
 use policy_scope::{ValidationError, ValidationResult, ValidationWarning};

@@ -11,8 +11,8 @@ ghost use Rattle.policy_validate.specs.Accepted.{typing_errors, errors_of_writte
 ghost use Rattle.policy_validate.specs.Entries.{findings_of_entry, findings_of_policy, findings_of_written, steps_of_entry, steps_of_policy};
 
 use crate::laws::{accepted_are_typed, no_errors_where_accepted};
-use extension_types::{ExtensionSchemas, all_objects};
-use policy_names::Text;
+use typing_spec::{ExtensionSchemas, all_objects};
+use policy_values::Text;
 use policy_scope::{
     InvalidActionApplication, InvalidEnumEntity, UnrecognizedActionId, UnrecognizedEntityType,
     ValidationError, ValidationResult, ValidationWarning, validate_action_ids,

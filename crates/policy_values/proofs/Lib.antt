@@ -1,3 +1,18 @@
+mod Back
+mod Closed
+pub mod Keyed
+mod Known
+pub mod Least
+mod LeastOutside
+pub mod Reaches
+pub mod Repeated
+pub mod SameSorted
+mod Search
+mod Seen
+mod Subset
+mod Turns
+pub mod NameFront
+pub mod Ties
 pub mod HashSteps
 pub mod MapSteps
 mod Pushed

@@ -7,7 +7,7 @@ use Rattle.std.specs.List.{AllByRecursion}
 use Rattle.std.specs.List.Sorted.{IsStrictlySortedBy}
 use Rattle.std.specs.Map.{keys_of}
 use Rattle.std.proofs.lemmas.Cmp.{nat_list_cmp_total}
-use Rattle.policy_names.specs.Uid.{text_cmp}
+use Rattle.policy_values.specs.Uid.{text_cmp}
 use Rattle.policy_values.specs.Maps.{IsNext}
 
 pub insert_entry-next : {X : Type 0} → (es : List (List ℕ × X)) (k : List ℕ) (v : X) → IsNext k (keys_of es) → insert_entry text_cmp es k v ≡ es ++ (k, v) ∷ []

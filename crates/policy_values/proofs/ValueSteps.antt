@@ -12,7 +12,7 @@ use Rattle.std.specs.Map.{keys_of}
 use Rattle.policy_values.specs.Ascending.{ascending_of}
 use Rattle.policy_values.specs.ValueLaws.{val_cmp_total}
 use Rattle.policy_values.specs.ValueOrder.{vals_cmp, val_cmp, insert_val, set_of, IsBelow, Ascends, IsBelowField, AscendsFields}
-use Rattle.policy_names.specs.Uid.{text_cmp}
+use Rattle.policy_values.specs.Uid.{text_cmp}
 
 -- a list that is over comes before one that is not
 pub vals_cmp-over : (xs ys : List Val) (i : ℕ) → length xs ≤ i → i < length ys → vals_cmp (vals_of (drop i xs)) (vals_of (drop i ys)) ≡ Less

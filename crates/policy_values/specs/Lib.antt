@@ -1,3 +1,12 @@
+pub mod ClosureSteps
+pub mod Keyed
+pub mod Least
+pub mod Reaches
+pub mod Repeated
+pub mod Basename
+pub mod Name
+pub mod Show
+pub mod Uid
 pub mod Ascending
 pub mod Gv
 pub mod Maps

@@ -1,8 +1,8 @@
 -- Values as plain data.
 use Rattle.std.specs.Prelude.{ℕ, ◌+◌, max, Bool, ℤ, List, [], ◌∷◌, Option, Some, None, if◌then◌else◌}
 use Rattle.std.specs.Ordering.{is_eq}
-use Rattle.policy_names.specs.declared.entity_uid.EntityUID.{EntityUID}
-use Rattle.policy_names.specs.Uid.{text_cmp}
+use Rattle.policy_values.specs.declared.entity_uid.EntityUID.{EntityUID}
+use Rattle.policy_values.specs.Uid.{text_cmp}
 use Rattle.policy_ext.specs.IpAddr.{Range}
 
 mutual

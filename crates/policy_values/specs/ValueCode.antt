@@ -3,7 +3,7 @@ use Rattle.std.specs.Prelude.{◌≡◌, ℕ, List, refl}
 use Rattle.std.specs.Coded.{Coded, coded_bool, coded_ℤ, coded_ℕ, coded_list}
 use Rattle.std.proofs.Common.{arith, ap}
 use base.Stored.{Gv, gnil, gnum, gcons, num}
-use Rattle.policy_names.specs.Uid.{coded_uid}
+use Rattle.policy_values.specs.Uid.{coded_uid}
 use Rattle.policy_values.specs.Gv.{head, tail}
 use Rattle.policy_values.specs.RangeOrder.{coded_range}
 use Rattle.policy_values.specs.Value.{Val, truth, long, string, entity, set, rec, decimal, ip, datetime, duration, Vals, no_vals, val, Fields, no_fields, field}

@@ -7,10 +7,10 @@ use Rattle.std.specs.Cmp.{IsTotalOrder, then_flip, then_total, on_total, nat_cmp
 use Rattle.std.proofs.lemmas.Cmp.{nat_list_cmp_total}
 use Rattle.std.proofs.lemmas.Map.Lookups.{CmpEqualImpliesEq, exact_signed, exact_unsigned, exact_bytes}
 use Rattle.policy_values.specs.Value.{Val, truth, long, string, entity, set, rec, decimal, ip, datetime, duration, Vals, no_vals, val, Fields, no_fields, field}
-use Rattle.policy_names.specs.Uid.{text_cmp, uid_cmp_total, exact_uid}
+use Rattle.policy_values.specs.Uid.{text_cmp, uid_cmp_total, exact_uid}
 use Rattle.policy_ext.specs.declared.ip_addr.Family.{Family}
 use Rattle.policy_ext.specs.declared.ip_addr.Family.TheVariants.{V4, V6}
-use Rattle.policy_names.proofs.Ties.{then_equal, then_chain}
+use Rattle.policy_values.proofs.Ties.{then_equal, then_chain}
 use Rattle.policy_values.specs.RangeOrder.{family_rank, range_cmp}
 use Rattle.policy_values.specs.ValueOrder.{rank, val_cmp, vals_cmp, fields_cmp}
 

@@ -3,7 +3,7 @@ use Rattle.std.specs.Prelude.{◌≡◌, ℕ, List, [], ◌∷◌}
 use Rattle.std.specs.declared.cmp.Ordering.{Ordering}
 use Rattle.std.specs.declared.cmp.Ordering.TheVariants.{Less, Equal, Greater}
 use Rattle.std.specs.Ordering.{nat_cmp, int_cmp, bool_cmp, ordering_then, match_ordering}
-use Rattle.policy_names.specs.Uid.{text_cmp, uid_cmp}
+use Rattle.policy_values.specs.Uid.{text_cmp, uid_cmp}
 use Rattle.policy_values.specs.RangeOrder.{range_cmp}
 use Rattle.policy_values.specs.Value.{Val, truth, long, string, entity, set, rec, decimal, ip, datetime, duration, Vals, no_vals, val, Fields, no_fields, field}
 

@@ -4,8 +4,7 @@ ghost use Rattle.std.specs.Prelude.{◌≡◌, fold};
 ghost use Rattle.policy_values.specs.Value.{vals_of, fields_of};
 ghost use Rattle.policy_values.specs.ValueHash.{val_fed, vals_fed, fields_fed};
 
-use crate::{Value, ValueKind};
-use policy_names::Text;
+use crate::{Text, Value, ValueKind};
 use std::collections::BTreeMap;
 use std::hash::{Hash, Hasher};
 

@@ -4,7 +4,7 @@ ghost use Rattle.std.specs.Prelude.{◌≡◌, OnOk, OnErr, ◌++◌, [], ◌∷
 ghost use Rattle.std.specs.BTreeMap.{keys};
 ghost use Rattle.policy_values.specs.Maps.{IsNext};
 
-use policy_names::Text;
+use crate::Text;
 use std::alloc::AllocError;
 use std::collections::BTreeMap;
 

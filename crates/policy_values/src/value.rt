@@ -8,9 +8,8 @@ ghost use Rattle.policy_values.specs.RangeOrder.{range_cmp};
 ghost use Rattle.policy_values.specs.ValueOrder.{rank, val_cmp, vals_cmp, fields_cmp, set_of, Ascends, IsInOrder};
 
 use crate::ascending::ascending_items;
-use crate::push_entry;
+use crate::{EntityUID, Text, push_entry};
 use policy_ext::{DateTimeValue, Decimal, Duration, IpAddr};
-use policy_names::{EntityUID, Text};
 use std::alloc::{AllocError, Global};
 use std::cmp::Ordering;
 use std::collections::BTreeMap;

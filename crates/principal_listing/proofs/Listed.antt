@@ -2,7 +2,7 @@
 use Rattle.std.proofs.Common.{◌≡◌, ◌≢◌, ◌≤◌, ◌+◌, ◌&&◌, ℕ, suc, nat_lt, Bool, true, false, List, [], ◌∷◌, ◌++◌, Option, Some, None, refl, sym, ap, ◌∙◌, arith, append_assoc, inr, length-append}
 use Rattle.std.specs.Prelude.{take, length, map, filter}
 use Rattle.std.proofs.lemmas.List.{append-nil, take_at, take_all}
-use Rattle.policy_names.specs.declared.entity_uid.EntityUID.{EntityUID}
+use Rattle.policy_values.specs.declared.entity_uid.EntityUID.{EntityUID}
 use Rattle.entity_store.specs.Store.{StoredEntity, Store}
 use Rattle.reads_spec.specs.Among.{IsIn}
 use Rattle.principal_listing.specs.Pages.{comes_after, after, IsPage}

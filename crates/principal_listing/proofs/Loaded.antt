@@ -9,10 +9,10 @@ use Rattle.entity_store.specs.Store.{Store}
 use Rattle.policy_values.specs.Value.{Val}
 use Rattle.manifest_loading.specs.declared.error.EntitySliceError.{EntitySliceError}
 use Rattle.manifest_loading.specs.declared.error.EntitySliceError.TheVariants as error
-use Rattle.request_slices.specs.Rules.{KeepRules}
-use Rattle.loaded_responses.specs.Loaded.{LoadedIsEnough, RefusalsAreFaults, AreDecidedAlike, IsTold}
-use Rattle.loaded_responses.proofs.ByManifest.{Loads, promised}
-use Rattle.loaded_responses.proofs.OfStore.{memory_alone}
+use Rattle.manifest_computation.specs.Rules.{KeepRules}
+use Rattle.entity_manifest.specs.Loaded.{LoadedIsEnough, RefusalsAreFaults, AreDecidedAlike, IsTold}
+use Rattle.entity_manifest.proofs.ByManifest.{Loads, promised}
+use Rattle.entity_manifest.proofs.OfStore.{memory_alone}
 use Rattle.principal_listing.specs.Allowed.{passed_over}
 use Rattle.principal_listing.specs.Ready.{IsReady}
 use Rattle.principal_listing.specs.declared.candidates.Listing.{Listing}

@@ -1,6 +1,6 @@
 -- What a test of a candidate says.
 use Rattle.std.proofs.Common.{◌≡◌, ◌&&◌, Bool, true, false, Option, refl, subst}
-use Rattle.policy_names.specs.declared.entity_uid.EntityUID.{EntityUID}
+use Rattle.policy_values.specs.declared.entity_uid.EntityUID.{EntityUID}
 use Rattle.entity_store.specs.declared.request.Request.{Request}
 use Rattle.entity_store.specs.Store.{Store}
 use Rattle.policy_set.specs.PolicySet.{PolicySetData}

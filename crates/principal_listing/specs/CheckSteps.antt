@@ -1,6 +1,6 @@
 -- What a check of one rule refuses.
 use Rattle.std.specs.Prelude.{◌≡◌, ⊤, Option, Some}
-use Rattle.policy_names.specs.declared.entity_uid.EntityUID.{EntityUID}
+use Rattle.policy_values.specs.declared.entity_uid.EntityUID.{EntityUID}
 use Rattle.policy_set.specs.PolicySet.{PolicySetData}
 use Rattle.schema_core.specs.Schema.{SchemaData}
 use Rattle.conformance_errors.specs.declared.request_error.RequestValidationError.{RequestValidationError}

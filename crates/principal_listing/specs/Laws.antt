@@ -1,8 +1,8 @@
 -- What holds of allowed principals and their pages.
 use Rattle.std.specs.Prelude.{◌≡◌, ◌≤◌, ℕ, true, List, Option, map, flat_map}
 use Rattle.std.specs.List.Sorted.{IsStrictlySortedBy}
-use Rattle.policy_names.specs.declared.entity_uid.EntityUID.{EntityUID}
-use Rattle.policy_names.specs.Uid.{uid_cmp}
+use Rattle.policy_values.specs.declared.entity_uid.EntityUID.{EntityUID}
+use Rattle.policy_values.specs.Uid.{uid_cmp}
 use Rattle.entity_store.specs.declared.request.Request.{Request}
 use Rattle.entity_store.specs.Store.{StoredEntity, Store}
 use Rattle.policy_set.specs.Data.{PolicyData}
@@ -10,7 +10,7 @@ use Rattle.policy_set.specs.PolicySet.{PolicySetData}
 use Rattle.schema_core.specs.Faults.{IsSchema}
 use Rattle.schema_core.specs.Schema.{SchemaData}
 use Rattle.reads_spec.specs.Among.{IsIn}
-use Rattle.request_slices.specs.Rules.{KeepRules}
+use Rattle.manifest_computation.specs.Rules.{KeepRules}
 use Rattle.principal_listing.specs.Allowed.{asked_by, applies_to, allowed_principals, KeepOtherRules}
 use Rattle.principal_listing.specs.Pages.{after, AreResumed}
 use Rattle.principal_listing.specs.declared.page.Page.{Page}

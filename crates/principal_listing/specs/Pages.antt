@@ -1,8 +1,8 @@
 -- Pages of ascending ids.
 use Rattle.std.specs.Prelude.{◌≡◌, ℕ, nat_lt, Bool, true, false, List, [], ◌∷◌, Option, Some, None, filter, take, length}
 use Rattle.std.specs.Ordering.{is_lt}
-use Rattle.policy_names.specs.declared.entity_uid.EntityUID.{EntityUID}
-use Rattle.policy_names.specs.Uid.{uid_cmp}
+use Rattle.policy_values.specs.declared.entity_uid.EntityUID.{EntityUID}
+use Rattle.policy_values.specs.Uid.{uid_cmp}
 use Rattle.principal_listing.specs.declared.page.Page.{Page}
 
 -- whether an id comes after this one; each does without one

@@ -15,7 +15,7 @@ use crate::checks::checked;
 use crate::{ListError, Page};
 use entity_store::{Entities, Request};
 use manifest_loading::Steps;
-use policy_names::EntityUID;
+use policy_values::EntityUID;
 use policy_set::PolicySet;
 use policy_set::laws::{have_keys_once, is_policy_set};
 use schema_core::{ValidatorActionId, ValidatorSchema};

@@ -1,6 +1,6 @@
 //! Pages of principals.
 
-use policy_names::EntityUID;
+use policy_values::EntityUID;
 
 /// A page of the principals that may do something.
 #[derive(Debug, Drop)]

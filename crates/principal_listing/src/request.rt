@@ -4,8 +4,7 @@ ghost use Rattle.std.specs.Prelude.{◌≡◌, ◌↔◌, IsTrue, IfOk};
 ghost use Rattle.principal_listing.specs.Allowed.{passed_over, IsWholeBut};
 
 use entity_store::{Context, Request};
-use policy_names::EntityUID;
-use policy_values::try_clone_fields;
+use policy_values::{EntityUID, try_clone_fields};
 use std::alloc::{AllocError, Global};
 
 /// Whether the entries but for the principal are known.

@@ -1,7 +1,7 @@
 -- Paths into a store, and the shapes of results.
 use Rattle.std.specs.Prelude.{ℕ, Bool, true, false, List, [], ◌∷◌, ◌++◌, map, cond}
 use Rattle.std.specs.Ordering.{is_eq}
-use Rattle.policy_names.specs.Uid.{text_cmp}
+use Rattle.policy_values.specs.Uid.{text_cmp}
 -- where a path begins: at an entry of the request, or at an id
 pub use Rattle.access_tries.specs.declared.edge.EntityRoot.{EntityRoot as Root}
 pub use Rattle.access_tries.specs.declared.edge.EntityRoot.TheVariants.{Literal as an_id, Var as variable}

@@ -10,7 +10,7 @@ use Rattle.access_tries.specs.Edges.{Address, edge_eq}
 use Rattle.access_tries.specs.Paths.{edge_of}
 use Rattle.access_tries.specs.Table.{Table, NodeData, at_path, links_at}
 use Rattle.access_tries.specs.Views.{ViewData, view_leads}
-use Rattle.policy_names.specs.declared.entity_uid.EntityUID.{EntityUID}
+use Rattle.policy_values.specs.declared.entity_uid.EntityUID.{EntityUID}
 use Rattle.reads_spec.specs.Paths.{Chain, steps_of, along, any_tag}
 use Rattle.entity_loader.specs.Asked.{asked}
 use Rattle.row_loader.specs.Answers.{attributes_asked, tags_asked, by_rows, RowAnswersAreHonest}

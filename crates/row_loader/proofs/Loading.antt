@@ -9,8 +9,8 @@ use Rattle.std.specs.declared.vec.Vec.{Vec}
 use Rattle.std.specs.declared.alloc.Global.{Global}
 use Rattle.std.proofs.lemmas.List.Elements.{Contains-append_left, Contains-push, Contains-push_cases}
 use Rattle.plain_lemmas.proofs.Options.{none_of_no_some}
-use Rattle.policy_names.specs.declared.entity_uid.EntityUID.{EntityUID}
-use Rattle.policy_names.specs.Uid.{text_cmp}
+use Rattle.policy_values.specs.declared.entity_uid.EntityUID.{EntityUID}
+use Rattle.policy_values.specs.Uid.{text_cmp}
 use Rattle.policy_values.specs.Value.{Val, no_fields, fields_of, field_at}
 use Rattle.entity_store.proofs.FieldsFound.{field_found}
 use Rattle.entity_store.specs.Store.{StoredEntity, Store, entity_at}

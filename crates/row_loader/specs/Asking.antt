@@ -1,7 +1,7 @@
 -- What one question to rows came to.
 use Rattle.std.specs.Prelude.{List, Contains, Result, Err}
 use Rattle.byte_streams.specs.Steps.{Rose}
-use Rattle.policy_names.specs.declared.entity_uid.EntityUID.{EntityUID}
+use Rattle.policy_values.specs.declared.entity_uid.EntityUID.{EntityUID}
 use Rattle.entity_loader.specs.declared.loader.LoadError.{LoadError}
 use Rattle.entity_loader.specs.declared.loader.LoadError.TheVariants.{Failed}
 use Rattle.table_loader.specs.State.{RowsState, HasAncestor}

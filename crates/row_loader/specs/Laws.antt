@@ -1,7 +1,7 @@
 -- The stores that loaders over rows tell.
 use Rattle.std.specs.Prelude.{◌≡◌, Some, map}
 use Rattle.std.specs.List.Sorted.{IsStrictlySortedBy}
-use Rattle.policy_names.specs.Uid.{uid_cmp}
+use Rattle.policy_values.specs.Uid.{uid_cmp}
 use Rattle.entity_store.specs.Store.{Store}
 use Rattle.table_loader.specs.Laws.{IsOrderedStore}
 use Rattle.table_loader.specs.State.{RowsState}

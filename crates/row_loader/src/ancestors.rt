@@ -9,7 +9,7 @@ ghost use Rattle.row_loader.specs.Asking.{IsCause, AreFound};
 
 use crate::asking::loaded;
 use entity_loader::{AncestorsRequest, LoadError};
-use policy_names::EntityUID;
+use policy_values::EntityUID;
 use std::alloc::Global;
 use table_loader::Rows;
 

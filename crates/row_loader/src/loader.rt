@@ -5,7 +5,7 @@ ghost use Rattle.std.specs.Prelude.{◌≡◌};
 use crate::ancestors::ancestor_lists;
 use crate::entities::answers;
 use entity_loader::{AncestorsRequest, EntityAnswer, EntityLoader, EntityRequest, LoadError};
-use policy_names::EntityUID;
+use policy_values::EntityUID;
 use std::alloc::Global;
 use table_loader::Rows;
 

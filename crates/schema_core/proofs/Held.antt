@@ -3,9 +3,9 @@ use Rattle.std.proofs.Common.{◌≡◌, Bool, true, false, ◌&&◌, [], ◌∷
 use Rattle.schema_types.specs.declared.kinds.OpenTag.TheVariants.{OpenAttributes, ClosedAttributes}
 use Rattle.schema_types.specs.Ty.{Ty, never, true_type, false_type, primitive, any_set, set_of, record_of, any_entity, entity, action, extension, Attrs, no_attrs, attr}
 use Rattle.schema_types.specs.Plain.{plain, plain_attrs, plain_first}
-use Rattle.schema_declarations.specs.Inside.{is_held, are_held}
-use Rattle.schema_declarations.specs.Kinds.{Kind, standard, enumerated, is_held_kind}
-use Rattle.schema_declarations.specs.Schema.{TypeData, ActionData}
+use Rattle.schema_core.specs.Inside.{is_held, are_held}
+use Rattle.schema_core.specs.Kinds.{Kind, standard, enumerated, is_held_kind}
+use Rattle.schema_core.specs.Schema.{TypeData, ActionData}
 use Rattle.schema_core.specs.Laws.{IsPlainKind}
 
 first_of : (a b : Bool) → IsTrue (a && b) → IsTrue a

@@ -11,16 +11,16 @@ use Rattle.std.specs.Cmp.Lexicographic.{nat_list_cmp_total}
 use Rattle.std.proofs.lemmas.List.Elements.{recursion_from_All}
 use Rattle.std.proofs.lemmas.Map.Lookups.{exact_bytes}
 use Rattle.std.specs.Cmp.{both_ways}
-use Rattle.hierarchy.specs.Keyed.{has_key, value_at}
-use Rattle.hierarchy.specs.Reaches.{has}
-use Rattle.hierarchy.proofs.SameSorted.{same_sorted, same_values}
-use Rattle.policy_names.specs.declared.entity_uid.EntityUID.{EntityUID}
-use Rattle.policy_names.specs.Uid.{text_cmp, uid_cmp, uid_cmp_total, exact_uid}
-use Rattle.schema_declarations.specs.Schema.{TypeData, ActionData, SchemaData, type_at, action_at}
-use Rattle.schema_declarations.specs.Outline.{Outline, outline_of, HasDescendants}
-use Rattle.schema_declarations.specs.Faults.{IsSchema, HasSets}
-use Rattle.schema_declarations.specs.Entries.{Declarations}
-use Rattle.schema_declarations.specs.Declarations.{IsSchemaOf, declared_outline}
+use Rattle.policy_values.specs.Keyed.{has_key, value_at}
+use Rattle.policy_values.specs.Reaches.{has}
+use Rattle.policy_values.proofs.SameSorted.{same_sorted, same_values}
+use Rattle.policy_values.specs.declared.entity_uid.EntityUID.{EntityUID}
+use Rattle.policy_values.specs.Uid.{text_cmp, uid_cmp, uid_cmp_total, exact_uid}
+use Rattle.schema_core.specs.Schema.{TypeData, ActionData, SchemaData, type_at, action_at}
+use Rattle.schema_core.specs.Outline.{Outline, outline_of, HasDescendants}
+use Rattle.schema_core.specs.Faults.{IsSchema, HasSets}
+use Rattle.schema_core.specs.Entries.{Declarations}
+use Rattle.schema_core.specs.Declarations.{IsSchemaOf, declared_outline}
 
 one_value : {W : Type 0} (v w : W) → Some v ≡ Some w → v ≡ w
 one_value v w h = cc

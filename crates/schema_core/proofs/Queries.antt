@@ -14,11 +14,11 @@ use Rattle.std.proofs.lemmas.List.Folds.{list_any-append}
 use Rattle.std.proofs.lemmas.Map.Keys.{sorted_head, sorted_tail}
 use Rattle.std.proofs.lemmas.Map.Lookups.{exact_bytes}
 use Rattle.std.proofs.lemmas.Map.Views.{tells_apart}
-use Rattle.hierarchy.specs.Reaches.{has}
-use Rattle.policy_names.specs.declared.entity_uid.EntityUID.{EntityUID}
-use Rattle.policy_names.specs.Uid.{text_cmp, uid_cmp, uid_cmp_total, exact_uid}
-use Rattle.schema_declarations.proofs.SameKeys.{has-Contains}
-use Rattle.schema_declarations.specs.Schema.{TypeData, ActionData, SchemaData, is_action_named, type_at, action_at, IsDeclaredAction, HasTypeDescendant, HasActionDescendant}
+use Rattle.policy_values.specs.Reaches.{has}
+use Rattle.policy_values.specs.declared.entity_uid.EntityUID.{EntityUID}
+use Rattle.policy_values.specs.Uid.{text_cmp, uid_cmp, uid_cmp_total, exact_uid}
+use Rattle.schema_core.proofs.SameKeys.{has-Contains}
+use Rattle.schema_core.specs.Schema.{TypeData, ActionData, SchemaData, is_action_named, type_at, action_at, IsDeclaredAction, HasTypeDescendant, HasActionDescendant}
 
 -- the set has the actions whose descendants have u
 pub record AreAncestors (u : EntityUID) (actions : List ActionData) (set : List EntityUID) : Type 0 where

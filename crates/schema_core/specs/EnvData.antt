@@ -1,10 +1,10 @@
 -- The environments of requests: which types a request has, where its action is declared and where it is not.
 use Rattle.std.specs.Prelude.{ℕ, List, [], ◌∷◌, Option, Some, None, map, flat_map}
-use Rattle.policy_names.specs.declared.entity_uid.EntityUID.{EntityUID}
+use Rattle.policy_values.specs.declared.entity_uid.EntityUID.{EntityUID}
 use Rattle.entity_store.specs.declared.request.RequestType.{RequestType}
 use Rattle.schema_types.specs.declared.kinds.OpenTag.TheVariants.{OpenAttributes, ClosedAttributes}
 use Rattle.schema_types.specs.Ty.{Ty, record_of, any_entity, entity, action, Attrs, no_attrs}
-use Rattle.schema_declarations.specs.Schema.{TypeData, ActionData, SchemaData, type_at, action_at}
+use Rattle.schema_core.specs.Schema.{TypeData, ActionData, SchemaData, type_at, action_at}
 use Rattle.schema_core.specs.Environments.{Environment, environments_of}
 
 -- an environment, with the attributes of the context, and the types of what stands for the slots

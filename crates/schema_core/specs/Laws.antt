@@ -1,12 +1,12 @@
 -- Laws of schemas.
 use Rattle.std.specs.Prelude.{◌≡◌, ⊤, ℕ, List, Some, None, IsTrue, IfSome}
-use Rattle.policy_names.specs.declared.entity_uid.EntityUID.{EntityUID}
+use Rattle.policy_values.specs.declared.entity_uid.EntityUID.{EntityUID}
 use Rattle.schema_types.specs.Ty.{Ty, Attrs}
 use Rattle.schema_types.specs.Plain.{plain, plain_attrs}
-use Rattle.schema_declarations.specs.Inside.{is_held, are_held}
-use Rattle.schema_declarations.specs.Kinds.{Kind, standard, enumerated}
-use Rattle.schema_declarations.specs.Schema.{SchemaData, type_at, action_at}
-use Rattle.schema_declarations.specs.Faults.{IsSchema}
+use Rattle.schema_core.specs.Inside.{is_held, are_held}
+use Rattle.schema_core.specs.Kinds.{Kind, standard, enumerated}
+use Rattle.schema_core.specs.Schema.{SchemaData, type_at, action_at}
+use Rattle.schema_core.specs.Faults.{IsSchema}
 
 -- a type that a schema may hold is its own schema type; the same of attributes
 abbrev pub HeldTypesArePlain : Type 0

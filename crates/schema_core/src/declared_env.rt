@@ -3,7 +3,7 @@
 ghost use Rattle.std.specs.Prelude.{◌≡◌};
 ghost use Rattle.schema_core.specs.RequestEnvs.{environment_of};
 
-use policy_names::{EntityType, EntityUID};
+use policy_values::{EntityType, EntityUID};
 
 /// An environment in which a policy is looked at: an action, and a principal type and a resource type that it applies to.
 #[derive(Clone, Copy, Debug, PartialEq, Eq)]

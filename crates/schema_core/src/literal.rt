@@ -4,7 +4,7 @@ ghost use Rattle.std.specs.Prelude.{◌≡◌, IfOk};
 ghost use Rattle.schema_core.specs.EnvData.{literal_type};
 
 use crate::ValidatorSchema;
-use policy_names::EntityUID;
+use policy_values::EntityUID;
 use schema_types::{Attributes, Type};
 use std::alloc::{AllocError, Global};
 use std::collections::BTreeMap;

@@ -7,10 +7,9 @@ ghost use Rattle.schema_types.specs.Ty.{entity};
 ghost use Rattle.schema_core.specs.EnvData.{principal_in, action_in, resource_in, request_type_in, principal_type_in, action_type_in, resource_type_in, context_type_in, principal_slot_in, resource_slot_in, unlinked, unlinked_of};
 ghost use Rattle.schema_core.specs.RequestEnvs.{env_data_of};
 
-use crate::{ValidatorSchema, euid_literal};
+use crate::{ValidatorActionId, ValidatorSchema, euid_literal};
 use entity_store::RequestType;
-use policy_names::{EntityType, EntityUID};
-use schema_declarations::ValidatorActionId;
+use policy_values::{EntityType, EntityUID};
 use schema_types::{Attributes, OpenTag, Type};
 use std::alloc::{AllocError, Global};
 

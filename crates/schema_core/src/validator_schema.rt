@@ -1,12 +1,8 @@
 //! Schemas.
 
-use crate::RequestEnv;
+use crate::{RequestEnv, SchemaDeclarations, SchemaFault, ValidatorActionId, ValidatorEntityType, add_all, declared_parts, schema_parts};
 use crate::request_env::add_environments;
-use policy_names::{EntityType, EntityUID};
-use schema_declarations::{
-    SchemaDeclarations, SchemaFault, ValidatorActionId, ValidatorEntityType, add_all,
-    declared_parts, schema_parts,
-};
+use policy_values::{EntityType, EntityUID};
 use schema_types::{Attributes, DeclaredAttributes};
 use std::alloc::{AllocError, Global};
 use std::collections::BTreeSet;
@@ -20,13 +16,13 @@ pub struct ValidatorSchema {
 }
 
 impl Model for ValidatorSchema {
-    ghost use Rattle.schema_declarations.specs.Schema.{SchemaData, coded_schema};
+    ghost use Rattle.schema_core.specs.Schema.{SchemaData, coded_schema};
 
     ghost Value = { SchemaData };
 
     ghost coded = { coded_schema };
 
-    ghost use Rattle.schema_declarations.specs.Faults.{IsSchema};
+    ghost use Rattle.schema_core.specs.Faults.{IsSchema};
 
     ghost view = { λ s. record { entity_types = s.entity_types.items; action_ids = s.action_ids.items } };
 
@@ -36,12 +32,12 @@ impl Model for ValidatorSchema {
 ghost use Rattle.std.specs.Prelude.{◌≡◌, ◌↔◌, ◌⊎◌, ℕ, List, map, option_map, IfOk, IfSome, IsTrue, MatchResult, MatchOption, Contains};
 ghost use Rattle.std.specs.Option.{option_copied};
 ghost use Rattle.std.specs.BTreeSet.{IsOrdered};
-ghost use Rattle.policy_names.specs.declared.entity_uid.EntityUID.{EntityUID};
-ghost use Rattle.policy_names.specs.Uid.{text_cmp, uid_cmp};
-ghost use Rattle.schema_declarations.specs.Schema.{SchemaData, type_at, action_at, IsKnownType, IsDeclaredAction, HasTypeDescendant, HasActionDescendant};
-ghost use Rattle.schema_declarations.specs.Outline.{outline_of};
-ghost use Rattle.schema_declarations.specs.Faults.{IsOnce, IsSchema, IsRefusedData};
-ghost use Rattle.schema_declarations.specs.Declarations.{IsSchemaOf, IsRefused};
+ghost use Rattle.policy_values.specs.declared.entity_uid.EntityUID.{EntityUID};
+ghost use Rattle.policy_values.specs.Uid.{text_cmp, uid_cmp};
+ghost use Rattle.schema_core.specs.Schema.{SchemaData, type_at, action_at, IsKnownType, IsDeclaredAction, HasTypeDescendant, HasActionDescendant};
+ghost use Rattle.schema_core.specs.Outline.{outline_of};
+ghost use Rattle.schema_core.specs.Faults.{IsOnce, IsSchema, IsRefusedData};
+ghost use Rattle.schema_core.specs.Declarations.{IsSchemaOf, IsRefused};
 ghost use Rattle.schema_core.specs.EnvData.{unlinked_envs};
 ghost use Rattle.schema_core.specs.RequestEnvs.{env_data_of};
 
@@ -223,7 +219,7 @@ impl ValidatorSchema {
 }
 
 impl DeclaredAttributes for ValidatorSchema {
-    ghost use Rattle.schema_declarations.specs.Kinds.{attributes_in};
+    ghost use Rattle.schema_core.specs.Kinds.{attributes_in};
 
     ghost declared = { λ s x. option_map (λ t. attributes_in t.kind) (type_at s x) };
 

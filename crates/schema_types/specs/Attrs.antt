@@ -1,7 +1,7 @@
 -- Attributes under their keys.
 use Rattle.std.specs.Prelude.{ℕ, List, Option, Some, None, cond}
 use Rattle.std.specs.Ordering.{is_eq}
-use Rattle.policy_names.specs.Uid.{text_cmp}
+use Rattle.policy_values.specs.Uid.{text_cmp}
 use Rattle.schema_types.specs.Ty.{Attrs, no_attrs, attr}
 use Rattle.schema_types.specs.declared.ty.AttributeType.{AttributeType}
 

@@ -6,9 +6,9 @@ use Rattle.std.specs.Ordering.{nat_cmp, bool_cmp, ordering_then, ordering_revers
 use Rattle.std.specs.Cmp.{IsTotalOrder, then_flip, bool_cmp_total, nat_cmp_total}
 use Rattle.std.proofs.lemmas.Cmp.{nat_list_cmp_total}
 use Rattle.std.proofs.lemmas.Map.Lookups.{CmpEqualImpliesEq, exact_bytes}
-use Rattle.policy_names.proofs.Ties.{then_equal, then_chain}
+use Rattle.policy_values.proofs.Ties.{then_equal, then_chain}
 use Rattle.schema_types.specs.NameLaws.{exact_texts, texts_cmp_total}
-use Rattle.policy_names.specs.Uid.{text_cmp}
+use Rattle.policy_values.specs.Uid.{text_cmp}
 use Rattle.schema_types.specs.Ty.{Ty, never, true_type, false_type, primitive, any_set, set_of, record_of, any_entity, entity, action, extension, Attrs, no_attrs, attr}
 use Rattle.schema_types.specs.TyOrder.{place_of, open_place, rank, ty_cmp, attrs_cmp}
 use Rattle.schema_types.specs.declared.kinds.Primitive.{Primitive}

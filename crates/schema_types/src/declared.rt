@@ -4,7 +4,7 @@ ghost use Rattle.std.specs.Prelude.{◌≡◌, List, ℕ, Option, option_copied}
 ghost use Rattle.schema_types.specs.Ty.{Attrs};
 
 use crate::Attributes;
-use policy_names::EntityType;
+use policy_values::EntityType;
 use std::collections::BTreeMap;
 
 /// What knows the attributes of entity types: a schema, or a map from entity types to their attributes.
@@ -19,7 +19,7 @@ pub trait DeclaredAttributes {
 impl DeclaredAttributes for BTreeMap<EntityType, Attributes> {
     ghost use Rattle.std.specs.BTreeMap.{is_at};
     ghost use Rattle.std.specs.Map.{lookup};
-    ghost use Rattle.policy_names.specs.Uid.{text_cmp};
+    ghost use Rattle.policy_values.specs.Uid.{text_cmp};
 
     ghost declared = { λ m n. lookup (is_at (text_cmp n)) m.entries };
 

@@ -2,10 +2,10 @@
 
 ghost use Rattle.std.specs.Prelude.{◌≡◌, ◌↔◌, ◌∷◌, [], IfOk, IsTrue, option_copied};
 ghost use Rattle.std.specs.List.Sorted.{IsStrictlySortedBy};
-ghost use Rattle.policy_names.specs.Uid.{text_cmp};
+ghost use Rattle.policy_values.specs.Uid.{text_cmp};
 ghost use Rattle.schema_types.specs.Names.{texts_cmp, has_name, AreAmong, AreApart, union, only_name};
 
-use policy_names::EntityType;
+use policy_values::EntityType;
 use std::alloc::{AllocError, Global};
 use std::cmp::Ordering;
 use std::collections::{BTreeSet, btree_set};
@@ -26,7 +26,7 @@ impl Model for EntityLUB {
     ghost view = { λ l. l.lub_elements.keys };
 
     ghost use Rattle.std.specs.BTreeSet.{IsOrdered};
-    ghost use Rattle.policy_names.specs.Uid.{text_cmp};
+    ghost use Rattle.policy_values.specs.Uid.{text_cmp};
 
     ghost invariant = { λ l. IsOrdered text_cmp l.lub_elements };
 }

@@ -4,8 +4,7 @@ ghost use Rattle.std.specs.Prelude.{◌≡◌, IfOk};
 ghost use Rattle.schema_types.specs.SchemaView.{schema_ty_of};
 
 use crate::{SchemaAttribute, SchemaAttributes, SchemaType, SchemaTypeKind};
-use policy_names::Text;
-use policy_values::push_entry;
+use policy_values::{Text, push_entry};
 use std::alloc::{AllocError, Global};
 use std::collections::BTreeMap;
 

@@ -8,8 +8,7 @@ ghost use Rattle.schema_types.specs.SchemaView.{schema_ty_of, schema_attrs_of};
 ghost use Rattle.schema_types.specs.Plain.{plain, plain_attrs, IsPlainError};
 
 use crate::{AttributeType, Attributes, EntityRecordKind, OpenTag, Primitive, Type, TypeKind};
-use policy_names::{EntityType, Name, Text};
-use policy_values::push_entry;
+use policy_values::{EntityType, Name, Text, push_entry};
 use std::alloc::{AllocError, Global};
 use std::collections::BTreeMap;
 use std::marker::Model;

@@ -8,7 +8,7 @@ ghost use Rattle.schema_types.specs.TyText.{listed, lub_text, primitive_text, op
 use crate::{
     AttributeType, Attributes, EntityLUB, EntityRecordKind, OpenTag, Primitive, Type, TypeKind,
 };
-use policy_names::{EntityType, Text};
+use policy_values::{EntityType, Text};
 use std::fmt;
 use std::fmt::Display;
 

@@ -7,10 +7,10 @@ ghost use Rattle.schema_types.specs.Ty.{Ty, never, true_type, false_type, primit
 ghost use Rattle.schema_types.specs.TyView.{ty_of, kind_of, attrs_of};
 ghost use Rattle.schema_types.specs.Attrs.{attr_at};
 ghost use Rattle.std.specs.List.Sorted.{IsStrictlySortedBy};
-ghost use Rattle.policy_names.specs.Uid.{text_cmp};
+ghost use Rattle.policy_values.specs.Uid.{text_cmp};
 
 use crate::{EntityLUB, OpenTag, Primitive};
-use policy_names::{EntityType, Name, Text};
+use policy_values::{EntityType, Name, Text};
 use std::alloc::{AllocError, Global};
 use std::collections::{BTreeMap, btree_map};
 use std::marker::Model;
@@ -125,7 +125,7 @@ impl Model for Attributes {
     ghost view = { λ a. attrs_of a.attrs.value.entries };
 
     ghost use Rattle.std.specs.BTreeMap.{IsOrdered};
-    ghost use Rattle.policy_names.specs.Uid.{text_cmp};
+    ghost use Rattle.policy_values.specs.Uid.{text_cmp};
 
     ghost invariant = { λ a. IsOrdered text_cmp a.attrs.value };
 

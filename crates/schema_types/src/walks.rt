@@ -5,8 +5,7 @@ ghost use Rattle.schema_types.specs.Ty.{record_of};
 ghost use Rattle.schema_types.specs.Required.{required_attrs};
 
 use crate::{AttributeType, Attributes, OpenTag, Type};
-use policy_names::Text;
-use policy_values::push_entry;
+use policy_values::{Text, push_entry};
 use std::alloc::{AllocError, Global};
 use std::collections::{BTreeMap, btree_map};
 

@@ -6,8 +6,7 @@ ghost use Rattle.policy_values.specs.Value.{fields_of};
 ghost use Rattle.store_order.specs.Order.{IsOrdered, AreOrdered, IsEntityOrdered};
 
 use entity_store::{Entities, Entity, Request};
-use policy_names::Text;
-use policy_values::{Value, ValueKind};
+use policy_values::{Text, Value, ValueKind};
 use std::collections::BTreeMap;
 
 /// Keys ascend in the value, in each record that is reached through records.

@@ -21,14 +21,13 @@ use Rattle.access_tries.specs.Table.{Table}
 use Rattle.reads_spec.specs.Paths.{Step, along, any_tag, AccessPath, Demand, Shape, beyond, paths}
 use Rattle.reads_spec.specs.PathTypes.{is_declared_path}
 use Rattle.reads_spec.specs.Reads.{shape_of, wholly, binary_reads, reads, reads_all, reads_named, reads_of, pairs, binary_demands, demands, demands_all, demands_named, demands_of, declared_reads, declared_demands, are_declared}
-use Rattle.reads_spec.proofs.Lists.{IsIn, in_left, in_right, in_map, any_in}
+use Rattle.reads_spec.proofs.Lists.{IsIn, in_left, in_right, in_map, any_in, in_map_out}
 use Rattle.plain_lemmas.proofs.Booleans.{or_left_true}
 use Rattle.plain_lemmas.proofs.Lists.{append_empty}
 use Rattle.reads_spec.specs.Among.{IsFrontOfRead}
 use Rattle.reads_spec.proofs.Words.{any_out}
 use Rattle.reads_spec.proofs.DeclaredPaths.{declared_read}
 use Rattle.store_slices.specs.Tries.{IsTrieOf, LeastTriesFit}
-use Rattle.reads_spec.proofs.Lists.{in_map_out}
 use Rattle.access_tries.specs.SameLaws.{edge_is}
 
 -- ---- addresses

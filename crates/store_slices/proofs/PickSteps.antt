@@ -6,8 +6,8 @@ use Rattle.std.specs.BTreeSet.{insert_key}
 use Rattle.std.specs.Ordering.{ordering_reverse}
 use Rattle.std.specs.declared.cmp.Ordering.TheVariants.{Less, Greater}
 use Rattle.std.proofs.lemmas.List.Kept.{IsStrictlySortedBy-filter}
-use Rattle.policy_names.specs.declared.entity_uid.EntityUID.{EntityUID}
-use Rattle.policy_names.specs.Uid.{uid_cmp, uid_cmp_total}
+use Rattle.policy_values.specs.declared.entity_uid.EntityUID.{EntityUID}
+use Rattle.policy_values.specs.Uid.{uid_cmp, uid_cmp_total}
 
 greater : (y : EntityUID) (ids : List EntityUID) (x : EntityUID) (rest : List EntityUID) → AllByRecursion (λ z. uid_cmp y z ≡ Less) (ids ++ x ∷ rest) → uid_cmp x y ≡ Greater
 greater y [] x rest h = uid_cmp_total.antisymm x y ∙ ap ordering_reverse h.0

@@ -7,8 +7,8 @@ use Rattle.std.proofs.Math.Nat.{le-max_left, le-max_right, max-le}
 use Rattle.std.proofs.lemmas.List.{map-append}
 use Rattle.std.proofs.lemmas.List.Folds.{list_any-append}
 use Rattle.std.proofs.lemmas.Bool.{and_parts, and_from, or_cases}
-use Rattle.policy_names.specs.declared.entity_uid.EntityUID.{EntityUID}
-use Rattle.policy_names.specs.Uid.{uid_eq}
+use Rattle.policy_values.specs.declared.entity_uid.EntityUID.{EntityUID}
+use Rattle.policy_values.specs.Uid.{uid_eq}
 use Rattle.policy_values.specs.Value.{Val, entity, rec, Fields, field_at}
 use Rattle.entity_store.specs.declared.request.Request.{Request}
 use Rattle.entity_store.specs.Store.{StoredEntity, Store, entity_at}
@@ -20,7 +20,7 @@ use Rattle.access_tries.specs.Paths.{edge_of, address_of}
 use Rattle.access_tries.specs.Table.{Table, links_at}
 use Rattle.access_tries.specs.Views.{whole}
 use Rattle.access_tries.specs.EdgeLaws.{exact_edge}
-use Rattle.policy_names.proofs.Ties.{equal_of}
+use Rattle.policy_values.proofs.Ties.{equal_of}
 use Rattle.reads_spec.specs.Paths.{Step, along, any_tag, AccessPath, beyond}
 use Rattle.reads_spec.specs.Restrict.{root_value, values_in, step, step_in_entity, step_in_record, walk}
 use Rattle.reads_spec.proofs.Lists.{IsIn, any_in, same_uid, uid_self, in_flat_map, flat_map_out}

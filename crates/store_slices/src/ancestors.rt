@@ -7,7 +7,7 @@ ghost use Rattle.store_slices.specs.Kept.{names, some_names, AreNamed};
 
 use access_tries::{Node, TrieRef};
 use entity_store::{Entity, Request};
-use policy_names::EntityUID;
+use policy_values::EntityUID;
 use std::alloc::{AllocError, Global};
 use std::collections::{BTreeMap, BTreeSet};
 use trie_traversal::{Place, named_ids};

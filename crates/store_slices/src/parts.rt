@@ -11,7 +11,7 @@ use crate::numbers::Numbers;
 use access_tries::Node;
 use entity_loader::cut_entity;
 use entity_store::{Entities, Entity};
-use policy_names::EntityUID;
+use policy_values::EntityUID;
 use std::alloc::{AllocError, Global};
 use std::collections::{BTreeMap, BTreeSet};
 

@@ -2,9 +2,9 @@
 use Rattle.std.proofs.Common.{◌≡◌, true, ap}
 use Rattle.std.specs.Ordering.{is_eq}
 use Rattle.std.proofs.lemmas.Cmp.{tied_itself}
-use Rattle.policy_names.proofs.Ties.{equal_of}
-use Rattle.policy_names.specs.declared.entity_uid.EntityUID.{EntityUID}
-use Rattle.policy_names.specs.Uid.{uid_cmp, uid_cmp_total, exact_uid, uid_eq}
+use Rattle.policy_values.proofs.Ties.{equal_of}
+use Rattle.policy_values.specs.declared.entity_uid.EntityUID.{EntityUID}
+use Rattle.policy_values.specs.Uid.{uid_cmp, uid_cmp_total, exact_uid, uid_eq}
 
 pub same_uid : (x y : EntityUID) → uid_eq x y ≡ true → x ≡ y
 same_uid x y h = exact_uid x y (equal_of (uid_cmp x y) h)

@@ -8,8 +8,8 @@ use Rattle.std.specs.Ordering.{is_eq, ordering_reverse}
 use Rattle.std.specs.declared.cmp.Ordering.TheVariants.{Less}
 use Rattle.std.proofs.lemmas.Map.Keys.{sorted_head, sorted_tail}
 use Rattle.plain_lemmas.proofs.Lists.{all_weaker}
-use Rattle.policy_names.specs.declared.entity_uid.EntityUID.{EntityUID}
-use Rattle.policy_names.specs.Uid.{uid_cmp, uid_cmp_total, uid_eq}
+use Rattle.policy_values.specs.declared.entity_uid.EntityUID.{EntityUID}
+use Rattle.policy_values.specs.Uid.{uid_cmp, uid_cmp_total, uid_eq}
 use Rattle.policy_values.specs.Value.{Fields, no_fields, field}
 use Rattle.entity_store.specs.Store.{StoredEntity, Store}
 use Rattle.store_order.specs.Order.{AreOrdered, IsEntityOrdered}

@@ -2,9 +2,9 @@
 use Rattle.std.specs.Prelude.{◌≡◌, Some, None, map, if◌then◌else◌}
 use Rattle.std.specs.List.{AllByRecursion}
 use Rattle.std.specs.List.Sorted.{IsStrictlySortedBy}
-use Rattle.hierarchy.specs.Reaches.{has}
-use Rattle.policy_names.specs.declared.entity_uid.EntityUID.{EntityUID}
-use Rattle.policy_names.specs.Uid.{uid_cmp}
+use Rattle.policy_values.specs.Reaches.{has}
+use Rattle.policy_values.specs.declared.entity_uid.EntityUID.{EntityUID}
+use Rattle.policy_values.specs.Uid.{uid_cmp}
 use Rattle.entity_store.specs.Store.{StoredEntity, Store, entity_at}
 use Rattle.store_order.specs.Order.{IsEntityOrdered}
 use Rattle.table_loader.specs.Tables.{Tables, AreInOrder, entity_of, store_of, tables_of}

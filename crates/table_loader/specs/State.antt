@@ -2,7 +2,7 @@
 use Rattle.std.specs.Prelude.{◌≡◌, ◌≤◌, ℕ, Bool, true, false, List, Option, Some, Result, Err, Contains, IsSomeAnd, is_some}
 use Rattle.std.specs.Option.{option_and_then, option_map_or}
 use Rattle.byte_streams.specs.Steps.{Rose}
-use Rattle.policy_names.specs.declared.entity_uid.EntityUID.{EntityUID}
+use Rattle.policy_values.specs.declared.entity_uid.EntityUID.{EntityUID}
 use Rattle.policy_values.specs.Value.{Val, Fields, no_fields, field_at}
 use Rattle.entity_store.specs.Store.{entity_at}
 use Rattle.table_loader.specs.Tables.{Tables, store_of}

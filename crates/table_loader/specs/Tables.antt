@@ -1,8 +1,8 @@
 -- Tables of entities as plain data, and the store that their rows stand for.
 use Rattle.std.specs.Prelude.{ℕ, List, [], ◌∷◌, map, filter, flat_map, if◌then◌else◌}
 use Rattle.std.specs.List.Sorted.{IsStrictlySortedBy}
-use Rattle.policy_names.specs.declared.entity_uid.EntityUID.{EntityUID}
-use Rattle.policy_names.specs.Uid.{uid_cmp, uid_eq}
+use Rattle.policy_values.specs.declared.entity_uid.EntityUID.{EntityUID}
+use Rattle.policy_values.specs.Uid.{uid_cmp, uid_eq}
 use Rattle.policy_values.specs.Value.{Val, Fields, no_fields, field}
 use Rattle.entity_store.specs.Store.{StoredEntity, Store}
 use Rattle.store_order.specs.Order.{AreOrdered}

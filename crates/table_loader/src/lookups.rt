@@ -9,8 +9,7 @@ ghost use Rattle.table_loader.specs.State.{has_entity, attribute_at, tags_at, Ha
 
 use crate::laws::tables_of_stores_stand_for_them;
 use entity_store::Entities;
-use policy_names::{EntityUID, Text};
-use policy_values::Value;
+use policy_values::{EntityUID, Text, Value};
 use std::alloc::{AllocError, Global};
 use std::collections::BTreeMap;
 

@@ -9,8 +9,7 @@ ghost use Rattle.table_loader.specs.Memory.{memory_state, IsCall};
 use crate::lookups::{attribute_of, has_ancestor, has_entity, tags_of};
 use crate::rows::{Rows, RowsError};
 use entity_store::Entities;
-use policy_names::{EntityUID, Text};
-use policy_values::Value;
+use policy_values::{EntityUID, Text, Value};
 use std::alloc::{AllocError, Global};
 
 /// The rows of a store in memory, whose calls fail where a list says so.

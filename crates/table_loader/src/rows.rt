@@ -5,8 +5,7 @@ ghost use Rattle.policy_values.specs.Value.{fields_of};
 ghost use Rattle.table_loader.specs.Tables.{Tables};
 ghost use Rattle.table_loader.specs.State.{RowsState, RowsContinue, IsCounted, has_failed, has_entity, attribute_at, tags_at, HasAncestor};
 
-use policy_names::{EntityUID, Text};
-use policy_values::Value;
+use policy_values::{EntityUID, Text, Value};
 use std::alloc::Global;
 
 /// Why a row is not read.

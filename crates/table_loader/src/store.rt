@@ -5,8 +5,7 @@ ghost use Rattle.std.specs.Prelude.{◌≡◌};
 use crate::lookups::{attribute_of, has_ancestor, has_entity, tags_of};
 use crate::rows::{Rows, RowsError};
 use entity_store::Entities;
-use policy_names::{EntityUID, Text};
-use policy_values::Value;
+use policy_values::{EntityUID, Text, Value};
 use std::alloc::Global;
 
 /// The rows of a store in memory. No call fails but for want of memory.

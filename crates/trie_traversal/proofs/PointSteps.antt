@@ -4,14 +4,13 @@ use Rattle.std.specs.Prelude.{slice_get}
 use Rattle.std.specs.List.{list_any}
 use Rattle.std.specs.Map.{values_of}
 use Rattle.std.proofs.lemmas.Bool.{and_parts, and_from}
-use Rattle.access_tries.specs.Edges.{edge_eq}
+use Rattle.access_tries.specs.Edges.{edge_eq, Address}
 use Rattle.access_tries.specs.Table.{Table, NodeData, at_path, has_mark, links_at}
 use Rattle.reads_spec.specs.Restrict.{values_in}
 use Rattle.plain_lemmas.proofs.Booleans.{and_false, false_by_weaker}
-use Rattle.policy_names.specs.declared.entity_uid.EntityUID.{EntityUID}
-use Rattle.policy_names.specs.Uid.{uid_eq}
+use Rattle.policy_values.specs.declared.entity_uid.EntityUID.{EntityUID}
+use Rattle.policy_values.specs.Uid.{uid_eq}
 use Rattle.policy_values.specs.Value.{Val, entity, rec, Fields, no_fields, field, fields_of}
-use Rattle.access_tries.specs.Edges.{Address}
 use Rattle.trie_traversal.specs.Wants.{points, fields_point}
 use Rattle.plain_lemmas.proofs.Lists.{any_weaker}
 

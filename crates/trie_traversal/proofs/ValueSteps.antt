@@ -7,7 +7,7 @@ use Rattle.std.specs.declared.alloc.Global.{Global}
 use Rattle.std.specs.Prelude.{slice_get}
 use Rattle.std.proofs.lemmas.Bool.{and_parts, and_from}
 use Rattle.plain_lemmas.proofs.Booleans.{false_by_weaker, or_left_true, or_right_true}
-use Rattle.policy_names.specs.declared.entity_uid.EntityUID.{EntityUID}
+use Rattle.policy_values.specs.declared.entity_uid.EntityUID.{EntityUID}
 use Rattle.entity_store.specs.Store.{Store}
 use Rattle.reads_spec.specs.Paths.{Step}
 use Rattle.reads_spec.specs.Restrict.{names_id, step, values_in}

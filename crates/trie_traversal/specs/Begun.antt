@@ -1,7 +1,7 @@
 -- What is asked for first.
 use Rattle.std.specs.Prelude.{◌≡◌, ℕ, ◌<◌, ◌≤◌, Bool, true, false, List, ◌∷◌, length, map}
 use Rattle.std.specs.List.{list_any}
-use Rattle.policy_names.specs.declared.entity_uid.EntityUID.{EntityUID}
+use Rattle.policy_values.specs.declared.entity_uid.EntityUID.{EntityUID}
 use Rattle.policy_values.specs.Value.{Val}
 use Rattle.entity_store.specs.declared.request.Request.{Request}
 use Rattle.access_tries.specs.declared.edge.Edge.{Edge}

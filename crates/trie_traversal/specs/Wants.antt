@@ -1,8 +1,8 @@
 -- What is asked of entities, as tests on addresses.
 use Rattle.std.specs.Prelude.{◌≡◌, Bool, true, false, ◌&&◌, ◌||◌, List, ◌∷◌}
 use Rattle.std.specs.List.{list_any}
-use Rattle.policy_names.specs.declared.entity_uid.EntityUID.{EntityUID}
-use Rattle.policy_names.specs.Uid.{uid_eq}
+use Rattle.policy_values.specs.declared.entity_uid.EntityUID.{EntityUID}
+use Rattle.policy_values.specs.Uid.{uid_eq}
 use Rattle.policy_values.specs.Value.{Val, entity, rec, Fields, no_fields, field}
 use Rattle.entity_store.specs.Store.{StoredEntity}
 use Rattle.reads_spec.specs.Restrict.{values_in}

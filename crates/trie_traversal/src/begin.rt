@@ -5,7 +5,7 @@ ghost use Rattle.access_tries.specs.Edges.{Address};
 ghost use Rattle.access_tries.specs.Views.{view_leads};
 ghost use Rattle.reads_spec.specs.Among.{IsIn};
 ghost use Rattle.reads_spec.specs.Restrict.{root_value};
-ghost use Rattle.policy_names.specs.declared.entity_uid.EntityUID.{EntityUID};
+ghost use Rattle.policy_values.specs.declared.entity_uid.EntityUID.{EntityUID};
 ghost use Rattle.entity_store.specs.Request.{IsWhole, known};
 ghost use Rattle.policy_values.specs.Value.{entity, rec};
 ghost use Rattle.trie_traversal.specs.declared.place.Place.{Place};
@@ -21,7 +21,7 @@ use crate::stuck::stuck_in_context;
 use access_tries::{Edge, EntityRoot, RootAccessTrie, TrieRef, links_of};
 use entity_store::{Context, Request};
 use policy_expressions::Var;
-use policy_names::EntityUID;
+use policy_values::EntityUID;
 use std::alloc::{AllocError, Global};
 use std::collections::BTreeSet;
 

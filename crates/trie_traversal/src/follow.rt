@@ -14,8 +14,7 @@ ghost use Rattle.trie_traversal.specs.Leads.{Leads, FieldsLead, SomeLeads, Entit
 use crate::place::{Place, ask};
 use access_tries::TrieRef;
 use entity_store::Entity;
-use policy_names::Text;
-use policy_values::{Value, ValueKind};
+use policy_values::{Text, Value, ValueKind};
 use std::alloc::AllocError;
 use std::collections::{BTreeMap, BTreeSet};
 

@@ -2,8 +2,8 @@
 
 ghost use Rattle.std.specs.Prelude.{◌≡◌, ◌≤◌, ◌+◌, ℕ, true, [], map, OnOk};
 ghost use Rattle.access_tries.specs.Views.{view_leads, view_marks};
-ghost use Rattle.policy_names.specs.Uid.{uid_eq};
-ghost use Rattle.policy_names.specs.declared.entity_uid.EntityUID.{EntityUID};
+ghost use Rattle.policy_values.specs.Uid.{uid_eq};
+ghost use Rattle.policy_values.specs.declared.entity_uid.EntityUID.{EntityUID};
 ghost use Rattle.reads_spec.specs.Restrict.{is_id, lists_id, values_in};
 ghost use Rattle.entity_store.specs.Store.{Store};
 ghost use Rattle.policy_values.specs.Value.{entity, rec, set, fields_of, vals_of};
@@ -12,8 +12,7 @@ ghost use Rattle.trie_traversal.specs.Waiting.{Has, Gives, Adds, WaitFrom, Waiti
 
 use access_tries::TrieRef;
 use entity_store::Entity;
-use policy_names::{EntityUID, Text};
-use policy_values::{Value, ValueKind};
+use policy_values::{EntityUID, Text, Value, ValueKind};
 use std::alloc::{AllocError, Global};
 use std::collections::{BTreeMap, BTreeSet};
 

@@ -2,7 +2,7 @@
 
 ghost use Rattle.std.specs.Prelude.{◌≡◌, ◌⊎◌, [], IfOk, OnOk, IfErr};
 ghost use Rattle.access_tries.specs.Table.{IsTable};
-ghost use Rattle.policy_names.specs.Uid.{uid_cmp};
+ghost use Rattle.policy_values.specs.Uid.{uid_cmp};
 ghost use Rattle.reads_spec.specs.Among.{IsIn};
 ghost use Rattle.std.specs.BTreeMap.{get};
 ghost use Rattle.std.specs.Option.{option_copied};
@@ -17,7 +17,7 @@ use crate::place::Place;
 use crate::stuck::stuck_in_entity;
 use access_tries::{Node, TrieRef};
 use entity_store::Entity;
-use policy_names::EntityUID;
+use policy_values::EntityUID;
 use std::alloc::Global;
 use std::collections::{BTreeMap, BTreeSet};
 

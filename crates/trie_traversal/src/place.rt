@@ -3,7 +3,7 @@
 ghost use Rattle.std.specs.Prelude.{◌≡◌, OnOk};
 ghost use Rattle.trie_traversal.specs.Places.{IsPlaced};
 
-use policy_names::EntityUID;
+use policy_values::EntityUID;
 use std::alloc::AllocError;
 use std::collections::BTreeSet;
 

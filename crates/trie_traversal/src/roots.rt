@@ -4,8 +4,8 @@ ghost use Rattle.std.specs.Prelude.{◌≡◌, ◌≤◌, ◌↔◌, ℕ, true, 
 ghost use Rattle.std.specs.BTreeSet.{contains};
 ghost use Rattle.access_tries.specs.Table.{IsTable};
 ghost use Rattle.access_tries.specs.Views.{view_leads, whole};
-ghost use Rattle.policy_names.specs.declared.entity_uid.EntityUID.{EntityUID};
-ghost use Rattle.policy_names.specs.Uid.{uid_cmp};
+ghost use Rattle.policy_values.specs.declared.entity_uid.EntityUID.{EntityUID};
+ghost use Rattle.policy_values.specs.Uid.{uid_cmp};
 ghost use Rattle.policy_core.specs.Eval.{known_fields};
 ghost use Rattle.reads_spec.specs.Restrict.{root_value};
 ghost use Rattle.entity_store.specs.Request.{IsWhole, known};
@@ -18,7 +18,7 @@ use crate::names::{Waiting, name_each_entity, name_fields, name_later};
 use access_tries::{EntityRoot, Node, TrieRef};
 use entity_store::{Context, Entity, Request};
 use policy_expressions::Var;
-use policy_names::EntityUID;
+use policy_values::EntityUID;
 use std::alloc::{AllocError, Global};
 use std::collections::{BTreeMap, BTreeSet};
 

@@ -12,8 +12,7 @@ use crate::demand::{is_demanded, is_needed_whole};
 use access_tries::{EntityRoot, RootAccessTrie, TrieRef};
 use entity_store::{Context, Entity, Request};
 use policy_expressions::Var;
-use policy_names::Text;
-use policy_values::{Value, ValueKind, try_clone_fields};
+use policy_values::{Text, Value, ValueKind, try_clone_fields};
 use std::alloc::{AllocError, Global};
 use std::collections::BTreeMap;
 

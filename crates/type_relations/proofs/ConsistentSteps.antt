@@ -2,7 +2,7 @@
 use Rattle.std.proofs.Common.{◌≡◌, ℕ, List, [], ◌∷◌, Bool, true, false, Option, Some, is_some, cond, refl}
 use Rattle.std.specs.BTreeMap.{is_at}
 use Rattle.std.specs.Map.{lookup}
-use Rattle.policy_names.specs.Uid.{text_cmp}
+use Rattle.policy_values.specs.Uid.{text_cmp}
 use Rattle.schema_types.specs.SchemaView.{schema_attrs_of}
 use Rattle.schema_types.specs.Attrs.{attr_at}
 use Rattle.schema_types.specs.declared.schema_type.SchemaAttribute.{SchemaAttribute}

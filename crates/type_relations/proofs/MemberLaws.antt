@@ -1,7 +1,7 @@
 -- A member of a type is a member of each type above it.
 use Rattle.std.proofs.Common.{◌⊎◌, inl, inr, ℕ, List, Bool, true, false, not, ◌||◌, cond, Option, Some, None, ◌∙◌, sym, subst, IsTrue, arith}
 use Rattle.std.specs.Ordering.{is_eq}
-use Rattle.policy_names.specs.Uid.{text_cmp}
+use Rattle.policy_values.specs.Uid.{text_cmp}
 use Rattle.schema_types.specs.declared.kinds.Primitive.TheVariants.{Bool as BoolType}
 use Rattle.schema_types.specs.declared.kinds.OpenTag.{OpenTag}
 use Rattle.schema_types.specs.declared.kinds.OpenTag.TheVariants.{OpenAttributes, ClosedAttributes}

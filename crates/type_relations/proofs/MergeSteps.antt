@@ -6,7 +6,7 @@ use Rattle.std.specs.declared.cmp.Ordering.TheVariants.{Less, Equal}
 use Rattle.std.specs.List.{AllByRecursion}
 use Rattle.std.specs.List.Sorted.{IsStrictlySortedBy}
 use Rattle.std.specs.Map.{keys_of}
-use Rattle.policy_names.specs.Uid.{text_cmp}
+use Rattle.policy_values.specs.Uid.{text_cmp}
 use Rattle.type_relations.specs.declared.mode.SubtypeMode.TheVariants.{Permissive}
 use Rattle.type_relations.specs.Join.{keep, join, shared}
 use Rattle.policy_values.specs.Maps.{IsNext}

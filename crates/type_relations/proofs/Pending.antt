@@ -6,7 +6,7 @@ use Rattle.type_relations.specs.declared.mode.SubtypeMode.{SubtypeMode}
 use Rattle.type_relations.specs.Subtype.{IsPermissive, IsOpen, Subtype, SubRequired, SubAttrs, Covers}
 use Rattle.type_relations.proofs.SubtypeLaws.{covers_rest, covers_of_attrs}
 use Rattle.schema_types.specs.Ty.{Ty, Attrs, attr}
-use Rattle.policy_names.specs.declared.text.Text.{Text}
+use Rattle.policy_values.specs.declared.text.Text.{Text}
 use Rattle.schema_types.specs.declared.ty.AttributeType.{AttributeType}
 
 abbrev Entries : Type 0

@@ -7,8 +7,8 @@ use Rattle.std.specs.List.{AllByRecursion}
 use Rattle.std.specs.List.Sorted.{IsStrictlySortedBy}
 use Rattle.std.proofs.lemmas.Cmp.{nat_list_cmp_total}
 use Rattle.std.proofs.lemmas.Map.Lookups.{exact_bytes}
-use Rattle.policy_names.specs.Uid.{text_cmp}
-use Rattle.hierarchy.proofs.SameSorted.{same_sorted}
+use Rattle.policy_values.specs.Uid.{text_cmp}
+use Rattle.policy_values.proofs.SameSorted.{same_sorted}
 use Rattle.schema_types.specs.declared.kinds.Primitive.{Primitive}
 use Rattle.schema_types.specs.declared.kinds.Primitive.TheVariants.{Bool as BoolType, Long, String}
 use Rattle.schema_types.specs.declared.kinds.OpenTag.{OpenTag}

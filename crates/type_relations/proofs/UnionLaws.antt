@@ -5,8 +5,8 @@ use Rattle.std.specs.Ordering.{is_eq, match_ordering, ordering_reverse}
 use Rattle.std.specs.BTreeSet.{insert_key}
 use Rattle.std.proofs.lemmas.Cmp.{nat_list_cmp_total}
 use Rattle.std.proofs.lemmas.Map.Lookups.{exact_bytes}
-use Rattle.policy_names.specs.Uid.{text_cmp}
-use Rattle.policy_names.proofs.Ties.{equal_of}
+use Rattle.policy_values.specs.Uid.{text_cmp}
+use Rattle.policy_values.proofs.Ties.{equal_of}
 use Rattle.schema_types.specs.Names.{has_name, AreAmong, union}
 use Rattle.plain_lemmas.proofs.Booleans.{or_right_true, or_weaker_right}
 

@@ -1,7 +1,7 @@
 -- The least type above two types, in two modes: by a table of the two kinds.
 use Rattle.std.specs.Prelude.{◌≡◌, ℕ, Bool, true, false, ◌&&◌, ◌||◌, not, cond, List, [], ◌∷◌, Result, Ok, Err}
 use Rattle.std.specs.Ordering.{is_eq, match_ordering}
-use Rattle.policy_names.specs.Uid.{text_cmp}
+use Rattle.policy_values.specs.Uid.{text_cmp}
 use Rattle.schema_types.specs.Names.{texts_cmp, union}
 use Rattle.schema_types.specs.declared.kinds.Primitive.{Primitive}
 use Rattle.schema_types.specs.declared.kinds.Primitive.TheVariants.{Bool as BoolType, Long, String}

@@ -1,7 +1,7 @@
 -- Membership: which values a type has.
 use Rattle.std.specs.Prelude.{◌≡◌, ◌⊎◌, ℕ, Bool, false, not, ◌||◌, List, Option, Some, None, IsTrue, codes}
 use Rattle.std.specs.Ordering.{is_eq}
-use Rattle.policy_names.specs.Uid.{text_cmp}
+use Rattle.policy_values.specs.Uid.{text_cmp}
 use Rattle.schema_types.specs.declared.kinds.Primitive.TheVariants.{Bool as BoolType, Long, String}
 use Rattle.schema_types.specs.declared.kinds.OpenTag.{OpenTag}
 use Rattle.schema_types.specs.Ty.{Ty, never, true_type, false_type, primitive, any_set, set_of, record_of, any_entity, entity, action, extension, Attrs, no_attrs, attr}

@@ -8,7 +8,7 @@ ghost use Rattle.type_relations.specs.Join.{shared};
 ghost use Rattle.type_relations.specs.Attributes.{or_none, shared_with, union_attrs, attrs_in, may_have_declared, may_have};
 
 use crate::join::shared_attributes;
-use policy_names::{EntityType, Text};
+use policy_values::{EntityType, Text};
 use schema_types::{
     AttributeType, Attributes, DeclaredAttributes, EntityLUB, EntityRecordKind, Type, TypeKind,
 };

@@ -7,7 +7,7 @@ ghost use Rattle.schema_types.specs.Attrs.{attr_at};
 ghost use Rattle.type_relations.specs.Consistent.{consistent_primitive, has_type, covered, consistent, agree};
 
 use crate::join::{entity_type_eq, name_eq};
-use policy_names::{EntityType, Text};
+use policy_values::{EntityType, Text};
 use schema_types::{
     Attributes, EntityRecordKind, OpenTag, Primitive, SchemaAttribute, SchemaAttributes,
     SchemaType, SchemaTypeKind, Type, TypeKind,

@@ -5,7 +5,7 @@ ghost use Rattle.schema_types.specs.Names.{AreApart};
 ghost use Rattle.schema_types.specs.TyView.{kind_of};
 ghost use Rattle.type_relations.specs.Attributes.{names_of, AreApartIfKnown, AreDisjoint};
 
-use policy_names::EntityType;
+use policy_values::EntityType;
 use schema_types::{EntityLUB, EntityRecordKind, Type, TypeKind};
 use std::cmp::Ordering;
 

@@ -3,7 +3,7 @@
 ghost use Rattle.std.specs.Prelude.{◌≡◌, ◌++◌, IfOk, OnOk, ◌&&◌, MatchResult, Ok, Err, cond};
 ghost use Rattle.std.specs.BTreeMap.{keys};
 ghost use Rattle.std.specs.Ordering.{is_eq};
-ghost use Rattle.policy_names.specs.Uid.{text_cmp};
+ghost use Rattle.policy_values.specs.Uid.{text_cmp};
 ghost use Rattle.policy_values.specs.Maps.{IsNext};
 ghost use Rattle.schema_types.specs.declared.kinds.LubHelp.TheVariants.{None as Other};
 ghost use Rattle.schema_types.specs.declared.ty.TypeKind.TheVariants.{Set};
@@ -14,8 +14,7 @@ ghost use Rattle.type_relations.specs.Join.{result_map, text_eq, texts_eq, bool_
 ghost use Rattle.type_relations.specs.JoinSteps.{kept_entry};
 
 use crate::SubtypeMode;
-use policy_names::{EntityType, Name, Text};
-use policy_values::push_entry;
+use policy_values::{EntityType, Name, Text, push_entry};
 use schema_types::{
     AttributeType, Attributes, EntityLUB, EntityRecordKind, LubHelp, OpenTag, Primitive, Type,
     TypeKind,

@@ -8,8 +8,7 @@ ghost use Rattle.type_relations.specs.Member.{has_field, HasRequired, Member, Me
 ghost use Rattle.policy_values.specs.Value.{vals_of, fields_of};
 ghost use Rattle.policy_values.specs.ValueView.{val_of};
 
-use policy_names::{EntityType, Name, Text};
-use policy_values::{Value, ValueKind};
+use policy_values::{EntityType, Name, Text, Value, ValueKind};
 use schema_types::{Attributes, EntityRecordKind, OpenTag, Primitive, Type, TypeKind};
 use std::collections::BTreeMap;
 

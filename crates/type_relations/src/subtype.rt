@@ -6,7 +6,7 @@ ghost use Rattle.schema_types.specs.TyView.{kind_of, attrs_of};
 ghost use Rattle.type_relations.specs.Subtype.{IsPermissive, SubOpen, IsOpen, SubRequired, SubEntity, Subtype, SubAttrs, Covers};
 
 use crate::SubtypeMode;
-use policy_names::{EntityType, Name, Text};
+use policy_values::{EntityType, Name, Text};
 use schema_types::{
     AttributeType, Attributes, EntityLUB, EntityRecordKind, OpenTag, Primitive, Type, TypeKind,
 };

@@ -10,8 +10,7 @@ ghost use Rattle.type_relations.specs.Consistent.{consistent};
 ghost use Rattle.type_relations.specs.Member.{Member};
 
 use crate::{LubError, SubtypeMode};
-use policy_names::Text;
-use policy_values::Value;
+use policy_values::{Text, Value};
 use schema_types::{AttributeType, DeclaredAttributes, SchemaType, Type};
 use std::alloc::{AllocError, Global};
 

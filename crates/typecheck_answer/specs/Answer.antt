@@ -2,7 +2,7 @@
 use Rattle.std.specs.Prelude.{Bool, true, false, List, [], Option, if◌then◌else◌}
 use Rattle.policy_expressions.specs.Tree.{Tree, Mark}
 use Rattle.schema_types.specs.Ty.{Ty}
-use Rattle.capabilities.specs.Capability.{Capability}
+use Rattle.typing_spec.specs.Capability.{Capability}
 use Rattle.typecheck_answer.specs.declared.answer.TypecheckAnswer.{TypecheckAnswer}
 use Rattle.typecheck_answer.specs.declared.answer.TypecheckAnswer.TheVariants.{TypecheckSuccess, TypecheckFail}
 

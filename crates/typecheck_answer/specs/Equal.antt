@@ -2,8 +2,8 @@
 use Rattle.std.specs.Prelude.{◌≡◌, Bool, ◌&&◌, None}
 use Rattle.std.specs.Bool.{beq}
 use Rattle.std.specs.Coded.{Coded, coded_option}
-use Rattle.capabilities.specs.Bare.{same_stored}
-use Rattle.capabilities.specs.Capability.{same_known}
+use Rattle.typing_spec.specs.Bare.{same_stored}
+use Rattle.typing_spec.specs.Capability.{same_known}
 use Rattle.policy_expressions.specs.Tree.{Tree, lit, var, slot, ite, conj, disj, unary, binary, attr, has, like, is_type, call, set, rec, Trees, no_trees, tree, Named, no_named, named, Mark, mark_of}
 use Rattle.policy_expressions.specs.Shape.{SameShape}
 use Rattle.policy_expressions.specs.TreeCode.{coded_tree, coded_mark}

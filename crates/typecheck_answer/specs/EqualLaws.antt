@@ -6,8 +6,8 @@ use Rattle.std.proofs.lemmas.Cmp.{and_equiv}
 use Rattle.policy_expressions.specs.Tree.{Tree, lit, var, slot, ite, conj, disj, unary, binary, attr, has, like, is_type, call, set, rec, Trees, no_trees, tree, Named, no_named, named, Mark, mark_of}
 use Rattle.std.specs.Prelude.{None}
 use Rattle.policy_expressions.specs.Shape.{SameShape, SameShapes, SameNamed}
-use Rattle.capabilities.specs.BareLaws.{stored_decides, same_stored_equiv}
-use Rattle.capabilities.specs.CapabilityLaws.{known_equiv}
+use Rattle.typing_spec.specs.BareLaws.{stored_decides, same_stored_equiv}
+use Rattle.typing_spec.specs.CapabilityLaws.{known_equiv}
 use Rattle.typecheck_answer.specs.Answer.{Typed, expr_of, is_success, known_of}
 use Rattle.typecheck_answer.specs.Equal.{unplaced, unplaced_trees, unplaced_named, SameNote, SameNotes, SameBelow, SameOfTrees, SameOfNamed, SameTyped, coded_typed, same_typed, same_answer}
 

@@ -5,7 +5,7 @@ ghost use Rattle.policy_expressions.specs.Tree.{mark_of};
 ghost use Rattle.typecheck_answer.specs.Answer.{expr_of, is_success, failed};
 ghost use Rattle.typecheck_answer.specs.declared.answer.TypecheckAnswer.TheVariants.{TypecheckSuccess, TypecheckFail};
 
-use capabilities::CapabilitySet;
+use typing_spec::CapabilitySet;
 use policy_expressions::Expr;
 use schema_types::Type;
 use std::alloc::Global;

@@ -7,7 +7,7 @@ ghost use Rattle.typecheck_answer.specs.Equal.{SameNotes, SameBelow, SameOfTrees
 use crate::TypecheckAnswer;
 use crate::answer::is_same_type;
 use policy_expressions::{Expr, ExprKind};
-use policy_names::Text;
+use policy_values::Text;
 use schema_types::Type;
 use std::collections::BTreeMap;
 

@@ -5,7 +5,7 @@ ghost use Rattle.std.specs.List.{list_all};
 ghost use Rattle.typecheck_answer.specs.Answer.{after, expr_of, is_success, known_of, part_of};
 
 use crate::TypecheckAnswer;
-use capabilities::CapabilitySet;
+use typing_spec::CapabilitySet;
 use policy_expressions::Expr;
 use schema_types::Type;
 use std::alloc::{AllocError, Global};

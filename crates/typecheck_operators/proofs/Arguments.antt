@@ -2,7 +2,7 @@
 use Rattle.std.proofs.Common.{◌≡◌, List, [], ◌∷◌, length, refl, arith}
 use Rattle.policy_expressions.specs.Tree.{Trees, no_trees, tree, Mark}
 use Rattle.schema_types.specs.Ty.{Ty}
-use Rattle.typecheck_spec.specs.Operators.{arguments_fitting}
+use Rattle.typecheck_rules.specs.Operators.{arguments_fitting}
 
 pub none_left : {A : Type 0} → (xs : List A) → length xs ≡ 0 → xs ≡ []
 none_left [] h = refl

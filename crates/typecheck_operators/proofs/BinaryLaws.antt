@@ -1,9 +1,9 @@
 -- An operator of two operands comes to what its own type says.
 use Rattle.std.proofs.Common.{◌≡◌, ◌&&◌, ◌++◌, List, Option, Some, None, option_map, refl, ap}
 use Rattle.schema_types.specs.Ty.{Ty}
-use Rattle.capabilities.specs.Capability.{Capability}
+use Rattle.typing_spec.specs.Capability.{Capability}
 use Rattle.typing_spec.specs.Typing.{Typed}
-use Rattle.typecheck_spec.specs.Walked.{ended, both}
+use Rattle.typecheck_rules.specs.Walked.{ended, both}
 use Rattle.typecheck_operators.specs.declared.binary.Operator.{Operator}
 use Rattle.typecheck_operators.specs.Operands.{binary_by, binary_lent, binary_of, binary_own, binary_own_typing, binary_tree, binary_type, binary_typing}
 use Rattle.typecheck_operators.specs.Told.{Operand, lent_as}

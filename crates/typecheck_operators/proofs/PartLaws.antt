@@ -9,9 +9,9 @@ use Rattle.schema_types.specs.Ty.{Ty}
 use Rattle.typing_spec.specs.Signatures.{call_type, signature_of}
 use Rattle.typing_spec.specs.Typing.{Typing, typing, types_in, trees_in, named_in}
 use Rattle.findings.specs.Finding.{Finding}
-use Rattle.typecheck_spec.specs.Own.{set_found}
-use Rattle.typecheck_spec.specs.Walked.{Walked, Success, Fail, ended, lends, has_typing, lent_by_all, trees_walked, findings_of_all}
-use Rattle.typecheck_spec.specs.Operators.{Fields, parts_of, lent_fields, set_walked, record_walked, call_fitting, arguments_fitting}
+use Rattle.typecheck_rules.specs.Own.{set_found}
+use Rattle.typecheck_rules.specs.Walked.{Walked, Success, Fail, ended, lends, has_typing, lent_by_all, trees_walked, findings_of_all}
+use Rattle.typecheck_rules.specs.Operators.{Fields, parts_of, lent_fields, set_walked, record_walked, call_fitting, arguments_fitting}
 use Rattle.typecheck_operators.specs.Parts.{types_lent, fields_lent, trees_in_fields, argument_walked, set_by, set_in_parts, record_by, record_in_parts, call_by, call_in_parts}
 
 module _ {A B C : Type 0} where

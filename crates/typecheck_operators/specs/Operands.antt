@@ -10,16 +10,16 @@ use Rattle.schema_core.specs.RequestEnvs.{env_data_of}
 use Rattle.schema_core.specs.Schema.{SchemaData}
 use Rattle.schema_types.specs.declared.ty.AttributeType.{AttributeType}
 use Rattle.schema_types.specs.Ty.{Ty}
-use Rattle.capabilities.specs.Capability.{Capability}
+use Rattle.typing_spec.specs.Capability.{Capability}
 use Rattle.typing_spec.specs.Rules.{safe_type}
 use Rattle.typing_spec.specs.Signatures.{bool_type}
 use Rattle.typing_spec.specs.Typing.{Typed, Typing, typing, at, binary_caps}
 use Rattle.findings.specs.Access as access
 use Rattle.findings.specs.Finding as finding
 use Rattle.findings.specs.Finding.{Finding}
-use Rattle.typecheck_spec.specs.Own.{if_none}
-use Rattle.typecheck_spec.specs.Walked.{Walked, Success, Fail, ended, lends, both, one}
-use Rattle.typecheck_spec.specs.Operators as definition
+use Rattle.typecheck_rules.specs.Own.{if_none}
+use Rattle.typecheck_rules.specs.Walked.{Walked, Success, Fail, ended, lends, both, one}
+use Rattle.typecheck_rules.specs.Operators as definition
 use Rattle.typecheck_operators.specs.Told.{Operand, lent, mark}
 use Rattle.typecheck_operators.specs.declared.attr.Access.{Access}
 use Rattle.typecheck_operators.specs.declared.binary.Operator.{Operator}

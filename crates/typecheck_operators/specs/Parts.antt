@@ -10,11 +10,11 @@ use Rattle.policy_expressions.specs.Plain.{Plain}
 use Rattle.typing_spec.specs.Signatures.{call_type, signature_of}
 use Rattle.typing_spec.specs.Rules.{set_type}
 use Rattle.typing_spec.specs.Typing.{Typed, Typing, typing, at}
-use Rattle.typecheck_spec.specs.Expected.{an_argument}
+use Rattle.typecheck_rules.specs.Expected.{an_argument}
 use Rattle.findings.specs.Finding.{Finding}
-use Rattle.typecheck_spec.specs.Own.{set_found}
-use Rattle.typecheck_spec.specs.Walked.{Walked, ended, expect, lends, all_some, tree_of}
-use Rattle.typecheck_spec.specs.Operators.{Fields, place, type_lent}
+use Rattle.typecheck_rules.specs.Own.{set_found}
+use Rattle.typecheck_rules.specs.Walked.{Walked, ended, expect, lends, all_some, tree_of}
+use Rattle.typecheck_rules.specs.Operators.{Fields, place, type_lent}
 
 -- the types that operands lend, where each lends one
 abbrev pub types_lent : List Walked → Option (List Ty)

@@ -3,11 +3,11 @@ use Rattle.std.specs.Prelude.{ℕ, Bool, List, Option, map, option_map}
 use Rattle.policy_expressions.specs.declared.kinds.Loc.{Loc}
 use Rattle.policy_expressions.specs.Tree.{Mark}
 use Rattle.schema_types.specs.Ty.{Ty}
-use Rattle.capabilities.specs.Capability.{Capability}
+use Rattle.typing_spec.specs.Capability.{Capability}
 use Rattle.typing_spec.specs.Typing as definition
 use Rattle.typing_spec.specs.Typing.{Typed, typing}
 use Rattle.findings.specs.Finding.{Finding}
-use Rattle.typecheck_spec.specs.Walked.{Walked, Success, Fail}
+use Rattle.typecheck_rules.specs.Walked.{Walked, Success, Fail}
 use Rattle.typecheck_rules.specs.Found.{findings_from}
 use Rattle.typecheck_operators.specs.declared.told.Typing.{Typing}
 use Rattle.typecheck_operators.specs.declared.told.Part.{Part}

@@ -2,15 +2,15 @@
 
 ghost use Rattle.std.specs.Prelude.{◌≡◌, IfOk};
 ghost use Rattle.policy_expressions.specs.Tree.{attr};
-ghost use Rattle.typecheck_spec.specs.Walked.{lends};
+ghost use Rattle.typecheck_rules.specs.Walked.{lends};
 ghost use Rattle.typecheck_rules.specs.Found.{findings_from};
 ghost use Rattle.typecheck_operators.specs.Operands as definition;
 ghost use Rattle.typecheck_operators.specs.Told.{mark, operand_of, walked_of};
 
 use crate::told::{Part, Told, Typing, ended_typed, expect, parted};
-use capabilities::CapabilitySet;
+use typing_spec::CapabilitySet;
 use policy_expressions::{BuildError, Expr, Loc};
-use policy_names::Text;
+use policy_values::Text;
 use schema_core::{RequestEnv, ValidatorSchema};
 use schema_types::{AttributeType, Type};
 use std::alloc::Global;

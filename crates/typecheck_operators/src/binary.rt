@@ -2,13 +2,13 @@
 
 ghost use Rattle.std.specs.Prelude.{◌≡◌, ◌++◌, IfOk, Some};
 ghost use Rattle.typing_spec.specs.Typing as typing;
-ghost use Rattle.typecheck_spec.specs.Walked as walked;
+ghost use Rattle.typecheck_rules.specs.Walked as walked;
 ghost use Rattle.typecheck_rules.specs.Found.{findings_from};
 ghost use Rattle.typecheck_operators.specs.Operands as definition;
 ghost use Rattle.typecheck_operators.specs.Told.{operand_of, walked_of};
 
 use crate::told::{Part, Told, Typing, expect_if, parted, rest_of};
-use capabilities::{Capability, CapabilitySet};
+use typing_spec::{Capability, CapabilitySet};
 use policy_expressions::{BinaryOp, BuildError, Expr, Loc};
 use schema_core::{RequestEnv, ValidatorSchema};
 use schema_types::Type;

@@ -6,18 +6,18 @@ ghost use Rattle.std.specs.List.{slice_get};
 ghost use Rattle.policy_expressions.specs.Tree.{call, trees_of, no_trees};
 ghost use Rattle.typing_spec.specs.Signatures.{call_type};
 ghost use Rattle.findings.specs.Finding as finding;
-ghost use Rattle.typecheck_spec.specs.Walked as failed;
-ghost use Rattle.typecheck_spec.specs.Walked.{lends, one};
-ghost use Rattle.typecheck_spec.specs.Operators as definition;
+ghost use Rattle.typecheck_rules.specs.Walked as failed;
+ghost use Rattle.typecheck_rules.specs.Walked.{lends, one};
+ghost use Rattle.typecheck_rules.specs.Operators as definition;
 ghost use Rattle.typecheck_rules.specs.Found.{findings_from};
 ghost use Rattle.typecheck_operators.specs.Parts.{argument_walked, call_by_type};
 ghost use Rattle.typecheck_operators.specs.Told.{mark, walked_of, all_of};
 
 use crate::parts::{Rest, are_typed, rest_of_all, types_lent};
 use crate::told::{Told, Typing, ended_typed, expect};
-use capabilities::CapabilitySet;
+use typing_spec::CapabilitySet;
 use policy_expressions::{BuildError, Expr, Loc};
-use policy_names::Name;
+use policy_values::Name;
 use schema_types::Type;
 use std::alloc::{AllocError, Global};
 use typecheck_rules::{

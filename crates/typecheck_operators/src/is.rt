@@ -3,15 +3,15 @@
 ghost use Rattle.std.specs.Prelude.{◌≡◌, IfOk, Some};
 ghost use Rattle.policy_expressions.specs.Tree.{is_type};
 ghost use Rattle.typing_spec.specs.Signatures.{bool_type};
-ghost use Rattle.typecheck_spec.specs.Walked.{lends};
-ghost use Rattle.typecheck_spec.specs.Operators as definition;
+ghost use Rattle.typecheck_rules.specs.Walked.{lends};
+ghost use Rattle.typecheck_rules.specs.Operators as definition;
 ghost use Rattle.typecheck_operators.specs.Operands.{is_of};
 ghost use Rattle.typecheck_operators.specs.Told.{mark, operand_of, walked_of};
 
 use crate::told::{Part, Told, Typing, ended_typed, expect, parted};
-use capabilities::CapabilitySet;
+use typing_spec::CapabilitySet;
 use policy_expressions::{BuildError, Expr, Loc};
-use policy_names::EntityType;
+use policy_values::EntityType;
 use schema_types::Type;
 use std::alloc::Global;
 use typecheck_rules::{Expected, is_type};

@@ -4,11 +4,11 @@ ghost use Rattle.std.specs.Prelude.{◌≡◌, IfOk, Some};
 ghost use Rattle.schema_core.specs.RequestEnvs.{env_data_of};
 ghost use Rattle.policy_expressions.specs.Tree.{lit, var, slot};
 ghost use Rattle.typing_spec.specs.Environment as environment;
-ghost use Rattle.typecheck_spec.specs.Operators.{leaf_walked};
+ghost use Rattle.typecheck_rules.specs.Operators.{leaf_walked};
 ghost use Rattle.typecheck_operators.specs.Told.{mark, walked_of};
 
 use crate::told::{Told, Typing};
-use capabilities::CapabilitySet;
+use typing_spec::CapabilitySet;
 use policy_expressions::{BuildError, Expr, Literal, Loc, SlotId, Var};
 use schema_core::{RequestEnv, ValidatorSchema};
 use schema_types::Type;

@@ -3,13 +3,13 @@
 ghost use Rattle.std.specs.Prelude.{◌≡◌, IfOk, Some};
 ghost use Rattle.policy_expressions.specs.Tree.{like};
 ghost use Rattle.typing_spec.specs.Signatures.{bool_type};
-ghost use Rattle.typecheck_spec.specs.Walked.{lends};
-ghost use Rattle.typecheck_spec.specs.Operators as definition;
+ghost use Rattle.typecheck_rules.specs.Walked.{lends};
+ghost use Rattle.typecheck_rules.specs.Operators as definition;
 ghost use Rattle.typecheck_operators.specs.Operands.{like_of};
 ghost use Rattle.typecheck_operators.specs.Told.{mark, operand_of, walked_of};
 
 use crate::told::{Part, Told, Typing, ended_typed, expect, parted};
-use capabilities::CapabilitySet;
+use typing_spec::CapabilitySet;
 use policy_expressions::{BuildError, Expr, Loc, Pattern};
 use schema_types::Type;
 use std::alloc::Global;

@@ -2,8 +2,8 @@
 
 ghost use Rattle.std.specs.Prelude.{◌≡◌, ◌++◌, IfOk, map, option_map};
 ghost use Rattle.std.specs.List.{list_all};
-ghost use Rattle.typecheck_spec.specs.Walked.{has_typing, tree_of, findings_of, findings_of_all};
-ghost use Rattle.typecheck_spec.specs.Operators as definition;
+ghost use Rattle.typecheck_rules.specs.Walked.{has_typing, tree_of, findings_of, findings_of_all};
+ghost use Rattle.typecheck_rules.specs.Operators as definition;
 ghost use Rattle.typecheck_rules.specs.Found.{findings_from};
 ghost use Rattle.typecheck_operators.specs.Parts.{types_lent};
 ghost use Rattle.typecheck_operators.specs.Told.{walked_of, all_of};

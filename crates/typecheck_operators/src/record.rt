@@ -3,19 +3,18 @@
 ghost use Rattle.std.specs.Prelude.{◌≡◌, ◌++◌, IfOk, map, option_map};
 ghost use Rattle.std.specs.List.{list_all};
 ghost use Rattle.policy_expressions.specs.Tree.{named_of};
-ghost use Rattle.typecheck_spec.specs.Walked.{has_typing, findings_of_all};
-ghost use Rattle.typecheck_spec.specs.Operators as definition;
-ghost use Rattle.typecheck_spec.specs.Operators.{parts_of};
+ghost use Rattle.typecheck_rules.specs.Walked.{has_typing, findings_of_all};
+ghost use Rattle.typecheck_rules.specs.Operators as definition;
+ghost use Rattle.typecheck_rules.specs.Operators.{parts_of};
 ghost use Rattle.typecheck_rules.specs.Found.{findings_from};
 ghost use Rattle.typecheck_operators.specs.Parts.{fields_lent, trees_in_fields, record_in_parts};
 ghost use Rattle.typecheck_operators.specs.Told.{mark, walked_of, field_of};
 
 use crate::parts::{add_found, is_typed, told_rest, type_lent};
 use crate::told::{Told, Typing, ended_typed};
-use capabilities::CapabilitySet;
+use typing_spec::CapabilitySet;
 use policy_expressions::{BuildError, Expr, Loc};
-use policy_names::Text;
-use policy_values::push_entry;
+use policy_values::{Text, push_entry};
 use schema_types::Type;
 use std::alloc::{AllocError, Global};
 use std::collections::BTreeMap;

@@ -3,14 +3,14 @@
 ghost use Rattle.std.specs.Prelude.{◌≡◌, IfOk, cond, option_map};
 ghost use Rattle.policy_expressions.specs.Tree.{mark_of};
 ghost use Rattle.typing_spec.specs.Typing as typing;
-ghost use Rattle.typecheck_spec.specs.Walked as definition;
-ghost use Rattle.typecheck_spec.specs.Walked.{has_typing, lent_by, tree_of, findings_of, Success};
-ghost use Rattle.typecheck_spec.specs.Operators as operator;
-ghost use Rattle.typecheck_spec.specs.Operators.{type_lent};
+ghost use Rattle.typecheck_rules.specs.Walked as definition;
+ghost use Rattle.typecheck_rules.specs.Walked.{has_typing, lent_by, tree_of, findings_of, Success};
+ghost use Rattle.typecheck_rules.specs.Operators as operator;
+ghost use Rattle.typecheck_rules.specs.Operators.{type_lent};
 ghost use Rattle.typecheck_rules.specs.Found.{expected_of, findings_from};
 ghost use Rattle.typecheck_operators.specs.Told.{typing_from, walked_of, lent_as};
 
-use capabilities::CapabilitySet;
+use typing_spec::CapabilitySet;
 use policy_expressions::{Expr, Literal, Loc};
 use schema_types::Type;
 use std::alloc::{AllocError, Global};

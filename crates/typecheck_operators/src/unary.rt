@@ -1,12 +1,12 @@
 //! Operators of one operand.
 
 ghost use Rattle.std.specs.Prelude.{◌≡◌, IfOk};
-ghost use Rattle.typecheck_spec.specs.Operators.{unary_lent, unary_fitting, unary_walked};
+ghost use Rattle.typecheck_rules.specs.Operators.{unary_lent, unary_fitting, unary_walked};
 ghost use Rattle.typecheck_operators.specs.Operands.{unary_of};
 ghost use Rattle.typecheck_operators.specs.Told.{mark, operand_of, walked_of};
 
 use crate::told::{Part, Told, Typing, ended_typed, expect, parted};
-use capabilities::CapabilitySet;
+use typing_spec::CapabilitySet;
 use policy_expressions::{BuildError, Expr, Loc, UnaryOp};
 use schema_types::Type;
 use std::alloc::Global;

@@ -9,13 +9,13 @@ use Rattle.policy_expressions.specs.declared.functions.ExtensionFunction.{Extens
 use Rattle.policy_expressions.specs.declared.functions.ExtensionFunction.TheVariants.{Unary, Binary}
 use Rattle.policy_expressions.specs.Tree.{Tree, Trees, trees_of}
 use Rattle.typing_spec.specs.Signatures.{is_readable, only_text, count_of, has_readable}
-use Rattle.extension_types.specs.declared.argument_check.ArgumentCheck.{ArgumentCheck}
-use Rattle.extension_types.specs.declared.argument_check.ArgumentCheck.TheVariants as checks
-use Rattle.extension_types.specs.Arguments.{constructor_of, message, unreadable, refusal}
-use Rattle.extension_types.specs.Table.{check_of}
+use Rattle.typing_spec.specs.declared.argument_check.ArgumentCheck.{ArgumentCheck}
+use Rattle.typing_spec.specs.declared.argument_check.ArgumentCheck.TheVariants as checks
+use Rattle.typing_spec.specs.Arguments.{constructor_of, message, unreadable, refusal}
+use Rattle.typing_spec.specs.Table.{check_of}
 use Rattle.findings.specs.Finding.{Finding, FunctionArgumentValidation}
-use Rattle.typecheck_spec.specs.Own.{if_not, text_found}
-use Rattle.typecheck_spec.specs.Walked.{one}
+use Rattle.typecheck_rules.specs.Own.{if_not, text_found}
+use Rattle.typecheck_rules.specs.Walked.{one}
 
 module _ {A : Type 0} where
   pub count_is_length : (xs : List (Tree A)) → count_of (trees_of xs) ≡ length xs

@@ -1,3 +1,23 @@
+mod Agree
+mod Below
+mod Branches
+mod Calls
+mod Examples
+mod Checks
+mod Each
+mod Exact
+mod Failing
+mod Failure
+mod Found
+mod KnownNames
+mod Lists
+mod Parts
+mod Refusals
+mod Sides
+mod Steps
+mod Told
+mod True
+mod Truths
 mod AttributeSteps
 pub mod Apart
 pub mod CallSteps

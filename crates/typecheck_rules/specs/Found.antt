@@ -1,8 +1,8 @@
 -- Findings and what is expected, in code, as the definitions'.
 use Rattle.std.specs.Prelude.{List, map}
 use Rattle.findings.specs.Finding as definition
-use Rattle.typecheck_spec.specs.Expected as definition_of
-use Rattle.typecheck_spec.specs.Expected.{a_boolean, a_long, a_string, a_set, a_typed_set, an_entity, entities, an_owner, an_argument, no_help, sum_help, product_help, like_help, empty_help, contains_help, single_help, test_help, in_help, contents_help}
+use Rattle.typecheck_rules.specs.Expected as definition_of
+use Rattle.typecheck_rules.specs.Expected.{a_boolean, a_long, a_string, a_set, a_typed_set, an_entity, entities, an_owner, an_argument, no_help, sum_help, product_help, like_help, empty_help, contains_help, single_help, test_help, in_help, contents_help}
 use Rattle.typecheck_rules.specs.declared.finding.FindingKind.{FindingKind}
 use Rattle.typecheck_rules.specs.declared.finding.FindingKind.TheVariants as kind
 use Rattle.typecheck_rules.specs.declared.finding.Finding.{Finding}

@@ -1,1 +1,11 @@
+pub mod Check
+pub mod Expected
+pub mod Faults
+pub mod Laws
+pub mod Operators
+pub mod Own
+pub mod Truth
+pub mod Walk
+pub mod Walked
+pub mod Names
 pub mod Found

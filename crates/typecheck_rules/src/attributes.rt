@@ -9,7 +9,7 @@ ghost use Rattle.typing_spec.specs.Environment.{declared_attributes};
 ghost use Rattle.typing_spec.specs.Rules as rule;
 ghost use Rattle.findings.specs.Access as access;
 ghost use Rattle.findings.specs.Finding as finding;
-ghost use Rattle.typecheck_spec.specs.Walked as walked;
+ghost use Rattle.typecheck_rules.specs.Walked as walked;
 ghost use Rattle.typecheck_rules.specs.Found.{findings_from};
 
 use crate::booleans::possible;
@@ -17,7 +17,7 @@ use crate::finding::{Finding, FindingKind, one};
 use crate::shapes::{has_attributes, is_record};
 use findings::AttributeAccess;
 use policy_expressions::{Expr, Loc};
-use policy_names::{EntityType, Text};
+use policy_values::{EntityType, Text};
 use schema_core::{RequestEnv, ValidatorSchema};
 use schema_types::{
     AttributeType, Attributes, DeclaredAttributes, EntityLUB, EntityRecordKind, Type, TypeKind,

@@ -7,20 +7,20 @@ ghost use Rattle.policy_expressions.specs.Functions.{function_of};
 ghost use Rattle.policy_expressions.specs.Tree.{trees_of};
 ghost use Rattle.typing_spec.specs.Signatures.{signature_of, is_constructor, are_literals, is_literal, same_types, has_count, has_literals, has_readable, only_text, count_of};
 ghost use Rattle.typing_spec.specs.Signatures as definition;
-ghost use Rattle.extension_types.specs.Table.{check_of, function_at, typed};
+ghost use Rattle.typing_spec.specs.Table.{check_of, function_at, typed};
 ghost use Rattle.findings.specs.Finding as finding;
-ghost use Rattle.typecheck_spec.specs.Own.{if_not, text_found};
-ghost use Rattle.typecheck_spec.specs.Own as own;
-ghost use Rattle.typecheck_spec.specs.Walked as walked;
+ghost use Rattle.typecheck_rules.specs.Own.{if_not, text_found};
+ghost use Rattle.typecheck_rules.specs.Own as own;
+ghost use Rattle.typecheck_rules.specs.Walked as walked;
 ghost use Rattle.typecheck_rules.specs.Found.{findings_from};
 
 use crate::expected::is_same_type;
 use crate::finding::{Finding, FindingKind, joined, one};
-use extension_types::{ExtensionFunctionType, ExtensionSchemas};
+use typing_spec::{ExtensionFunctionType, ExtensionSchemas};
 use policy_expressions::{
     Expr, ExprKind, ExtensionFunction, Loc, UnaryFunction, extension_function,
 };
-use policy_names::Name;
+use policy_values::Name;
 use schema_types::Type;
 use std::alloc::{AllocError, Global};
 

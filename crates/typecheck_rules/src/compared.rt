@@ -9,7 +9,7 @@ use crate::environment::truth_type;
 use crate::expected::is_same_type;
 use crate::joins::bool_if_joined;
 use crate::shapes::{is_comparable, is_long};
-use policy_names::EntityUID;
+use policy_values::EntityUID;
 use schema_types::Type;
 use std::alloc::{AllocError, Global};
 use std::cmp::Ordering;

@@ -7,7 +7,7 @@ ghost use Rattle.schema_core.specs.RequestEnvs.{env_data_of};
 ghost use Rattle.typing_spec.specs.Environment as environment;
 
 use policy_expressions::{Expr, ExprKind, Literal, SlotId, Var};
-use policy_names::{EntityType, EntityUID};
+use policy_values::{EntityType, EntityUID};
 use schema_core::{RequestEnv, ValidatorSchema, euid_literal};
 use schema_types::Type;
 use std::alloc::{AllocError, Global};

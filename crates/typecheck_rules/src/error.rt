@@ -10,7 +10,7 @@ use findings::{
     NonLitExtConstructor, UndefinedFunction, UnexpectedType, UnsafeAttributeAccess,
     UnsafeOptionalAttributeAccess, UnsafeTagAccess, ValidationError, WrongNumberArguments,
 };
-use policy_names::Text;
+use policy_values::Text;
 use schema_types::Type;
 use std::alloc::{AllocError, Global};
 use std::collections::BTreeSet;

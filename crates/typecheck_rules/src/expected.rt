@@ -2,8 +2,8 @@
 
 ghost use Rattle.std.specs.Prelude.{◌≡◌, IfOk, option_map};
 ghost use Rattle.typing_spec.specs.Signatures.{same_type};
-ghost use Rattle.typecheck_spec.specs.Expected as definition;
-ghost use Rattle.typecheck_spec.specs.Walked as walked;
+ghost use Rattle.typecheck_rules.specs.Expected as definition;
+ghost use Rattle.typecheck_rules.specs.Walked as walked;
 ghost use Rattle.typecheck_rules.specs.Found.{expected_of, findings_from};
 
 use crate::finding::{Finding, FindingKind, one};

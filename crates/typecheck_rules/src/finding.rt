@@ -2,12 +2,12 @@
 
 ghost use Rattle.std.specs.Prelude.{◌≡◌, ◌++◌, IfOk};
 ghost use Rattle.findings.specs.Finding as definition;
-ghost use Rattle.typecheck_spec.specs.Walked.{one};
+ghost use Rattle.typecheck_rules.specs.Walked.{one};
 ghost use Rattle.typecheck_rules.specs.Found.{kind_of, findings_from};
 
 use findings::{AttributeAccess, LubContext, UnexpectedTypeHelp};
 use policy_expressions::Loc;
-use policy_names::{EntityType, Name, Text};
+use policy_values::{EntityType, Name, Text};
 use schema_types::{EntityLUB, LubHelp, Type};
 use std::alloc::{AllocError, Global};
 use std::collections::BTreeSet;

@@ -4,7 +4,7 @@ ghost use Rattle.std.specs.Prelude.{◌≡◌, ◌∷◌, [], IfOk, Err, is_some
 ghost use Rattle.type_relations.specs.declared.mode.SubtypeMode.TheVariants.{Strict};
 ghost use Rattle.type_relations.specs.Join.{join, join_all};
 ghost use Rattle.typing_spec.specs.Rules as rule;
-ghost use Rattle.typecheck_spec.specs.Own as own;
+ghost use Rattle.typecheck_rules.specs.Own as own;
 ghost use Rattle.typecheck_rules.specs.Found.{findings_from};
 
 use crate::finding::{Finding, FindingKind, one};

@@ -1,4 +1,4 @@
-//! The rules of typing over types, and what is found of an operator itself.
+//! The rules of typing over types, and what is found of an operator itself and of expressions that have no type.
 #![tactic(auto)]
 
 mod attributes;
@@ -10,6 +10,7 @@ mod error;
 mod expected;
 mod finding;
 mod joins;
+pub mod laws;
 mod membership;
 mod operators;
 mod order;

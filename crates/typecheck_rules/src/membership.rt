@@ -13,7 +13,7 @@ use crate::booleans::possible;
 use crate::environment::{known_id, listed_ids};
 use crate::shapes::{is_entity, is_entity_or_set};
 use policy_expressions::{Expr, ExprKind, Var};
-use policy_names::{EntityType, EntityUID};
+use policy_values::{EntityType, EntityUID};
 use schema_core::{RequestEnv, ValidatorSchema};
 use schema_types::Type;
 use std::alloc::{AllocError, Global};

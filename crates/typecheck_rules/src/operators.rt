@@ -3,7 +3,7 @@
 ghost use Rattle.std.specs.Prelude.{◌≡◌, IfOk};
 ghost use Rattle.schema_core.specs.RequestEnvs.{env_data_of};
 ghost use Rattle.typing_spec.specs.Rules as rule;
-ghost use Rattle.typecheck_spec.specs.Operators as definition;
+ghost use Rattle.typecheck_rules.specs.Operators as definition;
 
 use crate::booleans::{possible, sum_type};
 use crate::compared::{are_one, equal_type, order_type};

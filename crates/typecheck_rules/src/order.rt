@@ -3,15 +3,15 @@
 ghost use Rattle.std.specs.Prelude.{◌≡◌, ◌∷◌, [], IfOk, IsTrue};
 ghost use Rattle.typing_spec.specs.Signatures.{long_type, datetime_type, duration_type};
 ghost use Rattle.schema_types.specs.Ty.{extension};
-ghost use Rattle.extension_types.specs.Words.{is_word};
-ghost use Rattle.typecheck_spec.specs.Own as own;
+ghost use Rattle.typing_spec.specs.Words.{is_word};
+ghost use Rattle.typecheck_rules.specs.Own as own;
 ghost use Rattle.typecheck_rules.specs.Found.{findings_from};
 
 use crate::compared::order_type;
 use crate::finding::{Finding, FindingKind, joined, one};
 use crate::shapes::{is_comparable, is_long};
 use policy_expressions::Loc;
-use policy_names::Name;
+use policy_values::Name;
 use schema_types::Type;
 use std::alloc::{AllocError, Global};
 
@@ -92,7 +92,7 @@ fn not_ordered(alloc: Global, loc: Option<Loc>, t: &Type) -> Result<Vec<Finding>
     wrong(alloc, types, loc, t)
 }
 
-#[tactic(auto, using(extension_types::proofs::Words::word_is_name))]
+#[tactic(auto, using(typing_spec::proofs::Words::word_is_name))]
 fn extension_type(alloc: Global, name: &str) -> Result<Type, AllocError>
     requires { IsTrue (is_word name.now) }
     ensures { IfOk result (λ t. t ≡ extension name.now) }

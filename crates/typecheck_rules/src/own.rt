@@ -4,8 +4,8 @@ ghost use Rattle.std.specs.Prelude.{◌≡◌, [], IfOk};
 ghost use Rattle.std.specs.Option.{option_map_or};
 ghost use Rattle.schema_core.specs.RequestEnvs.{env_data_of};
 ghost use Rattle.findings.specs.declared.helps.LubContext.TheVariants as context;
-ghost use Rattle.typecheck_spec.specs.Own as own;
-ghost use Rattle.typecheck_spec.specs.Operators as definition;
+ghost use Rattle.typecheck_rules.specs.Own as own;
+ghost use Rattle.typecheck_rules.specs.Operators as definition;
 ghost use Rattle.typecheck_rules.specs.Found.{findings_from};
 
 use crate::compared::equal_type;

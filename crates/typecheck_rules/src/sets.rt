@@ -8,7 +8,7 @@ ghost use Rattle.schema_types.specs.Ty.{record_of, set_of};
 ghost use Rattle.type_relations.specs.declared.mode.SubtypeMode.TheVariants.{Strict};
 ghost use Rattle.type_relations.specs.Join.{join_all};
 ghost use Rattle.typing_spec.specs.Rules as rule;
-ghost use Rattle.typecheck_spec.specs.Own as own;
+ghost use Rattle.typecheck_rules.specs.Own as own;
 ghost use Rattle.findings.specs.declared.helps.LubContext.TheVariants as context;
 ghost use Rattle.typecheck_rules.specs.Found.{findings_from};
 
@@ -17,7 +17,7 @@ use crate::joins::{ascending, bool_if_joined, no_join, strict_join_all};
 use crate::shapes::is_set;
 use findings::LubContext;
 use policy_expressions::Loc;
-use policy_names::Text;
+use policy_values::Text;
 use schema_types::{LubHelp, OpenTag, Type, TypeKind};
 use std::alloc::{AllocError, Global};
 use std::collections::BTreeMap;

@@ -2,15 +2,15 @@
 
 ghost use Rattle.std.specs.Prelude.{◌≡◌, ◌||◌};
 ghost use Rattle.std.specs.Ordering.{is_eq};
-ghost use Rattle.policy_names.specs.Uid.{text_cmp};
+ghost use Rattle.policy_values.specs.Uid.{text_cmp};
 ghost use Rattle.type_relations.specs.Join as join;
 ghost use Rattle.typing_spec.specs.Operands as operand;
 ghost use Rattle.typing_spec.specs.Rules as rule;
 ghost use Rattle.typing_spec.specs.Signatures.{long_type, same_type};
-ghost use Rattle.typecheck_spec.specs.Expected as expectation;
-ghost use Rattle.typecheck_spec.specs.Own as own;
+ghost use Rattle.typecheck_rules.specs.Expected as expectation;
+ghost use Rattle.typecheck_rules.specs.Own as own;
 
-use policy_names::Name;
+use policy_values::Name;
 use schema_types::{EntityRecordKind, Primitive, Type, TypeKind};
 use std::cmp::Ordering;
 

@@ -8,15 +8,15 @@ ghost use Rattle.findings.specs.Finding as finding;
 ghost use Rattle.type_relations.specs.Attributes.{names_of};
 ghost use Rattle.typing_spec.specs.Environment as environment;
 ghost use Rattle.typing_spec.specs.Rules as rule;
-ghost use Rattle.typecheck_spec.specs.Own as own;
-ghost use Rattle.typecheck_spec.specs.Walked as walked;
+ghost use Rattle.typecheck_rules.specs.Own as own;
+ghost use Rattle.typecheck_rules.specs.Walked as walked;
 ghost use Rattle.typecheck_rules.specs.Found.{findings_from};
 
 use crate::booleans::possible;
 use crate::finding::{Finding, FindingKind, one};
 use crate::shapes::{is_entity, is_string};
 use policy_expressions::{Expr, ExprKind, Literal, Loc};
-use policy_names::{EntityType, Quoted, Text};
+use policy_values::{EntityType, Quoted, Text};
 use schema_core::ValidatorSchema;
 use schema_types::{EntityLUB, EntityRecordKind, Type, TypeKind};
 use std::alloc::{AllocError, Global};

@@ -6,8 +6,8 @@ use Rattle.policy_expressions.specs.Plain.{Plain}
 use Rattle.policy_expressions.specs.Tree.{Mark}
 use Rattle.policy_expressions.specs.declared.kinds.BinaryOp.{BinaryOp}
 use Rattle.policy_expressions.specs.declared.kinds.BinaryOp.TheVariants.{Eq, Less, LessEq, Add, Sub, Mul, In, Contains, ContainsAll, ContainsAny, GetTag, HasTag}
-use Rattle.typecheck_spec.specs.Walked.{Walked}
-use Rattle.typecheck_spec.specs.Operators.{binary_walked}
+use Rattle.typecheck_rules.specs.Walked.{Walked}
+use Rattle.typecheck_rules.specs.Operators.{binary_walked}
 use Rattle.typecheck_walk.specs.Asked.{asked}
 
 module _ (schema : SchemaData) (env : EnvData) where

@@ -1,3 +1,5 @@
+mod BranchLaws
+mod SideLaws
 mod Asks
 mod Nothing
 mod WalkSteps

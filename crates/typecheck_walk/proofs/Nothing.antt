@@ -1,7 +1,7 @@
 -- Where nothing is known, no capability is.
 use Rattle.std.proofs.Common.{◌≡◌, true, false, List, [], ◌∷◌, refl}
 use Rattle.std.proofs.lemmas.Bool.{false≢true}
-use Rattle.capabilities.specs.Capability.{Capability, has_cap, is_nothing}
+use Rattle.typing_spec.specs.Capability.{Capability, has_cap, is_nothing}
 
 pub has_none : (cs : List Capability) (k : Capability) → is_nothing cs ≡ true → has_cap cs k ≡ false
 has_none [] k h = refl

@@ -7,9 +7,9 @@ use Rattle.schema_core.specs.Schema.{SchemaData}
 use Rattle.schema_core.specs.EnvData.{EnvData}
 use Rattle.policy_expressions.specs.Plain.{Plain}
 use Rattle.policy_expressions.specs.Tree.{named_of, deepest_named}
-use Rattle.capabilities.specs.Capability.{Capability}
-use Rattle.typecheck_spec.specs.Walk.{walked, walked_named}
-use Rattle.typecheck_spec.specs.Operators.{Fields}
+use Rattle.typing_spec.specs.Capability.{Capability}
+use Rattle.typecheck_rules.specs.Walk.{walked, walked_named}
+use Rattle.typecheck_rules.specs.Operators.{Fields}
 use Rattle.typecheck_operators.specs.declared.told.Told.{Told}
 use Rattle.typecheck_operators.specs.Told.{walked_of, field_of}
 

@@ -7,8 +7,8 @@ use Rattle.policy_expressions.specs.Plain.{Plain}
 use Rattle.findings.specs.Seen.{error_of}
 use Rattle.findings.specs.declared.error.ValidationError.{ValidationError}
 use Rattle.findings.specs.declared.error.ValidationError.TheVariants as error
-use Rattle.typecheck_spec.specs.Check.{Check, checked}
-use Rattle.typecheck_spec.specs.Check as definition
+use Rattle.typecheck_rules.specs.Check.{Check, checked}
+use Rattle.typecheck_rules.specs.Check as definition
 use Rattle.typecheck_walk.specs.declared.policy_check.PolicyCheck.{PolicyCheck}
 use Rattle.typecheck_walk.specs.declared.policy_check.PolicyCheck.TheVariants.{Success, Irrelevant, Fail}
 

@@ -1,8 +1,8 @@
 -- What a typechecker asks of extensions.
 use Rattle.std.specs.Prelude.{◌≡◌, ℕ, List, option_map}
 use Rattle.policy_expressions.specs.Functions.{function_of}
-use Rattle.extension_types.specs.Types.{Extensions}
-use Rattle.extension_types.specs.Table.{function_at, typed}
+use Rattle.typing_spec.specs.Types.{Extensions}
+use Rattle.typing_spec.specs.Table.{function_at, typed}
 
 -- each extension function is found under its name, with its signature
 abbrev pub KnowsFunctions : Extensions → Type 0

@@ -3,7 +3,7 @@
 ghost use Rattle.std.specs.Prelude.{◌≡◌, ◌∷◌, [], IfOk, nat_lt};
 ghost use Rattle.schema_core.specs.RequestEnvs.{env_data_of};
 ghost use Rattle.policy_expressions.specs.Tree.{depth_of};
-ghost use Rattle.typecheck_spec.specs.Check.{check_walked, checked, condition_walked};
+ghost use Rattle.typecheck_rules.specs.Check.{check_walked, checked, condition_walked};
 ghost use Rattle.typecheck_operators.specs.Told.{walked_of};
 ghost use Rattle.typecheck_walk.specs.Answer.{Tells, too_deep};
 
@@ -11,10 +11,10 @@ use crate::PolicyCheck;
 use crate::errors::errors_of;
 use crate::setting::Setting;
 use crate::walks::walk;
-use capabilities::CapabilitySet;
+use typing_spec::CapabilitySet;
 use findings::{TooDeep, ValidationError};
 use policy_expressions::{BuildError, Expr};
-use policy_names::Text;
+use policy_values::Text;
 use schema_types::{Primitive, Type, TypeKind};
 use std::alloc::{AllocError, Global};
 use typecheck_operators::{Told, Typing, expect};

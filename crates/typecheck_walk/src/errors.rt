@@ -5,7 +5,7 @@ ghost use Rattle.findings.specs.Seen.{error_of};
 ghost use Rattle.typecheck_rules.specs.Found.{findings_from};
 
 use findings::ValidationError;
-use policy_names::Text;
+use policy_values::Text;
 use std::alloc::{AllocError, Global};
 use typecheck_rules::{Finding, error_of};
 

@@ -1,13 +1,13 @@
 //! What is known at a place of a condition.
 
 ghost use Rattle.std.specs.Prelude.{◌≡◌, IfOk};
-ghost use Rattle.capabilities.specs.Capability.{has_cap};
+ghost use Rattle.typing_spec.specs.Capability.{has_cap};
 ghost use Rattle.typing_spec.specs.Typing.{attribute_known, tag_known};
 ghost use Rattle.typecheck_walk.specs.Asked.{asked};
 
-use capabilities::{Capability, CapabilitySet};
+use typing_spec::{Capability, CapabilitySet};
 use policy_expressions::{BinaryOp, Expr};
-use policy_names::Text;
+use policy_values::Text;
 use std::alloc::AllocError;
 
 // Whether the attribute is known to be there. Mostly nothing is known at all, and then no capability is made.

@@ -5,8 +5,8 @@ ghost use Rattle.std.specs.Option.{option_map};
 ghost use Rattle.policy_expressions.specs.Functions.{function_of};
 ghost use Rattle.typecheck_walk.specs.Known.{KnowsFunctions};
 
-use extension_types::ExtensionSchemas;
-use policy_names::Name;
+use typing_spec::ExtensionSchemas;
+use policy_values::Name;
 use schema_core::{RequestEnv, ValidatorSchema};
 use std::alloc::Global;
 use std::marker::Model;
@@ -19,7 +19,7 @@ pub struct Extensions<'a, 'x> {
 }
 
 impl<'a, 'x> Model for Extensions<'a, 'x> {
-    ghost use Rattle.extension_types.specs.Types.{Extensions, coded_extensions};
+    ghost use Rattle.typing_spec.specs.Types.{Extensions, coded_extensions};
 
     ghost Value = { Extensions };
 

@@ -3,22 +3,21 @@
 ghost use Rattle.std.specs.Prelude.{◌≡◌, ◌++◌, IfOk, map};
 ghost use Rattle.schema_core.specs.RequestEnvs.{env_data_of};
 ghost use Rattle.policy_expressions.specs.Tree.{attr, binary, call, conj, disj, has, is_type, ite, like, named_of, rec, set, trees_of, unary};
-ghost use Rattle.typecheck_spec.specs.Expected.{a_boolean};
-ghost use Rattle.typecheck_spec.specs.Walk.{walked, walked_all, walked_named};
-ghost use Rattle.typecheck_spec.specs.Walked.{expect};
-ghost use Rattle.typecheck_spec.specs.Operators.{place, reached_after, reached_besides};
+ghost use Rattle.typecheck_rules.specs.Expected.{a_boolean};
+ghost use Rattle.typecheck_rules.specs.Walk.{walked, walked_all, walked_named};
+ghost use Rattle.typecheck_rules.specs.Walked.{expect};
+ghost use Rattle.typecheck_rules.specs.Operators.{place, reached_after, reached_besides};
 ghost use Rattle.typecheck_operators.specs.Told.{all_of, field_of, mark, walked_of};
 
 use crate::known::{knows_attribute, knows_tag};
 use crate::setting::Setting;
-use capabilities::CapabilitySet;
+use typing_spec::CapabilitySet;
 use policy_expressions::{BinaryOp, BuildError, Expr, ExprKind, Loc, Pattern, UnaryOp};
-use policy_names::{EntityType, Name, Text};
-use policy_values::push_entry;
+use policy_values::{EntityType, Name, Text, push_entry};
 use schema_types::TypeKind;
 use std::alloc::AllocError;
 use std::collections::BTreeMap;
-use typecheck_branches::{and_sides, if_parts, or_sides};
+use crate::{and_sides, if_parts, or_sides};
 use typecheck_operators::{
     Access, Operator, Told, attr_told, binary_told, call_told, expect, has_told, is_told,
     like_told, literal_told, record_told, set_told, skipped, slot_told, unary_told, undefined_told,

@@ -2,8 +2,8 @@
 use Rattle.std.proofs.Common.{◌≡◌, ℕ, Bool, true, false, ◌&&◌, ◌||◌, List, [], ◌∷◌, Option, Some, None, is_some, IsTrue, refl, sym, ap, subst, IfSome}
 use Rattle.std.specs.Prelude.{if◌then◌else◌, option_map}
 use Rattle.std.specs.Option.{option_and_then, option_map_or}
-use Rattle.policy_names.specs.declared.entity_uid.EntityUID.{EntityUID}
-use Rattle.policy_names.specs.Basename.{is_action_type}
+use Rattle.policy_values.specs.declared.entity_uid.EntityUID.{EntityUID}
+use Rattle.policy_values.specs.Basename.{is_action_type}
 use Rattle.policy_values.specs.Value.{Val, truth, string, entity as id, rec, Fields, no_fields, field, field_at}
 use Rattle.entity_store.specs.Store.{StoredEntity, Store, entity_at}
 use Rattle.schema_types.specs.declared.kinds.OpenTag.{OpenTag}
@@ -23,7 +23,7 @@ use Rattle.policy_core.specs.declared.outcome.Outcome.{Outcome}
 use Rattle.policy_core.specs.declared.outcome.Outcome.TheVariants.{Value, Error}
 use Rattle.policy_core.specs.Eval.{with_value}
 use Rattle.policy_core.specs.Operators.{found_or, tag_of, get_tag_value, has_tag_of, has_tag_value, attr_of, attr_value, has_of, has_value}
-use Rattle.capabilities.specs.Holds.{HasAttribute, HasTag}
+use Rattle.typing_spec.specs.Holds.{HasAttribute, HasTag}
 use Rattle.typing_spec.specs.Conforms.{AreTags, StoreConforms}
 use Rattle.typing_spec.specs.Environment.{declared_attributes, declared_tags}
 use Rattle.typing_spec.specs.Rules.{possible, is_string, tag_type, may_have_tags, has_tag_type, get_tag_type, attribute_of, safe_type, attr_type, declared_has, has_type}

@@ -4,10 +4,10 @@ use Rattle.std.specs.Prelude.{option_map}
 use Rattle.std.specs.Option.{option_and_then}
 use Rattle.entity_store.specs.declared.request.Request.{Request}
 use Rattle.entity_store.specs.Store.{Store}
-use Rattle.capabilities.specs.Capability.{Capability, has_cap, common}
-use Rattle.capabilities.specs.CapabilityLaws.{known_decides}
-use Rattle.capabilities.specs.Holds.{Holds, AllHold}
-use Rattle.capabilities.proofs.HoldSteps as steps
+use Rattle.typing_spec.specs.Capability.{Capability, has_cap, common}
+use Rattle.typing_spec.specs.CapabilityLaws.{known_decides}
+use Rattle.typing_spec.specs.Holds.{Holds, AllHold}
+use Rattle.typing_spec.proofs.HoldSteps as steps
 
 pub when_some : {A B : Type 0} (P : A → Type 0) (Q : B → Type 0) (f : A → Option B) (o : Option A) → IfSome o P → ((x : A) → P x → IfSome (f x) Q) → IfSome (option_and_then f o) Q
 when_some P Q f None h k = tt

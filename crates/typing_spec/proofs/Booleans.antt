@@ -10,8 +10,8 @@ use Rattle.policy_core.specs.declared.outcome.EvalError.{EvalError}
 use Rattle.policy_core.specs.declared.outcome.Outcome.{Outcome}
 use Rattle.policy_core.specs.declared.outcome.Outcome.TheVariants.{Value, Error}
 use Rattle.policy_core.specs.Eval.{truth_of, truth_outcome, choose}
-use Rattle.capabilities.specs.Capability.{Capability, common}
-use Rattle.capabilities.specs.Holds.{AllHold}
+use Rattle.typing_spec.specs.Capability.{Capability, common}
+use Rattle.typing_spec.specs.Holds.{AllHold}
 use Rattle.typing_spec.specs.Rules.{and_type, or_type}
 use Rattle.typing_spec.specs.Typing.{and_caps, or_caps}
 use Rattle.policy_core.specs.Allowed.{IsAllowedError}

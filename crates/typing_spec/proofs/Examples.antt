@@ -1,7 +1,7 @@
 -- What has a type, and what has none.
 use Rattle.std.proofs.Common.{◌≡◌, ℕ, pos, Bool, true, false, List, [], ◌∷◌, Option, Some, None, inl, inr, refl, codes}
 use Rattle.std.specs.Prelude.{option_map, map}
-use Rattle.policy_names.specs.declared.entity_uid.EntityUID.{EntityUID}
+use Rattle.policy_values.specs.declared.entity_uid.EntityUID.{EntityUID}
 use Rattle.schema_types.specs.Ty.{Ty, true_type, false_type, set_of, any_entity, entity, action as action_type, no_attrs, attr}
 use Rattle.schema_core.specs.Kinds.{Kind, standard}
 use Rattle.schema_core.specs.Schema.{SchemaData}
@@ -18,8 +18,8 @@ use Rattle.policy_expressions.specs.Tree.{Trees, lit, var, slot, ite, conj, disj
 use Rattle.policy_expressions.specs.Functions.{functions, decimal_functions, ip_functions, datetime_functions, duration_functions}
 use Rattle.policy_values.specs.Readings.{decimal_in}
 use Rattle.policy_expressions.specs.Plain.{Plain}
-use Rattle.capabilities.specs.Capability.{Capability, has_cap}
-use Rattle.capabilities.specs.CapabilityLaws.{known_decides, alike_itself}
+use Rattle.typing_spec.specs.Capability.{Capability, has_cap}
+use Rattle.typing_spec.specs.CapabilityLaws.{known_decides, alike_itself}
 use Rattle.typing_spec.specs.Signatures.{bool_type, long_type, string_type, decimal_type}
 use Rattle.typing_spec.specs.Typing.{at, unreached, attribute_known, tag_known, types}
 

@@ -1,3 +1,5 @@
+pub mod HoldSteps
+pub mod PartSteps
 mod Basics
 pub mod Booleans
 mod Fields
@@ -18,3 +20,7 @@ mod Tests
 pub mod Soundness
 pub mod Condition
 mod Examples
+pub mod ByName
+pub mod OneText
+pub mod Table
+pub mod Words

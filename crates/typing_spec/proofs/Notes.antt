@@ -9,7 +9,7 @@ use Rattle.schema_core.specs.Schema.{SchemaData}
 use Rattle.policy_expressions.specs.Functions.{function_of}
 use Rattle.policy_expressions.specs.Tree.{lit, var, slot, ite, conj, disj, unary, binary, attr, has, like, is_type, call, set, rec, Mark, mark_of}
 use Rattle.policy_expressions.specs.Plain.{Plain}
-use Rattle.capabilities.specs.Capability.{Capability, has_cap, common}
+use Rattle.typing_spec.specs.Capability.{Capability, has_cap, common}
 use Rattle.typing_spec.specs.Environment.{type_of_literal, type_of_variable}
 use Rattle.typing_spec.specs.Rules as rule
 use Rattle.typing_spec.specs.Signatures.{call_type}

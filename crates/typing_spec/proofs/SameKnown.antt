@@ -12,8 +12,8 @@ use Rattle.schema_core.specs.Schema.{SchemaData}
 use Rattle.policy_expressions.specs.Functions.{function_of}
 use Rattle.policy_expressions.specs.Tree.{lit, var, slot, ite, conj, disj, unary, binary, attr, has, like, is_type, call, set, rec, Trees, no_trees, tree, Named, no_named, named, Mark, named_of}
 use Rattle.policy_expressions.specs.Plain.{Plain}
-use Rattle.capabilities.specs.Capability.{Capability, IsKnown, has_cap, common}
-use Rattle.capabilities.specs.CapabilityLaws.{known_decides, known_append, known_common}
+use Rattle.typing_spec.specs.Capability.{Capability, IsKnown, has_cap, common}
+use Rattle.typing_spec.specs.CapabilityLaws.{known_decides, known_append, known_common}
 use Rattle.typing_spec.specs.Known.{KnowTheSame, AreSame, TypedTheSame, WhatIsKnownDecides}
 use Rattle.typing_spec.specs.Rules as rule
 use Rattle.typing_spec.specs.Signatures.{call_type}

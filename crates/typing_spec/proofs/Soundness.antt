@@ -2,7 +2,7 @@
 use Rattle.std.proofs.Common.{◌≡◌, ℕ, Bool, true, false, ◌&&◌, ◌+ℤ◌, ◌-ℤ◌, ◌*ℤ◌, int_lt, int_le, List, [], ◌∷◌, ◌++◌, Option, Some, None, is_some, refl, sym, ap, subst, ◌∙◌, IfSome, IsSomeAnd}
 use Rattle.std.specs.Prelude.{if◌then◌else◌, option_map}
 use Rattle.std.specs.Option.{option_and_then}
-use Rattle.policy_names.specs.declared.entity_uid.EntityUID.{EntityUID}
+use Rattle.policy_values.specs.declared.entity_uid.EntityUID.{EntityUID}
 use Rattle.policy_values.specs.Value.{truth, entity as id}
 use Rattle.entity_store.specs.declared.request.Request.{Request}
 use Rattle.entity_store.specs.Request.{principal_of, resource_of}
@@ -28,9 +28,9 @@ use Rattle.policy_expressions.specs.Functions.{function_of}
 use Rattle.policy_core.specs.Operators.{unary_value, binary_value, attr_value, has_value, has_tag_value, like_value, is_value}
 use Rattle.policy_expressions.specs.Tree.{lit, var, slot, ite, conj, disj, unary, binary, attr, has, like, is_type, call, set, rec, Trees, no_trees, tree, Named, no_named, named, Mark}
 use Rattle.policy_expressions.specs.Plain.{Plain}
-use Rattle.capabilities.specs.Capability.{Capability, has_cap, common}
-use Rattle.capabilities.specs.Holds.{HasAttribute, AllHold}
-use Rattle.capabilities.specs.Holds as holds
+use Rattle.typing_spec.specs.Capability.{Capability, has_cap, common}
+use Rattle.typing_spec.specs.Holds.{HasAttribute, AllHold}
+use Rattle.typing_spec.specs.Holds as holds
 use Rattle.typing_spec.specs.Conforms.{RequestConforms, StoreConforms, IsOf, Applies, HasAttributes}
 use Rattle.typing_spec.specs.Environment.{type_of_literal, type_of_variable, known_id}
 use Rattle.typing_spec.specs.Rules as rule

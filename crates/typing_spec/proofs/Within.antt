@@ -3,10 +3,10 @@ use Rattle.std.proofs.Common.{◌≡◌, ℕ, Bool, true, false, not, ◌&&◌, 
 use Rattle.std.specs.Prelude.{if◌then◌else◌, option_map}
 use Rattle.std.specs.List.{AllByRecursion, list_any}
 use Rattle.std.specs.Option.{option_and_then, option_map_or}
-use Rattle.hierarchy.specs.Reaches.{has}
-use Rattle.policy_names.specs.Basename.{is_action_type}
-use Rattle.policy_names.specs.declared.entity_uid.EntityUID.{EntityUID}
-use Rattle.policy_names.specs.Uid.{text_cmp, uid_cmp, uid_eq}
+use Rattle.policy_values.specs.Reaches.{has}
+use Rattle.policy_values.specs.Basename.{is_action_type}
+use Rattle.policy_values.specs.declared.entity_uid.EntityUID.{EntityUID}
+use Rattle.policy_values.specs.Uid.{text_cmp, uid_cmp, uid_eq}
 use Rattle.policy_values.specs.Value.{Val, truth, entity as id, set as set_val, Vals, no_vals, val}
 use Rattle.policy_values.specs.ValueOrder.{set_of as ordered}
 use Rattle.entity_store.specs.declared.request.Request.{Request}
@@ -15,7 +15,7 @@ use Rattle.entity_store.specs.Store.{StoredEntity, Store, entity_at}
 use Rattle.schema_types.specs.Ty.{Ty, any_entity, entity, action, set_of as set_type}
 use Rattle.schema_core.specs.EnvData.{LinkedEnvironment, declared_action}
 use Rattle.schema_core.specs.Faults.{IsSchema}
-use Rattle.schema_core.specs.Schema.{TypeData, ActionData, SchemaData, type_at, action_at}
+use Rattle.schema_core.specs.Schema.{TypeData, ActionData, SchemaData, type_at, action_at, type_below, action_below}
 use Rattle.type_relations.specs.Join.{text_eq, is_entity}
 use Rattle.type_relations.specs.Member.{Member, Members}
 use Rattle.policy_expressions.specs.declared.kinds.Literal.TheVariants as literal
@@ -27,7 +27,6 @@ use Rattle.policy_core.specs.Operators.{above, within, or_within, within_any, in
 use Rattle.policy_expressions.specs.Tree.{lit, var, set, Trees, no_trees, tree, Mark}
 use Rattle.policy_expressions.specs.Plain.{Plain}
 use Rattle.typing_spec.specs.Conforms.{IsAllowedAncestor, StoreConforms, RequestConforms, IsOf, IdConforms, is_listed_in}
-use Rattle.schema_core.specs.Schema.{type_below, action_below}
 use Rattle.schema_core.specs.Within.{is_type_within, is_action_within}
 use Rattle.typing_spec.specs.Environment.{known_id, known_ids, listed_ids}
 use Rattle.typing_spec.specs.Rules.{possible, is_entity_set, type_in, action_among, entity_among, id_in, in_listed, in_type}

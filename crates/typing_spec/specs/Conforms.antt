@@ -2,10 +2,10 @@
 use Rattle.std.specs.Prelude.{◌≡◌, ⊤, ℕ, Bool, true, false, ◌&&◌, List, Option, Some, None, IsSomeAnd, IsTrue}
 use Rattle.std.specs.List.{AllByRecursion}
 use Rattle.std.specs.Option.{option_map_or}
-use Rattle.hierarchy.specs.Reaches.{has}
-use Rattle.policy_names.specs.declared.entity_uid.EntityUID.{EntityUID}
-use Rattle.policy_names.specs.Uid.{text_cmp, uid_cmp}
-use Rattle.policy_names.specs.Basename.{is_action_type}
+use Rattle.policy_values.specs.Reaches.{has}
+use Rattle.policy_values.specs.declared.entity_uid.EntityUID.{EntityUID}
+use Rattle.policy_values.specs.Uid.{text_cmp, uid_cmp}
+use Rattle.policy_values.specs.Basename.{is_action_type}
 use Rattle.policy_values.specs.Value.{Val, entity, set, rec, Vals, no_vals, val, Fields, no_fields, field}
 use Rattle.entity_store.specs.declared.request.Request.{Request}
 use Rattle.entity_store.specs.Request.{principal_of, action_of, resource_of}
@@ -14,11 +14,10 @@ use Rattle.schema_types.specs.declared.kinds.OpenTag.TheVariants.{ClosedAttribut
 use Rattle.schema_types.specs.Names.{has_name}
 use Rattle.schema_types.specs.Ty.{Ty, record_of, Attrs}
 use Rattle.schema_core.specs.Kinds.{Kind, standard, enumerated, attributes_in, tags_in}
-use Rattle.schema_core.specs.Schema.{TypeData, ActionData, SchemaData, type_at, action_at}
+use Rattle.schema_core.specs.Schema.{TypeData, ActionData, SchemaData, type_at, action_at, type_below, action_below}
 use Rattle.schema_core.specs.EnvData.{LinkedEnvironment}
 use Rattle.type_relations.specs.Member.{Member}
 use Rattle.policy_core.specs.Eval.{known_fields}
-use Rattle.schema_core.specs.Schema.{type_below, action_below}
 
 -- an enumerated type has the ids that it lists
 abbrev pub is_listed_in : Kind → List ℕ → Bool

@@ -3,7 +3,7 @@ use Rattle.std.specs.Prelude.{◌≡◌, ◌↔◌, ⊤, List, Option, Some, Non
 use Rattle.schema_core.specs.Schema.{SchemaData}
 use Rattle.schema_core.specs.EnvData.{EnvData}
 use Rattle.policy_expressions.specs.Plain.{Plain}
-use Rattle.capabilities.specs.Capability.{Capability, IsKnown}
+use Rattle.typing_spec.specs.Capability.{Capability, IsKnown}
 use Rattle.typing_spec.specs.Typing.{Typing, types}
 
 -- each capability is known to both lists or to neither

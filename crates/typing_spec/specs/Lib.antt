@@ -1,3 +1,11 @@
+pub mod AccessView
+pub mod Bare
+pub mod BareLaws
+pub mod Capability
+pub mod CapabilityLaws
+pub mod Holds
+pub mod Path
+pub mod PathLaws
 pub mod Conditions
 pub mod Conforms
 pub mod Environment
@@ -7,3 +15,9 @@ pub mod Rules
 pub mod Signatures
 pub mod Sound
 pub mod Typing
+pub mod Arguments
+pub mod ByName
+pub mod Refused
+pub mod Table
+pub mod Types
+pub mod Words

@@ -11,7 +11,7 @@ use Rattle.type_relations.specs.declared.mode.SubtypeMode.TheVariants.{Permissiv
 use Rattle.type_relations.specs.Join.{is_entity, is_record}
 use Rattle.type_relations.specs.Subtype.{Subtype}
 use Rattle.policy_expressions.specs.Plain.{Plain}
-use Rattle.capabilities.specs.Capability.{Capability}
+use Rattle.typing_spec.specs.Capability.{Capability}
 use Rattle.typing_spec.specs.Conforms.{IsOf}
 use Rattle.typing_spec.specs.Rules.{is_string, is_set, is_entity_set}
 use Rattle.typing_spec.specs.Signatures.{bool_type, long_type, string_type, same_type}

@@ -15,8 +15,8 @@ use Rattle.policy_expressions.specs.Tree.{mark_of}
 use Rattle.policy_core.specs.Eval.{eval}
 use Rattle.policy_expressions.specs.Slots.{has_slot}
 use Rattle.policy_expressions.specs.Plain.{Plain}
-use Rattle.capabilities.specs.Capability.{Capability}
-use Rattle.capabilities.specs.Holds.{AllHold}
+use Rattle.typing_spec.specs.Capability.{Capability}
+use Rattle.typing_spec.specs.Holds.{AllHold}
 use Rattle.policy_expressions.specs.Keys.{HasKeysOnce}
 use Rattle.typing_spec.specs.Conforms.{RequestConforms, StoreConforms, IsOf}
 use Rattle.typing_spec.specs.Typing.{Typing, at, types}

@@ -13,7 +13,7 @@ use Rattle.policy_expressions.specs.declared.kinds.BinaryOp.TheVariants.{HasTag}
 use Rattle.policy_expressions.specs.Functions.{function_of}
 use Rattle.policy_expressions.specs.Tree.{Tree, lit, var, slot, ite, conj, disj, unary, binary, attr, has, like, is_type, call, set, rec, Trees, no_trees, tree, Named, no_named, named, Mark, trees_of, named_of}
 use Rattle.policy_expressions.specs.Plain.{Plain}
-use Rattle.capabilities.specs.Capability.{Attribute, Tag, Capability, has_cap, common}
+use Rattle.typing_spec.specs.Capability.{Attribute, Tag, Capability, has_cap, common}
 use Rattle.typing_spec.specs.Signatures.{call_type}
 use Rattle.typing_spec.specs.Environment.{type_of_literal, type_of_variable, type_of_slot}
 use Rattle.typing_spec.specs.Rules as rule

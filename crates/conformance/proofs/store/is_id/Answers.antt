@@ -2,7 +2,7 @@ use Rattle.std.proofs.Common.{Some, ◌≡◌, sym, ap, ◌∙◌}
 use Rattle.std.specs.Cmp.{Equal-is, tied_itself}
 use Rattle.std.specs.Option.{option_copied}
 use Rattle.std.specs.Ordering.{is_eq}
-use Rattle.policy_names.specs.Uid.{uid_cmp, uid_cmp_total, exact_uid}
+use Rattle.policy_values.specs.Uid.{uid_cmp, uid_cmp_total, exact_uid}
 use Rattle.conformance.proofs.store.is_id.Goals as goal
 
 pub returns-in-Some : goal.returns-in-Some

@@ -1,7 +1,7 @@
 use Rattle.std.proofs.Common.{◌≡◌, ◌++◌, ◌∷◌, [], ◌+◌, take, refl, ◌∙◌}
 use Rattle.std.specs.Option.{option_copied}
 use Rattle.std.proofs.lemmas.List.{take_more}
-use Rattle.policy_names.specs.Uid.{uid_cmp_total, exact_uid}
+use Rattle.policy_values.specs.Uid.{uid_cmp_total, exact_uid}
 use Rattle.conformance.specs.StoreRules.{lacks_it}
 use Rattle.conformance.proofs.Lacking.{first_is_least, lacks_more, lacks_none}
 use Rattle.conformance.proofs.store.least_lacking.Goals as goal

@@ -1,7 +1,7 @@
 use Rattle.std.proofs.Common.{◌≡◌, true, take}
 use Rattle.std.specs.Option.{option_copied}
-use Rattle.hierarchy.specs.Least.{IsLeastIfAny}
-use Rattle.policy_names.specs.Uid.{uid_cmp}
+use Rattle.policy_values.specs.Least.{IsLeastIfAny}
+use Rattle.policy_values.specs.Uid.{uid_cmp}
 use Rattle.conformance.specs.StoreRules.{lacks}
 use Rattle.conformance.proofs.store.least_lacking.Given as goal
 

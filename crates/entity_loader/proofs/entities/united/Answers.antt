@@ -1,6 +1,6 @@
 use Rattle.std.proofs.Common.{◌∷◌, sym, subst, ap, ◌∙◌}
 use Rattle.std.specs.List.Sorted.{IsStrictlySortedBy}
-use Rattle.policy_names.specs.Uid.{uid_cmp}
+use Rattle.policy_values.specs.Uid.{uid_cmp}
 use Rattle.reads_spec.specs.Merge.{united}
 use Rattle.entity_loader.proofs.Steps.{united_more, united_end, later_ids}
 use Rattle.entity_loader.proofs.entities.united.Goals as goal

@@ -1,6 +1,6 @@
 use Rattle.std.proofs.Common.{ap, ◌∙◌, subst, cond}
 use Rattle.std.specs.BTreeMap.{get}
-use Rattle.policy_names.specs.Uid.{uid_cmp, uid_eq}
+use Rattle.policy_values.specs.Uid.{uid_cmp, uid_eq}
 use Rattle.entity_loader.specs.Kept.{kept_with, WhyNotKept}
 use Rattle.entity_loader.proofs.Steps.{kept_at}
 use Rattle.entity_loader.proofs.kept.keep.Goals as goal

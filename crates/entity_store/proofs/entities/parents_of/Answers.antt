@@ -1,7 +1,7 @@
 use Rattle.std.proofs.Common.{◌≡◌, ◌++◌, ◌∷◌, [], ◌+◌, take, drop, refl, sym, ◌∙◌}
 use Rattle.std.proofs.lemmas.List.{take_more, take-append-drop}
 use Rattle.std.proofs.lemmas.List.Elements.{same_from_all_zip}
-use Rattle.policy_names.specs.Uid.{copied_uid}
+use Rattle.policy_values.specs.Uid.{copied_uid}
 use Rattle.entity_store.specs.Linked.{links_of}
 use Rattle.entity_store.proofs.Placed.{placed_more}
 use Rattle.entity_store.proofs.entities.parents_of.Goals as goal

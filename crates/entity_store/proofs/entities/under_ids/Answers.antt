@@ -2,8 +2,8 @@ use Rattle.std.proofs.Common.{◌≡◌, ◌∙◌, [], sym, arith}
 use Rattle.std.specs.Vec.Iter.{into_iter_items}
 use Rattle.std.proofs.lemmas.List.{nil_from_length}
 use Rattle.std.proofs.lemmas.List.Elements.{All-from_recursion}
-use Rattle.hierarchy.proofs.Keyed.{value_found, keys_ascend}
-use Rattle.policy_names.specs.Uid.{uid_cmp}
+use Rattle.policy_values.proofs.Keyed.{value_found, keys_ascend}
+use Rattle.policy_values.specs.Uid.{uid_cmp}
 use Rattle.entity_store.proofs.Placed.{filled_more, all_filled}
 use Rattle.entity_store.proofs.entities.under_ids.Goals as goal
 

@@ -1,7 +1,7 @@
 use Rattle.std.proofs.Common.{◌++◌, ◌∷◌, [], ap, sym, ◌∙◌}
 use Rattle.std.specs.BTreeMap.{get}
 use Rattle.std.proofs.lemmas.List.{append_assoc}
-use Rattle.policy_names.specs.Uid.{uid_cmp}
+use Rattle.policy_values.specs.Uid.{uid_cmp}
 use Rattle.entity_store.proofs.Placed.{linked_more, linked_some, linked_none}
 use Rattle.entity_store.proofs.entities.with_ancestors.Goals as goal
 

@@ -1,7 +1,7 @@
 use Rattle.std.proofs.Common.{◌++◌, option_map, ap, subst, sym, ◌∙◌}
 use Rattle.std.specs.List.Sorted.{IsStrictlySortedBy}
 use Rattle.std.specs.Map.{keys_of}
-use Rattle.policy_names.specs.Uid.{text_cmp}
+use Rattle.policy_values.specs.Uid.{text_cmp}
 use Rattle.policy_values.proofs.MapSteps.{next-seam}
 use Rattle.json_expressions.specs.Nesting.{fields_within, within}
 use Rattle.json_values.proofs.Ascending.{field_more, keys_more}

@@ -1,7 +1,7 @@
 use Rattle.std.proofs.Common.{◌≡◌, ◌++◌, map}
 use Rattle.std.specs.Map.Iter.{deref}
 use Rattle.std.specs.Vec.Iter.{into_iter_items}
-use Rattle.policy_names.specs.declared.entity_uid.EntityUID.{EntityUID}
+use Rattle.policy_values.specs.declared.entity_uid.EntityUID.{EntityUID}
 use Rattle.level_spec.specs.Hops.{held_by}
 use Rattle.level_validate.proofs.held.held_by.Given as goal
 

@@ -2,8 +2,8 @@ use Rattle.std.proofs.Common.{map, sym, ap, ◌∙◌}
 use Rattle.std.specs.Map.Iter.{deref}
 use Rattle.std.proofs.lemmas.List.{map-append}
 use Rattle.std.proofs.lemmas.Bool.{not-false}
-use Rattle.policy_names.specs.declared.entity_uid.EntityUID.{EntityUID}
-use Rattle.policy_names.specs.Uid.{uid_cmp}
+use Rattle.policy_values.specs.declared.entity_uid.EntityUID.{EntityUID}
+use Rattle.policy_values.specs.Uid.{uid_cmp}
 use Rattle.std.specs.BTreeSet.{contains}
 use Rattle.level_validate.proofs.Growing.{new_added, old_added}
 use Rattle.level_validate.proofs.slice.add_fresh.Goals as goal

@@ -1,6 +1,6 @@
 use Rattle.std.proofs.Common.{◌≡◌, suc, ◌+◌, arith, subst, map, rules}
 use Rattle.std.specs.Map.Iter.{deref}
-use Rattle.policy_names.specs.declared.entity_uid.EntityUID.{EntityUID}
+use Rattle.policy_values.specs.declared.entity_uid.EntityUID.{EntityUID}
 use Rattle.level_spec.specs.Hops.{IsHop}
 use Rattle.level_validate.proofs.Hopping.{next_hop, left_last, left_early, none_left}
 use Rattle.level_validate.proofs.slice.reached_in.Goals as goal

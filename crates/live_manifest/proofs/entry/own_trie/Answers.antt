@@ -3,7 +3,7 @@ use Rattle.std.specs.Prelude.{option_to_list}
 use Rattle.access_tries.specs.Paths.{IsLeast}
 use Rattle.schema_core.specs.RequestEnvs.{env_data_of}
 use Rattle.reads_spec.specs.Reads.{declared_demands, declared_reads}
-use Rattle.typecheck_spec.specs.Check.{checked}
+use Rattle.typecheck_rules.specs.Check.{checked}
 use Rattle.policy_validate.specs.Found.{condition_in, found_conditions}
 use Rattle.policy_validate.proofs.Checks.{told_condition}
 use Rattle.live_manifest.proofs.Walking.{listed}

@@ -1,6 +1,6 @@
 use Rattle.std.proofs.Common.{Some, subst}
 use Rattle.std.specs.BTreeMap.{UpdatesBy}
-use Rattle.policy_names.specs.Uid.{text_cmp}
+use Rattle.policy_values.specs.Uid.{text_cmp}
 use Rattle.live_manifest.specs.Tries.{AreUnited}
 use Rattle.live_manifest.proofs.Adding.{adds}
 use Rattle.live_manifest.proofs.live.with_policy.Goals as goal

@@ -1,7 +1,7 @@
 use Rattle.std.proofs.Common.{drop}
 use Rattle.std.specs.BTreeMap.{get}
 use Rattle.std.specs.Vec.Iter.{into_iter_items}
-use Rattle.policy_names.specs.Uid.{uid_cmp}
+use Rattle.policy_values.specs.Uid.{uid_cmp}
 use Rattle.manifest_loading.specs.Answering.{AreUnderIds}
 use Rattle.manifest_loading.specs.KeptPart.{AreAlike}
 use Rattle.manifest_loading.proofs.MoreSteps.{IsAdding}

@@ -1,7 +1,7 @@
 use Rattle.std.proofs.Common.{◌≡◌, Some, sym, ap, ◌∙◌}
 use Rattle.std.specs.BTreeMap.{get}
 use Rattle.std.specs.Option.{option_copied}
-use Rattle.policy_names.specs.Uid.{uid_cmp}
+use Rattle.policy_values.specs.Uid.{uid_cmp}
 use Rattle.manifest_loading.proofs.AddSteps.{under_put, alike_put}
 use Rattle.manifest_loading.proofs.MoreSteps.{more_put, more_none}
 use Rattle.manifest_loading.proofs.ancestors.add_ancestors.Goals as goal

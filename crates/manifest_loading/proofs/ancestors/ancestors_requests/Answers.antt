@@ -1,7 +1,7 @@
 use Rattle.std.proofs.Common.{◌≡◌, ◌∙◌, subst, true}
 use Rattle.std.specs.Prelude.{◌↔◌}
 use Rattle.std.proofs.lemmas.List.{nil_from_length}
-use Rattle.policy_names.specs.declared.entity_uid.EntityUID.{EntityUID}
+use Rattle.policy_values.specs.declared.entity_uid.EntityUID.{EntityUID}
 use Rattle.trie_traversal.specs.Names.{IsNamed}
 use Rattle.manifest_loading.specs.Joining.{lists}
 use Rattle.manifest_loading.proofs.AddSteps.{id_skipped, id_taken}

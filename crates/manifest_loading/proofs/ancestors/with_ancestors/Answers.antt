@@ -1,6 +1,6 @@
 use Rattle.std.proofs.Common.{arith, sym, ◌∙◌}
 use Rattle.std.specs.BTreeMap.{get}
-use Rattle.policy_names.specs.Uid.{uid_cmp}
+use Rattle.policy_values.specs.Uid.{uid_cmp}
 use Rattle.manifest_loading.specs.Joining.{IsAskedFor}
 use Rattle.manifest_loading.proofs.MoreSteps.{joined, joined_none, none_counted}
 use Rattle.manifest_loading.proofs.ancestors.with_ancestors.Goals as goal

@@ -2,7 +2,7 @@ use Rattle.std.proofs.Common.{◌||◌, Some, arith, ap, ◌∙◌}
 use Rattle.std.specs.List.{list_any}
 use Rattle.std.specs.Vec.Iter.{into_iter_items}
 use Rattle.std.proofs.lemmas.List.{nil_from_length}
-use Rattle.policy_names.specs.Uid.{uid_eq}
+use Rattle.policy_values.specs.Uid.{uid_eq}
 use Rattle.policy_core.specs.Operators.{above}
 use Rattle.manifest_loading.specs.Joining.{lists}
 use Rattle.manifest_loading.proofs.MoreSteps.{tests_next, tests_done}

@@ -2,8 +2,8 @@ use Rattle.std.proofs.Common.{◌≡◌, ◌||◌, Some}
 use Rattle.std.specs.BTreeSet.{contains}
 use Rattle.std.specs.Vec.Iter.{into_iter_items}
 use Rattle.policy_core.specs.Operators.{above}
-use Rattle.policy_names.specs.declared.entity_uid.EntityUID.{EntityUID}
-use Rattle.policy_names.specs.Uid.{uid_cmp}
+use Rattle.policy_values.specs.declared.entity_uid.EntityUID.{EntityUID}
+use Rattle.policy_values.specs.Uid.{uid_cmp}
 use Rattle.manifest_loading.specs.Joining.{lists}
 use Rattle.manifest_loading.proofs.ancestors.with_more.Given as goal
 

@@ -1,7 +1,7 @@
 use Rattle.std.proofs.Common.{◌≡◌, length, arith, ◌∙◌}
 use Rattle.std.proofs.lemmas.Result.{IfOk-weaker, IfErr-weaker}
 use Rattle.std.specs.BTreeMap.{get}
-use Rattle.policy_names.specs.Uid.{uid_cmp}
+use Rattle.policy_values.specs.Uid.{uid_cmp}
 use Rattle.entity_loader.specs.Answers.{Fits}
 use Rattle.manifest_loading.proofs.AnswerSteps.{honest_all}
 use Rattle.manifest_loading.proofs.RoundSteps.{honest_zip, other_number, stray_cause, stray_right}

@@ -2,7 +2,7 @@ use Rattle.std.proofs.Common.{inr, [], sym, ap, ◌∙◌, subst, arith}
 use Rattle.std.proofs.lemmas.Result.{err_from_is_err_and}
 use Rattle.std.specs.BTreeMap.{get}
 use Rattle.std.specs.Option.{option_map}
-use Rattle.policy_names.specs.Uid.{uid_cmp}
+use Rattle.policy_values.specs.Uid.{uid_cmp}
 use Rattle.reads_spec.specs.Restrict.{part}
 use Rattle.manifest_loading.specs.Joining.{IsAskedFor, IsJoined}
 use Rattle.manifest_loading.specs.KeptPart.{IsState, IsBegun}

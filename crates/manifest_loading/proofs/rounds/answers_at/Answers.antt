@@ -1,6 +1,6 @@
 use Rattle.std.proofs.lemmas.Result.{IfOk-weaker}
 use Rattle.std.specs.BTreeMap.{get}
-use Rattle.policy_names.specs.Uid.{uid_cmp}
+use Rattle.policy_values.specs.Uid.{uid_cmp}
 use Rattle.manifest_loading.proofs.AskSteps.{are_answers}
 use Rattle.manifest_loading.proofs.rounds.answers_at.Goals as goal
 

@@ -3,7 +3,7 @@ use Rattle.std.proofs.lemmas.Bool.{false≢true}
 use Rattle.std.proofs.lemmas.List.{nil_from_length}
 use Rattle.std.proofs.lemmas.Result.{err_from_is_err_and}
 use Rattle.std.specs.BTreeMap.{get}
-use Rattle.policy_names.specs.Uid.{uid_cmp, uid_eq}
+use Rattle.policy_values.specs.Uid.{uid_cmp, uid_eq}
 use Rattle.trie_traversal.specs.Places.{node_of}
 use Rattle.trie_traversal.specs.Wants.{sees}
 use Rattle.manifest_loading.specs.KeptPart.{IsState}

@@ -1,7 +1,7 @@
 use Rattle.std.proofs.Common.{◌≡◌, ◌+◌, ◌-◌, ◌≤◌, ℕ, [], length}
 use Rattle.std.specs.BTreeMap.{get}
 use Rattle.std.specs.Prelude.{Some}
-use Rattle.policy_names.specs.Uid.{uid_cmp}
+use Rattle.policy_values.specs.Uid.{uid_cmp}
 use Rattle.entity_store.specs.Store.{Store}
 use Rattle.entity_store.specs.declared.request.Request.{Request}
 use Rattle.trie_traversal.specs.Begun.{PathsWithin}

@@ -1,6 +1,6 @@
 use Rattle.std.proofs.Common.{◌≡◌, ◌≤◌, max, map}
 use Rattle.std.specs.List.Sorted.{IsStrictlySortedBy}
-use Rattle.policy_names.specs.Uid.{text_cmp}
+use Rattle.policy_values.specs.Uid.{text_cmp}
 use Rattle.policy_expressions.specs.Tree.{deepest_named, named_of}
 use Rattle.policy_expressions.specs.Keys.{AreKeysOnce}
 use Rattle.policy_expressions.proofs.expr.deepest_of_named.Given as goal

@@ -1,7 +1,7 @@
 use Rattle.std.proofs.Common.{◌∙◌}
 use Rattle.std.proofs.lemmas.Bool.{OnTrue_at}
 use Rattle.std.specs.BTreeMap.{insert_entry}
-use Rattle.policy_names.specs.Uid.{text_cmp}
+use Rattle.policy_values.specs.Uid.{text_cmp}
 use Rattle.policy_review.proofs.Placing.{own_level}
 use Rattle.policy_review.proofs.Raising.{zero_greater}
 use Rattle.policy_review.proofs.matrix.add_static.Goals as goal

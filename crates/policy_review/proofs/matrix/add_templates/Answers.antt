@@ -1,6 +1,6 @@
 use Rattle.std.proofs.Common.{fold, sym, ap, ◌∙◌}
 use Rattle.std.specs.BTreeMap.{insert_entry}
-use Rattle.policy_names.specs.Uid.{text_cmp}
+use Rattle.policy_values.specs.Uid.{text_cmp}
 use Rattle.policy_review.specs.Found.{with_level}
 use Rattle.policy_review.proofs.matrix.add_templates.Goals as goal
 

@@ -1,6 +1,6 @@
 use Rattle.std.proofs.Common.{◌≡◌}
 use Rattle.std.specs.List.{list_any}
-use Rattle.policy_names.specs.Uid.{uid_eq}
+use Rattle.policy_values.specs.Uid.{uid_eq}
 use Rattle.policy_scope.specs.Met.{some_has}
 use Rattle.policy_scope.proofs.met.some_named_has.Given as goal
 

@@ -1,6 +1,6 @@
 use Rattle.std.proofs.Common.{◌||◌, sym, ap, ◌∙◌}
 use Rattle.std.specs.List.{list_any}
-use Rattle.policy_names.specs.Uid.{uid_eq}
+use Rattle.policy_values.specs.Uid.{uid_eq}
 use Rattle.schema_core.specs.Schema.{ActionData}
 use Rattle.policy_scope.specs.Met.{has_asked, some_has}
 use Rattle.policy_scope.proofs.MetSteps.{within_declared, within_undeclared}

@@ -1,7 +1,7 @@
 use Rattle.std.proofs.Common.{◌≡◌, List, [], ◌∷◌, Some, ◌∙◌}
 use Rattle.std.specs.Prelude.{slice_get, unwrap_or}
 use Rattle.std.specs.List.{list_all}
-use Rattle.policy_names.specs.declared.entity_uid.EntityUID.{EntityUID}
+use Rattle.policy_values.specs.declared.entity_uid.EntityUID.{EntityUID}
 use Rattle.schema_core.specs.Schema.{SchemaData}
 use Rattle.policy_scope.specs.PlainScope.{are_plain_actions, is_action_of}
 use Rattle.policy_scope.proofs.plain_scope.are_plain_actions.Goals as goal

@@ -1,7 +1,7 @@
 use Rattle.std.proofs.Common.{◌≡◌}
 use Rattle.std.specs.Prelude.{flat_map}
 use Rattle.std.specs.Vec.Iter.{into_iter_items}
-use Rattle.scope_typing.specs.Met.{body_check, met_envs, met_with}
+use Rattle.link_spec.specs.Met.{body_check, met_envs, met_with}
 use Rattle.policy_typecheck.specs.Pointed.{pointed}
 use Rattle.policy_typecheck.specs.Told.{all_told}
 use Rattle.policy_typecheck.proofs.bodies.check_bodies.Given as goal

@@ -1,7 +1,7 @@
 use Rattle.std.proofs.Common.{◌≡◌}
 use Rattle.std.specs.Prelude.{filter, flat_map}
 use Rattle.policy_scope.specs.Scope.{type_meets}
-use Rattle.scope_typing.specs.Met.{body_check, met_at, met_with}
+use Rattle.link_spec.specs.Met.{body_check, met_at, met_with}
 use Rattle.policy_typecheck.specs.Told.{all_told}
 use Rattle.policy_typecheck.proofs.bodies.check_of_action.Given as goal
 

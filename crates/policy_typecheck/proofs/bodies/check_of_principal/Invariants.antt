@@ -3,7 +3,7 @@ use Rattle.std.specs.Prelude.{filter}
 use Rattle.schema_core.specs.EnvData.{unlinked}
 use Rattle.schema_core.specs.Environments.{environment}
 use Rattle.policy_scope.specs.Scope.{type_meets}
-use Rattle.scope_typing.specs.Met.{body_check, met_at}
+use Rattle.link_spec.specs.Met.{body_check, met_at}
 use Rattle.policy_typecheck.specs.Told.{all_told}
 use Rattle.policy_typecheck.proofs.bodies.check_of_principal.Given as goal
 

@@ -1,6 +1,6 @@
 use Rattle.std.proofs.Common.{sym}
 use Rattle.std.proofs.lemmas.Result.{on_ok_weaker}
-use Rattle.policy_names.specs.Uid.{copied_uid}
+use Rattle.policy_values.specs.Uid.{copied_uid}
 use Rattle.policy_typecheck.proofs.MetActions.{within_action, within_other}
 use Rattle.policy_typecheck.proofs.met.add_within.Goals as goal
 

@@ -1,7 +1,7 @@
 use Rattle.std.proofs.Common.{◌≡◌, ◌++◌, drop}
 use Rattle.std.specs.Prelude.{filter}
-use Rattle.hierarchy.specs.Reaches.{has}
-use Rattle.policy_names.specs.Uid.{uid_cmp}
+use Rattle.policy_values.specs.Reaches.{has}
+use Rattle.policy_values.specs.Uid.{uid_cmp}
 use Rattle.schema_core.specs.Schema.{ActionData}
 use Rattle.policy_typecheck.specs.Pointed.{pointed}
 use Rattle.policy_typecheck.proofs.met.among.Given as goal

@@ -1,6 +1,6 @@
 use Rattle.std.proofs.Common.{◌≡◌, IfOk, filter, sym, ap, ◌∙◌, subst}
-use Rattle.hierarchy.specs.Reaches.{has}
-use Rattle.policy_names.specs.Uid.{uid_cmp}
+use Rattle.policy_values.specs.Reaches.{has}
+use Rattle.policy_values.specs.Uid.{uid_cmp}
 use Rattle.schema_core.specs.Schema.{ActionData}
 use Rattle.policy_typecheck.specs.Pointed.{pointed}
 use Rattle.policy_typecheck.proofs.MetActions.{listed_meet, none_meets}

@@ -1,7 +1,7 @@
 use Rattle.std.proofs.Common.{sym}
 use Rattle.std.specs.Cmp.Lexicographic.{nat_list_cmp_total}
 use Rattle.std.proofs.lemmas.Map.Lookups.{exact_bytes}
-use Rattle.schema_declarations.proofs.SameKeys.{has_answer}
+use Rattle.schema_core.proofs.SameKeys.{has_answer}
 use Rattle.policy_typecheck.proofs.slots.is_above.Goals as goal
 
 pub returns : goal.returns

@@ -1,6 +1,6 @@
 use Rattle.std.proofs.Common.{◌≡◌, drop}
-use Rattle.hierarchy.specs.Reaches.{has}
-use Rattle.policy_names.specs.Uid.{text_cmp}
+use Rattle.policy_values.specs.Reaches.{has}
+use Rattle.policy_values.specs.Uid.{text_cmp}
 use Rattle.policy_typecheck.specs.Pointed.{pointed}
 use Rattle.policy_typecheck.proofs.slots.is_among.Given as goal
 

@@ -1,6 +1,6 @@
 use Rattle.std.proofs.Common.{[], ◌∷◌}
-use Rattle.hierarchy.specs.Keyed.{has_key}
-use Rattle.policy_names.specs.Uid.{text_cmp}
+use Rattle.policy_values.specs.Keyed.{has_key}
+use Rattle.policy_values.specs.Uid.{text_cmp}
 use Rattle.policy_validate.proofs.AllWritten.{all_found}
 use Rattle.policy_validate.proofs.Checks.{conditions_same, IsReady}
 use Rattle.policy_validate.proofs.Shallow.{accepted_ready}

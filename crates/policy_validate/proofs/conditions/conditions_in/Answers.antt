@@ -1,5 +1,5 @@
 use Rattle.schema_core.specs.RequestEnvs.{env_data_of}
-use Rattle.typecheck_spec.specs.Check.{checked}
+use Rattle.typecheck_rules.specs.Check.{checked}
 use Rattle.policy_validate.specs.Found.{condition_told}
 use Rattle.policy_validate.proofs.Checks.{told_condition, condition_next}
 use Rattle.policy_validate.proofs.conditions.conditions_in.Goals as goal

@@ -2,7 +2,7 @@ use Rattle.std.proofs.Common.{◌∷◌, ◌++◌, arith, ap, ◌∙◌, subst, 
 use Rattle.std.specs.List.Sorted.{IsStrictlySortedBy}
 use Rattle.std.specs.Map.{keys_of}
 use Rattle.policy_values.specs.Value.{size_of, size_of_all, size_of_fields, vals_of, fields_of}
-use Rattle.policy_names.specs.Uid.{text_cmp}
+use Rattle.policy_values.specs.Uid.{text_cmp}
 use Rattle.policy_values.specs.Maps.{IsNext}
 use Rattle.policy_values.proofs.Sizes.{size_of-get_or, size_of-seam}
 use Rattle.policy_values.proofs.MapSteps.{next-seam, keys_of-append}

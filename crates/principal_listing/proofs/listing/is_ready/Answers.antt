@@ -1,4 +1,4 @@
-use Rattle.loaded_responses.proofs.OfStore.{store_ordered}
+use Rattle.entity_manifest.proofs.OfStore.{store_ordered}
 use Rattle.principal_listing.proofs.listing.is_ready.Goals as goal
 
 pub returns : goal.returns

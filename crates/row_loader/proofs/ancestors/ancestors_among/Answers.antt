@@ -1,7 +1,7 @@
 use Rattle.std.proofs.Common.{◌≡◌, ◌+◌, ◌∷◌, ◌++◌, [], List, take, true, false, ◌∙◌, refl, sym, ap, subst}
 use Rattle.std.specs.Prelude.{◌↔◌, IsTrue}
 use Rattle.std.proofs.lemmas.List.{take_all, take_more}
-use Rattle.policy_names.specs.declared.entity_uid.EntityUID.{EntityUID}
+use Rattle.policy_values.specs.declared.entity_uid.EntityUID.{EntityUID}
 use Rattle.table_loader.specs.State.{HasAncestor}
 use Rattle.row_loader.specs.Asking.{AreFound}
 use Rattle.row_loader.proofs.Loading.{at_ok, found_more, found_other}

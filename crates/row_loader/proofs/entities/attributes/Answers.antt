@@ -1,7 +1,7 @@
 use Rattle.std.proofs.Common.{List, ℕ, cond, None, ap, sym, ◌∙◌, subst}
 use Rattle.std.specs.BTreeMap.{get, is_at}
 use Rattle.std.specs.Map.{lookup}
-use Rattle.policy_names.specs.Uid.{text_cmp}
+use Rattle.policy_values.specs.Uid.{text_cmp}
 use Rattle.access_tries.specs.Views.{ViewData, children_of}
 use Rattle.table_loader.specs.State.{attribute_at}
 use Rattle.row_loader.proofs.Attributes.{IsTaking, asks_children, taking_start, taking_more}

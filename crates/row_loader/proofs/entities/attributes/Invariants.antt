@@ -1,7 +1,7 @@
 use Rattle.std.proofs.Common.{◌≡◌}
 use Rattle.std.specs.Prelude.{Some}
 use Rattle.std.specs.BTreeMap.{get}
-use Rattle.policy_names.specs.Uid.{text_cmp}
+use Rattle.policy_values.specs.Uid.{text_cmp}
 use Rattle.access_tries.specs.Views.{children_of}
 use Rattle.table_loader.specs.State.{RowsContinue, attribute_at}
 use Rattle.table_loader.specs.Tables.{Tables}

@@ -1,7 +1,7 @@
 use Rattle.std.proofs.Common.{arith}
 use Rattle.std.specs.BTreeMap.{get}
 use Rattle.plain_lemmas.proofs.Lists.{empty_of_length}
-use Rattle.policy_names.specs.Uid.{text_cmp}
+use Rattle.policy_values.specs.Uid.{text_cmp}
 use Rattle.entity_store.proofs.FieldsFound.{field_found}
 use Rattle.row_loader.proofs.Entries.{filling_more, filling_done}
 use Rattle.row_loader.proofs.entities.map_of.Goals as goal

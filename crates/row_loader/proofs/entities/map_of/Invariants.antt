@@ -1,6 +1,6 @@
 use Rattle.std.proofs.Common.{vec_len}
 use Rattle.std.specs.BTreeMap.{get}
-use Rattle.policy_names.specs.Uid.{text_cmp}
+use Rattle.policy_values.specs.Uid.{text_cmp}
 use Rattle.row_loader.proofs.Entries.{IsFilling}
 use Rattle.row_loader.proofs.entities.map_of.Given as goal
 

@@ -1,4 +1,4 @@
-use Rattle.schema_declarations.specs.Schema.{action_at}
+use Rattle.schema_core.specs.Schema.{action_at}
 use Rattle.schema_core.proofs.Held.{plain_context}
 use Rattle.schema_core.proofs.laws.schema_contexts_are_plain.Goals as goal
 

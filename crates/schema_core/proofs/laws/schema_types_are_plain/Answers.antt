@@ -1,4 +1,4 @@
-use Rattle.schema_declarations.specs.Schema.{type_at}
+use Rattle.schema_core.specs.Schema.{type_at}
 use Rattle.schema_core.proofs.Held.{plain_type}
 use Rattle.schema_core.proofs.laws.schema_types_are_plain.Goals as goal
 

@@ -1,6 +1,6 @@
 use Rattle.schema_core.specs.Environments.{environments_at}
 use Rattle.schema_core.specs.EnvData.{unlinked}
-use Rattle.schema_declarations.proofs.Lists.{moved_list}
+use Rattle.schema_core.proofs.Lists.{moved_list}
 use Rattle.schema_core.proofs.request_env.add_environments.Goals as goal
 
 pub loop-principal-preserved : goal.loop-principal-preserved

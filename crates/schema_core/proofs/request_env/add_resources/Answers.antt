@@ -2,7 +2,7 @@ use Rattle.std.proofs.lemmas.List.{map_push}
 use Rattle.schema_core.specs.Environments.{environment}
 use Rattle.schema_core.specs.EnvData.{unlinked}
 use Rattle.schema_core.specs.RequestEnvs.{env_data_of}
-use Rattle.schema_declarations.proofs.Lists.{moved}
+use Rattle.schema_core.proofs.Lists.{moved}
 use Rattle.schema_core.proofs.request_env.add_resources.Goals as goal
 
 pub loop-resource-preserved : goal.loop-resource-preserved

@@ -1,6 +1,6 @@
 use Rattle.std.proofs.Common.{◌≡◌, refl, sym, ap, ◌∙◌}
 use Rattle.std.specs.BTreeSet.{insert_key}
-use Rattle.policy_names.specs.Uid.{uid_cmp}
+use Rattle.policy_values.specs.Uid.{uid_cmp}
 use Rattle.store_slices.specs.Kept.{some_names}
 use Rattle.store_slices.proofs.PickSteps.{pick_more, pick_skip}
 use Rattle.store_slices.proofs.ancestors.ancestors_among.Goals as goal

@@ -3,7 +3,7 @@ use Rattle.std.specs.Prelude.{◌↔◌}
 use Rattle.std.specs.BTreeMap.{get}
 use Rattle.std.specs.BTreeSet.{contains}
 use Rattle.std.specs.Ordering.{nat_cmp}
-use Rattle.policy_names.specs.Uid.{uid_cmp}
+use Rattle.policy_values.specs.Uid.{uid_cmp}
 use Rattle.trie_traversal.specs.Names.{IsNamed}
 use Rattle.store_slices.proofs.PartSteps.{naming_start, naming_skip, naming_more, naming_done}
 use Rattle.store_slices.proofs.ancestors.named_at_places.Goals as goal

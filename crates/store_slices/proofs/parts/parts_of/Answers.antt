@@ -1,6 +1,6 @@
 use Rattle.std.proofs.Common.{◌≡◌, ◌∙◌, sym, Some, None}
 use Rattle.std.specs.BTreeMap.{get}
-use Rattle.policy_names.specs.Uid.{uid_cmp}
+use Rattle.policy_values.specs.Uid.{uid_cmp}
 use Rattle.reads_spec.specs.Restrict.{cut_entity}
 use Rattle.entity_loader.specs.Asked.{asked_by}
 use Rattle.store_slices.specs.Kept.{along_nodes}

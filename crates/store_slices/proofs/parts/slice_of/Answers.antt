@@ -1,7 +1,7 @@
 use Rattle.std.proofs.Common.{◌≡◌, ◌∙◌, sym, ap, Some, None}
 use Rattle.std.specs.Prelude.{filter}
 use Rattle.std.specs.BTreeMap.{get}
-use Rattle.policy_names.specs.Uid.{uid_cmp}
+use Rattle.policy_values.specs.Uid.{uid_cmp}
 use Rattle.reads_spec.specs.Restrict.{cut_entity}
 use Rattle.entity_loader.specs.Asked.{asked_by}
 use Rattle.store_slices.specs.Kept.{some_names, with_names}

@@ -1,7 +1,7 @@
 use Rattle.std.proofs.Common.{[], ◌≡◌, ◌⊎◌, ◌||◌, Bool, true, suc, inl, inr, sym, ap, ◌∙◌, subst, ◌+◌, ◌∷◌, drop, drop-cons, add-one}
 use Rattle.std.specs.List.{list_any}
 use Rattle.std.proofs.lemmas.Bool.{or_cases}
-use Rattle.policy_names.specs.declared.entity_uid.EntityUID.{EntityUID}
+use Rattle.policy_values.specs.declared.entity_uid.EntityUID.{EntityUID}
 use Rattle.access_tries.specs.Edges.{Address}
 use Rattle.access_tries.specs.Table.{links_at}
 use Rattle.access_tries.specs.Views.{view_leads}

@@ -1,6 +1,6 @@
 use Rattle.std.proofs.Common.{◌≡◌, ◌⊎◌, Bool, true, [], drop}
 use Rattle.std.specs.List.{list_any}
-use Rattle.policy_names.specs.declared.entity_uid.EntityUID.{EntityUID}
+use Rattle.policy_values.specs.declared.entity_uid.EntityUID.{EntityUID}
 use Rattle.access_tries.specs.Edges.{Address}
 use Rattle.trie_traversal.specs.Begun.{root_points, roots_point, IsFirst}
 use Rattle.trie_traversal.specs.Leads.{RootLeads}

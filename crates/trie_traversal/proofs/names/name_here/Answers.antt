@@ -1,6 +1,6 @@
 use Rattle.std.proofs.Common.{◌≡◌, true, [], sym, ◌∙◌}
 use Rattle.access_tries.specs.Views.{view_marks}
-use Rattle.policy_names.specs.Uid.{uid_eq}
+use Rattle.policy_values.specs.Uid.{uid_eq}
 use Rattle.trie_traversal.specs.Waiting.{Has}
 use Rattle.trie_traversal.proofs.NameSteps.{inserted, adds_same, both_known}
 use Rattle.trie_traversal.proofs.names.name_here.Goals as goal

@@ -1,6 +1,6 @@
 use Rattle.std.proofs.Common.{inl, inr, sym, ap, subst, refl}
 use Rattle.std.specs.BTreeMap.{get}
-use Rattle.policy_names.specs.Uid.{uid_cmp}
+use Rattle.policy_values.specs.Uid.{uid_cmp}
 use Rattle.reads_spec.proofs.Lists.{IsIn}
 use Rattle.trie_traversal.specs.Places.{IsBelow, node_of}
 use Rattle.trie_traversal.specs.Answered.{answer_points, answers_point, AnswerSticks, SomeAnswerSticks}

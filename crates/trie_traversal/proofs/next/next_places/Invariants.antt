@@ -1,6 +1,6 @@
 use Rattle.std.proofs.Common.{[]}
 use Rattle.std.specs.BTreeMap.{get}
-use Rattle.policy_names.specs.Uid.{uid_cmp}
+use Rattle.policy_values.specs.Uid.{uid_cmp}
 use Rattle.reads_spec.proofs.Lists.{IsIn}
 use Rattle.trie_traversal.specs.declared.place.Place.{Place}
 use Rattle.trie_traversal.specs.Places.{IsBelowSome}

@@ -1,14 +1,13 @@
 use Rattle.std.proofs.Common.{◌∷◌, ◌++◌, ap, ◌∙◌, subst, sym, arith, []}
 use Rattle.std.specs.List.Sorted.{IsStrictlySortedBy}
 use Rattle.std.specs.Map.{keys_of}
-use Rattle.policy_names.specs.Uid.{text_cmp}
+use Rattle.policy_values.specs.Uid.{text_cmp}
 use Rattle.policy_values.specs.Maps.{IsNext}
 use Rattle.schema_types.specs.Ty.{size_of_attrs}
 use Rattle.schema_types.specs.TyView.{attrs_of}
-use Rattle.type_relations.specs.Join.{join_attrs}
+use Rattle.type_relations.specs.Join.{join_attrs, shared}
 use Rattle.type_relations.proofs.JoinSteps.{join_turn, keys_turn}
 use Rattle.policy_values.proofs.MapSteps.{next-seam}
-use Rattle.type_relations.specs.Join.{shared}
 use Rattle.type_relations.proofs.Pending.{pending, pending_next}
 use Rattle.type_relations.proofs.MergeSteps.{merge_next, merge_less, merge_both, merge_over_left, merge_over_right}
 use Rattle.type_relations.proofs.join.+join.Goals as goal

@@ -3,7 +3,7 @@ use Rattle.std.specs.List.{slice_get}
 use Rattle.std.specs.Vec.Iter.{into_iter_items}
 use Rattle.std.proofs.lemmas.List.{map-append, append-nil}
 use Rattle.policy_expressions.specs.Tree.{trees_of}
-use Rattle.typecheck_spec.specs.Operators.{arguments_fitting}
+use Rattle.typecheck_rules.specs.Operators.{arguments_fitting}
 use Rattle.typecheck_operators.specs.Parts.{argument_walked}
 use Rattle.typecheck_operators.specs.Told.{walked_of, all_of}
 use Rattle.typecheck_operators.proofs.Arguments.{none_left, nothing_fits}

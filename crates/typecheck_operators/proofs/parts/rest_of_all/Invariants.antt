@@ -1,6 +1,6 @@
 use Rattle.std.proofs.Common.{◌≡◌, ◌++◌, length, map}
 use Rattle.std.specs.Vec.Iter.{into_iter_items, into_iter_len}
-use Rattle.typecheck_spec.specs.Walked.{tree_of, findings_of_all}
+use Rattle.typecheck_rules.specs.Walked.{tree_of, findings_of_all}
 use Rattle.typecheck_rules.specs.Found.{findings_from}
 use Rattle.typecheck_operators.specs.Told.{all_of}
 use Rattle.typecheck_operators.proofs.parts.rest_of_all.Given as goal

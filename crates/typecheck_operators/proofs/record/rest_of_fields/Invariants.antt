@@ -1,7 +1,7 @@
 use Rattle.std.proofs.Common.{◌≡◌, ◌++◌, map}
 use Rattle.std.specs.Map.{keys_of}
-use Rattle.typecheck_spec.specs.Walked.{findings_of_all}
-use Rattle.typecheck_spec.specs.Operators.{parts_of}
+use Rattle.typecheck_rules.specs.Walked.{findings_of_all}
+use Rattle.typecheck_rules.specs.Operators.{parts_of}
 use Rattle.typecheck_rules.specs.Found.{findings_from}
 use Rattle.typecheck_operators.specs.Parts.{trees_in_fields}
 use Rattle.typecheck_operators.specs.Told.{field_of}

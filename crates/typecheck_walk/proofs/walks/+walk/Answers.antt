@@ -1,16 +1,16 @@
 use Rattle.std.proofs.Common.{◌≡◌, IfOk, [], ◌∷◌, ◌++◌, sym, ap, ◌∙◌, subst}
 use Rattle.std.specs.List.Sorted.{IsStrictlySortedBy}
 use Rattle.std.specs.Map.{keys_of}
-use Rattle.policy_names.specs.Uid.{text_cmp}
+use Rattle.policy_values.specs.Uid.{text_cmp}
 use Rattle.policy_values.specs.Maps.{IsNext}
 use Rattle.policy_values.proofs.MapSteps.{next-seam}
-use Rattle.capabilities.specs.Capability.{has_cap}
+use Rattle.typing_spec.specs.Capability.{has_cap}
 use Rattle.typing_spec.specs.Typing.{tag_known}
 use Rattle.schema_core.specs.RequestEnvs.{env_data_of}
 use Rattle.policy_expressions.specs.Tree.{mark_of, ite, conj, disj, unary, binary, attr, has, like, is_type, call, set, rec, trees_of, named_of}
 use Rattle.policy_expressions.specs.TreeView.{tree_of}
-use Rattle.typecheck_spec.specs.Walk.{walked}
-use Rattle.typecheck_spec.specs.Operators.{attr_walked, has_walked, binary_walked, unary_walked, like_walked, is_walked, set_walked, record_walked, if_parts, reached_after, reached_besides}
+use Rattle.typecheck_rules.specs.Walk.{walked}
+use Rattle.typecheck_rules.specs.Operators.{attr_walked, has_walked, binary_walked, unary_walked, like_walked, is_walked, set_walked, record_walked, if_parts, reached_after, reached_besides}
 use Rattle.typecheck_operators.specs.Told.{mark, walked_of}
 use Rattle.typecheck_walk.proofs.Asks.{asks_tag}
 use Rattle.typecheck_walk.proofs.WalkSteps.{so_far_more, keys_more, depth_more}

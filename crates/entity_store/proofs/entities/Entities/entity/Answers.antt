@@ -1,6 +1,6 @@
 use Rattle.std.proofs.Common.{◌∙◌}
-use Rattle.hierarchy.proofs.Keyed.{value_found}
-use Rattle.policy_names.specs.Uid.{uid_cmp}
+use Rattle.policy_values.proofs.Keyed.{value_found}
+use Rattle.policy_values.specs.Uid.{uid_cmp}
 use Rattle.entity_store.proofs.entities.Entities.entity.Goals as goal
 
 pub returns : goal.returns

@@ -1,6 +1,6 @@
 use Rattle.std.proofs.Common.{◌∙◌}
 use Rattle.std.specs.BTreeMap.{get}
-use Rattle.policy_names.specs.Uid.{uid_cmp}
+use Rattle.policy_values.specs.Uid.{uid_cmp}
 use Rattle.entity_store.proofs.Linking.{least_own, store_made}
 use Rattle.entity_store.proofs.Placed.{ids_linked, linked_at}
 use Rattle.entity_store.proofs.entities.Entities.from_parents.Goals as goal

@@ -1,6 +1,6 @@
 use Rattle.std.proofs.lemmas.List.Elements.{All-from_recursion}
-use Rattle.hierarchy.proofs.Keyed.{keys_ascend}
-use Rattle.policy_names.specs.Uid.{uid_cmp}
+use Rattle.policy_values.proofs.Keyed.{keys_ascend}
+use Rattle.policy_values.specs.Uid.{uid_cmp}
 use Rattle.entity_store.proofs.entities.Entities.iter.Goals as goal
 
 pub returns-clause-ascending : goal.returns-clause-ascending

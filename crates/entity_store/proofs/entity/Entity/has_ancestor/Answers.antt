@@ -1,5 +1,5 @@
 use Rattle.std.proofs.lemmas.Map.Views.{btree_set_contains_iff}
-use Rattle.policy_names.specs.Uid.{uid_cmp_total, exact_uid}
+use Rattle.policy_values.specs.Uid.{uid_cmp_total, exact_uid}
 use Rattle.entity_store.proofs.entity.Entity.has_ancestor.Goals as goal
 
 pub returns : goal.returns

@@ -1,6 +1,6 @@
 use Rattle.std.proofs.Common.{◌∙◌, ap}
-use Rattle.policy_names.specs.Uid.{text_cmp}
-use Rattle.hierarchy.proofs.Keyed.{value_found}
+use Rattle.policy_values.specs.Uid.{text_cmp}
+use Rattle.policy_values.proofs.Keyed.{value_found}
 use Rattle.policy_set.specs.PolicySet.{policy_at}
 use Rattle.policy_set.proofs.policy_set.PolicySet.policy.Goals as goal
 

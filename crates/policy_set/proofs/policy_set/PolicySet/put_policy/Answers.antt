@@ -1,6 +1,6 @@
 use Rattle.std.proofs.Common.{◌≡◌, false, sym, subst, ap, ◌∙◌}
 use Rattle.std.specs.BTreeMap.{values, insert_entry}
-use Rattle.policy_names.specs.Uid.{text_cmp}
+use Rattle.policy_values.specs.Uid.{text_cmp}
 use Rattle.policy_set.specs.PolicySet.{PolicySetData, is_taken, with_policy, IsLinkedIn}
 use Rattle.policy_set.proofs.Sets.{put_values, policy_put}
 use Rattle.policy_set.proofs.policy_set.PolicySet.put_policy.Goals as goal

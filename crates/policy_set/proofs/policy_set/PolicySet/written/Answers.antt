@@ -2,7 +2,7 @@ use Rattle.std.proofs.Common.{map, sym, ap, ◌∙◌}
 use Rattle.std.specs.Prelude.{fold, filter}
 use Rattle.std.specs.BTreeMap.{values, insert_entry}
 use Rattle.std.specs.Map.Iter.{deref}
-use Rattle.policy_names.specs.Uid.{text_cmp}
+use Rattle.policy_values.specs.Uid.{text_cmp}
 use Rattle.policy_set.specs.Condition.{written_of}
 use Rattle.policy_set.specs.PolicySet.{placed, is_static}
 use Rattle.policy_set.proofs.Sets.{put_keys}

@@ -2,8 +2,8 @@ use Rattle.std.proofs.Common.{◌≡◌, [], map}
 use Rattle.std.specs.Prelude.{fold, filter}
 use Rattle.std.specs.BTreeMap.{values}
 use Rattle.std.specs.Map.Iter.{deref}
-use Rattle.hierarchy.specs.Keyed.{AreAtTheirKeys}
-use Rattle.policy_names.specs.Uid.{text_cmp}
+use Rattle.policy_values.specs.Keyed.{AreAtTheirKeys}
+use Rattle.policy_values.specs.Uid.{text_cmp}
 use Rattle.policy_set.specs.Condition.{written_of}
 use Rattle.policy_set.specs.PolicySet.{placed, is_static, written}
 use Rattle.policy_set.proofs.policy_set.PolicySet.written.Given as goal

@@ -1,7 +1,7 @@
 use Rattle.std.proofs.Common.{map, sym, ap, ◌∙◌, subst}
 use Rattle.std.specs.Vec.Iter.{into_iter_items}
 use Rattle.schema_core.specs.RequestEnvs.{env_data_of}
-use Rattle.typecheck_spec.specs.Check.{checked}
+use Rattle.typecheck_rules.specs.Check.{checked}
 use Rattle.typecheck_walk.specs.Answer.{Tells}
 use Rattle.policy_typecheck.specs.Told.{Told, all_told, condition_check}
 use Rattle.policy_typecheck.proofs.Told.{same_told}

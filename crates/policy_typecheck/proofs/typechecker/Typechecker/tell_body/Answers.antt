@@ -1,7 +1,7 @@
 use Rattle.std.proofs.Common.{◌≡◌, OnOk, subst}
 use Rattle.schema_core.specs.RequestEnvs.{env_data_of}
-use Rattle.typecheck_spec.specs.Check.{check_walked, condition_walked}
-use Rattle.scope_typing.specs.Met.{body_check}
+use Rattle.typecheck_rules.specs.Check.{check_walked, condition_walked}
+use Rattle.link_spec.specs.Met.{body_check}
 use Rattle.typecheck_walk.specs.Answer.{Tells}
 use Rattle.policy_typecheck.specs.Told.{Told}
 use Rattle.policy_typecheck.proofs.Told.{same_told}

@@ -1,6 +1,6 @@
 use Rattle.std.proofs.Common.{IfOk, subst}
 use Rattle.schema_core.specs.RequestEnvs.{env_data_of}
-use Rattle.typecheck_spec.specs.Check.{checked}
+use Rattle.typecheck_rules.specs.Check.{checked}
 use Rattle.typecheck_walk.specs.Answer.{Tells}
 use Rattle.policy_typecheck.proofs.typechecker.Typechecker.typecheck_by_single_request_env.Goals as goal
 

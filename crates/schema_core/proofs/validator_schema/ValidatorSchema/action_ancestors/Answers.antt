@@ -1,10 +1,10 @@
 use Rattle.std.proofs.Common.{◌≡◌, ◌∙◌, ap}
 use Rattle.std.specs.Ordering.{is_eq}
 use Rattle.std.proofs.lemmas.List.{take_all}
-use Rattle.hierarchy.specs.Reaches.{has}
-use Rattle.policy_names.specs.Uid.{uid_cmp, uid_cmp_total, exact_uid, copied_uid}
-use Rattle.schema_declarations.specs.Schema.{SchemaData}
-use Rattle.schema_declarations.proofs.SameKeys.{has_answer}
+use Rattle.policy_values.specs.Reaches.{has}
+use Rattle.policy_values.specs.Uid.{uid_cmp, uid_cmp_total, exact_uid, copied_uid}
+use Rattle.schema_core.specs.Schema.{SchemaData}
+use Rattle.schema_core.proofs.SameKeys.{has_answer}
 use Rattle.schema_core.proofs.Queries.{ancestors_more, ancestors_all, added, not_added}
 use Rattle.schema_core.proofs.validator_schema.ValidatorSchema.action_ancestors.Goals as goal
 use Rattle.schema_core.proofs.validator_schema.ValidatorSchema.action_ancestors.Goals.{then-has_descendant+in_ok-clone+in_ok-insert, else-has_descendant}

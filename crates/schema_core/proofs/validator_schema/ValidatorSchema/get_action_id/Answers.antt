@@ -1,5 +1,5 @@
 use Rattle.std.proofs.Common.{◌<◌, length, Some, rules, sym, ◌∙◌, ap}
-use Rattle.policy_names.specs.Uid.{uid_cmp, uid_cmp_total, exact_uid}
+use Rattle.policy_values.specs.Uid.{uid_cmp, uid_cmp_total, exact_uid}
 use Rattle.std.proofs.lemmas.Fn.{always_returns_same}
 use Rattle.schema_core.proofs.Found.{found_here, found_nowhere, answers_rise}
 use Rattle.schema_core.proofs.validator_schema.ValidatorSchema.get_action_id.Goals as goal

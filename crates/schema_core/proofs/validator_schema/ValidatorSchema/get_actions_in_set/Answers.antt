@@ -1,6 +1,6 @@
 use Rattle.std.proofs.Common.{sym}
 use Rattle.std.proofs.lemmas.List.{take_all}
-use Rattle.policy_names.specs.Uid.{copied_uid}
+use Rattle.policy_values.specs.Uid.{copied_uid}
 use Rattle.schema_core.proofs.Queries.{actions_more, actions_all}
 use Rattle.schema_core.proofs.validator_schema.ValidatorSchema.get_actions_in_set.Goals as goal
 

@@ -1,7 +1,7 @@
 use Rattle.std.proofs.Common.{◌<◌, length, Some, rules, sym, ◌∙◌, ap}
 use Rattle.std.specs.Cmp.Lexicographic.{nat_list_cmp_total}
 use Rattle.std.proofs.lemmas.Map.Lookups.{exact_bytes}
-use Rattle.policy_names.specs.Uid.{text_cmp}
+use Rattle.policy_values.specs.Uid.{text_cmp}
 use Rattle.std.proofs.lemmas.Fn.{always_returns_same}
 use Rattle.schema_core.proofs.Found.{found_here, found_nowhere, answers_rise}
 use Rattle.schema_core.proofs.validator_schema.ValidatorSchema.get_entity_type.Goals as goal

@@ -1,8 +1,8 @@
 use Rattle.std.proofs.Common.{◌≡◌, ◌∙◌, ap}
 use Rattle.std.proofs.lemmas.List.{take_all}
-use Rattle.schema_declarations.specs.Schema.{SchemaData}
+use Rattle.schema_core.specs.Schema.{SchemaData}
 use Rattle.schema_core.specs.EnvData.{unlinked_of}
-use Rattle.schema_declarations.proofs.Lists.{flat_mapped_next}
+use Rattle.schema_core.proofs.Lists.{flat_mapped_next}
 use Rattle.schema_core.proofs.validator_schema.ValidatorSchema.unlinked_request_envs.Goals as goal
 
 pub loop-action-preserved : goal.loop-action-preserved

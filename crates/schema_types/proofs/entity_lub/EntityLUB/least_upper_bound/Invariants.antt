@@ -1,6 +1,6 @@
 use Rattle.std.proofs.Common.{◌≡◌}
 use Rattle.std.specs.BTreeSet.{IsOrdered}
-use Rattle.policy_names.specs.Uid.{text_cmp}
+use Rattle.policy_values.specs.Uid.{text_cmp}
 use Rattle.schema_types.specs.Names.{union}
 use Rattle.schema_types.proofs.entity_lub.EntityLUB.least_upper_bound.Given as goal
 

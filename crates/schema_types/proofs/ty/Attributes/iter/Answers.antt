@@ -1,6 +1,6 @@
 use Rattle.std.proofs.Common.{subst}
 use Rattle.std.specs.List.Sorted.{IsStrictlySortedBy}
-use Rattle.policy_names.specs.Uid.{text_cmp}
+use Rattle.policy_values.specs.Uid.{text_cmp}
 use Rattle.schema_types.specs.Ty.{keys_in}
 use Rattle.schema_types.proofs.AttrSteps.{keys_of_attrs}
 use Rattle.schema_types.proofs.ty.Attributes.iter.Goals as goal

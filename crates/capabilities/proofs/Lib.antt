@@ -1,2 +1,0 @@
-pub mod HoldSteps
-pub mod PartSteps

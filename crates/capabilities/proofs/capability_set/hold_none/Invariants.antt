@@ -1,7 +1,0 @@
-use Rattle.std.proofs.Common.{◌≡◌, drop}
-use Rattle.capabilities.specs.Capability.{is_nothing, together}
-use Rattle.capabilities.proofs.capability_set.hold_none.Given as goal
-
--- what is left decides
-abbrev pub invariant-loop-part : goal.invariant-loop-part
-invariant-loop-part l = is_nothing (together (drop l.part-index l.parts.items)) ≡ is_nothing (together l.parts.items)

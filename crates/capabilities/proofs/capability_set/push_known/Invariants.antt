@@ -1,6 +1,0 @@
-use Rattle.std.proofs.Common.{◌≡◌, ◌++◌, take}
-use Rattle.capabilities.specs.Capability.{common}
-use Rattle.capabilities.proofs.capability_set.push_known.Given as goal
-
-abbrev pub invariant-loop-k : goal.invariant-loop-k
-invariant-loop-k l = l.items.items ≡ l.initial.items.items ++ common (take l.k-index l.others.items) l.known

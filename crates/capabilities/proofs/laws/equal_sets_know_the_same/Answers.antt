@@ -1,5 +1,0 @@
-use Rattle.capabilities.specs.CapabilityLaws.{same_known_decides}
-use Rattle.capabilities.proofs.laws.equal_sets_know_the_same.Goals as goal
-
-pub returns : goal.returns
-returns c = same_known_decides

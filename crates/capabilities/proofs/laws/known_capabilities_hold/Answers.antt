@@ -1,5 +1,0 @@
-use Rattle.capabilities.proofs.HoldSteps.{known_holds, all_hold}
-use Rattle.capabilities.proofs.laws.known_capabilities_hold.Goals as goal
-
-pub returns : goal.returns
-returns c = λ q s cs. (λ h k e. known_holds q s cs k h e, all_hold q s cs)

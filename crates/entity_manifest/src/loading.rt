@@ -1,0 +1,102 @@
+//! Loading what a request reads by the manifest that is computed of policies.
+
+ghost use Rattle.std.specs.Prelude.{◌≡◌, ◌≢◌, true, IfOk, IfErr};
+ghost use Rattle.entity_loader.specs.State.{Continues};
+ghost use Rattle.entity_store.specs.Request.{IsWhole};
+ghost use Rattle.typing_spec.specs.Conforms.{RequestConforms, StoreConforms};
+ghost use Rattle.policy_validate.specs.Accepted.{IsAccepted};
+ghost use Rattle.reads_spec.specs.Cover.{IsPartOf};
+ghost use Rattle.manifest_computation.specs.Slice.{slice};
+ghost use Rattle.manifest_computation.specs.Computed.{IsManifestOf};
+ghost use Rattle.manifest_loading.specs.declared.error.EntitySliceError.TheVariants.{OutOfMemory};
+ghost use Rattle.entity_manifest.specs.Loaded.{OfToldStores, AreDecidedAlike, IsFaultOrMemory, WhyNotLoaded};
+
+use crate::loading_laws::{loaded_is_enough, refusals_are_faults};
+use entity_loader::{EntityLoader, EntitySlicer};
+use entity_store::{Entities, Request};
+use manifest_core::EntityManifest;
+use manifest_loading::{EntitySliceError, Steps, load_entities};
+use policy_set::PolicySet;
+use policy_set::laws::{have_keys_once, is_policy_set};
+use schema_core::ValidatorSchema;
+use std::alloc::Global;
+use std::sync::ledger::Ledger;
+use store_order::{entities_are_ordered, request_is_ordered};
+
+/// What a request reads, as a loader gives it, by the manifest of accepted policies.
+///
+/// Where the loader tells a store that conforms, what is loaded has at least the slice of that store and at most the store;
+/// each policy has on it the outcome that it has on the whole store, and the response is the same. A loader that answers
+/// just what is asked gives the slice.
+///
+/// Errs with `LoaderFault` only where a call of the loader failed, and with `OutOfMemory` where memory runs out. A loader
+/// that tells such a store is refused for nothing else: `IncompatibleEntityManifest` comes where its store does not conform,
+/// and the others where it tells no store.
+pub fn load_for_request<D: EntityLoader, L: Ledger>(
+    alloc: Global,
+    schema: &ValidatorSchema,
+    policies: &PolicySet,
+    manifest: &EntityManifest,
+    request: &Request,
+    loader: &mut D,
+    steps: &mut Steps<L>,
+) -> Result<Entities, EntitySliceError>
+    requires accepted { IsAccepted schema.now policies.now }
+    requires manifest { IsManifestOf schema.now policies.now.policies manifest.now }
+    requires whole { IsWhole request.now }
+    requires conforms { RequestConforms schema.now request.now }
+    ensures enough { OfToldStores schema.now (D.state loader.old) (λ w.
+        IfOk result (λ s. IsPartOf (slice schema.now policies.now.policies request.now w) s)) }
+    ensures part { OfToldStores schema.now (D.state loader.old) (λ w. IfOk result (λ s. IsPartOf s w)) }
+    ensures exact { (D.state loader.old).exact ≡ true → OfToldStores schema.now (D.state loader.old) (λ w.
+        IfOk result (λ s. s ≡ slice schema.now policies.now.policies request.now w)) }
+    ensures decided { OfToldStores schema.now (D.state loader.old) (λ w.
+        IfOk result (λ s. AreDecidedAlike policies.now.policies request.now s w)) }
+    ensures honest { OfToldStores schema.now (D.state loader.old) (λ w.
+        IfErr result (IsFaultOrMemory (D.state loader.old) (D.state loader.new))) }
+    ensures cause { IfErr result (λ e. e ≢ OutOfMemory →
+        WhyNotLoaded schema.now (D.state loader.old) (D.state loader.new) e) }
+    ensures goes_on { Continues (D.state loader.old) (D.state loader.new) }
+{
+    loaded_is_enough();
+    refusals_are_faults();
+    have_keys_once(policies);
+    is_policy_set(policies);
+    // for the proof: the names of a schema's actions ascend, and so do a context's keys
+    let _actions = schema.action_ids();
+    request_is_ordered(request);
+    load_entities(alloc, manifest, request, loader, steps)
+}
+
+/// The slice of a store that conforms, by the manifest of accepted policies. Errs only where memory runs out.
+pub fn load_slice<L: Ledger>(
+    alloc: Global,
+    schema: &ValidatorSchema,
+    policies: &PolicySet,
+    manifest: &EntityManifest,
+    request: &Request,
+    entities: &Entities,
+    steps: &mut Steps<L>,
+) -> Result<Entities, EntitySliceError>
+    requires accepted { IsAccepted schema.now policies.now }
+    requires manifest { IsManifestOf schema.now policies.now.policies manifest.now }
+    requires whole { IsWhole request.now }
+    requires conforms { RequestConforms schema.now request.now }
+    requires store { StoreConforms schema.now entities.now }
+    ensures slice { IfOk result (λ s. s ≡ slice schema.now policies.now.policies request.now entities.now) }
+    ensures memory { IfErr result (λ e. e ≡ OutOfMemory) }
+{
+    entities_are_ordered(entities);
+    // for the proof: the ids of a store ascend
+    let _entities = entities.iter();
+    let mut loader = EntitySlicer::new(entities);
+    load_for_request(
+        alloc,
+        schema,
+        policies,
+        manifest,
+        request,
+        &mut loader,
+        steps,
+    )
+}

@@ -1,4 +1,0 @@
-pub mod ByName
-pub mod OneText
-pub mod Table
-pub mod Words

@@ -1,5 +1,0 @@
-pub mod ClosureSteps
-pub mod Keyed
-pub mod Least
-pub mod Reaches
-pub mod Repeated

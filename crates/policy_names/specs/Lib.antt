@@ -1,4 +1,0 @@
-pub mod Basename
-pub mod Name
-pub mod Show
-pub mod Uid

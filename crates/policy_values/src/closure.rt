@@ -1,0 +1,99 @@
+// What is reached from each key, where keys with the same steps share one set.
+ghost use Rattle.std.specs.Prelude.{◌≡◌, ◌↔◌, ◌⊎◌, [], Some, Contains, IfOk, IfSome, OnOk};
+ghost use Rattle.std.specs.Option.{option_copied};
+ghost use Rattle.std.specs.BTreeMap as tree;
+ghost use Rattle.std.specs.BTreeSet.{IsOrdered};
+ghost use Rattle.policy_values.specs.Reaches.{Reaches, Leads, IsClosure};
+ghost use Rattle.policy_values.specs.ClosureSteps.{AreWhole, AreReached, IsAtOneOf};
+
+use crate::reach::reached_from;
+use crate::{Key, SharedSet};
+use std::alloc::{AllocError, Global};
+use std::collections::{BTreeMap, BTreeSet};
+
+/// The keys to which one step leads, of each key that has such.
+pub type Steps<K> = BTreeMap<K, BTreeSet<K>>;
+
+/// The same, in sets that keys may share.
+pub type SharedSteps<K> = BTreeMap<K, SharedSet<K>>;
+
+/// The steps, with each key that is reached by one or more of them as one step. Keys with the same steps share a set.
+pub fn closure_of<K: Key>(alloc: Global, steps: &Steps<K>) -> Result<SharedSteps<K>, AllocError>
+    ensures { IfOk result (λ closed. IsClosure K.cmp steps.now.entries closed.entries) }
+{
+    let mut closed = BTreeMap::new(alloc);
+    let mut known = BTreeMap::new(alloc);
+    for (key, next) in steps {
+        let reached = reached_once(alloc, steps, &closed, &mut known, key, next)?;
+        closed.insert(key.clone()?, reached)?;
+    }
+    Ok(closed)
+}
+
+// What is reached from the key: it is known where a key with the same steps came before.
+fn reached_once<K: Key>(
+    alloc: Global,
+    steps: &Steps<K>,
+    closed: &SharedSteps<K>,
+    known: &mut BTreeMap<BTreeSet<K>, SharedSet<K>>,
+    key: &K,
+    next: &BTreeSet<K>,
+) -> Result<SharedSet<K>, AllocError>
+    requires closed { AreWhole K.cmp steps.now.entries closed.now.entries }
+    requires known { AreReached K.cmp steps.now.entries known.old.entries }
+    requires here { tree.get K.cmp steps.now key.now ≡ Some next.now }
+    ensures reached { IfOk result (λ reached. (y : K) → Contains reached.keys y ↔ Reaches (Leads K.cmp steps.now.entries) key.now y) }
+    ensures ordered { IfOk result (IsOrdered K.cmp) }
+    ensures known { OnOk result (AreReached K.cmp steps.now.entries known.new.entries) }
+{
+    if let Some(reached) = known.get(next) {
+        return reached.try_clone();
+    }
+    let start = largest_copied(alloc, closed, next)?;
+    let reached = SharedSet::new(alloc, reached_from(alloc, steps, key, start)?)?;
+    known.insert(next.clone()?, reached.try_clone()?)?;
+    Ok(reached)
+}
+
+// A copy of the largest set that stands at a key of the other; empty where none does.
+fn largest_copied<K: Key>(
+    alloc: Global,
+    closed: &SharedSteps<K>,
+    keys: &BTreeSet<K>,
+) -> Result<BTreeSet<K>, AllocError>
+    ensures { IfOk result (λ set. (set.keys ≡ []) ⊎ IsAtOneOf K.cmp closed.now.entries keys.now.keys set) }
+{
+    match largest_of(closed, keys) {
+        Some(set) => set.as_set().clone(),
+        None => Ok(BTreeSet::new(alloc)),
+    }
+}
+
+// The largest set that stands at a key of the other.
+fn largest_of<'a, K: Key>(
+    closed: &'a SharedSteps<K>,
+    keys: &BTreeSet<K>,
+) -> Option<&'a SharedSet<K>>
+    ensures { IfSome (option_copied result) (IsAtOneOf K.cmp closed.now.entries keys.now.keys) }
+{
+    let mut largest = None;
+    for key in keys {
+        if let Some(set) = closed.get(key) {
+            largest = larger(largest, set);
+        }
+    }
+    largest
+}
+
+// The larger of two sets.
+fn larger<'a, K: Key>(
+    one: Option<&'a SharedSet<K>>,
+    other: &'a SharedSet<K>,
+) -> Option<&'a SharedSet<K>>
+    ensures { (option_copied result ≡ option_copied one.entry) ⊎ (option_copied result ≡ Some other.now) }
+{
+    match one {
+        Some(set) if other.as_set().len() < set.as_set().len() => one,
+        _ => Some(other),
+    }
+}

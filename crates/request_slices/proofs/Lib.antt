@@ -1,4 +1,0 @@
-mod Memory
-mod Typed
-pub mod Same
-mod Covering

@@ -1,5 +1,0 @@
-use Rattle.request_slices.proofs.Covering.{enough}
-use Rattle.request_slices.proofs.laws.slices_are_enough.Goals as goal
-
-pub returns : goal.returns
-returns c = enough c.policies_are_covered.ensures c.typed_everywhere.ensures c.accepted_are_typed.ensures c.accepted_are_sound.ensures

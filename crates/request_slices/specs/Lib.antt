@@ -1,5 +1,0 @@
-pub mod Slice
-pub mod Rules
-pub mod Enough
-pub mod Refused
-pub mod CheckSteps

@@ -1,0 +1,7 @@
+use Rattle.std.specs.Cmp.Lexicographic.{nat_list_cmp_total}
+use Rattle.std.proofs.lemmas.Map.Lookups.{exact_bytes}
+use Rattle.std.proofs.lemmas.Map.Views.{btree_set_contains_iff}
+use Rattle.schema_core.proofs.entity_type.ValidatorEntityType.has_descendant.Goals as goal
+
+pub returns : goal.returns
+returns c = rw (c.contains.ensures, ← c.self.view_is) (btree_set_contains_iff nat_list_cmp_total exact_bytes c.self.inside.descendants c.args.name.now)

@@ -1,0 +1,7 @@
+use Rattle.std.specs.Vec.Iter.{into_iter_items}
+use Rattle.schema_core.specs.Schema.{TypeData}
+use Rattle.schema_core.proofs.Actions.{AreTyped}
+use Rattle.schema_core.proofs.listing.listed_types.Given as goal
+
+abbrev pub invariant-loop-entity_type : goal.invariant-loop-entity_type
+invariant-loop-entity_type l = AreTyped (λ (t : TypeData). t.name) (λ t. t.descendants) (λ t. t.kind) l.fn.entity_types.items (into_iter_items l.entity_type-iterator) l.listing

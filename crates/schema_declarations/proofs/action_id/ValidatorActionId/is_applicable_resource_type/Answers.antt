@@ -1,7 +1,0 @@
-use Rattle.std.specs.Cmp.Lexicographic.{nat_list_cmp_total}
-use Rattle.std.proofs.lemmas.Map.Lookups.{exact_bytes}
-use Rattle.std.proofs.lemmas.Map.Views.{btree_set_contains_iff}
-use Rattle.schema_declarations.proofs.action_id.ValidatorActionId.is_applicable_resource_type.Goals as goal
-
-pub returns : goal.returns
-returns c = rw (c.contains.ensures, ← c.self.view_is) (btree_set_contains_iff nat_list_cmp_total exact_bytes c.self.inside.resources c.args.name.now)

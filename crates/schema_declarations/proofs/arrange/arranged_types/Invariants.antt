@@ -1,6 +1,0 @@
-use Rattle.std.proofs.Common.{◌≡◌, ◌++◌, map}
-use Rattle.schema_declarations.specs.Arranged.{arranged_type}
-use Rattle.schema_declarations.proofs.arrange.arranged_types.Given as goal
-
-abbrev pub invariant-loop-name : goal.invariant-loop-name
-invariant-loop-name l = l.list.items ++ map (arranged_type l.types.entries) l.name-iterator ≡ map (arranged_type l.types.entries) l.fn.kinds.entries

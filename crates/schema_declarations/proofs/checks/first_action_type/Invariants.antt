@@ -1,8 +1,0 @@
-use Rattle.hierarchy.proofs.Least.{IsRest}
-use Rattle.policy_names.specs.Uid.{text_cmp}
-use Rattle.schema_declarations.specs.Outline.{IsDeclaredActionType}
-use Rattle.schema_declarations.specs.Listing.{listed_outline}
-use Rattle.schema_declarations.proofs.checks.first_action_type.Given as goal
-
-abbrev pub invariant-loop-name : goal.invariant-loop-name
-invariant-loop-name l = IsRest text_cmp (IsDeclaredActionType (listed_outline l.listing)) l.name-iterator

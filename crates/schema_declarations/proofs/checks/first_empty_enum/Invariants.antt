@@ -1,7 +1,0 @@
-use Rattle.std.proofs.Common.{◌≡◌}
-use Rattle.schema_declarations.proofs.Entries.{first_key}
-use Rattle.schema_declarations.proofs.InListing.{is_empty}
-use Rattle.schema_declarations.proofs.checks.first_empty_enum.Given as goal
-
-abbrev pub invariant-loop-name : goal.invariant-loop-name
-invariant-loop-name l = first_key is_empty l.name-iterator ≡ first_key is_empty l.listing.kinds.entries

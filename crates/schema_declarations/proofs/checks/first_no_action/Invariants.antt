@@ -1,8 +1,0 @@
-use Rattle.hierarchy.proofs.Least.{IsRest}
-use Rattle.policy_names.specs.Uid.{uid_cmp}
-use Rattle.schema_declarations.specs.Outline.{IsNoAction}
-use Rattle.schema_declarations.specs.Listing.{listed_outline}
-use Rattle.schema_declarations.proofs.checks.first_no_action.Given as goal
-
-abbrev pub invariant-loop-uid : goal.invariant-loop-uid
-invariant-loop-uid l = IsRest uid_cmp (IsNoAction (listed_outline l.listing)) l.uid-iterator

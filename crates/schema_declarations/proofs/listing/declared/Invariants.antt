@@ -1,7 +1,0 @@
-use Rattle.std.specs.Vec.Iter.{into_iter_items}
-use Rattle.schema_declarations.specs.Entries.{ActionEntry}
-use Rattle.schema_declarations.proofs.Actions.{AreMapped}
-use Rattle.schema_declarations.proofs.listing.declared.Given as goal
-
-abbrev pub invariant-loop-action : goal.invariant-loop-action
-invariant-loop-action l = AreMapped (λ (a : ActionEntry). a.id) (λ a. a.principals) (λ a. a.resources) (λ a. a.member_of) (λ a. a.context) l.fn.declarations.actions (into_iter_items l.action-iterator) l.initial.listing l.listing

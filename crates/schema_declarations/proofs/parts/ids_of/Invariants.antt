@@ -1,5 +1,0 @@
-use Rattle.std.proofs.Common.{◌≡◌, map, take}
-use Rattle.schema_declarations.proofs.parts.ids_of.Given as goal
-
-abbrev pub invariant-loop-action : goal.invariant-loop-action
-invariant-loop-action l = l.ids.items ≡ map (λ a. a.name) (take l.action-index l.action_ids)

@@ -1,4 +1,0 @@
-pub mod Parts
-pub mod Behind
-pub mod Laws
-pub mod Met

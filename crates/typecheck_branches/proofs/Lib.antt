@@ -1,2 +1,0 @@
-mod BranchLaws
-mod SideLaws

@@ -1,5 +1,0 @@
-use Rattle.typecheck_spec.proofs.Checks.{check_exact}
-use Rattle.typecheck_spec.proofs.laws.check_is_exact.Goals as goal
-
-pub returns : goal.returns
-returns c = check_exact

@@ -1,5 +1,0 @@
-use Rattle.typecheck_spec.proofs.Truths.{findings_true}
-use Rattle.typecheck_spec.proofs.laws.findings_are_true.Goals as goal
-
-pub returns : goal.returns
-returns c = findings_true

@@ -1,5 +1,0 @@
-use Rattle.typecheck_spec.proofs.Agree.{walk_exact}
-use Rattle.typecheck_spec.proofs.laws.walk_is_exact.Goals as goal
-
-pub returns : goal.returns
-returns c = walk_exact

@@ -1,0 +1,180 @@
+//! `||`.
+
+ghost use Rattle.std.specs.Prelude.{◌≡◌, IfOk, Some, None};
+ghost use Rattle.policy_expressions.specs.Tree.{disj};
+ghost use Rattle.typing_spec.specs.Typing.{at, or_caps};
+ghost use Rattle.typecheck_rules.specs.Operators as definition;
+ghost use Rattle.typecheck_rules.specs.Found.{findings_from};
+ghost use Rattle.typecheck_operators.specs.Told.{mark, operand_of, walked_of};
+ghost use Rattle.typecheck_walk.specs.Sides.{or_by, or_of, or_own, or_reached};
+
+use crate::sides::{Own, Sides, if_reached, sides_of};
+use typing_spec::CapabilitySet;
+use policy_expressions::{BuildError, Expr, Loc};
+use schema_types::{Type, TypeKind};
+use std::alloc::{AllocError, Global};
+use typecheck_operators::{Part, Told, Typing, ended_typed, or_drop, parted};
+use typecheck_rules::or_type;
+
+/// `||`, by what its sides come to. Errs where memory runs out, or the expression would be nested
+/// too deep.
+pub fn or_sides<'a>(
+    alloc: Global,
+    loc: Option<Loc>,
+    v: Told<'a>,
+    w: Told<'a>,
+) -> Result<Told<'a>, BuildError>
+    ensures { IfOk result (λ r. walked_of r ≡
+        definition.or_sides (mark loc) (walked_of v.entry) (walked_of w.entry)) }
+{
+    let v = or_drop!(parted(alloc, v), w);
+    let w = or_drop!(parted(alloc, w), v);
+    or_ended(alloc, loc, v, w)
+}
+
+fn or_ended<'a>(
+    alloc: Global,
+    loc: Option<Loc>,
+    v: Part<'a>,
+    w: Part<'a>,
+) -> Result<Told<'a>, BuildError>
+    ensures { IfOk result (λ r. walked_of r ≡
+        or_of (mark loc) (operand_of v.entry) (operand_of w.entry)) }
+{
+    let own = or_drop!(or_own(&v, &w), v, w);
+    let sides = or_drop!(sides_of(v, w), own);
+    or_by(alloc, loc, own, sides)
+}
+
+// The type by the rule, of the types that are lent. A true left side leaves the right one
+// unreached.
+fn or_own<'a>(v: &Part<'a>, w: &Part<'a>) -> Result<Option<Own<'a>>, AllocError>
+    ensures { IfOk result (λ o. o ≡ or_own (operand_of v.now) (operand_of w.now)) }
+{
+    match &v.of {
+        Some(t) => match t.kind() {
+            TypeKind::True => {
+                let caps = v.caps.try_clone()?;
+                Ok(Some(Own {
+                    of: Type::singleton_boolean(true),
+                    caps,
+                    is_reached: false,
+                }))
+            }
+            _ => or_reached(t, &v.caps, w),
+        },
+        None => Ok(None),
+    }
+}
+
+fn or_reached<'a>(
+    t: &Type,
+    cs: &CapabilitySet<'a>,
+    w: &Part<'a>,
+) -> Result<Option<Own<'a>>, AllocError>
+    ensures { IfOk result (λ o. o ≡ or_reached t.now cs.now (operand_of w.now)) }
+{
+    match &w.of {
+        Some(u) => match or_type(t, u) {
+            Some(of) => {
+                let caps = or_drop!(caps_of_either(t, u, cs, &w.caps), of);
+                Ok(Some(Own {
+                    of,
+                    caps,
+                    is_reached: true,
+                }))
+            }
+            None => Ok(None),
+        },
+        None => Ok(None),
+    }
+}
+
+// What the side that may be true makes known, or what both do.
+fn caps_of_either<'a>(
+    t: &Type,
+    u: &Type,
+    cs: &CapabilitySet<'a>,
+    ds: &CapabilitySet<'a>,
+) -> Result<CapabilitySet<'a>, AllocError>
+    ensures { IfOk result (λ s. s ≡ or_caps t.now u.now cs.now ds.now) }
+{
+    match u.kind() {
+        TypeKind::True => ds.try_clone(),
+        TypeKind::False => cs.try_clone(),
+        _ => match t.kind() {
+            TypeKind::False => ds.try_clone(),
+            _ => cs.intersect(ds),
+        },
+    }
+}
+
+fn or_by<'a>(
+    alloc: Global,
+    loc: Option<Loc>,
+    own: Option<Own<'a>>,
+    sides: Sides,
+) -> Result<Told<'a>, BuildError>
+    ensures { IfOk result (λ r. walked_of r ≡
+        or_by (mark loc) own.entry sides.ok sides.left sides.right
+        (findings_from sides.found.items)) }
+{
+    match own {
+        Some(own) => or_typed(alloc, loc, own, sides),
+        None => or_failed(alloc, loc, sides),
+    }
+}
+
+fn or_typed<'a>(
+    alloc: Global,
+    loc: Option<Loc>,
+    own: Own<'a>,
+    sides: Sides,
+) -> Result<Told<'a>, BuildError>
+    ensures { IfOk result (λ r. walked_of r ≡
+        or_by (mark loc) (Some own.entry) sides.ok sides.left sides.right
+        (findings_from sides.found.items)) }
+{
+    let Own {
+        of,
+        caps,
+        is_reached,
+    } = own;
+    let Sides {
+        ok,
+        left,
+        right,
+        found,
+    } = sides;
+    let right = if_reached(is_reached, right);
+    let tree = or_drop!(or_tree(alloc, &of, left, right, loc), of, caps, found);
+    Ok(ended_typed(ok, Typing { of, caps, tree }, found))
+}
+
+fn or_tree(
+    alloc: Global,
+    of: &Type,
+    left: Expr<Option<Type>>,
+    right: Expr<Option<Type>>,
+    loc: Option<Loc>,
+) -> Result<Expr<Option<Type>>, BuildError>
+    ensures { IfOk result (λ t. t ≡ disj left right (at of.now (mark loc))) }
+{
+    let note = or_drop!(of.try_clone(alloc), left, right);
+    Expr::or(alloc, left, right, Some(note), loc)
+}
+
+fn or_failed<'a>(alloc: Global, loc: Option<Loc>, sides: Sides) -> Result<Told<'a>, BuildError>
+    ensures { IfOk result (λ r. walked_of r ≡
+        or_by (mark loc) None sides.ok sides.left sides.right (findings_from sides.found.items)) }
+{
+    let Sides {
+        ok: _,
+        left,
+        right,
+        found,
+    } = sides;
+    let note = Type::primitive_boolean();
+    let tree = or_drop!(Expr::or(alloc, left, right, Some(note), loc), found);
+    Ok(Told::Fail(tree, found))
+}

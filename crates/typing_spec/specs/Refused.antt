@@ -1,0 +1,10 @@
+-- Why extensions cannot be used together.
+use Rattle.std.specs.Prelude.{⊤, ℕ, List}
+use Rattle.typing_spec.specs.Table.{IsFirstRepeated}
+use Rattle.typing_spec.specs.declared.extensions.ExtensionInitializationError.{ExtensionInitializationError}
+use Rattle.typing_spec.specs.declared.extensions.ExtensionInitializationError.TheVariants.{FuncMultiplyDefined, OutOfMemory}
+
+-- a name of the functions stands twice, and the first that does is told
+abbrev pub IsRefused : List (List ℕ) → ExtensionInitializationError → Type 0
+IsRefused names (FuncMultiplyDefined e) = IsFirstRepeated names e.name
+IsRefused names OutOfMemory = ⊤
