@@ -13,9 +13,11 @@ ghost use Rattle.batch_decisions.specs.Loaded.{answer_of};
 use crate::BatchAnswer;
 use conformance::laws::request_rules_are_exact;
 use entity_loader::EntityLoader;
-use entity_store::{Entities, Request};
 use entity_manifest::load_for_request;
-use manifest_computation::{EntityManifestError, SliceForRequestError, check_request, compute_entity_manifest};
+use entity_store::{Entities, Request};
+use manifest_computation::{
+    EntityManifestError, SliceForRequestError, check_request, compute_entity_manifest,
+};
 use manifest_core::EntityManifest;
 use manifest_loading::{EntitySliceError, Steps};
 use policy_set::{PolicySet, decide};

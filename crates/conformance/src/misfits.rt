@@ -11,13 +11,13 @@ ghost use Rattle.type_relations.specs.Member.{has_field, type_of};
 ghost use Rattle.conformance.specs.Misfits.{name_of, knows, fits_if, first_of, earlier, first_missing, misfit_field, extension_misfit, misfit, misfit_all, misfit_fields};
 ghost use Rattle.conformance.specs.Keyed.{at_key};
 
-use typing_spec::ExtensionSchemas;
 use policy_values::{EntityType, Name, Text, Value, ValueKind};
 use schema_types::{
     AttributeType, Attributes, EntityRecordKind, OpenTag, Primitive, Type, TypeKind,
 };
 use std::cmp::Ordering;
 use std::collections::BTreeMap;
+use typing_spec::ExtensionSchemas;
 
 /// An extension function that makes values.
 #[derive(Clone, Copy, Debug, PartialEq, Eq)]

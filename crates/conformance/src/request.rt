@@ -17,11 +17,11 @@ use crate::{
     UndeclaredResourceTypeError,
 };
 use entity_store::{Context, Request};
-use typing_spec::ExtensionSchemas;
 use policy_values::{EntityType, EntityUID, Text, try_clone_fields};
 use schema_core::{OpenTag, ValidatorActionId, ValidatorSchema};
 use std::alloc::{AllocError, Global};
 use std::collections::BTreeSet;
+use typing_spec::ExtensionSchemas;
 
 /// Whether the request conforms to the schema: its principal's and its resource's types are declared, and list them
 /// where they are enumerated; its action is declared and applies to both types; each id in its context is listed, where

@@ -6,9 +6,9 @@ ghost use Rattle.schema_core.specs.Schema.{SchemaData};
 
 use crate::{CoreSchema, RequestValidationError};
 use entity_store::Request;
-use typing_spec::ExtensionSchemas;
 use schema_core::ValidatorSchema;
 use std::alloc::Global;
+use typing_spec::ExtensionSchemas;
 
 /// What requests can conform to.
 pub trait RequestSchema {

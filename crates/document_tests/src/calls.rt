@@ -1,12 +1,12 @@
 //! Calls that no command makes yet: that they succeed, and what they tell.
 
-use typing_spec::{Capability, CapabilitySet};
 use json_document::{parse_json, read_schema};
 use policy_expressions::{Expr, Var};
 use policy_values::Text;
 use schema_core::{RequestEnv, ValidatorSchema, euid_literal};
 use std::alloc::Global;
 use std::test::Fail;
+use typing_spec::{Capability, CapabilitySet};
 
 const SCHEMA: &str =
     r#"{"entityTypes":{"Group":{},"Photo":{},"User":{"memberOf":["Group"]}},"actions":[{"id":["Action","view"],"principals":["User","Group"],"resources":["Photo"],"context":{"n":"Long"}},{"id":["Action","list"]}]}"#;

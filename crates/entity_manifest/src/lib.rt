@@ -12,7 +12,9 @@ pub use entity_loader::{
     cut_along, cut_entity, merge_entities, merge_values,
 };
 pub use loading::{load_for_request, load_slice};
-pub use manifest_computation::{EntityManifestError, SliceForRequestError, compute_entity_manifest, slice_for_request};
+pub use manifest_computation::{
+    EntityManifestError, SliceForRequestError, compute_entity_manifest, slice_for_request,
+};
 pub use manifest_core::{
     EntityManifest, EntityManifestFromJsonError, MismatchedEntityManifestError,
     MismatchedMissingEntityError, MismatchedNotStrictSchemaError,

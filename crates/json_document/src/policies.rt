@@ -10,8 +10,8 @@ ghost use Rattle.json_document.specs.Policies.{added, added_link, added_read, ad
 use crate::{DocumentFault, Place};
 use json_policies::{PolicyRead, TemplateLink, read_entry};
 use policy_expressions::{SlotId, SlotValues};
-use policy_values::EntityUID;
 use policy_set::{PolicySet, PolicySetError, Template};
+use policy_values::EntityUID;
 use serde_json::Value;
 use std::alloc::{AllocError, Global};
 

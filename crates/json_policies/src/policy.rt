@@ -12,10 +12,10 @@ use crate::scope::{read_action_constraint, read_constraint};
 use json_expressions::Bounded;
 use json_values::has_only;
 use policy_expressions::Expr;
-use policy_values::Text;
 use policy_set::{
     ActionConstraint, Effect, PrincipalOrResourceConstraint, Template, TemplateError,
 };
+use policy_values::Text;
 use serde_json::Value;
 use std::alloc::{AllocError, Global};
 

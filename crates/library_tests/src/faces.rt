@@ -1,7 +1,6 @@
 //! The crates that callers name, which pass on the calls of those behind them.
 
 use entity_manifest::{EntityManifest, compute_entity_manifest, slice_entities, slice_for_request};
-use typing_spec::{ExtensionSchemas, all_objects};
 use json_document::{Document, parse_json, read_document};
 use policy_core::{Decimal, Entities};
 use policy_scope::ValidationResult;
@@ -13,6 +12,7 @@ use policy_validate::{
 use schema_core::Type;
 use std::alloc::Global;
 use std::test::Fail;
+use typing_spec::{ExtensionSchemas, all_objects};
 
 // The name of the principal's manager and the department of the resource's owner are read.
 const DOCUMENT: &str =

@@ -11,18 +11,18 @@ ghost use Rattle.live_manifest.specs.Tries.{AreFoundTries, IsFoundTrie};
 
 use crate::LiveManifestError;
 use access_tries::RootAccessTrie;
-use typing_spec::{ExtensionSchemas, all_objects};
 use path_analysis::conditions_trie;
 use policy_expressions::Expr;
-use policy_values::Text;
 use policy_set::{Policy, PolicySet};
 use policy_typecheck::{PolicyCheck, Typechecker};
 use policy_validate::Validator;
+use policy_values::Text;
 use schema_core::{RequestEnv, ValidationMode, ValidatorSchema};
 use schema_types::Type;
 use std::alloc::{AllocError, Global};
 use std::sync::ledger::Ledger;
 use step_counts::Steps;
+use typing_spec::{ExtensionSchemas, all_objects};
 
 /// Errs with `Validation` exactly where an error is found of the entry with the id.
 pub(crate) fn check_entry<L: Ledger>(

@@ -11,8 +11,8 @@ ghost use Rattle.policy_set.specs.Removal.{is_another_policy};
 ghost use Rattle.live_manifest.specs.Tries.{AreTriesOf, HasTriesOf, HaveTries, IsTrieOr, IsUnionAt};
 
 use access_tries::RootAccessTrie;
-use policy_values::Text;
 use policy_set::{Policy, PolicySet};
+use policy_values::Text;
 use schema_core::ValidatorSchema;
 use std::alloc::{AllocError, Global};
 use std::cmp::Ordering;

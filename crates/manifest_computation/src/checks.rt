@@ -13,11 +13,11 @@ use crate::slice_error::SliceForRequestError;
 use conformance::laws::{all_functions_are_known, request_rules_are_exact, store_rules_are_exact};
 use conformance::{ConformanceError, RequestValidationError, conforms, validate_request};
 use entity_store::{Entities, Request};
-use typing_spec::{ExtensionSchemas, all_objects};
 use policy_set::PolicySet;
 use policy_validate::Validator;
 use schema_core::{ValidationMode, ValidatorSchema};
 use std::alloc::Global;
+use typing_spec::{ExtensionSchemas, all_objects};
 
 /// Whether every rule holds; else the first that does not.
 pub(crate) fn check_rules(

@@ -15,7 +15,6 @@ use crate::EntityManifestError;
 use crate::tries::tries_of;
 use access_tries::RootAccessTrie;
 use entity_store::RequestType;
-use typing_spec::{ExtensionSchemas, all_objects};
 use manifest_core::EntityManifest;
 use policy_set::PolicySet;
 use policy_set::laws::is_policy_set;
@@ -27,6 +26,7 @@ use policy_validate::{Validator, keep_rules};
 use schema_core::{ValidationMode, ValidatorSchema};
 use std::alloc::{AllocError, Global};
 use std::collections::BTreeMap;
+use typing_spec::{ExtensionSchemas, all_objects};
 
 /// The manifest of policies: for each environment of the schema the trie of what the static policies and links read and ask
 /// for there, each by its own condition, with its types; no trie where there is no policy. Errs with `Validation` exactly

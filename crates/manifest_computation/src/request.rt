@@ -9,9 +9,9 @@ ghost use Rattle.manifest_computation.specs.declared.slice_error.SliceForRequest
 ghost use Rattle.manifest_computation.specs.declared.slice_error.SliceForRequestError.TheVariants.{OutOfMemory};
 
 use crate::checks::check_rules;
+use crate::restricted_to_reads;
 use crate::slice_error::SliceForRequestError;
 use crate::slice_laws::slices_are_enough;
-use crate::restricted_to_reads;
 use conformance::laws::{request_rules_are_exact, store_rules_are_exact};
 use entity_store::{Entities, Request};
 use policy_set::PolicySet;

@@ -15,7 +15,6 @@ ghost use Rattle.manifest_computation.specs.Slice.{env_of, slice};
 
 use access_tries::RootAccessTrie;
 use entity_store::{Entities, Request};
-use typing_spec::{ExtensionSchemas, all_objects};
 use link_spec::laws::typed_everywhere;
 use path_analysis::conditions_trie;
 use policy_expressions::Expr;
@@ -29,6 +28,7 @@ use schema_core::{RequestEnv, ValidationMode, ValidatorSchema};
 use schema_types::Type;
 use std::alloc::{AllocError, Global};
 use store_slices::restricted_store;
+use typing_spec::{ExtensionSchemas, all_objects};
 
 /// The slice of the store: the store restricted to what the policies read on the request, each by its own condition with its
 /// types in the environment of the request. Every rule holds.

@@ -17,4 +17,7 @@ pub use policy_expressions::{
     Pattern, PatternElem, SlotId, SlotValues, UnaryFunction, UnaryOp, Var, extension_function,
 };
 pub use policy_ext::{DateTimeValue, Decimal, Duration, IpAddr};
-pub use policy_values::{Eid, EntityType, EntityUID, Name, Quoted, Text, Value, ValueKind, push_entry, read_datetime, read_decimal, read_duration, read_ip, try_clone_fields};
+pub use policy_values::{
+    Eid, EntityType, EntityUID, Name, Quoted, Text, Value, ValueKind, push_entry, read_datetime,
+    read_decimal, read_duration, read_ip, try_clone_fields,
+};

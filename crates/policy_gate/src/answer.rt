@@ -25,19 +25,19 @@ use conformance::{
     request_text, validate_request,
 };
 use entity_store::Entities;
-use typing_spec::{ExtensionSchemas, all_objects};
 use json_document::{Document, DocumentFault, parse_json, read_document_as};
 use json_response::{response_text, slice_text};
 use manifest_computation::{EntityManifestError, compute_entity_manifest, restricted_to_reads};
 use manifest_core::EntityManifest;
-use policy_values::Text;
 use policy_scope::{ValidationResult, findings_text};
 use policy_set::laws::{have_keys_once, is_policy_set};
 use policy_set::{Decision, PolicySet, decide};
 use policy_validate::laws::no_errors_where_accepted;
 use policy_validate::{ValidationMode, Validator};
+use policy_values::Text;
 use serde_json::Value;
 use std::alloc::{AllocError, Global};
+use typing_spec::{ExtensionSchemas, all_objects};
 
 const NO_JSON: &str = "document: json\n";
 

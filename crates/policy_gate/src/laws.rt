@@ -3,11 +3,11 @@
 ghost use Rattle.policy_gate.specs.Laws.{Laws};
 
 use conformance::laws::{request_rules_are_exact, store_rules_are_exact};
+use manifest_computation::slice_laws::{outcomes_are_allowed, slices_are_enough};
 use policy_review::laws::{least_levels_are_least, never_is_never_true};
 use policy_validate::laws::{
     accepted_levels_are_sound, no_errors_where_accepted, no_errors_where_accepted_at,
 };
-use manifest_computation::slice_laws::{outcomes_are_allowed, slices_are_enough};
 
 /// The laws on policies, requests, stores, slices and reviews.
 pub(crate) fn laws()

@@ -11,9 +11,9 @@ ghost use Rattle.policy_review.specs.Found.{needed_by, needed_in, level_told, le
 use findings::{EntityDerefViolationKind, ValidationError};
 use level_validate::level_errors;
 use policy_expressions::Expr;
-use policy_values::Text;
 use policy_set::Template;
 use policy_typecheck::{PolicyCheck, Typechecker, linked_request_envs};
+use policy_values::Text;
 use schema_core::{RequestEnv, ValidatorSchema};
 use schema_types::Type;
 use std::alloc::{AllocError, Global};

@@ -18,9 +18,9 @@ ghost use Rattle.policy_review.specs.Found.{passed_verdict, level_found_in, pass
 use crate::levels::{level_of, raised_by};
 use crate::rows::ReviewRow;
 use link_spec::laws::statics_are_unlinked;
-use policy_values::Text;
 use policy_set::{Policy, PolicySet};
 use policy_typecheck::{PolicyCheck, Typechecker, Verdict};
+use policy_values::Text;
 use schema_core::{RequestEnv, ValidatorSchema};
 use std::alloc::{AllocError, Global};
 use std::collections::BTreeMap;

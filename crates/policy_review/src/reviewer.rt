@@ -14,17 +14,17 @@ use crate::ReviewError;
 use crate::laws::{least_levels_are_least, never_is_never_true};
 use crate::matrix::{add_policies, add_templates};
 use crate::rows::{PolicyLevel, Review};
-use typing_spec::{ExtensionSchemas, all_objects};
-use policy_values::Text;
 use policy_set::PolicySet;
 use policy_set::laws::{have_keys_once, is_policy_set};
 use policy_typecheck::Typechecker;
 use policy_validate::acceptance_laws::accepted_by_rules;
 use policy_validate::{Validator, keep_rules};
+use policy_values::Text;
 use schema_core::{ValidationMode, ValidatorSchema};
 use std::alloc::{AllocError, Global};
 use std::collections::BTreeMap;
 use typecheck_rules::laws::check_is_exact;
+use typing_spec::{ExtensionSchemas, all_objects};
 
 /// The review of policies: for each static policy and link, in each environment of the schema, whether it can be true on
 /// requests of that type; and for each template and static policy the least level at which it passes. Errs with

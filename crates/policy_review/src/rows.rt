@@ -1,8 +1,8 @@
 //! What a review says.
 
 use entity_store::RequestType;
-use policy_values::Text;
 use policy_typecheck::Verdict;
+use policy_values::Text;
 
 /// Whether a policy can be true on requests of a type.
 #[derive(Debug, Drop)]

@@ -9,8 +9,8 @@ ghost use Rattle.policy_scope.specs.Met.{has_asked, some_has};
 ghost use Rattle.policy_scope.specs.Scope.{action_meets};
 
 use crate::scope::{Side, are_declared, are_met, some_below, types_for};
-use policy_values::{EntityType, EntityUID};
 use policy_set::{ActionConstraint, PrincipalOrResourceConstraint};
+use policy_values::{EntityType, EntityUID};
 use schema_core::{ValidatorActionId, ValidatorSchema};
 use std::collections::BTreeSet;
 

@@ -18,8 +18,8 @@ use findings::{
     UnrecognizedActionIdHelp, UnrecognizedEntityType,
 };
 use policy_expressions::{Expr, ExprKind, Literal, Loc, SlotValues};
-use policy_values::{Eid, EntityType, EntityUID, Text};
 use policy_set::{Policy, Template};
+use policy_values::{Eid, EntityType, EntityUID, Text};
 use schema_core::{ValidatorEntityTypeKind, ValidatorSchema};
 use std::alloc::{AllocError, Global};
 use std::cmp::Ordering;

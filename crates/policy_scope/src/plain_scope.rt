@@ -6,8 +6,8 @@ ghost use Rattle.schema_core.specs.EnvData.{literal_type};
 ghost use Rattle.policy_scope.specs.PlainScope.{are_plain_actions, is_action_of, is_plain_action, is_plain_reference, is_plain_scope, is_plain_side};
 
 use crate::scope::same_type;
-use policy_values::{EntityType, EntityUID};
 use policy_set::{ActionConstraint, EntityReference, PrincipalOrResourceConstraint};
+use policy_values::{EntityType, EntityUID};
 use schema_core::ValidatorSchema;
 
 /// Whether each id of a scope has a type, in that it is of a declared entity type or is a declared action, and a list of

@@ -11,10 +11,10 @@ ghost use Rattle.policy_scope.specs.Scope.{action_meets, equal_meets, in_meets, 
 
 use crate::met::{Asked, some_met};
 use findings::InvalidActionApplication;
-use policy_values::{EntityType, EntityUID, Text};
 use policy_set::{
     ActionConstraint, EntityReference, Policy, PrincipalOrResourceConstraint, Template,
 };
+use policy_values::{EntityType, EntityUID, Text};
 use schema_core::{ValidatorActionId, ValidatorSchema};
 use std::alloc::{AllocError, Global};
 use std::cmp::Ordering;

@@ -13,9 +13,9 @@ use crate::met::met_actions;
 use crate::policies::Summary;
 use findings::ValidationError;
 use indexmap::IndexSet;
-use policy_values::EntityType;
 use policy_scope::type_meets;
 use policy_set::Template;
+use policy_values::EntityType;
 use schema_core::{RequestEnv, ValidatorActionId};
 use std::alloc::{AllocError, Global};
 

@@ -8,8 +8,8 @@ ghost use Rattle.schema_core.specs.RequestEnvs.{env_data_of};
 ghost use Rattle.link_spec.specs.Linked.{linked_env, linked_envs, linked_envs_at, linked_envs_of, linked_envs_with};
 
 use crate::slots::slot_types;
-use policy_values::EntityType;
 use policy_set::Template;
+use policy_values::EntityType;
 use schema_core::{RequestEnv, ValidatorActionId, ValidatorSchema};
 use std::alloc::{AllocError, Global};
 

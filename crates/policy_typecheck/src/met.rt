@@ -11,8 +11,8 @@ ghost use Rattle.schema_core.specs.Within.{is_action_within};
 ghost use Rattle.policy_scope.specs.Scope.{action_meets};
 ghost use Rattle.policy_typecheck.specs.Pointed.{pointed};
 
-use policy_values::EntityUID;
 use policy_set::ActionConstraint;
+use policy_values::EntityUID;
 use schema_core::{ValidatorActionId, ValidatorSchema, add_all};
 use std::alloc::{AllocError, Global};
 use std::collections::BTreeSet;

@@ -7,8 +7,8 @@ ghost use Rattle.policy_values.specs.Uid.{text_cmp};
 ghost use Rattle.link_spec.specs.Linked.{slot_types, types_above, types_around};
 ghost use Rattle.policy_typecheck.specs.Pointed.{pointed};
 
-use policy_values::EntityType;
 use policy_set::{EntityReference, PrincipalOrResourceConstraint};
+use policy_values::EntityType;
 use schema_core::{ValidatorEntityType, ValidatorSchema};
 use std::alloc::{AllocError, Global};
 use std::cmp::Ordering;

@@ -22,13 +22,12 @@ use crate::bodies::check_bodies;
 use crate::policies::{Summary, add_found, tell_check};
 use crate::verdict::verdict_by;
 use crate::{Verdict, linked_request_envs};
-use typing_spec::ExtensionSchemas;
 use findings::{ValidationError, ValidationWarning};
 use indexmap::IndexSet;
 use policy_expressions::Expr;
-use policy_values::Text;
 use policy_scope::is_plain_scope;
 use policy_set::{Policy, Template};
+use policy_values::Text;
 use schema_core::{RequestEnv, ValidationMode, ValidatorSchema};
 use std::alloc::{AllocError, Global};
 use std::marker::Model;
@@ -36,6 +35,7 @@ use typecheck_rules::laws::check_is_exact;
 use typecheck_walk::{
     Extensions, PolicyCheck, Setting, check_condition, check_walk, is_too_deep, only_too_deep,
 };
+use typing_spec::ExtensionSchemas;
 
 /// A typechecker for the policies of a schema.
 #[derive(Drop)]

@@ -11,7 +11,6 @@ ghost use Rattle.policy_validate.specs.Told.{level_condition_told};
 use crate::Validator;
 use crate::laws::{accepted_levels_are_sound, no_errors_where_accepted_at};
 use crate::validator::{add_all_links, add_written};
-use typing_spec::{ExtensionSchemas, all_objects};
 use level_validate::level_errors;
 use policy_expressions::Expr;
 use policy_scope::{ValidationError, ValidationResult, ValidationWarning};
@@ -21,6 +20,7 @@ use policy_typecheck::{PolicyCheck, Typechecker};
 use schema_core::{RequestEnv, ValidationMode, ValidatorSchema};
 use schema_types::Type;
 use std::alloc::{AllocError, Global};
+use typing_spec::{ExtensionSchemas, all_objects};
 
 impl<'a> Validator<'a> {
     /// All findings on policies that are checked for a level: those of [`Validator::validate`], and behind them, for each

@@ -11,8 +11,6 @@ ghost use Rattle.policy_validate.specs.Accepted.{typing_errors, errors_of_writte
 ghost use Rattle.policy_validate.specs.Entries.{findings_of_entry, findings_of_policy, findings_of_written, steps_of_entry, steps_of_policy};
 
 use crate::laws::{accepted_are_typed, no_errors_where_accepted};
-use typing_spec::{ExtensionSchemas, all_objects};
-use policy_values::Text;
 use policy_scope::{
     InvalidActionApplication, InvalidEnumEntity, UnrecognizedActionId, UnrecognizedEntityType,
     ValidationError, ValidationResult, ValidationWarning, validate_action_ids,
@@ -22,11 +20,13 @@ use policy_scope::{
 use policy_set::laws::is_policy_set;
 use policy_set::{Policy, PolicySet, Template};
 use policy_typecheck::{Typechecker, linked_request_envs};
+use policy_values::Text;
 use schema_core::{ValidationMode, ValidatorSchema};
 use std::alloc::{AllocError, Global};
 use std::marker::Model;
 use std::sync::ledger::Ledger;
 use step_counts::Steps;
+use typing_spec::{ExtensionSchemas, all_objects};
 
 /// Validates policies against a schema.
 #[derive(Debug, Drop)]

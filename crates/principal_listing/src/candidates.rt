@@ -14,12 +14,12 @@ ghost use Rattle.principal_listing.specs.Ready.{IsReady, takes, is_candidate};
 
 use crate::laws::candidates_keep_rules;
 use entity_loader::EntitySlicer;
-use entity_store::{Entities, Entity, Request};
 use entity_manifest::loading_laws::{loaded_is_enough, refusals_are_faults};
+use entity_store::{Entities, Entity, Request};
 use manifest_core::EntityManifest;
 use manifest_loading::{EntitySliceError, Steps, load_entities};
-use policy_values::{EntityType, EntityUID};
 use policy_set::{Decision, PolicySet, decide};
+use policy_values::{EntityType, EntityUID};
 use schema_core::{ValidatorActionId, ValidatorSchema};
 use std::alloc::{AllocError, Global};
 use std::sync::ledger::Ledger;

@@ -14,7 +14,9 @@ use crate::request::{is_whole_but, without_principal};
 use conformance::laws::store_rules_are_exact;
 use conformance::{ConformanceError, conforms};
 use entity_store::{Entities, Request};
-use manifest_computation::{EntityManifestError, SliceForRequestError, check_request, compute_entity_manifest};
+use manifest_computation::{
+    EntityManifestError, SliceForRequestError, check_request, compute_entity_manifest,
+};
 use manifest_core::EntityManifest;
 use policy_set::PolicySet;
 use schema_core::ValidatorSchema;

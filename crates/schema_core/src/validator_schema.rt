@@ -1,7 +1,10 @@
 //! Schemas.
 
-use crate::{RequestEnv, SchemaDeclarations, SchemaFault, ValidatorActionId, ValidatorEntityType, add_all, declared_parts, schema_parts};
 use crate::request_env::add_environments;
+use crate::{
+    RequestEnv, SchemaDeclarations, SchemaFault, ValidatorActionId, ValidatorEntityType, add_all,
+    declared_parts, schema_parts,
+};
 use policy_values::{EntityType, EntityUID};
 use schema_types::{Attributes, DeclaredAttributes};
 use std::alloc::{AllocError, Global};

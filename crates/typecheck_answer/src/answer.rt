@@ -5,10 +5,10 @@ ghost use Rattle.policy_expressions.specs.Tree.{mark_of};
 ghost use Rattle.typecheck_answer.specs.Answer.{expr_of, is_success, failed};
 ghost use Rattle.typecheck_answer.specs.declared.answer.TypecheckAnswer.TheVariants.{TypecheckSuccess, TypecheckFail};
 
-use typing_spec::CapabilitySet;
 use policy_expressions::Expr;
 use schema_types::Type;
 use std::alloc::Global;
+use typing_spec::CapabilitySet;
 
 /// What typing an expression comes to. The type of each part of the expression, where it is known, is the part's note.
 #[derive(Debug, Drop)]

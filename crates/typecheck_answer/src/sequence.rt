@@ -5,10 +5,10 @@ ghost use Rattle.std.specs.List.{list_all};
 ghost use Rattle.typecheck_answer.specs.Answer.{after, expr_of, is_success, known_of, part_of};
 
 use crate::TypecheckAnswer;
-use typing_spec::CapabilitySet;
 use policy_expressions::Expr;
 use schema_types::Type;
 use std::alloc::{AllocError, Global};
+use typing_spec::CapabilitySet;
 
 impl<'a> TypecheckAnswer<'a> {
     /// The same, with other knowledge after a success.

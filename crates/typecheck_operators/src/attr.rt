@@ -8,13 +8,13 @@ ghost use Rattle.typecheck_operators.specs.Operands as definition;
 ghost use Rattle.typecheck_operators.specs.Told.{mark, operand_of, walked_of};
 
 use crate::told::{Part, Told, Typing, ended_typed, expect, parted};
-use typing_spec::CapabilitySet;
 use policy_expressions::{BuildError, Expr, Loc};
 use policy_values::Text;
 use schema_core::{RequestEnv, ValidatorSchema};
 use schema_types::{AttributeType, Type};
 use std::alloc::Global;
 use typecheck_rules::{Expected, Finding, attribute_of, joined, optional_found, undeclared_found};
+use typing_spec::CapabilitySet;
 
 /// An attribute of an operand, where it stands in a policy.
 #[derive(Clone, Copy)]

@@ -8,12 +8,12 @@ ghost use Rattle.typecheck_operators.specs.Operands as definition;
 ghost use Rattle.typecheck_operators.specs.Told.{operand_of, walked_of};
 
 use crate::told::{Part, Told, Typing, expect_if, parted, rest_of};
-use typing_spec::{Capability, CapabilitySet};
 use policy_expressions::{BinaryOp, BuildError, Expr, Loc};
 use schema_core::{RequestEnv, ValidatorSchema};
 use schema_types::Type;
 use std::alloc::{AllocError, Global};
 use typecheck_rules::{Finding, binary_lent, binary_own, binary_type, joined, left_of, right_of};
+use typing_spec::{Capability, CapabilitySet};
 
 /// An operator of two operands, where it stands in a policy.
 #[derive(Clone, Copy)]

@@ -15,7 +15,6 @@ ghost use Rattle.typecheck_operators.specs.Told.{mark, walked_of, all_of};
 
 use crate::parts::{Rest, are_typed, rest_of_all, types_lent};
 use crate::told::{Told, Typing, ended_typed, expect};
-use typing_spec::CapabilitySet;
 use policy_expressions::{BuildError, Expr, Loc};
 use policy_values::Name;
 use schema_types::Type;
@@ -24,6 +23,7 @@ use typecheck_rules::{
     CalledFunction, Expected, Finding, argument_types, call_found, call_type, joined, result_type,
     undefined_found,
 };
+use typing_spec::CapabilitySet;
 
 /// A call of an undefined function, whose arguments are not looked at. Errs where memory runs out.
 pub fn undefined_told<'a>(alloc: Global, f: &Name, loc: Option<Loc>) -> Result<Told<'a>, BuildError>

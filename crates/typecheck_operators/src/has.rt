@@ -11,13 +11,13 @@ ghost use Rattle.typecheck_operators.specs.Operands.{ended_as, has_of};
 ghost use Rattle.typecheck_operators.specs.Told.{mark, operand_of, walked_of};
 
 use crate::told::{Part, Told, Typing, ended_typed, expect, parted};
-use typing_spec::{Capability, CapabilitySet};
 use policy_expressions::{BuildError, Expr, Loc};
 use policy_values::Text;
 use schema_core::ValidatorSchema;
 use schema_types::Type;
 use std::alloc::{AllocError, Global};
 use typecheck_rules::{Expected, Finding, attribute_of, has_type};
+use typing_spec::{Capability, CapabilitySet};
 
 /// `has`, by what its operand comes to, and whether the attribute is known to be there. Errs where
 /// memory runs out, or the expression would be nested too deep.

@@ -8,12 +8,12 @@ ghost use Rattle.typecheck_rules.specs.Operators.{leaf_walked};
 ghost use Rattle.typecheck_operators.specs.Told.{mark, walked_of};
 
 use crate::told::{Told, Typing};
-use typing_spec::CapabilitySet;
 use policy_expressions::{BuildError, Expr, Literal, Loc, SlotId, Var};
 use schema_core::{RequestEnv, ValidatorSchema};
 use schema_types::Type;
 use std::alloc::Global;
 use typecheck_rules::{literal_type, slot_type, variable_type};
+use typing_spec::CapabilitySet;
 
 /// A literal: its own type, where it has one.
 pub fn literal_told<'a>(

@@ -9,11 +9,11 @@ ghost use Rattle.typecheck_operators.specs.Operands.{like_of};
 ghost use Rattle.typecheck_operators.specs.Told.{mark, operand_of, walked_of};
 
 use crate::told::{Part, Told, Typing, ended_typed, expect, parted};
-use typing_spec::CapabilitySet;
 use policy_expressions::{BuildError, Expr, Loc, Pattern};
 use schema_types::Type;
 use std::alloc::Global;
 use typecheck_rules::{Expected, like_type};
+use typing_spec::CapabilitySet;
 
 /// `like`, by what its operand comes to. Errs where memory runs out, or the expression would be
 /// nested too deep.

@@ -12,13 +12,13 @@ ghost use Rattle.typecheck_operators.specs.Told.{mark, walked_of, field_of};
 
 use crate::parts::{add_found, is_typed, told_rest, type_lent};
 use crate::told::{Told, Typing, ended_typed};
-use typing_spec::CapabilitySet;
 use policy_expressions::{BuildError, Expr, Loc};
 use policy_values::{Text, push_entry};
 use schema_types::Type;
 use std::alloc::{AllocError, Global};
 use std::collections::BTreeMap;
 use typecheck_rules::{Finding, record_type};
+use typing_spec::CapabilitySet;
 
 /// A record literal, by what its fields come to. Errs where memory runs out, or the expression
 /// would be nested too deep.

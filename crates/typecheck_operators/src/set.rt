@@ -9,11 +9,11 @@ ghost use Rattle.typecheck_operators.specs.Told.{mark, walked_of, all_of};
 
 use crate::parts::{are_typed, rest_of_all, types_lent};
 use crate::told::{Told, Typing, ended_typed};
-use typing_spec::CapabilitySet;
 use policy_expressions::{BuildError, Expr, Loc};
 use schema_types::Type;
 use std::alloc::Global;
 use typecheck_rules::{Finding, joined, set_found, set_type};
+use typing_spec::CapabilitySet;
 
 /// A set literal, by what its elements come to. Errs where memory runs out, or the expression would
 /// be nested too deep.

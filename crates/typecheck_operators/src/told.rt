@@ -10,11 +10,11 @@ ghost use Rattle.typecheck_rules.specs.Operators.{type_lent};
 ghost use Rattle.typecheck_rules.specs.Found.{expected_of, findings_from};
 ghost use Rattle.typecheck_operators.specs.Told.{typing_from, walked_of, lent_as};
 
-use typing_spec::CapabilitySet;
 use policy_expressions::{Expr, Literal, Loc};
 use schema_types::Type;
 use std::alloc::{AllocError, Global};
 use typecheck_rules::{Expected, Finding, fits, joined, unexpected};
+use typing_spec::CapabilitySet;
 
 /// A type, what is known once the expression is true, and the expression with the types of its
 /// parts.

@@ -6,11 +6,11 @@ ghost use Rattle.typecheck_operators.specs.Operands.{unary_of};
 ghost use Rattle.typecheck_operators.specs.Told.{mark, operand_of, walked_of};
 
 use crate::told::{Part, Told, Typing, ended_typed, expect, parted};
-use typing_spec::CapabilitySet;
 use policy_expressions::{BuildError, Expr, Loc, UnaryOp};
 use schema_types::Type;
 use std::alloc::Global;
 use typecheck_rules::{of_unary, unary_type};
+use typing_spec::CapabilitySet;
 
 fn unary_lent(op: UnaryOp) -> Type
     ensures { result ≡ unary_lent op }

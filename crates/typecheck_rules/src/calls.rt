@@ -16,13 +16,13 @@ ghost use Rattle.typecheck_rules.specs.Found.{findings_from};
 
 use crate::expected::is_same_type;
 use crate::finding::{Finding, FindingKind, joined, one};
-use typing_spec::{ExtensionFunctionType, ExtensionSchemas};
 use policy_expressions::{
     Expr, ExprKind, ExtensionFunction, Loc, UnaryFunction, extension_function,
 };
 use policy_values::Name;
 use schema_types::Type;
 use std::alloc::{AllocError, Global};
+use typing_spec::{ExtensionFunctionType, ExtensionSchemas};
 
 /// An extension function, with what it takes and gives.
 #[derive(Clone, Copy)]

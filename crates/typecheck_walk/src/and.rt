@@ -9,12 +9,12 @@ ghost use Rattle.typecheck_operators.specs.Told.{mark, operand_of, walked_of};
 ghost use Rattle.typecheck_walk.specs.Sides.{and_by, and_of, and_own, and_reached};
 
 use crate::sides::{Own, Sides, if_reached, sides_of};
-use typing_spec::CapabilitySet;
 use policy_expressions::{BuildError, Expr, Loc};
 use schema_types::{Type, TypeKind};
 use std::alloc::{AllocError, Global};
 use typecheck_operators::{Part, Told, Typing, ended_typed, or_drop, parted};
 use typecheck_rules::and_type;
+use typing_spec::CapabilitySet;
 
 /// `&&`, by what its sides come to. Errs where memory runs out, or the expression would be nested
 /// too deep.

@@ -17,13 +17,13 @@ ghost use Rattle.typecheck_walk.specs.Branches.{all_found, all_ok, if_by, if_of,
 ghost use Rattle.typecheck_walk.specs.Branches as branches;
 
 use crate::sides::if_reached;
-use typing_spec::CapabilitySet;
 use findings::LubContext;
 use policy_expressions::{BuildError, Expr, Loc};
 use schema_types::{Primitive, Type, TypeKind};
 use std::alloc::{AllocError, Global};
 use typecheck_operators::{Part, Told, Typing, ended_typed, or_drop, parted, rest_of};
 use typecheck_rules::{Finding, joined, no_join, strict_join};
+use typing_spec::CapabilitySet;
 
 // A test taken apart. One that lends no type is one of which nothing is known.
 #[derive(Drop)]

@@ -11,7 +11,6 @@ use crate::PolicyCheck;
 use crate::errors::errors_of;
 use crate::setting::Setting;
 use crate::walks::walk;
-use typing_spec::CapabilitySet;
 use findings::{TooDeep, ValidationError};
 use policy_expressions::{BuildError, Expr};
 use policy_values::Text;
@@ -19,6 +18,7 @@ use schema_types::{Primitive, Type, TypeKind};
 use std::alloc::{AllocError, Global};
 use typecheck_operators::{Told, Typing, expect};
 use typecheck_rules::Expected;
+use typing_spec::CapabilitySet;
 
 // What is deeper is not typed.
 const MAX_TYPED_DEPTH: u32 = 200;

@@ -5,10 +5,10 @@ ghost use Rattle.typing_spec.specs.Capability.{has_cap};
 ghost use Rattle.typing_spec.specs.Typing.{attribute_known, tag_known};
 ghost use Rattle.typecheck_walk.specs.Asked.{asked};
 
-use typing_spec::{Capability, CapabilitySet};
 use policy_expressions::{BinaryOp, Expr};
 use policy_values::Text;
 use std::alloc::AllocError;
+use typing_spec::{Capability, CapabilitySet};
 
 // Whether the attribute is known to be there. Mostly nothing is known at all, and then no capability is made.
 #[tactic(auto, using(crate::proofs::Nothing::has_none))]

@@ -5,12 +5,12 @@ ghost use Rattle.std.specs.Option.{option_map};
 ghost use Rattle.policy_expressions.specs.Functions.{function_of};
 ghost use Rattle.typecheck_walk.specs.Known.{KnowsFunctions};
 
-use typing_spec::ExtensionSchemas;
 use policy_values::Name;
 use schema_core::{RequestEnv, ValidatorSchema};
 use std::alloc::Global;
 use std::marker::Model;
 use typecheck_rules::{CalledFunction, called_function};
+use typing_spec::ExtensionSchemas;
 
 /// Extensions in which every extension function is found.
 #[derive(Drop)]

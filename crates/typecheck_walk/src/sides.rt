@@ -4,12 +4,12 @@ ghost use Rattle.std.specs.Prelude.{◌≡◌, ◌++◌, ◌&&◌, IfOk};
 ghost use Rattle.typecheck_rules.specs.Found.{findings_from};
 ghost use Rattle.typecheck_walk.specs.Sides.{reached};
 
-use typing_spec::CapabilitySet;
 use policy_expressions::Expr;
 use schema_types::Type;
 use std::alloc::AllocError;
 use typecheck_operators::{Part, or_drop, rest_of, unreached};
 use typecheck_rules::{Finding, joined};
+use typing_spec::CapabilitySet;
 
 // Both sides, and what is found of them.
 #[derive(Drop)]

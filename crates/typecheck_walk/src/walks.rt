@@ -11,19 +11,19 @@ ghost use Rattle.typecheck_operators.specs.Told.{all_of, field_of, mark, walked_
 
 use crate::known::{knows_attribute, knows_tag};
 use crate::setting::Setting;
-use typing_spec::CapabilitySet;
+use crate::{and_sides, if_parts, or_sides};
 use policy_expressions::{BinaryOp, BuildError, Expr, ExprKind, Loc, Pattern, UnaryOp};
 use policy_values::{EntityType, Name, Text, push_entry};
 use schema_types::TypeKind;
 use std::alloc::AllocError;
 use std::collections::BTreeMap;
-use crate::{and_sides, if_parts, or_sides};
 use typecheck_operators::{
     Access, Operator, Told, attr_told, binary_told, call_told, expect, has_told, is_told,
     like_told, literal_told, record_told, set_told, skipped, slot_told, unary_told, undefined_told,
     variable_told,
 };
 use typecheck_rules::Expected;
+use typing_spec::CapabilitySet;
 
 // The walk through an expression: its typing, or what is found. Each kind has a function of its own, which keeps proofs short;
 // so does dropping by a call what was told of one part when the walk of the next fails.
