@@ -5,7 +5,7 @@ use Rattle.std.specs.Cmp.{IsTotalOrder, on_total}
 use Rattle.std.specs.Cmp.Lexicographic.{slice_cmp, lists_total}
 use Rattle.std.proofs.lemmas.Map.Lookups.{CmpEqualImpliesEq, exact_bytes}
 use Rattle.policy_values.specs.Uid.{text_cmp}
-use Rattle.policy_values.proofs.Ties.{then_equal}
+use Rattle.policy_values.specs.Ties.{then_equal}
 use Rattle.access_tries.specs.declared.edge.EntityRoot.{EntityRoot}
 use Rattle.access_tries.specs.declared.edge.Step.{Step}
 use Rattle.access_tries.specs.declared.edge.Step.TheVariants.{Field, AnyTag}

@@ -3,7 +3,7 @@ use Rattle.std.proofs.Common.{◌≡◌, ◌↔◌, IsTrue, Bool, true, false, �
 use Rattle.std.specs.Bool.{beq, Decides}
 use Rattle.std.specs.Ordering.{is_eq}
 use Rattle.std.specs.Cmp.{IsEquivalence, decided, on_equiv, tied_itself, booleans_Decides}
-use Rattle.policy_values.proofs.Ties.{equal_of}
+use Rattle.policy_values.specs.Ties.{equal_of}
 use Rattle.access_tries.specs.declared.edge.Edge.{Edge}
 use Rattle.access_tries.specs.Edges.{edge_cmp, edge_eq}
 use Rattle.access_tries.specs.Trees.{Branch, branch, Branches, no_branches, leading, branch_at, branches_of}

@@ -1,6 +1,6 @@
 -- Types below others: along what is declared of the one, values are of types below those that are declared of the other.
 use Rattle.std.proofs.Common.{◌≡◌, ℕ, Bool, true, false, ◌&&◌, List, Some, IsTrue, Result, Ok, Err, cond, refl, sym, ◌∙◌, subst, IfOk, IfSome}
-use Rattle.policy_values.proofs.Ties.{equal_of}
+use Rattle.policy_values.specs.Ties.{equal_of}
 use Rattle.policy_values.specs.Uid.{text_cmp}
 use Rattle.std.specs.Ordering.{is_eq}
 use Rattle.std.proofs.lemmas.Map.Lookups.{exact_bytes}

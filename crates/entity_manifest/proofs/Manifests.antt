@@ -6,7 +6,7 @@ use Rattle.std.specs.List.{AllZip, cons_option}
 use Rattle.std.specs.Map.{lookup}
 use Rattle.std.specs.Option.{option_and_then}
 use Rattle.plain_lemmas.proofs.Options.{some_injective}
-use Rattle.policy_values.proofs.Ties.{equal_of}
+use Rattle.policy_values.specs.Ties.{equal_of}
 use Rattle.entity_store.specs.declared.request.Request.{Request}
 use Rattle.entity_store.specs.declared.request.RequestType.{RequestType}
 use Rattle.entity_store.specs.Request.{request_type_of, request_type_cmp, exact_request_type}

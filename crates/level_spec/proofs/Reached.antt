@@ -14,7 +14,7 @@ use Rattle.policy_values.specs.Value.{Val, rec, Fields, no_fields, field, field_
 use Rattle.entity_store.specs.declared.request.Request.{Request}
 use Rattle.entity_store.specs.Store.{StoredEntity, Store, entity_at, is_named}
 use Rattle.level_spec.specs.Cut.{ids_in, ids_in_fields, ids_held, ids_asked, is_among, entities_among, reach, cut}
-use Rattle.policy_values.proofs.Ties.{equal_of}
+use Rattle.policy_values.specs.Ties.{equal_of}
 
 pub same_uid : (x y : EntityUID) → uid_eq x y ≡ true → x ≡ y
 same_uid x y h = exact_uid x y (equal_of (uid_cmp x y) h)

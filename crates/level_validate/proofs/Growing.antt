@@ -11,7 +11,7 @@ use Rattle.level_spec.specs.Cut.{is_among}
 use Rattle.level_spec.specs.Hops.{Within}
 use Rattle.level_validate.specs.Fresh.{AreFresh}
 use Rattle.plain_lemmas.proofs.Booleans.{or_false, or_of_cond}
-use Rattle.policy_values.proofs.Ties.{equal_of}
+use Rattle.policy_values.specs.Ties.{equal_of}
 
 -- some of the ids are added to those that were reached before, and some are left
 pub record AreAdded (before ids left reached fresh : List EntityUID) : Type 0 where

@@ -15,7 +15,7 @@ use Rattle.policy_expressions.specs.declared.kinds.Var.TheVariants as variable
 use Rattle.type_relations.specs.Join.{is_entity}
 use Rattle.policy_expressions.specs.Slots.{has_slot, some_has_slot}
 use Rattle.policy_expressions.specs.Tree.{lit, var, slot, conj, binary}
-use Rattle.policy_values.proofs.Ties.{equal_of}
+use Rattle.policy_values.specs.Ties.{equal_of}
 use Rattle.schema_types.specs.Ty.{Ty, false_type, entity}
 use Rattle.schema_core.specs.EnvData.{EnvData, unlinked, literal_type}
 use Rattle.schema_core.specs.Environments.{Environment}

@@ -13,7 +13,7 @@ use Rattle.policy_expressions.specs.declared.kinds.SlotId.TheVariants.{Principal
 use Rattle.policy_core.specs.Eval.{eval}
 use Rattle.policy_expressions.specs.Slots.{has_slot}
 use Rattle.policy_expressions.specs.Tree.{depth_of}
-use Rattle.policy_values.proofs.Ties.{equal_of}
+use Rattle.policy_values.specs.Ties.{equal_of}
 use Rattle.schema_core.specs.EnvData.{LinkedEnvironment, declared_action, unlinked, unlinked_of}
 use Rattle.schema_core.specs.Environments.{Environment, environment, environments_of, environments_at}
 use Rattle.schema_core.specs.Schema.{ActionData, SchemaData, is_action_named, action_at}

@@ -12,7 +12,6 @@ mod Seen
 mod Subset
 mod Turns
 pub mod NameFront
-pub mod Ties
 pub mod HashSteps
 pub mod MapSteps
 mod Pushed

@@ -6,6 +6,7 @@ pub mod Repeated
 pub mod Basename
 pub mod Name
 pub mod Show
+pub mod Ties
 pub mod Uid
 pub mod Ascending
 pub mod Gv

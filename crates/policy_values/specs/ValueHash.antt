@@ -6,7 +6,7 @@ use Rattle.std.specs.Hash as fed
 use Rattle.std.specs.Hash.{HashWrites}
 use Rattle.policy_values.specs.declared.entity_uid.EntityUID.{EntityUID}
 use Rattle.policy_ext.specs.IpAddr.{Range}
-use Rattle.policy_values.proofs.Ties.{equal_of}
+use Rattle.policy_values.specs.Ties.{equal_of}
 use Rattle.policy_values.specs.RangeOrder.{family_rank}
 use Rattle.policy_values.specs.Value.{Val, truth, long, string, entity, set, rec, decimal, ip, datetime, duration, Vals, no_vals, val, Fields, no_fields, field}
 use Rattle.policy_values.specs.ValueOrder.{val_cmp}

@@ -10,7 +10,7 @@ use Rattle.policy_values.specs.Value.{Val, truth, long, string, entity, set, rec
 use Rattle.policy_values.specs.Uid.{text_cmp, uid_cmp_total, exact_uid}
 use Rattle.policy_ext.specs.declared.ip_addr.Family.{Family}
 use Rattle.policy_ext.specs.declared.ip_addr.Family.TheVariants.{V4, V6}
-use Rattle.policy_values.proofs.Ties.{then_equal, then_chain}
+use Rattle.policy_values.specs.Ties.{then_equal, then_chain}
 use Rattle.policy_values.specs.RangeOrder.{family_rank, range_cmp}
 use Rattle.policy_values.specs.ValueOrder.{rank, val_cmp, vals_cmp, fields_cmp}
 

@@ -14,7 +14,7 @@ use Rattle.reads_spec.specs.Paths.{Step, along, any_tag}
 use Rattle.reads_spec.specs.Restrict.{same_step, is_prefix}
 use Rattle.plain_lemmas.proofs.Lists.{append_empty}
 use Rattle.plain_lemmas.proofs.Booleans.{or_left_true, or_right_true}
-use Rattle.policy_values.proofs.Ties.{equal_of}
+use Rattle.policy_values.specs.Ties.{equal_of}
 use Rattle.type_relations.proofs.UnionLaws.{own_text}
 pub use Rattle.reads_spec.specs.Among.{IsIn}
 

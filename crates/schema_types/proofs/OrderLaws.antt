@@ -4,7 +4,7 @@ use Rattle.std.specs.declared.cmp.Ordering.TheVariants.{Less, Equal, Greater}
 use Rattle.std.specs.Ordering.{bool_cmp, ordering_reverse, ordering_then}
 use Rattle.schema_types.specs.Ty.{Ty}
 use Rattle.schema_types.specs.TyOrder.{ty_cmp}
-use Rattle.policy_values.proofs.Ties.{then_equal, equal_of}
+use Rattle.policy_values.specs.Ties.{then_equal, equal_of}
 use Rattle.schema_types.specs.TyLaws.{exact_ty, ty_cmp_total}
 use Rattle.policy_values.specs.ValueLaws.{exact_bool}
 use Rattle.schema_types.specs.Laws.{OrderIsExact, AttributeOrderIsExact, AttributeHashAgrees, attribute_cmp, attribute_fed}

@@ -4,7 +4,7 @@ use Rattle.std.specs.Ordering.{is_eq}
 use Rattle.schema_types.specs.Ty.{Ty, Attrs}
 use Rattle.schema_types.specs.TyOrder.{ty_cmp, attrs_cmp}
 use Rattle.schema_types.specs.TyLaws.{exact_ty, exact_attrs}
-use Rattle.policy_values.proofs.Ties.{equal_of}
+use Rattle.policy_values.specs.Ties.{equal_of}
 use Rattle.schema_types.specs.TyHash.{ty_fed, attrs_fed}
 
 pub alike_ty : (x y : Ty) → is_eq (ty_cmp x y) ≡ true → ty_fed x ≡ ty_fed y

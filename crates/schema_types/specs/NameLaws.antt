@@ -7,7 +7,7 @@ use Rattle.std.specs.Cmp.Lexicographic.{lists_total}
 use Rattle.std.proofs.lemmas.Cmp.{nat_list_cmp_total}
 use Rattle.std.proofs.lemmas.Map.Lookups.{CmpEqualImpliesEq, exact_bytes}
 use Rattle.policy_values.specs.Uid.{text_cmp}
-use Rattle.policy_values.proofs.Ties.{then_equal, equal_of}
+use Rattle.policy_values.specs.Ties.{then_equal, equal_of}
 use Rattle.schema_types.specs.Names.{texts_cmp, texts_fed}
 
 pub exact_texts : CmpEqualImpliesEq texts_cmp

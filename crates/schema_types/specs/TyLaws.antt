@@ -6,7 +6,7 @@ use Rattle.std.specs.Ordering.{nat_cmp, bool_cmp, ordering_then, ordering_revers
 use Rattle.std.specs.Cmp.{IsTotalOrder, then_flip, bool_cmp_total, nat_cmp_total}
 use Rattle.std.proofs.lemmas.Cmp.{nat_list_cmp_total}
 use Rattle.std.proofs.lemmas.Map.Lookups.{CmpEqualImpliesEq, exact_bytes}
-use Rattle.policy_values.proofs.Ties.{then_equal, then_chain}
+use Rattle.policy_values.specs.Ties.{then_equal, then_chain}
 use Rattle.schema_types.specs.NameLaws.{exact_texts, texts_cmp_total}
 use Rattle.policy_values.specs.Uid.{text_cmp}
 use Rattle.schema_types.specs.Ty.{Ty, never, true_type, false_type, primitive, any_set, set_of, record_of, any_entity, entity, action, extension, Attrs, no_attrs, attr}

@@ -17,7 +17,7 @@ use Rattle.policy_values.specs.Keyed.{AreAtTheirKeys, with_value}
 use Rattle.policy_values.proofs.Keyed.{value_found, value_put, own_put}
 use Rattle.policy_values.specs.declared.entity_uid.EntityUID.{EntityUID}
 use Rattle.policy_values.specs.Uid.{uid_cmp, uid_cmp_total, exact_uid}
-use Rattle.policy_values.proofs.Ties.{equal_of}
+use Rattle.policy_values.specs.Ties.{equal_of}
 use Rattle.entity_store.specs.declared.request.Request.{Request}
 use Rattle.entity_store.specs.Store.{StoredEntity, Store, entity_at}
 use Rattle.entity_store.specs.Ascending.{IsAbove}

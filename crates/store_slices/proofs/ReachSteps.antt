@@ -20,7 +20,7 @@ use Rattle.access_tries.specs.Paths.{edge_of, address_of}
 use Rattle.access_tries.specs.Table.{Table, links_at}
 use Rattle.access_tries.specs.Views.{whole}
 use Rattle.access_tries.specs.EdgeLaws.{exact_edge}
-use Rattle.policy_values.proofs.Ties.{equal_of}
+use Rattle.policy_values.specs.Ties.{equal_of}
 use Rattle.reads_spec.specs.Paths.{Step, along, any_tag, AccessPath, beyond}
 use Rattle.reads_spec.specs.Restrict.{root_value, values_in, step, step_in_entity, step_in_record, walk}
 use Rattle.reads_spec.proofs.Lists.{IsIn, any_in, same_uid, uid_self, in_flat_map, flat_map_out}

@@ -7,7 +7,7 @@ use Rattle.std.specs.declared.cmp.Ordering.TheVariants.{Less, Equal, Greater}
 use Rattle.std.specs.Ordering.{nat_cmp, match_ordering}
 use Rattle.std.proofs.lemmas.Map.Lookups.{exact_unsigned}
 use Rattle.policy_values.specs.Uid.{uid_cmp, exact_uid}
-use Rattle.policy_values.proofs.Ties.{then_equal}
+use Rattle.policy_values.specs.Ties.{then_equal}
 use Rattle.reads_spec.proofs.Lists.{IsIn}
 use Rattle.trie_traversal.specs.declared.place.Place.{Place}
 use Rattle.trie_traversal.specs.Places.{place_cmp, IsPlaced}

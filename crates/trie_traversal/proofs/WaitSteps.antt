@@ -16,7 +16,7 @@ use Rattle.plain_lemmas.proofs.Booleans.{or_false, or_true, or_comm, or_left_tru
 use Rattle.plain_lemmas.proofs.Options.{is_some_cond}
 use Rattle.policy_values.specs.declared.entity_uid.EntityUID.{EntityUID}
 use Rattle.policy_values.specs.Uid.{uid_cmp, uid_eq}
-use Rattle.policy_values.proofs.Ties.{equal_of}
+use Rattle.policy_values.specs.Ties.{equal_of}
 use Rattle.entity_store.specs.Store.{Store}
 use Rattle.policy_values.specs.Value.{Val, entity}
 use Rattle.access_tries.specs.declared.edge.Edge.{Edge}

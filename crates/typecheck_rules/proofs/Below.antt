@@ -8,7 +8,7 @@ use Rattle.schema_types.specs.declared.kinds.Primitive.TheVariants.{Bool as Bool
 use Rattle.schema_types.specs.Ty.{Ty, never, true_type, false_type, primitive, any_set, set_of, record_of, any_entity, entity, action, extension}
 use Rattle.schema_types.specs.TyOrder.{ty_cmp}
 use Rattle.schema_types.specs.TyLaws.{exact_ty, ty_cmp_total}
-use Rattle.policy_values.proofs.Ties.{equal_of}
+use Rattle.policy_values.specs.Ties.{equal_of}
 use Rattle.type_relations.specs.declared.mode.SubtypeMode.TheVariants.{Permissive}
 use Rattle.type_relations.specs.Subtype.{Subtype}
 use Rattle.policy_expressions.specs.declared.functions.UnaryFunction.{UnaryFunction}

@@ -10,7 +10,7 @@ use Rattle.policy_values.specs.declared.entity_uid.EntityUID.{EntityUID}
 use Rattle.policy_values.specs.Uid.{uid_cmp, exact_uid, uid_eq}
 use Rattle.policy_values.specs.Value.{Val, truth, entity as id}
 use Rattle.policy_values.specs.ValueOrder.{val_cmp}
-use Rattle.policy_values.proofs.Ties.{equal_of}
+use Rattle.policy_values.specs.Ties.{equal_of}
 use Rattle.schema_types.specs.Names.{has_name}
 use Rattle.schema_types.specs.Ty.{Ty, true_type, false_type, any_entity, entity, action}
 use Rattle.type_relations.specs.Join.{text_eq, is_entity}

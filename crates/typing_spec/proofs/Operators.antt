@@ -3,7 +3,7 @@ use Rattle.std.proofs.Common.{◌≡◌, ℕ, ℤ, Bool, true, false, not, ◌&&
 use Rattle.policy_values.specs.declared.entity_uid.EntityUID.{EntityUID}
 use Rattle.policy_values.specs.Value.{Val, long, string, entity as id, set, datetime, duration, decimal, ip, Vals}
 use Rattle.policy_ext.specs.IpAddr.{Range}
-use Rattle.policy_values.proofs.Ties.{equal_of}
+use Rattle.policy_values.specs.Ties.{equal_of}
 use Rattle.schema_types.specs.declared.kinds.Primitive.TheVariants.{Bool as BoolType, Long, String}
 use Rattle.schema_types.specs.Ty.{Ty, true_type, false_type, primitive, any_set, set_of, any_entity, entity, action}
 use Rattle.schema_types.specs.TyLaws.{exact_ty}
