@@ -9,8 +9,8 @@ use Rattle.schema_core.specs.Schema.{SchemaData}
 use Rattle.typing_spec.specs.Conforms.{RequestConforms, StoreConforms}
 use Rattle.conformance.specs.RequestRules.{first_request_fault}
 use Rattle.entity_loader.specs.State.{LoaderState, Continues}
-use Rattle.manifest_loading.specs.declared.error.EntitySliceError.{EntitySliceError}
-use Rattle.manifest_loading.specs.declared.error.EntitySliceError.TheVariants as error
+use Rattle.entity_manifest.specs.declared.EntitySliceError.{EntitySliceError}
+use Rattle.entity_manifest.specs.declared.EntitySliceError.TheVariants as error
 use Rattle.entity_manifest.specs.Loaded.{OfToldStores, WhyNotLoaded}
 use Rattle.batch_decisions.specs.declared.answer.BatchAnswer.{BatchAnswer}
 use Rattle.batch_decisions.specs.declared.answer.BatchAnswer.TheVariants.{Partial, Refused, Loading, Decided}

@@ -1,7 +1,7 @@
 //! What is answered to a request.
 
 use conformance::RequestValidationError;
-use manifest_loading::EntitySliceError;
+use entity_manifest::EntitySliceError;
 use policy_set::Response;
 
 /// What is answered to one of many requests.

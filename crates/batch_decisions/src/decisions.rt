@@ -4,22 +4,20 @@ ghost use Rattle.std.specs.Prelude.{◌≡◌, ◌≢◌, Err, IfOk, IfErr};
 ghost use Rattle.entity_loader.specs.State.{Continues};
 ghost use Rattle.entity_store.specs.Request.{IsWhole};
 ghost use Rattle.typing_spec.specs.Conforms.{RequestConforms};
-ghost use Rattle.policy_validate.specs.Accepted.{IsAccepted};
-ghost use Rattle.manifest_computation.specs.Computed.{IsManifestOf, WhyNone};
-ghost use Rattle.manifest_loading.specs.declared.error.EntitySliceError.TheVariants.{OutOfMemory};
+ghost use Rattle.entity_manifest.specs.Accepted.{IsAccepted};
+ghost use Rattle.entity_manifest.specs.OfPolicies.{IsManifestOf, WhyNone};
+ghost use Rattle.entity_manifest.specs.declared.EntitySliceError.TheVariants.{OutOfMemory};
 ghost use Rattle.batch_decisions.specs.Answers.{IsAnswerTo, AreAnswers};
 ghost use Rattle.batch_decisions.specs.Loaded.{answer_of};
 
 use crate::BatchAnswer;
 use conformance::laws::request_rules_are_exact;
 use entity_loader::EntityLoader;
-use entity_manifest::load_for_request;
-use entity_store::{Entities, Request};
-use manifest_computation::{
-    EntityManifestError, SliceForRequestError, check_request, compute_entity_manifest,
+use entity_manifest::{
+    EntityManifest, EntityManifestError, EntitySliceError, SliceForRequestError, Steps,
+    check_request, compute_entity_manifest, load_for_request,
 };
-use manifest_core::EntityManifest;
-use manifest_loading::{EntitySliceError, Steps};
+use entity_store::{Entities, Request};
 use policy_set::{PolicySet, decide};
 use schema_core::ValidatorSchema;
 use std::alloc::{AllocError, Global};

@@ -3,14 +3,14 @@
 ghost use Rattle.std.specs.Prelude.{IfOk, IfErr};
 ghost use Rattle.std.specs.List.{AllZip};
 ghost use Rattle.typing_spec.specs.Conforms.{StoreConforms};
-ghost use Rattle.policy_validate.specs.Accepted.{IsAccepted};
-ghost use Rattle.manifest_computation.specs.Computed.{WhyNone};
+ghost use Rattle.entity_manifest.specs.Accepted.{IsAccepted};
+ghost use Rattle.entity_manifest.specs.OfPolicies.{WhyNone};
 ghost use Rattle.row_loader.specs.State.{store_told};
 ghost use Rattle.batch_decisions.specs.Answers.{IsStoreAnswer, IsRowAnswer, AreCounted};
 
 use crate::{BatchAnswer, decide_batch};
+use entity_manifest::EntityManifestError;
 use entity_store::{Entities, Request};
-use manifest_computation::EntityManifestError;
 use policy_set::PolicySet;
 use row_loader::laws::told_stores_are_ordered;
 use row_loader::{RowLoader, store_rows_tell};

@@ -10,7 +10,10 @@ mod request_schema;
 mod schema;
 pub mod traits;
 
-pub use conformance::RequestValidationError;
+pub use conformance::{
+    ConformanceError, EntityDoesNotConform, RequestValidationError, StoreRule, conforms,
+    validate_request,
+};
 pub use context_schema::{ContextSchema, context_schema_for_action};
 pub use described::EntityTypeDescription;
 pub use request_schema::RequestSchema;

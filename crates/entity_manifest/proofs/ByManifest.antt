@@ -16,13 +16,13 @@ use Rattle.policy_set.specs.PolicySet.{PolicySetData, IsPolicySet, AreKeyedOnce}
 use Rattle.schema_core.specs.Faults.{IsSchema}
 use Rattle.schema_core.specs.Schema.{SchemaData}
 use Rattle.typing_spec.specs.Conforms.{RequestConforms, StoreConforms}
-use Rattle.policy_validate.specs.Accepted.{IsAccepted}
+use Rattle.manifest_computation.specs.Accepted.{IsAccepted}
 use Rattle.store_order.specs.Order.{IsOrdered, AreOrdered}
 use Rattle.reads_spec.specs.Paths.{AccessPath, Demand}
 use Rattle.reads_spec.specs.Cover.{IsPartOf}
 use Rattle.reads_spec.specs.Reads.{declared_reads, declared_demands}
 use Rattle.reads_spec.specs.Restrict.{root_value, part, needed, restrict}
-use Rattle.policy_validate.specs.Typed.{typed_conditions}
+use Rattle.manifest_computation.specs.Typed.{typed_conditions}
 use Rattle.manifest_computation.specs.Slice.{env_of, slice, slice_in}
 use Rattle.store_slices.proofs.LeastSteps.{declared_trie}
 use Rattle.schema_core.specs.EnvData.{EnvData}

@@ -25,7 +25,7 @@ use Rattle.reads_spec.specs.Cover.{IsPartOf}
 use Rattle.reads_spec.specs.Reads.{declared_reads, declared_demands}
 use Rattle.reads_spec.specs.Restrict.{restrict}
 use Rattle.reads_spec.proofs.Lists.{IsIn}
-use Rattle.policy_validate.specs.Typed.{typed_conditions}
+use Rattle.manifest_computation.specs.Typed.{typed_conditions}
 use Rattle.store_slices.proofs.LeastSteps.{declared_trie}
 use Rattle.entity_loader.specs.State.{LoaderState}
 use Rattle.manifest_loading.specs.Causes.{IsRight}

@@ -22,7 +22,7 @@ use Rattle.typing_spec.specs.Typing.{Typing, types}
 use Rattle.reads_spec.specs.Reads.{demands, demands_of, reads_of, are_declared, declared_reads, declared_demands}
 use Rattle.reads_spec.proofs.DeclaredPaths.{declared_read}
 use Rattle.reads_spec.proofs.Lists.{IsIn, in_map_out, flat_map_out}
-use Rattle.policy_validate.specs.Typed.{typed_conditions}
+use Rattle.manifest_computation.specs.Typed.{typed_conditions}
 use Rattle.store_slices.proofs.LeastSteps.{declared_trie}
 use Rattle.manifest_core.specs.Manifest.{Manifest, trie_for}
 use Rattle.manifest_computation.specs.Computed.{IsEntryOf, IsManifestOf}

@@ -12,7 +12,7 @@ use Rattle.schema_core.specs.Schema.{SchemaData}
 use Rattle.policy_set.specs.Data.{PolicyData}
 use Rattle.typing_spec.specs.Conforms.{RequestConforms, StoreConforms}
 use Rattle.reads_spec.specs.Reads.{declared_reads, declared_demands}
-use Rattle.policy_validate.specs.Typed.{typed_conditions}
+use Rattle.manifest_computation.specs.Typed.{typed_conditions}
 use Rattle.entity_loader.specs.State.{LoaderState}
 use Rattle.manifest_loading.specs.Causes.{IsRight}
 use Rattle.manifest_loading.specs.Right.{SticksAt}

@@ -2,3 +2,6 @@ pub mod DeclaredPaths
 pub mod Sticking
 pub mod Computed
 pub mod Loaded
+pub use Rattle.manifest_computation.specs.Accepted
+pub use Rattle.manifest_computation.specs.Computed as OfPolicies
+pub use Rattle.manifest_computation.specs.Rules

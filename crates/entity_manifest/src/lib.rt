@@ -13,7 +13,8 @@ pub use entity_loader::{
 };
 pub use loading::{load_for_request, load_slice};
 pub use manifest_computation::{
-    EntityManifestError, SliceForRequestError, compute_entity_manifest, slice_for_request,
+    EntityManifestAnalysisResult, EntityManifestError, SliceForRequestError, check_request,
+    compute_entity_manifest, slice_for_request,
 };
 pub use manifest_core::{
     EntityManifest, EntityManifestFromJsonError, MismatchedEntityManifestError,
@@ -23,5 +24,4 @@ pub use manifest_loading::{
     EntitySliceError, IncompatibleEntityManifestError, PartialRequestError, Steps,
     WrongNumberOfEntitiesError, load_entities, load_trie, slice_entities,
 };
-pub use path_analysis::EntityManifestAnalysisResult;
 pub use store_slices::restricted_store;

@@ -4,7 +4,7 @@ ghost use Rattle.std.specs.Prelude.{◌≡◌, ◌≢◌, true, IfOk, IfErr};
 ghost use Rattle.entity_loader.specs.State.{Continues};
 ghost use Rattle.entity_store.specs.Request.{IsWhole};
 ghost use Rattle.typing_spec.specs.Conforms.{RequestConforms, StoreConforms};
-ghost use Rattle.policy_validate.specs.Accepted.{IsAccepted};
+ghost use Rattle.manifest_computation.specs.Accepted.{IsAccepted};
 ghost use Rattle.reads_spec.specs.Cover.{IsPartOf};
 ghost use Rattle.manifest_computation.specs.Slice.{slice};
 ghost use Rattle.manifest_computation.specs.Computed.{IsManifestOf};

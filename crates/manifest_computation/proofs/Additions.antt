@@ -15,7 +15,7 @@ use Rattle.policy_set.specs.Data.{PolicyData}
 use Rattle.reads_spec.specs.PathTypes.{declared_part}
 use Rattle.reads_spec.specs.Reads.{reads_of, reads, demands, demands_of, are_declared, declared_reads, declared_demands}
 use Rattle.policy_validate.specs.AcceptanceLaws.{LeavesAll}
-use Rattle.typecheck_rules.specs.Check.{checked}
+use Rattle.policy_validate.specs.Check.{checked}
 use Rattle.policy_validate.specs.Found.{condition_in, found_conditions}
 use Rattle.manifest_computation.specs.Gathered.{goes_along, asks_along, HoldSame, IsTrieLeft}
 use Rattle.plain_lemmas.proofs.Booleans.{or_assoc, or_exchange, or_false}

@@ -2,12 +2,12 @@
 use Rattle.std.proofs.Common.{◌≡◌, List, [], ◌∷◌, Some, map, sym, ap, ◌∙◌, refl, codes}
 use Rattle.std.specs.List.{AllZip}
 use Rattle.serde_json.specs.View.{items_of}
-use Rattle.json_response.specs.ValueJson.{alone}
+use Rattle.manifest_core.specs.ValueJson.{alone}
 use Rattle.serde_json.specs.Data.{array}
 use Rattle.entity_store.specs.declared.request.RequestType.{RequestType}
 use Rattle.access_tries.specs.Laws.{SameTriesAreEqual}
 use Rattle.access_tries.specs.Table.{Table}
-use Rattle.json_tries.specs.TrieJson.{trie_data, roots_data, entry_data}
+use Rattle.manifest_core.specs.TrieJson.{trie_data, roots_data, entry_data}
 use Rattle.policy_set.specs.Data.{PolicyData}
 use Rattle.schema_core.specs.EnvData.{EnvData, unlinked_envs}
 use Rattle.schema_core.specs.Schema.{SchemaData}

@@ -8,3 +8,5 @@ pub mod Computed
 pub mod Found
 pub mod Gathered
 pub mod Laws
+pub use Rattle.policy_validate.specs.Accepted
+pub use Rattle.policy_validate.specs.Typed

@@ -1,6 +1,6 @@
 //! Why there is no manifest.
 
-use policy_scope::ValidationResult;
+use policy_validate::ValidationResult;
 use std::alloc::AllocError;
 use thiserror::Error;
 

@@ -11,7 +11,7 @@ use access_tries::RootAccessTrie;
 use path_analysis::conditions_trie;
 use policy_expressions::Expr;
 use policy_set::PolicySet;
-use policy_typecheck::{PolicyCheck, Typechecker};
+use policy_validate::{PolicyCheck, Typechecker};
 use schema_core::{RequestEnv, ValidatorSchema};
 use schema_types::Type;
 use std::alloc::{AllocError, Global};

@@ -17,6 +17,7 @@ mod tries;
 pub use checks::check_request;
 pub use compute::compute_entity_manifest;
 pub use error::EntityManifestError;
+pub use path_analysis::EntityManifestAnalysisResult;
 pub use request::slice_for_request;
 pub use slice::restricted_to_reads;
 pub use slice_error::SliceForRequestError;

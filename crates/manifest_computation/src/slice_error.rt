@@ -1,7 +1,7 @@
 //! Why there is no slice.
 
 use conformance::{EntityDoesNotConform, RequestValidationError};
-use policy_scope::ValidationResult;
+use policy_validate::ValidationResult;
 use std::alloc::AllocError;
 use thiserror::Error;
 

@@ -14,7 +14,7 @@ use crate::gathering::trie_of_policies;
 use access_tries::RootAccessTrie;
 use entity_store::RequestType;
 use policy_set::PolicySet;
-use policy_typecheck::Typechecker;
+use policy_validate::Typechecker;
 use schema_core::{RequestEnv, ValidatorSchema};
 use std::alloc::{AllocError, Global};
 use std::collections::BTreeMap;

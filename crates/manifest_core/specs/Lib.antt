@@ -6,3 +6,5 @@ pub mod Placed
 pub mod Reading
 pub mod Refusals
 pub mod Said
+pub use Rattle.json_tries.specs.TrieJson
+pub use Rattle.json_response.specs.ValueJson

@@ -17,9 +17,9 @@ use Rattle.typing_spec.specs.Operands.{is_boolean}
 use Rattle.typing_spec.specs.Typing.{Typed, Typing, types}
 use Rattle.typecheck_rules.specs.Check.{Check, Success, Irrelevant, Fail, TooDeep, check_of, check_by, checked, condition_walked, CheckIsExact}
 use Rattle.typecheck_rules.specs.Walked.{findings_of}
-use Rattle.typecheck_walk.specs.Answer.{Tells}
-use Rattle.typecheck_walk.specs.declared.policy_check.PolicyCheck.{PolicyCheck}
-use Rattle.typecheck_walk.specs.declared.policy_check.PolicyCheck.TheVariants as told
+use Rattle.policy_typecheck.specs.Answer.{Tells}
+use Rattle.policy_typecheck.specs.declared.PolicyCheck.{PolicyCheck}
+use Rattle.policy_typecheck.specs.declared.PolicyCheck.TheVariants as told
 use Rattle.link_spec.specs.Accepted.{IsTypedIn, IsAcceptedTemplate}
 use Rattle.link_spec.specs.Linked.{linked_envs}
 use Rattle.level_spec.specs.Levels.{greater, least_level}

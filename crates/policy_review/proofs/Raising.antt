@@ -10,7 +10,7 @@ use Rattle.findings.specs.declared.level.EntityDerefViolationKind.{EntityDerefVi
 use Rattle.findings.specs.declared.level.EntityDerefViolationKind.TheVariants.{MaximumLevelExceeded, LiteralDerefTarget}
 use Rattle.level_spec.specs.Findings.{IsIn}
 use Rattle.level_spec.specs.Levels.{greater, one_more, least, is_below}
-use Rattle.level_validate.specs.Errors.{Condition, dereferences_in, PassesIn, IsToldBy, IsToldOf}
+use Rattle.policy_validate.specs.Errors.{Condition, dereferences_in, PassesIn, IsToldBy, IsToldOf}
 use Rattle.policy_review.specs.Found.{needed_of, needed_in, needed_by}
 use Rattle.policy_review.proofs.Least.{at_most, all_at_most}
 use Rattle.plain_lemmas.proofs.Lists.{empty_of_length}

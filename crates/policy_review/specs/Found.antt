@@ -20,8 +20,8 @@ use Rattle.typecheck_rules.specs.Check.{checked}
 use Rattle.link_spec.specs.Linked.{linked_envs}
 use Rattle.level_spec.specs.Levels.{least_level}
 use Rattle.policy_typecheck.specs.Policies.{passes}
-use Rattle.typecheck_walk.specs.declared.policy_check.PolicyCheck.{PolicyCheck}
-use Rattle.typecheck_walk.specs.declared.policy_check.PolicyCheck.TheVariants.{Success, Irrelevant, Fail}
+use Rattle.policy_typecheck.specs.declared.PolicyCheck.{PolicyCheck}
+use Rattle.policy_typecheck.specs.declared.PolicyCheck.TheVariants.{Success, Irrelevant, Fail}
 use Rattle.policy_typecheck.specs.declared.verdict.Verdict.{Verdict}
 use Rattle.policy_typecheck.specs.declared.verdict.Verdict.TheVariants.{Never, May}
 use Rattle.policy_validate.specs.Accepted.{IsAccepted}

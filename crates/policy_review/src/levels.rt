@@ -4,15 +4,15 @@ ghost use Rattle.std.specs.Prelude.{◌≡◌, IfOk, Some, map, fold, flat_map};
 ghost use Rattle.schema_core.specs.EnvData.{action_in};
 ghost use Rattle.schema_core.specs.RequestEnvs.{env_data_of};
 ghost use Rattle.level_spec.specs.Levels.{greater, least, least_level};
-ghost use Rattle.level_validate.specs.Errors.{condition_in, dereferences_in};
+ghost use Rattle.policy_validate.specs.Errors.{condition_in, dereferences_in};
 ghost use Rattle.policy_validate.specs.Found.{condition_told};
 ghost use Rattle.policy_review.specs.Found.{needed_by, needed_in, level_told, level_found};
 
 use findings::{EntityDerefViolationKind, ValidationError};
-use level_validate::level_errors;
 use policy_expressions::Expr;
 use policy_set::Template;
 use policy_typecheck::{PolicyCheck, Typechecker, linked_request_envs};
+use policy_validate::level_errors;
 use policy_values::Text;
 use schema_core::{RequestEnv, ValidatorSchema};
 use schema_types::Type;

@@ -17,8 +17,8 @@ use Rattle.typecheck_rules.specs.Check.{Check, Success, Irrelevant, Fail, TooDee
 use Rattle.typecheck_rules.specs.Walked.{findings_of}
 use Rattle.link_spec.specs.Accepted.{IsTyped}
 use Rattle.policy_typecheck.specs.Answer.{Tells}
-use Rattle.typecheck_walk.specs.declared.policy_check.PolicyCheck.{PolicyCheck}
-use Rattle.typecheck_walk.specs.declared.policy_check.PolicyCheck.TheVariants as told
+use Rattle.policy_typecheck.specs.declared.PolicyCheck.{PolicyCheck}
+use Rattle.policy_typecheck.specs.declared.PolicyCheck.TheVariants as told
 use Rattle.policy_validate.specs.Typed.{typed_conditions}
 use Rattle.policy_validate.specs.Found.{condition_in, condition_told, found_conditions}
 

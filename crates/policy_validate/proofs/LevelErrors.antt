@@ -23,12 +23,12 @@ use Rattle.typecheck_rules.specs.Walked.{findings_of}
 use Rattle.link_spec.specs.Accepted.{IsTyped, IsTypedIn, IsAcceptedTemplate}
 use Rattle.link_spec.specs.Laws.{RefusalsAreTold}
 use Rattle.link_spec.specs.Linked.{linked_envs}
-use Rattle.level_spec.specs.Levels.{passes}
-use Rattle.level_spec.specs.Policies as level
-use Rattle.level_spec.specs.Policies.{PassesAt}
+use Rattle.level_validate.specs.Levels.{passes}
+use Rattle.level_validate.specs.Policies as level
+use Rattle.level_validate.specs.Policies.{PassesAt}
 use Rattle.policy_typecheck.specs.Answer.{Tells, TellsIn}
-use Rattle.typecheck_walk.specs.declared.policy_check.PolicyCheck.{PolicyCheck}
-use Rattle.typecheck_walk.specs.declared.policy_check.PolicyCheck.TheVariants.{Success, Irrelevant, Fail}
+use Rattle.policy_typecheck.specs.declared.PolicyCheck.{PolicyCheck}
+use Rattle.policy_typecheck.specs.declared.PolicyCheck.TheVariants.{Success, Irrelevant, Fail}
 use Rattle.level_validate.specs.Errors.{Condition, PassesIn, LevelErrorsAreExact}
 use Rattle.policy_validate.specs.Accepted.{errors_of_written, errors_of_link}
 use Rattle.policy_validate.specs.Checks.{condition_in}

@@ -18,8 +18,8 @@ use Rattle.schema_core.specs.Schema.{SchemaData}
 use Rattle.policy_scope.specs.Scope.{is_applicable}
 use Rattle.typing_spec.specs.Conforms.{RequestConforms, StoreConforms}
 use Rattle.link_spec.specs.Accepted.{IsAcceptedTemplate, HasKnownType}
-use Rattle.level_spec.specs.Cut.{cut}
-use Rattle.level_spec.specs.Policies.{PassesAt, LinkLevelsAreSound, StaticLevelsAreSound}
+use Rattle.level_validate.specs.Cut.{cut}
+use Rattle.level_validate.specs.Policies.{PassesAt, LinkLevelsAreSound, StaticLevelsAreSound}
 use Rattle.policy_validate.specs.Accepted.{KeepsLinkRules}
 use Rattle.policy_validate.specs.Levels.{AcceptedLevelsAreSound}
 use Rattle.policy_validate.proofs.Empty.{all_both}

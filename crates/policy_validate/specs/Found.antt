@@ -6,8 +6,8 @@ use Rattle.schema_core.specs.Schema.{SchemaData}
 use Rattle.typing_spec.specs.Typing.{Typed}
 use Rattle.policy_set.specs.Data.{PolicyData}
 use Rattle.typecheck_rules.specs.Check.{checked}
-use Rattle.typecheck_walk.specs.declared.policy_check.PolicyCheck.{PolicyCheck}
-use Rattle.typecheck_walk.specs.declared.policy_check.PolicyCheck.TheVariants.{Success, Irrelevant, Fail}
+use Rattle.policy_typecheck.specs.declared.PolicyCheck.{PolicyCheck}
+use Rattle.policy_typecheck.specs.declared.PolicyCheck.TheVariants.{Success, Irrelevant, Fail}
 pub use Rattle.policy_validate.specs.Checks.{condition_in}
 
 -- the typed condition of a check in code

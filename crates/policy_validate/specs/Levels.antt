@@ -16,8 +16,8 @@ use Rattle.finding_messages.specs.Findings.{Findings}
 use Rattle.typing_spec.specs.Conforms.{RequestConforms, StoreConforms}
 use Rattle.typecheck_rules.specs.Check.{checked}
 use Rattle.link_spec.specs.Linked.{linked_envs}
-use Rattle.level_spec.specs.Cut.{cut}
-use Rattle.level_spec.specs.Policies.{PassesAt}
+use Rattle.level_validate.specs.Cut.{cut}
+use Rattle.level_validate.specs.Policies.{PassesAt}
 use Rattle.level_validate.specs.Errors.{Condition, dereferences_in, level_errors_in, IsToldOf}
 use Rattle.policy_validate.specs.Accepted.{errors_of_written, errors_of_link, warnings_of, IsAccepted}
 use Rattle.policy_validate.specs.Checks.{condition_in}

@@ -9,3 +9,5 @@ pub mod ConditionLaws
 pub mod Rules
 pub mod AcceptanceLaws
 pub mod Entries
+pub use Rattle.typecheck_rules.specs.Check
+pub use Rattle.level_validate.specs.Errors

@@ -4,8 +4,8 @@ ghost use Rattle.policy_validate.specs.Entries.{AcceptanceIsByEntry, EntriesAreA
 ghost use Rattle.policy_validate.specs.Laws.{NoErrorsWhereAccepted, AcceptedAreTyped, AcceptedAreSound};
 ghost use Rattle.policy_validate.specs.Levels.{LevelErrorsOfAreExact, NoErrorsWhereAcceptedAt, AcceptedLevelsAreSound};
 
-use level_spec::laws::{link_levels_are_sound, static_levels_are_sound};
 use level_validate::laws::level_errors_are_exact;
+use level_validate::{link_levels_are_sound, static_levels_are_sound};
 use link_spec::laws::{links_are_typed, refusals_are_told, statics_are_typed, typed_are_sound};
 use typecheck_rules::laws::check_is_exact;
 

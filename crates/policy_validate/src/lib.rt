@@ -10,14 +10,14 @@ mod rules;
 mod validator;
 
 pub use conditions::conditions_in;
-pub use conformance::{
-    ConformanceError, EntityDoesNotConform, StoreRule, conforms, validate_request,
-};
 pub use core_schema::{
-    ContextSchema, CoreSchema, EntityTypeDescription, RequestSchema, RequestValidationError,
-    context_schema_for_action, traits,
+    ConformanceError, ContextSchema, CoreSchema, EntityDoesNotConform, EntityTypeDescription,
+    RequestSchema, RequestValidationError, StoreRule, conforms, context_schema_for_action, traits,
+    validate_request,
 };
-pub use level_validate::slice_at_level;
+pub use level_validate::{level_errors, slice_at_level};
+pub use policy_scope::ValidationResult;
+pub use policy_typecheck::{PolicyCheck, Typechecker};
 pub use rules::keep_rules;
 pub use schema_core::ValidationMode;
 pub use validator::Validator;

@@ -9,7 +9,7 @@ use Rattle.entity_store.specs.Store.{Store}
 use Rattle.policy_values.specs.Value.{Val}
 use Rattle.manifest_loading.specs.declared.error.EntitySliceError.{EntitySliceError}
 use Rattle.manifest_loading.specs.declared.error.EntitySliceError.TheVariants as error
-use Rattle.manifest_computation.specs.Rules.{KeepRules}
+use Rattle.entity_manifest.specs.Rules.{KeepRules}
 use Rattle.entity_manifest.specs.Loaded.{LoadedIsEnough, RefusalsAreFaults, AreDecidedAlike, IsTold}
 use Rattle.entity_manifest.proofs.ByManifest.{Loads, promised}
 use Rattle.entity_manifest.proofs.OfStore.{memory_alone}

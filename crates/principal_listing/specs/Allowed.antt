@@ -14,7 +14,7 @@ use Rattle.policy_set.specs.declared.response.Decision.{Decision}
 use Rattle.policy_set.specs.declared.response.Decision.TheVariants.{Allow, Deny}
 use Rattle.schema_core.specs.Schema.{SchemaData, action_at}
 use Rattle.typing_spec.specs.Conforms.{StoreConforms}
-use Rattle.policy_validate.specs.Accepted.{IsAccepted}
+use Rattle.entity_manifest.specs.Accepted.{IsAccepted}
 use Rattle.conformance.specs.RequestRules.{first_request_fault}
 
 -- the request with this principal, and with the principal passed over

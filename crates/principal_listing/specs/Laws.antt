@@ -10,7 +10,7 @@ use Rattle.policy_set.specs.PolicySet.{PolicySetData}
 use Rattle.schema_core.specs.Faults.{IsSchema}
 use Rattle.schema_core.specs.Schema.{SchemaData}
 use Rattle.reads_spec.specs.Among.{IsIn}
-use Rattle.manifest_computation.specs.Rules.{KeepRules}
+use Rattle.entity_manifest.specs.Rules.{KeepRules}
 use Rattle.principal_listing.specs.Allowed.{asked_by, applies_to, allowed_principals, KeepOtherRules}
 use Rattle.principal_listing.specs.Pages.{after, AreResumed}
 use Rattle.principal_listing.specs.declared.page.Page.{Page}

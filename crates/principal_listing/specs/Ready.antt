@@ -11,7 +11,7 @@ use Rattle.schema_core.specs.Faults.{IsSchema}
 use Rattle.schema_core.specs.Schema.{ActionData, action_at}
 use Rattle.store_order.specs.Order.{AreOrdered}
 use Rattle.row_loader.specs.Laws.{IsStoreOrdered}
-use Rattle.manifest_computation.specs.Computed.{IsManifestOf}
+use Rattle.entity_manifest.specs.OfPolicies.{IsManifestOf}
 use Rattle.principal_listing.specs.Allowed.{KeepOtherRules}
 use Rattle.principal_listing.specs.Pages.{comes_after}
 use Rattle.principal_listing.specs.declared.candidates.Listing.{Listing}

@@ -7,7 +7,7 @@ use Rattle.schema_core.specs.Schema.{SchemaData}
 use Rattle.conformance.specs.RequestRules.{first_request_fault}
 use Rattle.conformance.specs.StoreRules.{first_store_fault}
 use Rattle.typing_spec.specs.Conforms.{StoreConforms}
-use Rattle.policy_validate.specs.Accepted.{findings_of, IsAccepted}
+use Rattle.entity_manifest.specs.Accepted.{findings_of, IsAccepted}
 use Rattle.principal_listing.specs.Allowed.{IsWholeBut, passed_over}
 use Rattle.principal_listing.specs.declared.error.ListError.{ListError}
 use Rattle.principal_listing.specs.declared.error.ListError.TheVariants as error

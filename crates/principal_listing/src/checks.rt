@@ -2,8 +2,8 @@
 
 ghost use Rattle.std.specs.Prelude.{◌≡◌, true, None, IfOk, IfErr, MatchResult, OnOk};
 ghost use Rattle.conformance.specs.RequestRules.{first_request_fault};
-ghost use Rattle.policy_validate.specs.Accepted.{IsAccepted};
-ghost use Rattle.manifest_computation.specs.Computed.{IsManifestOf};
+ghost use Rattle.entity_manifest.specs.Accepted.{IsAccepted};
+ghost use Rattle.entity_manifest.specs.OfPolicies.{IsManifestOf};
 ghost use Rattle.principal_listing.specs.Allowed.{passed_over, KeepOtherRules};
 ghost use Rattle.principal_listing.specs.Refused.{WhyNoPage};
 ghost use Rattle.principal_listing.specs.CheckSteps.{IsRequestRefusal, IsStoreRefusal, IsPoliciesRefusal};
@@ -13,11 +13,11 @@ use crate::ListError;
 use crate::request::{is_whole_but, without_principal};
 use conformance::laws::store_rules_are_exact;
 use conformance::{ConformanceError, conforms};
-use entity_store::{Entities, Request};
-use manifest_computation::{
-    EntityManifestError, SliceForRequestError, check_request, compute_entity_manifest,
+use entity_manifest::{
+    EntityManifest, EntityManifestError, SliceForRequestError, check_request,
+    compute_entity_manifest,
 };
-use manifest_core::EntityManifest;
+use entity_store::{Entities, Request};
 use policy_set::PolicySet;
 use schema_core::ValidatorSchema;
 use std::alloc::Global;

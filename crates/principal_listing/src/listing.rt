@@ -4,7 +4,7 @@ ghost use Rattle.std.specs.Prelude.{◌≡◌, ◌≤◌, IfOk, OnOk, IfErr, IsS
 ghost use Rattle.std.specs.Option.{option_copied};
 ghost use Rattle.entity_store.specs.Request.{action_of};
 ghost use Rattle.schema_core.specs.Schema.{action_at};
-ghost use Rattle.manifest_computation.specs.Computed.{IsManifestOf};
+ghost use Rattle.entity_manifest.specs.OfPolicies.{IsManifestOf};
 ghost use Rattle.principal_listing.specs.Allowed.{allowed_principals, passed_over, KeepOtherRules};
 ghost use Rattle.principal_listing.specs.Pages.{page_ids, has_more, IsPage};
 ghost use Rattle.principal_listing.specs.Ready.{IsReady};

@@ -1,6 +1,6 @@
 use Rattle.std.proofs.Common.{◌≡◌, Some, sym, ap, ◌∙◌}
 use Rattle.schema_core.specs.RequestEnvs.{env_data_of}
-use Rattle.typecheck_rules.specs.Check.{checked}
+use Rattle.policy_validate.specs.Check.{checked}
 use Rattle.policy_validate.specs.Found.{condition_in, found_conditions}
 use Rattle.policy_validate.proofs.Checks.{told_condition}
 use Rattle.manifest_computation.proofs.Additions.{all_added, left_next, none_left, one_taken}

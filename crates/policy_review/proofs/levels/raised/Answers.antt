@@ -1,6 +1,6 @@
 use Rattle.std.proofs.Common.{[], sym, map, ◌≡◌, ◌∙◌, arith}
 use Rattle.std.specs.Prelude.{flat_map}
-use Rattle.level_validate.specs.Errors.{condition_in, dereferences_in}
+use Rattle.policy_validate.specs.Errors.{condition_in, dereferences_in}
 use Rattle.policy_review.proofs.Raising.{all_pass, none_counted, none_needed, needed_raises, some_counted}
 use Rattle.policy_review.proofs.levels.raised.Goals as goal
 

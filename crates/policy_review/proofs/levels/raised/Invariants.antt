@@ -1,7 +1,7 @@
 use Rattle.std.proofs.Common.{◌≡◌, ◌-◌, Some, map}
 use Rattle.std.specs.Prelude.{flat_map}
 use Rattle.level_spec.specs.Levels.{greater, least}
-use Rattle.level_validate.specs.Errors.{condition_in, dereferences_in}
+use Rattle.policy_validate.specs.Errors.{condition_in, dereferences_in}
 use Rattle.policy_review.proofs.Raising.{top}
 use Rattle.policy_review.proofs.levels.raised.Given as goal
 

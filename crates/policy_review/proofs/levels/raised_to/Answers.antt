@@ -3,7 +3,7 @@ use Rattle.std.specs.Prelude.{IfOk, flat_map}
 use Rattle.schema_core.specs.EnvData.{action_in}
 use Rattle.schema_core.specs.RequestEnvs.{env_data_of}
 use Rattle.level_spec.specs.Levels.{greater, least, dereferences}
-use Rattle.level_validate.specs.Errors.{condition_in, dereferences_in}
+use Rattle.policy_validate.specs.Errors.{condition_in, dereferences_in}
 use Rattle.plain_lemmas.proofs.Lists.{append_empty}
 use Rattle.policy_review.proofs.levels.raised_to.Goals as goal
 

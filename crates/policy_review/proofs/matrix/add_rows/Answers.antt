@@ -5,7 +5,7 @@ use Rattle.std.specs.Vec.Iter.{into_iter_items}
 use Rattle.schema_core.specs.EnvData.{action_in}
 use Rattle.schema_core.specs.RequestEnvs.{env_data_of}
 use Rattle.typecheck_rules.specs.Check.{checked}
-use Rattle.typecheck_walk.specs.Answer.{Tells}
+use Rattle.policy_typecheck.specs.Answer.{Tells}
 use Rattle.level_spec.specs.Levels.{greater}
 use Rattle.policy_validate.proofs.Checks.{told_condition}
 use Rattle.policy_review.specs.Matrix.{row_at}

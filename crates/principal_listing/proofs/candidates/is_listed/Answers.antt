@@ -2,7 +2,7 @@ use Rattle.std.proofs.Common.{◌≡◌, true, sym, ap, ◌∙◌, subst}
 use Rattle.std.specs.Option.{option_copied}
 use Rattle.std.proofs.lemmas.Result.{IfOk-weaker}
 use Rattle.policy_set.specs.Response.{response}
-use Rattle.manifest_computation.specs.Rules.{KeepRules}
+use Rattle.entity_manifest.specs.Rules.{KeepRules}
 use Rattle.principal_listing.specs.Allowed.{asked_by, passed_over, is_allow}
 use Rattle.principal_listing.specs.Ready.{is_candidate}
 use Rattle.principal_listing.proofs.Ready.{listed, no_candidate, a_candidate, applies_there}
