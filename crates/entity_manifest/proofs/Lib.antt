@@ -5,7 +5,7 @@ mod Having
 mod Sticking
 mod Conforming
 pub mod Manifests
-mod Loading
+mod HonestLoading
 pub mod ByManifest
 pub mod Loaded
 pub mod OfStore

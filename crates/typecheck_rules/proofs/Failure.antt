@@ -18,7 +18,7 @@ use Rattle.typecheck_rules.specs.Laws.{IsTold, FailureIsTold}
 use Rattle.typecheck_rules.proofs.KnownNames.{HasKnownNames, HaveKnownNames, FieldsHaveKnownNames, names_known}
 use Rattle.typecheck_rules.proofs.Found.{HasFinding}
 use Rattle.typecheck_rules.proofs.Failing.{unary_told, like_told, is_told, has_told, attr_told, binary_told, and_is_told, or_is_told, if_is_told, HaveFindings, set_told, record_told}
-use Rattle.typecheck_rules.proofs.Calls.{AreWalked, call_told}
+use Rattle.typecheck_rules.proofs.WalkedCalls.{AreWalked, call_told}
 use Rattle.typecheck_rules.proofs.Exact.{exact}
 
 leaf_told : (part : Mark (Option Ty) → Typed) (m : Mark (Unit {0})) (o : Option Ty) → IsSome o → HasFinding (leaf_walked part m o)

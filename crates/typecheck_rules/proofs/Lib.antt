@@ -1,7 +1,7 @@
 mod Agree
 mod Below
 mod Branches
-mod Calls
+mod WalkedCalls
 mod Examples
 mod Checks
 mod Each
