@@ -1,0 +1,29 @@
+use Rattle.std.proofs.Common.{◌≡◌, ℕ, List, length, ap, subst, refl, sym, ◌∙◌, ◌⊎◌, inl, inr}
+use Rattle.policy_gate.specs.Reply.{answer}
+use Rattle.policy_gate.specs.Status.{code_of}
+use Rattle.policy_gate.specs.declared.status.Status.TheVariants.{Done, OutOfMemory}
+use Rattle.palvumiose_c.specs.Told.{IsHanded, laid_over}
+use Rattle.palvumiose_c.proofs.Codes.{done_from_code, code_of_either}
+use Rattle.palvumiose_c.proofs.palvumiose_c_run.Goals as goal
+
+-- the reply's text is handed out
+handed : (c : goal.After-drop-reply) → IsHanded c.answer_to-reply.result.text.items c.len.result c.args.out.now c.lay_over.new.out
+handed c = record {
+  whole = c.len.ensures ∙ sym c.as_slice.ensures.len ∙ ap length c.as_slice.ensures.value;
+  front = c.lay_over.ensures ∙ ap (λ t. laid_over t c.args.out.now) c.as_slice.ensures.value;
+}
+
+pub returns-clause-told : goal.returns-clause-told
+returns-clause-told c = (answer c.answer_to-reply.result.status c.answer_to-reply.result.text.items, c.answer_to-reply.ensures.told, c.code.ensures, handed c)
+
+pub returns-clause-headline : goal.returns-clause-headline
+returns-clause-headline c is ends =
+    (c.answer_to-reply.result.text.items, handed c, c.answer_to-reply.ensures.headline is (done_from_code c.answer_to-reply.result.status (sym c.code.ensures ∙ ends)))
+
+pub returns-clause-decided : goal.returns-clause-decided
+returns-clause-decided c is ends =
+    (c.answer_to-reply.result.text.items, handed c, c.answer_to-reply.ensures.decided is (done_from_code c.answer_to-reply.result.status (sym c.code.ensures ∙ ends)))
+
+pub returns-clause-complete : goal.returns-clause-complete
+returns-clause-complete c command d is reads few of keeps =
+    code_of_either c.answer_to-reply.result.status c.code.result c.code.ensures (c.answer_to-reply.ensures.complete command d is reads few of keeps)

@@ -1,0 +1,54 @@
+/* Answers a command as the program does, without starting it: answer WORD.. < DOCUMENT
+ *
+ * gcc -I FOLDER answer.c -L FOLDER -lpalvumiose_c -Wl,-rpath,FOLDER -o answer
+ * where FOLDER has what scripts/c-library builds. */
+#include <palvumiose_c.h>
+#include <stdio.h>
+#include <stdlib.h>
+#include <string.h>
+
+/* The bytes of a stream; never null, also where there are none. */
+static uint8_t *bytes_of(FILE *from, size_t *size) {
+    uint8_t *bytes = malloc(1 << 16);
+    size_t room = 1 << 16, got;
+    for (*size = 0; bytes && (got = fread(bytes + *size, 1, room - *size, from)) > 0;) {
+        *size += got;
+        if (*size == room)
+            bytes = realloc(bytes, room *= 2);
+    }
+    return bytes;
+}
+
+/* The words, with a zero byte between two of them; never null. */
+static uint8_t *joined(int count, char **words, size_t *size) {
+    size_t room = 1;
+    for (int i = 0; i < count; i++)
+        room += strlen(words[i]) + 1;
+    uint8_t *bytes = calloc(1, room);
+    *size = 0;
+    for (int i = 0; bytes && i < count; i++) {
+        memcpy(bytes + *size, words[i], strlen(words[i]));
+        *size += strlen(words[i]) + (i + 1 < count);
+    }
+    return bytes;
+}
+
+int main(int count, char **words) {
+    size_t command_size, document_size, room = 1 << 16, size;
+    uint8_t *command = joined(count - 1, words + 1, &command_size);
+    uint8_t *document = bytes_of(stdin, &document_size);
+    uint8_t *out = malloc(room);
+    if (!command || !document || !out)
+        return 10;
+    uint8_t status = palvumiose_c_run(command, command_size, document, document_size, out, room, &size);
+    if (size > room) { /* once more, with enough room */
+        room = size;
+        if (!(out = realloc(out, room)))
+            return 10;
+        status = palvumiose_c_run(command, command_size, document, document_size, out, room, &size);
+    }
+    if (size <= room)
+        fwrite(out, 1, size, stdout);
+    free(command), free(document), free(out);
+    return status;
+}
