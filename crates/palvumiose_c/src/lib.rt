@@ -74,7 +74,10 @@ fn reply_to(alloc: Global, command: &[u8], document: &[u8]) -> Result<Reply, All
     if faults > 0 {
         return Err(AllocError);
     }
-    Ok(Reply { status, text: bytes })
+    Ok(Reply {
+        status,
+        text: bytes,
+    })
 }
 
 // The same, with no text where memory ran out.
