@@ -78,10 +78,12 @@ int main(int words, char **given) {
     first_status = ask(first, &first_size);
     long wrong[64] = {0}, all = 0;
     pthread_t running[64];
+    pthread_attr_t small; /* as much stack as a caller owes */
+    pthread_attr_init(&small), pthread_attr_setstacksize(&small, 2 << 20);
     struct timespec began, ended;
     clock_gettime(CLOCK_MONOTONIC, &began);
     for (int i = 0; i < threads; i++)
-        if (pthread_create(&running[i], 0, work, &wrong[i]))
+        if (pthread_create(&running[i], &small, work, &wrong[i]))
             return 2;
     for (int i = 0; i < threads; i++)
         pthread_join(running[i], 0), all += wrong[i];

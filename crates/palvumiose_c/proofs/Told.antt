@@ -1,5 +1,5 @@
 -- From what `run` does with a source and a sink in memory to what a call tells.
-use Rattle.std.proofs.Common.{◌≡◌, ℕ, ◌+◌, ◌<◌, ◌≤◌, List, [], ◌++◌, length, ◌⊎◌, inl, inr, Option, Some, None, append-nil, length-append, sym, ap, ◌∙◌, refl, subst, arith}
+use Rattle.std.proofs.Common.{◌≡◌, ℕ, ◌≤◌, List, [], ◌++◌, length, inl, inr, Option, Some, None, append-nil, length-append, sym, ap, ◌∙◌, subst, arith}
 use Rattle.std.specs.Io.KnownBytes.{Appends, Consumes, IsAtEnd, Keeps}
 use Rattle.byte_streams.specs.Document.{WasRead}
 use Rattle.byte_streams.specs.State.{SinkState, SourceState}

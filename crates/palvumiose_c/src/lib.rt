@@ -18,7 +18,7 @@ use policy_gate::{Command, Status, run};
 use std::alloc::{AllocError, Global};
 
 // A status and its text.
-#[derive(Debug, Drop)]
+#[derive(Drop)]
 struct Reply {
     status: Status,
     text: Vec<u8>,

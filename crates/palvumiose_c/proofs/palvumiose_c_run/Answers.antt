@@ -1,7 +1,5 @@
-use Rattle.std.proofs.Common.{◌≡◌, ℕ, List, length, ap, subst, refl, sym, ◌∙◌, ◌⊎◌, inl, inr}
+use Rattle.std.proofs.Common.{length, ap, sym, ◌∙◌}
 use Rattle.policy_gate.specs.Reply.{answer}
-use Rattle.policy_gate.specs.Status.{code_of}
-use Rattle.policy_gate.specs.declared.status.Status.TheVariants.{Done, OutOfMemory}
 use Rattle.palvumiose_c.specs.Told.{IsHanded, laid_over}
 use Rattle.palvumiose_c.proofs.Codes.{done_from_code, code_of_either}
 use Rattle.palvumiose_c.proofs.palvumiose_c_run.Goals as goal

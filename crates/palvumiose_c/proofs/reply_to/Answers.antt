@@ -1,4 +1,4 @@
-use Rattle.std.proofs.Common.{◌≡◌, ◌≤◌, Some, List, map, string_bytes, drop, ap, subst, refl, arith, ◌∙◌}
+use Rattle.std.proofs.Common.{Some, drop, ap, subst, refl, arith, ◌∙◌}
 use Rattle.byte_streams.specs.Memory.{sink_state, slice_state}
 use Rattle.json_document.specs.declared.document.Document.{Document}
 use Rattle.json_document.specs.declared.shape.Shape.TheVariants.{Whole}

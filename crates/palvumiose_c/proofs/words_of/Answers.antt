@@ -1,4 +1,4 @@
-use Rattle.std.proofs.Common.{◌≡◌, ◌==◌, map, string_bytes, IfOk, ap, subst, ◌∙◌, refl}
+use Rattle.std.proofs.Common.{◌≡◌, ◌==◌, map, string_bytes, IfOk, ap, subst, ◌∙◌}
 use Rattle.std.specs.List.{slice_split}
 use Rattle.palvumiose_c.proofs.Words.{words_in-text, words_in-other}
 use Rattle.palvumiose_c.proofs.words_of.Goals as goal
