@@ -1,14 +1,14 @@
-"""Palvumiose in the process, by the library that scripts/c-library builds.
+"""Palvumiose in the process, by the library of the release.
 
 As a program it answers as palvumiose does: python3 examples/python/palvumiose.py WORD.. < DOCUMENT
-LIBRARY in the environment names another library than crates/palvumiose_c/out/libpalvumiose_c.so."""
+LIBRARY in the environment names another library than release/libpalvumiose_c.so."""
 import ctypes
 import os
 import sys
 from pathlib import Path
 
-BUILT = Path(__file__).resolve().parents[2] / "crates/palvumiose_c/out/libpalvumiose_c.so"
-CALL = ctypes.CDLL(os.environ.get("LIBRARY", BUILT)).palvumiose_c_run
+RELEASE = Path(__file__).resolve().parents[2] / "release/libpalvumiose_c.so"
+CALL = ctypes.CDLL(os.environ.get("LIBRARY", RELEASE)).palvumiose_c_run
 CALL.argtypes = [ctypes.c_char_p, ctypes.c_size_t] * 3 + [ctypes.POINTER(ctypes.c_size_t)]
 CALL.restype = ctypes.c_uint8
 
