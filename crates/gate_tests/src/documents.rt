@@ -276,9 +276,13 @@ pub(crate) fn in_full(alloc: Global, line: &str) -> Result<String, Fail> {
     Ok(document)
 }
 
-// How the command's run on the document ends, and what it writes.
+// How the run of the command, whose words are apart by spaces, on the document ends, and what it writes.
 pub(crate) fn told(alloc: Global, command: &str, document: &str) -> Result<String, Fail> {
-    let (status, written) = run_on(alloc, &[command], document.as_bytes(), 5000, &[], &[])?;
+    let mut words = Vec::new(alloc);
+    for word in command.split(' ') {
+        words.push(word)?;
+    }
+    let (status, written) = run_on(alloc, words.as_slice(), document.as_bytes(), 5000, &[], &[])?;
     let Ok(text) = String::from_utf8(written) else {
         return Err(Fail::new("no text is written"));
     };

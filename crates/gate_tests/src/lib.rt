@@ -12,6 +12,10 @@ mod documents;
 #[cfg(test)]
 mod hostile;
 #[cfg(test)]
+mod listings;
+#[cfg(test)]
+mod lives;
+#[cfg(test)]
 mod reviews;
 #[cfg(test)]
 mod runs;

@@ -5,11 +5,11 @@ use std::alloc::Global;
 use std::test::Fail;
 
 const USAGE: &str =
-    "usage: check | level N | request | manifest | slice | decide | sample SEED SIZE | batch | review\n";
+    "usage: check | level N | request | manifest | slice | decide | sample SEED SIZE | batch | live | review | list LIMIT [TYPE EID]\n";
 
 // The same, with a bar for the end of the line.
 pub(crate) const USAGE_LINE: &str =
-    "usage: check | level N | request | manifest | slice | decide | sample SEED SIZE | batch | review|";
+    "usage: check | level N | request | manifest | slice | decide | sample SEED SIZE | batch | live | review | list LIMIT [TYPE EID]|";
 
 fn owned(alloc: Global, words: &[&str]) -> Result<Vec<String>, Fail> {
     let mut owned = Vec::new(alloc);

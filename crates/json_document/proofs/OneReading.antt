@@ -15,14 +15,16 @@ use Rattle.schema_core.specs.Declarations.{IsSchemaOf, declared_outline}
 use Rattle.schema_core.proofs.OneSchema.{one_schema}
 use Rattle.schema_core.specs.declared.fault.SchemaFault.{SchemaFault}
 use Rattle.schema_core.specs.declared.fault.SchemaFault.TheVariants as refused
+use Rattle.json_document.specs.Edits.{edits_of}
 use Rattle.json_document.specs.Faults.{Then}
 use Rattle.json_document.specs.Parts.{DocumentParts, parts_of}
 use Rattle.json_document.specs.Policies.{no_policies, policies_of}
 use Rattle.json_document.specs.Request.{request_of, requests_of}
 use Rattle.json_document.specs.Entities.{entities_of}
 use Rattle.json_document.specs.Store.{IsStoreFrom, IsStoreFault}
-use Rattle.json_document.specs.Reading.{IsRead, IsReadFrom, IsReadBehindSchema, IsReadBehindPolicies, IsReadBehindStore, IsReadBehindRequest, IsSchemaFrom, IsSchemaFault, document, or_place}
+use Rattle.json_document.specs.Reading.{IsRead, IsReadFrom, IsReadBehindSchema, IsReadBehindPolicies, IsReadBehindEdits, IsReadBehindStore, IsReadBehindRequest, IsSchemaFrom, IsSchemaFault, document, or_place}
 use Rattle.json_document.specs.declared.document.Document.{Document}
+use Rattle.json_document.specs.declared.edit.Edit.{Edit}
 use Rattle.json_document.specs.declared.place.Place.{Place}
 use Rattle.json_document.specs.declared.shape.Shape.{Shape}
 use Rattle.json_document.specs.declared.place.Place.TheVariants as place
@@ -75,6 +77,8 @@ no_schema_place d s (place.PolicyDuplicate i) is fault = fault
 no_schema_place d s (place.UnknownTemplate i) is fault = fault
 no_schema_place d s (place.SlotMissing i) is fault = fault
 no_schema_place d s (place.SlotExtra i) is fault = fault
+no_schema_place d s (place.Edit i) is fault = fault
+no_schema_place d s (place.EditNested i) is fault = fault
 no_schema_place d s (place.Entity i) is fault = fault
 no_schema_place d s (place.EntityDuplicate i) is fault = fault
 no_schema_place d s (place.EntityCycle i) is fault = fault
@@ -99,6 +103,8 @@ no_store_place es s (place.PolicyDuplicate i) is fault = fault
 no_store_place es s (place.UnknownTemplate i) is fault = fault
 no_store_place es s (place.SlotMissing i) is fault = fault
 no_store_place es s (place.SlotExtra i) is fault = fault
+no_store_place es s (place.Edit i) is fault = fault
+no_store_place es s (place.EditNested i) is fault = fault
 no_store_place es s (place.Entity i) is fault = fault
 no_store_place es s place.Request is fault = fault
 no_store_place es s (place.RequestAt i) is fault = fault
@@ -108,14 +114,17 @@ store_from (Err p) x r f g = absurd (cc (f))
 store_from (Ok es) x (Ok s) f g = ap Ok (one_store es s x g f)
 store_from (Ok es) x (Err p) f g = absurd (no_store_place es x p f g)
 
-behind_request : (parts : DocumentParts) (schema : SchemaData) (policies : PolicySetData) (entities : Store) (request : Request) → IsOne (IsReadBehindRequest parts schema policies entities request)
-behind_request parts schema policies entities request = one_then _ _ (one_value (requests_of [] parts.requests)) (λ requests. one_value (Ok (document schema policies entities request requests)))
+behind_request : (parts : DocumentParts) (schema : SchemaData) (policies : PolicySetData) (edits : List Edit) (entities : Store) (request : Request) → IsOne (IsReadBehindRequest parts schema policies edits entities request)
+behind_request parts schema policies edits entities request = one_then _ _ (one_value (requests_of [] parts.requests)) (λ requests. one_value (Ok (document schema policies edits entities request requests)))
 
-behind_store : (parts : DocumentParts) (schema : SchemaData) (policies : PolicySetData) (entities : Store) → IsOne (IsReadBehindStore parts schema policies entities)
-behind_store parts schema policies entities = one_then _ _ (one_value (or_place place.Request (request_of parts.request))) (behind_request parts schema policies entities)
+behind_store : (parts : DocumentParts) (schema : SchemaData) (policies : PolicySetData) (edits : List Edit) (entities : Store) → IsOne (IsReadBehindStore parts schema policies edits entities)
+behind_store parts schema policies edits entities = one_then _ _ (one_value (or_place place.Request (request_of parts.request))) (behind_request parts schema policies edits entities)
+
+behind_edits : (parts : DocumentParts) (schema : SchemaData) (policies : PolicySetData) (edits : List Edit) → IsOne (IsReadBehindEdits parts schema policies edits)
+behind_edits parts schema policies edits = one_then _ _ (store_from (entities_of [] parts.entities)) (behind_store parts schema policies edits)
 
 behind_policies : (parts : DocumentParts) (schema : SchemaData) (policies : PolicySetData) → IsOne (IsReadBehindPolicies parts schema policies)
-behind_policies parts schema policies = one_then _ _ (store_from (entities_of [] parts.entities)) (behind_store parts schema policies)
+behind_policies parts schema policies = one_then _ _ (one_value (edits_of [] parts.edits)) (behind_edits parts schema policies)
 
 behind_schema : (parts : DocumentParts) (schema : SchemaData) → IsOne (IsReadBehindSchema parts schema)
 behind_schema parts schema = one_then _ _ (one_value (policies_of 0 no_policies parts.policies)) (behind_policies parts schema)

@@ -1,6 +1,7 @@
 pub mod Faults
 pub mod PlaceText
 pub mod Entities
+pub mod Edits
 pub mod Fields
 pub mod Request
 pub mod Store

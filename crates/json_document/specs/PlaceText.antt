@@ -2,7 +2,7 @@
 use Rattle.std.specs.Prelude.{ℕ, List, ◌++◌, codes, decimal}
 use Rattle.schema_core.specs.FaultText.{fault_text}
 use Rattle.json_document.specs.declared.place.Place.{Place}
-use Rattle.json_document.specs.declared.place.Place.TheVariants.{Json, Form, Schema, SchemaFault, Policy, PolicyNested, PolicyDuplicate, UnknownTemplate, SlotMissing, SlotExtra, Entity, EntityDuplicate, EntityCycle, Request, RequestAt}
+use Rattle.json_document.specs.declared.place.Place.TheVariants.{Json, Form, Schema, SchemaFault, Policy, PolicyNested, PolicyDuplicate, UnknownTemplate, SlotMissing, SlotExtra, Edit, EditNested, Entity, EntityDuplicate, EntityCycle, Request, RequestAt}
 
 abbrev pub place_text : Place → List ℕ
 place_text Json = codes "document: json"
@@ -15,6 +15,8 @@ place_text (PolicyDuplicate i) = codes "document: policies[" ++ (decimal i ++ co
 place_text (UnknownTemplate i) = codes "document: policies[" ++ (decimal i ++ codes "]: unknown template")
 place_text (SlotMissing i) = codes "document: policies[" ++ (decimal i ++ codes "]: slot missing")
 place_text (SlotExtra i) = codes "document: policies[" ++ (decimal i ++ codes "]: slot extra")
+place_text (Edit i) = codes "document: edits[" ++ (decimal i ++ codes "]")
+place_text (EditNested i) = codes "document: edits[" ++ (decimal i ++ codes "]: nested deeper than 400")
 place_text (Entity i) = codes "document: entities[" ++ (decimal i ++ codes "]")
 place_text (EntityDuplicate i) = codes "document: entities[" ++ (decimal i ++ codes "]: duplicate")
 place_text (EntityCycle i) = codes "document: entities[" ++ (decimal i ++ codes "]: cycle")

@@ -3,26 +3,29 @@
 ghost use Rattle.serde_json.specs.View.{view};
 ghost use Rattle.json_document.specs.Faults.{MayComeTo};
 ghost use Rattle.json_document.specs.Parts.{parts_view};
-ghost use Rattle.json_document.specs.Reading.{IsRead, IsReadBehindPolicies, IsReadBehindRequest, IsReadBehindSchema, IsReadBehindStore, IsReadFrom};
+ghost use Rattle.json_document.specs.Reading.{IsRead, IsReadBehindEdits, IsReadBehindPolicies, IsReadBehindRequest, IsReadBehindSchema, IsReadBehindStore, IsReadFrom};
 
+use crate::edits::read_edits;
 use crate::parts::{Parts, parts_of};
 use crate::policies::read_policies;
 use crate::requests::read_requests;
 use crate::schema::read_schema;
-use crate::{DocumentFault, Place, Requests, Shape, read_request, read_store};
+use crate::{DocumentFault, Edits, Place, Requests, Shape, read_request, read_store};
 use entity_store::{Entities, Request};
 use policy_set::PolicySet;
 use schema_core::ValidatorSchema;
 use serde_json::Value;
 use std::alloc::Global;
 
-/// A schema, policies, entities, and a request or several.
+/// A schema, policies or edits to them, entities, and a request or several.
 #[derive(Drop)]
 pub struct Document {
     /// The schema.
     pub schema: ValidatorSchema,
     /// The policies.
     pub policies: PolicySet,
+    /// The edits; none but in a document of edits.
+    pub edits: Edits,
     /// The store of the entities.
     pub entities: Entities,
     /// The request; one without entries where none is given.
@@ -36,15 +39,17 @@ fn with_requests(
     parts: &Parts<'_>,
     schema: ValidatorSchema,
     policies: PolicySet,
+    edits: Edits,
     entities: Entities,
     request: Request,
 ) -> Result<Document, DocumentFault>
-    ensures { MayComeTo result (IsReadBehindRequest (parts_view parts.now) schema policies entities request) }
+    ensures { MayComeTo result (IsReadBehindRequest (parts_view parts.now) schema policies edits entities request) }
 {
     let requests = read_requests(alloc, parts.requests)?;
     Ok(Document {
         schema,
         policies,
+        edits,
         entities,
         request,
         requests,
@@ -56,14 +61,15 @@ fn with_request(
     parts: &Parts<'_>,
     schema: ValidatorSchema,
     policies: PolicySet,
+    edits: Edits,
     entities: Entities,
 ) -> Result<Document, DocumentFault>
-    ensures { MayComeTo result (IsReadBehindStore (parts_view parts.now) schema policies entities) }
+    ensures { MayComeTo result (IsReadBehindStore (parts_view parts.now) schema policies edits entities) }
 {
     let Some(request) = read_request(alloc, parts.request)? else {
         return Err(DocumentFault::Place(Place::Request));
     };
-    with_requests(alloc, parts, schema, policies, entities, request)
+    with_requests(alloc, parts, schema, policies, edits, entities, request)
 }
 
 fn with_entities(
@@ -71,11 +77,24 @@ fn with_entities(
     parts: &Parts<'_>,
     schema: ValidatorSchema,
     policies: PolicySet,
+    edits: Edits,
+) -> Result<Document, DocumentFault>
+    ensures { MayComeTo result (IsReadBehindEdits (parts_view parts.now) schema policies edits) }
+{
+    let entities = read_store(alloc, parts.entities)?;
+    with_request(alloc, parts, schema, policies, edits, entities)
+}
+
+fn with_edits(
+    alloc: Global,
+    parts: &Parts<'_>,
+    schema: ValidatorSchema,
+    policies: PolicySet,
 ) -> Result<Document, DocumentFault>
     ensures { MayComeTo result (IsReadBehindPolicies (parts_view parts.now) schema policies) }
 {
-    let entities = read_store(alloc, parts.entities)?;
-    with_request(alloc, parts, schema, policies, entities)
+    let edits = read_edits(alloc, parts.edits)?;
+    with_entities(alloc, parts, schema, policies, edits)
 }
 
 fn with_policies(
@@ -86,7 +105,7 @@ fn with_policies(
     ensures { MayComeTo result (IsReadBehindSchema (parts_view parts.now) schema) }
 {
     let policies = read_policies(alloc, parts.policies)?;
-    with_entities(alloc, parts, schema, policies)
+    with_edits(alloc, parts, schema, policies)
 }
 
 fn read_parts(alloc: Global, parts: &Parts<'_>) -> Result<Document, DocumentFault>

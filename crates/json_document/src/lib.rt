@@ -1,7 +1,10 @@
-//! Documents in JSON: the schema, the policies, the entities and the requests that they declare, and where the first fault is.
+//! Documents in JSON: the schema, the policies or the edits to them, the entities and the requests that they declare, and
+//! where the first fault is.
 #![tactic(auto)]
 
 mod document;
+mod edit;
+mod edits;
 mod entities;
 mod fields;
 pub mod laws;
@@ -15,12 +18,14 @@ mod shape;
 mod store;
 
 pub use document::{Document, read_document, read_document_as};
+pub use edit::Edit;
+pub use edits::Edits;
 pub use entities::read_entities;
 pub use json_policies::{PolicyParts, PolicyRead, TemplateLink, read_entry};
 pub use json_schema::read_declarations;
 pub use json_values::{parse_json, read_uid, read_value};
 pub use place::{DocumentFault, Place};
-pub use policies::read_policies;
+pub use policies::{read_policies, slot_pairs};
 pub use request::read_request;
 pub use requests::Requests;
 pub use schema::read_schema;

@@ -17,6 +17,7 @@ pub(crate) struct Parts<'a> {
     pub(crate) entities: &'a [Value],
     pub(crate) request: Option<&'a Value>,
     pub(crate) requests: &'a [Value],
+    pub(crate) edits: &'a [Value],
 }
 
 // Whether the members are all such as a document of the shape may have.
@@ -26,6 +27,7 @@ fn has_part_names(shape: Shape, members: &Map<String, Value>) -> bool
     match shape {
         Shape::Whole => has_only(&["schema", "policies", "entities", "request"], members),
         Shape::Batch => has_only(&["schema", "policies", "entities", "requests"], members),
+        Shape::Live => has_only(&["schema", "edits", "entities", "request"], members),
     }
 }
 
@@ -39,6 +41,7 @@ pub(crate) fn parts_of(shape: Shape, value: &Value) -> Option<Parts<'_>>
     let policies = list_items(value.get("policies"))?;
     let entities = list_items(value.get("entities"))?;
     let requests = list_items(value.get("requests"))?;
+    let edits = list_items(value.get("edits"))?;
     let request = value.get("request");
     if !has_part_names(shape, members) {
         return None;
@@ -49,5 +52,6 @@ pub(crate) fn parts_of(shape: Shape, value: &Value) -> Option<Parts<'_>>
         entities,
         request,
         requests,
+        edits,
     })
 }

@@ -28,6 +28,10 @@ pub enum Place {
     SlotMissing(usize),
     /// The link at this index has an entity for a slot that its template has not.
     SlotExtra(usize),
+    /// The edit at this index has not the form of one.
+    Edit(usize),
+    /// The condition of what the edit at this index adds is nested deeper than 400.
+    EditNested(usize),
     /// The entity at this index has not the form of one.
     Entity(usize),
     /// The id of the entity at this index stands earlier.
@@ -61,6 +65,8 @@ impl fmt::Display for Place {
             Place::UnknownTemplate(i) => write!(f, "document: policies[{i}]: unknown template"),
             Place::SlotMissing(i) => write!(f, "document: policies[{i}]: slot missing"),
             Place::SlotExtra(i) => write!(f, "document: policies[{i}]: slot extra"),
+            Place::Edit(i) => write!(f, "document: edits[{i}]"),
+            Place::EditNested(i) => write!(f, "document: edits[{i}]: nested deeper than 400"),
             Place::Entity(i) => write!(f, "document: entities[{i}]"),
             Place::EntityDuplicate(i) => write!(f, "document: entities[{i}]: duplicate"),
             Place::EntityCycle(i) => write!(f, "document: entities[{i}]: cycle"),

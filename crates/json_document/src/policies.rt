@@ -52,8 +52,8 @@ fn add_template(
     }
 }
 
-// The ids for slots, each beside its slot.
-fn slot_pairs(alloc: Global, values: SlotValues) -> Result<Vec<(SlotId, EntityUID)>, AllocError>
+/// The ids for slots, each beside its slot.
+pub fn slot_pairs(alloc: Global, values: SlotValues) -> Result<Vec<(SlotId, EntityUID)>, AllocError>
     ensures { IfOk result (λ v. v.items ≡ slot_pairs values) }
 {
     let SlotValues {

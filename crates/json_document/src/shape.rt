@@ -7,4 +7,6 @@ pub enum Shape {
     Whole,
     /// A list of requests, `requests`.
     Batch,
+    /// A list of edits to a set of policies, `edits`, in place of policies.
+    Live,
 }

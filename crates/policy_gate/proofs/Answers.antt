@@ -8,27 +8,32 @@ use Rattle.policy_gate.specs.Reply.{Answer, answer}
 use Rattle.policy_gate.specs.Status.{IsOfDocument}
 use Rattle.std.specs.Prelude.{IfSome}
 use Rattle.policy_gate.specs.declared.command.Command.{Command}
+use Rattle.policy_gate.specs.declared.command.Command.TheVariants.{Live}
 use Rattle.policy_gate.specs.declared.status.Status.{Status}
 use Rattle.policy_gate.specs.declared.status.Status.TheVariants as status
-use Rattle.policy_gate.proofs.Says.{IsRefusal, refuses}
+use Rattle.policy_gate.proofs.Says.{IsRefusal, IsRefusalOf, refuses}
 
 abbrev IsOf : Answer → Type 0
 IsOf a = IsOfDocument a.status
 
-of_refusal : (s : Status) → IsRefusal s → IsOfDocument s
-of_refusal status.PartialRequest h = tt
-of_refusal status.Request h = tt
-of_refusal status.Store h = tt
-of_refusal status.Findings h = tt
-of_refusal s h = absurd h
+of_plain : (s : Status) → IsRefusal s → IsOfDocument s
+of_plain status.PartialRequest h = tt
+of_plain status.Request h = tt
+of_plain status.Store h = tt
+of_plain status.Findings h = tt
+of_plain s h = absurd h
 
-of_answer : (r : Option Answer) (W : List ℕ → Type 0) (a : Answer) → IfSome r (λ b. IsRefusal b.status) → IsRefusedOr r W a → IsOf a
-of_answer None W a h is = subst IsOfDocument (sym is.0) tt
-of_answer (Some r) W a h is = subst IsOf (sym is) (of_refusal r.status h)
+of_refusal : (c : Command) (s : Status) → IsRefusalOf c s → IsOfDocument s
+of_refusal Live s h = subst IsOfDocument (sym h) tt
+of_refusal c s h = of_plain s h
+
+of_answer : (c : Command) (r : Option Answer) (W : List ℕ → Type 0) (a : Answer) → IfSome r (λ b. IsRefusalOf c b.status) → IsRefusedOr r W a → IsOf a
+of_answer c None W a h is = subst IsOfDocument (sym is.0) tt
+of_answer c (Some r) W a h is = subst IsOf (sym is) (of_refusal c r.status h)
 
 of_value : (c : Command) (v : Data) (a : Answer) → IsAnswerFor c v a → IsOf a
 of_value c v a (inl (place, reads, is)) = subst IsOf (sym is) tt
-of_value c v a (inr (d, reads, made, is)) = of_answer (refusal c d) (IsWork c d) a (refuses c d) is
+of_value c v a (inr (d, reads, made, is)) = of_answer c (refusal c d) (IsWork c d) a (refuses c d) is
 
 of_bytes : (c : Command) (o : Option Data) (a : Answer) → IsAnswerIf c o a → IsOf a
 of_bytes c None a is = subst IsOf (sym is) tt

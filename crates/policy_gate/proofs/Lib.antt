@@ -1,5 +1,7 @@
 mod Answers
 mod Lines
+mod Listings
+mod Lives
 mod Runs
 mod Manifests
 mod Says

@@ -12,13 +12,14 @@ use Rattle.policy_gate.specs.Laws.{Laws}
 use Rattle.policy_gate.specs.Run.{Cause, Gives, IsDocumentDue, IsDue, IsDueAfterReading, IsDueFor, IsGiven, IsGivenBy, IsToReadBy, IsToWorkOn, Reads, Runs}
 use Rattle.policy_gate.specs.Status.{IsAfterEnd, IsOfDocument, after_fault}
 use Rattle.policy_gate.specs.declared.command.Command.{Command}
+use Rattle.policy_gate.specs.declared.command.Command.TheVariants.{Live}
 use Rattle.policy_gate.specs.declared.status.Status.{Status}
-use Rattle.policy_gate.specs.declared.status.Status.TheVariants.{Done, Findings, Usage, Document, Request, Store, PartialRequest, ReadFault, WriteFault, OutOfMemory, TooLong}
+use Rattle.policy_gate.specs.declared.status.Status.TheVariants.{Done, Findings, Usage, Document, Request, Store, PartialRequest, ReadFault, WriteFault, OutOfMemory, TooLong, Edit}
 use Rattle.json_document.specs.declared.document.Document.{Document as ADocument}
-use Rattle.json_document.specs.declared.shape.Shape.TheVariants.{Whole}
-use Rattle.policy_gate.specs.Headline.{HasPoliciesFor, IsDocumentOf, KeepsRules, KeepsRulesOf, Says}
+use Rattle.json_document.specs.declared.shape.Shape.TheVariants.{Whole, Live as OfEdits}
+use Rattle.policy_gate.specs.Headline.{HasPoliciesFor, IsDocumentOf, IsRefusedEdit, KeepsRules, KeepsRulesOf, Says}
 use Rattle.policy_gate.proofs.Answers.{status_of_document}
-use Rattle.policy_gate.proofs.Says.{says_done, says_refused, kept_is_done}
+use Rattle.policy_gate.proofs.Says.{says_done, says_edit, says_refused, kept_is_done}
 
 -- ---- each status has its cause
 
@@ -46,6 +47,7 @@ module _ (command : Command) (source source' : SourceState) (sink sink' : SinkSt
   judged WriteFault text status ok due g = absurd ok
   judged OutOfMemory text status ok due g = absurd ok
   judged TooLong text status ok due g = absurd ok
+  judged Edit text status ok due g = other sink sink' Why (answer Edit text) Edit status refl refl (text, due) g
 
   after_reading : (a : Answer) (status : Status) → own_document command ≡ None → IsDueAfterReading command source source' a → Gives a sink sink' status → Why status
   after_reading a status reads (inl (bytes, read, is)) g = judged a.status a.text status (status_of_document command bytes a is) (bytes, subst (λ o. IsGivenBy o source source' bytes) (sym reads) read, is) g
@@ -89,6 +91,7 @@ given_at command source source' sink sink' ReadFault why ok = absurd ok
 given_at command source source' sink sink' WriteFault (rose, (text, due, w)) ok = was_given command source source' Done text due
 given_at command source source' sink sink' OutOfMemory why ok = absurd ok
 given_at command source source' sink sink' TooLong why ok = absurd ok
+given_at command source source' sink sink' Edit (text, due) ok = was_given command source source' Edit text due
 
 pub read_for : (command : Option Command) (source source' : SourceState) (sink sink' : SinkState) (status : Status)
     → Runs command source source' sink sink' status → IsAfterEnd status → (c : Command) × (command ≡ Some c) × ((bytes : List ℕ) × IsGiven c source source' bytes)
@@ -212,6 +215,18 @@ module _ (laws : Laws) (command : Option Command) (source source' : SourceState)
       at : (o : Option Command) → command ≡ o → Cause o source source' sink sink' Findings → (c : Command) × (command ≡ Some c) × ((bytes : List ℕ) × IsGiven c source source' bytes × ((d : ADocument) × IsDocumentOf (shape_of c) bytes d × (¬ HasPoliciesFor c d)))
       at None is (text, due) = absurd due
       at (Some c) is (text, (bytes, read, answer)) = (c, is, (bytes, read, says_refused laws c bytes text answer))
+
+  pub edit_for : status ≡ Edit
+      → (command ≡ Some Live)
+      × ((bytes : List ℕ) × (text : List ℕ) × WasRead source source' bytes × ((d : ADocument) × IsDocumentOf OfEdits bytes d × IsRefusedEdit d text))
+  edit_for ends = at command refl (subst (Cause command source source' sink sink') ends (causes command source source' sink sink' status runs))
+    where
+      at : (o : Option Command) → command ≡ o → Cause o source source' sink sink' Edit
+          → (command ≡ Some Live) × ((bytes : List ℕ) × (text : List ℕ) × WasRead source source' bytes × ((d : ADocument) × IsDocumentOf OfEdits bytes d × IsRefusedEdit d text))
+      at None is (text, due) = absurd due
+      at (Some c) is (text, (bytes, read, answer)) =
+          let said = says_edit laws c bytes text answer in
+          (is ∙ ap Some said.0, (bytes, text, subst (λ k. IsGiven k source source' bytes) said.0 read, subst (λ k. (d : ADocument) × IsDocumentOf (shape_of k) bytes d × IsRefusedEdit d text) said.0 said.1))
 
 pub complete_for : (laws : Laws) (bytes : List ℕ) (d : ADocument) (source source' : SourceState) (sink sink' : SinkState) (status : Status) (command : Option Command) (c : Command)
     → Runs command source source' sink sink' status → command ≡ Some c → IsToWorkOn c source source' bytes → IsQuiet sink.faults sink'.faults

@@ -12,8 +12,12 @@ use Rattle.finding_messages.specs.Findings.{Findings}
 use Rattle.findings.specs.declared.error.ValidationError.{ValidationError}
 use Rattle.conformance_errors.specs.Written.{request_text, entity_text}
 use Rattle.typing_spec.specs.Conforms.{RequestConforms, StoreConforms}
-use Rattle.policy_gate.specs.Answer.{IsAnswer, IsAnswerIf, IsAnswerFor, IsWellMade, IsAnswerTo, IsRefusedOr, IsWork, found_in, found_at, refused_batch, refused_levels, is_whole, partial_message, partial_request, refusal, refused_line, request_line, whole_line, refused_data, refused_decision, refused_partial, refused_policies, refused_request, refused_store, refused_with, request_fault, slice_of, store_fault}
-use Rattle.policy_gate.specs.Headline.{Conforms, HasAcceptedPolicies, HasPoliciesAt, HasPoliciesFor, IsDocumentOf, KeepsRules, KeepsRulesOf, IsChecked, IsSliced, IsDecided, IsReadyForRequests, Says}
+use Rattle.policy_gate.specs.Answer.{IsAnswer, IsAnswerIf, IsAnswerFor, IsWellMade, IsAnswerTo, IsRefusedOr, IsWork, found_in, found_at, refused_batch, refused_levels, refused_listing, is_whole, partial_message, partial_request, refusal, refused_line, request_line, whole_line, refused_asked, refused_data, refused_decision, refused_entries, refused_first, refused_partial, refused_policies, refused_request, refused_store, refused_with, request_fault, slice_of, store_fault}
+use Rattle.policy_gate.specs.Headline.{Conforms, HasAcceptedPolicies, HasPoliciesAt, HasPoliciesFor, IsDocumentOf, KeepsOtherRules, KeepsRules, KeepsRulesOf, IsChecked, IsSliced, IsDecided, IsReadyForRequests, IsRefusedEdit, Says}
+use Rattle.policy_gate.specs.Listing.{asked_fault, is_whole_but}
+use Rattle.policy_gate.specs.Live.{edit_text, refused_edit}
+use Rattle.live_manifest.specs.Edits.{Refusal}
+use Rattle.principal_listing.specs.Allowed.{IsWholeBut}
 use Rattle.json_values.specs.Json.{json_of}
 use Rattle.policy_gate.specs.Command.{shape_of}
 use Rattle.policy_gate.specs.Laws.{Laws}
@@ -21,7 +25,7 @@ use Rattle.policy_gate.specs.Reply.{Answer, answer}
 use Rattle.policy_gate.specs.declared.status.Status.{Status}
 use Rattle.policy_gate.specs.declared.status.Status.TheVariants as status
 use Rattle.policy_gate.specs.declared.command.Command.{Command}
-use Rattle.policy_gate.specs.declared.command.Command.TheVariants.{Check, Level, Request as Conformance, Manifest, Slice, Decide, Sample, Batch, Review}
+use Rattle.policy_gate.specs.declared.command.Command.TheVariants.{Check, Level, Request as Conformance, Manifest, Slice, Decide, Sample, Batch, Live, Review, List as Page}
 use Rattle.json_document.proofs.OneReading.{one_reading}
 use Rattle.conformance.specs.RequestRules.{first_request_fault}
 use Rattle.policy_set.specs.Response.{response}
@@ -42,6 +46,11 @@ IsRefusal status.Request = Unit {0}
 IsRefusal status.Store = Unit {0}
 IsRefusal status.Findings = Unit {0}
 IsRefusal s = ⊥
+
+-- that of an edit comes of `live` alone
+abbrev pub IsRefusalOf : Command → Status → Type 0
+IsRefusalOf Live s = s ≡ status.Edit
+IsRefusalOf c s = IsRefusal s
 
 abbrev Refuses : Option Answer → Type 0
 Refuses o = IfSome o (λ a. IsRefusal a.status)
@@ -74,7 +83,24 @@ refuses_data d = either (refused_request d) (refused_store d) (mapped (λ e. ans
 refuses_decision : (d : Document) → Refuses (refused_decision d)
 refuses_decision d = either (refused_partial d) (option_or (refused_data d) (refused_policies d)) (refuses_partial d) (either (refused_data d) (refused_policies d) (refuses_data d) (refuses_with (found_in d).errors (found_in d)))
 
-pub refuses : (c : Command) (d : Document) → Refuses (refusal c d)
+refuses_entries : (d : Document) → Refuses (refused_entries d)
+refuses_entries d = by (is_whole_but d.request)
+  where
+    by : (b : Bool) → Refuses (if b then None else Some partial_request)
+    by true = tt
+    by false = tt
+
+refuses_asked : (d : Document) → Refuses (refused_asked d)
+refuses_asked d = mapped (λ e. answer status.Request (request_text e)) (asked_fault d) (λ x. tt)
+
+refuses_batch : (d : Document) → Refuses (refused_batch d)
+refuses_batch d = either (refused_store d) (refused_policies d) (refuses_store d) (refuses_with (found_in d).errors (found_in d))
+
+refuses_edit : (o : Option (ℕ × Refusal)) → IfSome (refused_first o) (λ a. a.status ≡ status.Edit)
+refuses_edit None = tt
+refuses_edit (Some r) = refl
+
+pub refuses : (c : Command) (d : Document) → IfSome (refusal c d) (λ a. IsRefusalOf c a.status)
 refuses Check d = refuses_with (found_in d).errors (found_in d)
 refuses (Level n) d = refuses_with (found_at n d).errors (found_at n d)
 refuses Conformance d = refuses_data d
@@ -83,15 +109,18 @@ refuses Slice d = refuses_decision d
 refuses Decide d = refuses_decision d
 refuses (Sample seed size) d = refuses_decision d
 refuses Review d = refuses_with (found_in d).errors (found_in d)
-refuses Batch d = either (refused_store d) (refused_policies d) (refuses_store d) (refuses_with (found_in d).errors (found_in d))
+refuses Batch d = refuses_batch d
+refuses Live d = refuses_edit (refused_edit d)
+refuses (Page limit after) d = either (refused_entries d) (option_or (refused_asked d) (refused_batch d)) (refuses_entries d) (either (refused_asked d) (refused_batch d) (refuses_asked d) (refuses_batch d))
 
-no_refusal : (s : Status) → IsRefusal s → s ≡ status.Done → ⊥
-no_refusal s h is = subst IsRefusal is h
+no_refusal : (c : Command) (s : Status) → IsRefusalOf c s → s ≡ status.Done → ⊥
+no_refusal Live s h is = cc (h, is)
+no_refusal c s h is = subst IsRefusal is h
 
 -- where 0 is due nothing is refused, and the work is done
-done : (r : Option Answer) (W : List ℕ → Type 0) (text : List ℕ) → Refuses r → IsRefusedOr r W (answer status.Done text) → (r ≡ None) × W text
-done None W text h is = (refl, is.1)
-done (Some a) W text h is = absurd (no_refusal a.status h (sym (ap (λ b. b.status) is)))
+done : (c : Command) (r : Option Answer) (W : List ℕ → Type 0) (text : List ℕ) → IfSome r (λ a. IsRefusalOf c a.status) → IsRefusedOr r W (answer status.Done text) → (r ≡ None) × W text
+done c None W text h is = (refl, is.1)
+done c (Some a) W text h is = absurd (no_refusal c a.status h (sym (ap (λ b. b.status) is)))
 
 -- ---- the rules
 
@@ -125,6 +154,28 @@ partial_whole d h = whole_parts d.request (by (is_whole d.request) h)
 
 whole_partial : (d : Document) → IsWhole d.request → refused_partial d ≡ None
 whole_partial d h = ap (λ b. if b then None else Some partial_request) (parts_whole d.request h)
+
+pub but_parts : (q : Request) → is_whole_but q ≡ true → IsWholeBut q
+but_parts q h = by q.action q.resource q.context h
+  where
+    by : (a r : Option EntityUID) (c : Option Fields) → (is_some a && (is_some r && is_some c)) ≡ true → IsWholeBut (record { principal = q.principal; action = a; resource = r; context = c })
+    by (Some a) (Some r) (Some c) h = record { action = refl; resource = refl; context = refl }
+    by None r c h = absurd (cc h)
+    by (Some a) None c h = absurd (cc h)
+    by (Some a) (Some r) None h = absurd (cc h)
+
+pub parts_but : (q : Request) → IsWholeBut q → is_whole_but q ≡ true
+parts_but q h = λ i. h.action i && (h.resource i && h.context i)
+
+entries_whole : (d : Document) → refused_entries d ≡ None → IsWholeBut d.request
+entries_whole d h = but_parts d.request (by (is_whole_but d.request) h)
+  where
+    by : (b : Bool) → (if b then None else Some partial_request) ≡ None → b ≡ true
+    by true h = refl
+    by false h = absurd (cc h)
+
+pub whole_entries : (d : Document) → IsWholeBut d.request → refused_entries d ≡ None
+whole_entries d h = ap (λ b. if b then None else Some partial_request) (parts_but d.request h)
 
 none_with : (es : List ValidationError) (found : Findings) → refused_with es found ≡ None → es ≡ []
 none_with [] found h = refl
@@ -167,7 +218,7 @@ module _ (laws : Laws) (d : Document) where
     pub conforming_store : refused_store d ≡ None → StoreConforms d.schema d.entities
     conforming_store h = store_kept (none_inside (λ f. answer status.Store (entity_text (record { uid = f.0; rule = f.1 }))) (store_fault d) h)
 
-    store_not_refused : StoreConforms d.schema d.entities → refused_store d ≡ None
+    pub store_not_refused : StoreConforms d.schema d.entities → refused_store d ≡ None
     store_not_refused is = ap (option_map (λ f. answer status.Store (entity_text (record { uid = f.0; rule = f.1 })))) (kept_store is)
 
     conforming : refused_data d ≡ None → Conforms d
@@ -192,6 +243,30 @@ module _ (laws : Laws) (d : Document) where
     ready : refused_batch d ≡ None → IsReadyForRequests d
     ready h = record { store = conforming_store (none_first (refused_store d) (refused_policies d) h); policies = accepted (none_rest (refused_store d) (refused_policies d) h) }
 
+    page_rules : refused_listing d ≡ None → KeepsOtherRules d
+    unfolding asked_fault
+    page_rules h =
+        let later = none_rest (refused_entries d) (option_or (refused_asked d) (refused_batch d)) h in
+        let rules = ready (none_rest (refused_asked d) (refused_batch d) later) in
+        record {
+          whole = entries_whole d (none_first (refused_entries d) (option_or (refused_asked d) (refused_batch d)) h);
+          request = none_inside (λ e. answer status.Request (request_text e)) (asked_fault d) (none_first (refused_asked d) (refused_batch d) later);
+          store = rules.store;
+          policies = rules.policies;
+        }
+
+    batch_kept : IsReadyForRequests d → refused_batch d ≡ None
+    batch_kept h = neither (refused_store d) (refused_policies d) (store_not_refused h.store) (not_refused h.policies)
+
+    pub asked_kept : KeepsOtherRules d → refused_asked d ≡ None
+    unfolding asked_fault
+    asked_kept h = ap (option_map (λ e. answer status.Request (request_text e))) h.request
+
+    pub page_kept : KeepsOtherRules d → refused_listing d ≡ None
+    page_kept h =
+        neither (refused_entries d) (option_or (refused_asked d) (refused_batch d)) (whole_entries d h.whole)
+        (neither (refused_asked d) (refused_batch d) (asked_kept h) (batch_kept (record { store = h.store; policies = h.policies })))
+
     -- where every rule of the command holds nothing is refused
     kept_all : (c : Command) → KeepsRulesOf c d → refusal c d ≡ None
     kept_all Check h = not_refused h
@@ -202,7 +277,9 @@ module _ (laws : Laws) (d : Document) where
     kept_all Decide h = keeps h
     kept_all (Sample seed size) h = keeps h
     kept_all Review h = not_refused h
-    kept_all Batch h = neither (refused_store d) (refused_policies d) (store_not_refused h.store) (not_refused h.policies)
+    kept_all Batch h = batch_kept h
+    kept_all Live h = ap refused_first h
+    kept_all (Page limit after) h = page_kept h
 
     -- ---- what 0 says
 
@@ -241,6 +318,14 @@ module _ (laws : Laws) (d : Document) where
         all_least : (ts : List TemplateData) → AllByRecursion (HasLeastLevel d.schema) ts
         all_least [] = tt
         all_least (t ∷ ts) = (laws.least d.schema t, all_least ts)
+    says Live text none is = record {
+      manifest = is.0;
+      computed = is.2;
+      written = is.3;
+      accepted = is.1;
+      made = none_inside (λ r. answer status.Edit (edit_text r)) (refused_edit d) none;
+    }
+    says (Page limit after) text none is = record { written = is; rules = page_rules none }
     says Batch text none is = record {
       written = is;
       decided = λ q rules. record { written = line_decided q rules.whole rules.request; allowed = laws.outcomes d.schema made.schema d.policies made.policies made.keys q d.entities rules };
@@ -281,6 +366,20 @@ no_data d = first (refused_request d) (refused_store d) (mapped_other (λ e. ans
 found_data : (d : Document) (b : Option Answer) → IsFound (option_or (refused_data d) b) → IsFound b
 found_data d b h = found_behind (refused_data d) b (no_data d) h
 
+no_entries : (d : Document) → IfSome (refused_entries d) (λ r. r.status ≡ status.Findings → ⊥)
+no_entries d = by (is_whole_but d.request)
+  where
+    by : (b : Bool) → IfSome (if b then None else Some partial_request) (λ r. r.status ≡ status.Findings → ⊥)
+    by true = tt
+    by false = λ is. absurd (cc is)
+
+no_asked : (d : Document) → IfSome (refused_asked d) (λ r. r.status ≡ status.Findings → ⊥)
+no_asked d = mapped_other (λ e. answer status.Request (request_text e)) (asked_fault d) (λ x is. absurd (cc is))
+
+no_edit : (o : Option (ℕ × Refusal)) → IsFound (refused_first o) → ⊥
+no_edit None h = h
+no_edit (Some r) h = cc h
+
 not_accepted : (laws : Laws) (d : Document) → IsFound (refused_policies d) → ¬ HasAcceptedPolicies d
 not_accepted laws d h is = absurd (subst IsFound (not_refused laws d is) h)
 
@@ -300,11 +399,30 @@ found_policies laws Slice d h = not_accepted laws d (found_data d (refused_polic
 found_policies laws (Sample seed size) d h = not_accepted laws d (found_data d (refused_policies d) (found_behind (refused_partial d) (option_or (refused_data d) (refused_policies d)) (no_partial d) h))
 found_policies laws Decide d h = not_accepted laws d (found_data d (refused_policies d) (found_behind (refused_partial d) (option_or (refused_data d) (refused_policies d)) (no_partial d) h))
 found_policies laws Review d h = not_accepted laws d h
+found_policies laws Live d h = absurd (no_edit (refused_edit d) h)
+found_policies laws (Page limit after) d h =
+    let later = found_behind (refused_entries d) (option_or (refused_asked d) (refused_batch d)) (no_entries d) h in
+    let rest = found_behind (refused_asked d) (refused_batch d) (no_asked d) later in
+    not_accepted laws d (found_behind (refused_store d) (refused_policies d) (no_store d) rest)
 found_policies laws Batch d h = not_accepted laws d (found_behind (refused_store d) (refused_policies d) (no_store d) h)
 
 found_answer : (r : Option Answer) (W : List ℕ → Type 0) (text : List ℕ) → IsRefusedOr r W (answer status.Findings text) → IsFound r
 found_answer None W text is = absurd (cc (is.0))
 found_answer (Some a) W text is = sym (ap (λ b. b.status) is)
+
+-- ---- what 12 says
+
+not_edit : (r : Option Answer) (W : List ℕ → Type 0) (text : List ℕ) → Refuses r → IsRefusedOr r W (answer status.Edit text) → ⊥
+not_edit None W text h is = cc (is.0)
+not_edit (Some a) W text h is = subst IsRefusal (sym (ap (λ b. b.status) is)) h
+
+first_edit : (d : Document) (o : Option (ℕ × Refusal)) (W : List ℕ → Type 0) (text : List ℕ) → refused_edit d ≡ o → IsRefusedOr (refused_first o) W (answer status.Edit text) → IsRefusedEdit d text
+first_edit d None W text first is = absurd (cc (is.0))
+first_edit d (Some r) W text first is = record { number = r.0; why = r.1; first = first; written = ap (λ b. b.text) is }
+
+edit_of : (c : Command) (d : Document) (text : List ℕ) → IfSome (refusal c d) (λ a. IsRefusalOf c a.status) → IsRefusedOr (refusal c d) (IsWork c d) (answer status.Edit text) → (c ≡ Live) × IsRefusedEdit d text
+edit_of Live d text h is = (refl, first_edit d (refused_edit d) (IsWork Live d) text refl is)
+edit_of c d text h is = absurd (not_edit (refusal c d) (IsWork c d) text h is)
 
 -- ---- over the bytes
 
@@ -316,7 +434,7 @@ module _ (laws : Laws) (c : Command) (bytes text : List ℕ) where
   done_value None json is = absurd (cc (ap (λ b. b.status) is))
   done_value (Some v) json (inl (place, reads, is)) = absurd (cc (ap (λ b. b.status) is))
   done_value (Some v) json (inr (d, reads, made, is)) =
-      let past = done (refusal c d) (IsWork c d) text (refuses c d) is in
+      let past = done c (refusal c d) (IsWork c d) text (refuses c d) is in
       (d, (v, json, reads), says laws d made c text past.0 past.1)
 
   -- where 0 is due, it says this
@@ -337,6 +455,19 @@ module _ (laws : Laws) (c : Command) (bytes text : List ℕ) where
   pub says_refused : IsAnswer c bytes (answer status.Findings text) → (d : Document) × IsDocumentOf (shape_of c) bytes d × (¬ HasPoliciesFor c d)
   unfolding IsAnswer
   says_refused is = refused_value (json_of bytes) refl is
+
+  abbrev SaysEdit : Type 0
+  SaysEdit = (c ≡ Live) × ((d : Document) × IsDocumentOf (shape_of c) bytes d × IsRefusedEdit d text)
+
+  edit_value : (o : Option Data) → json_of bytes ≡ o → IsAnswerIf c o (answer status.Edit text) → SaysEdit
+  edit_value None json is = absurd (cc (ap (λ b. b.status) is))
+  edit_value (Some v) json (inl (place, reads, is)) = absurd (cc (ap (λ b. b.status) is))
+  edit_value (Some v) json (inr (d, reads, made, is)) = let edit = edit_of c d text (refuses c d) is in (edit.0, (d, (v, json, reads), edit.1))
+
+  -- where 12 is due, an edit is refused
+  pub says_edit : IsAnswer c bytes (answer status.Edit text) → (c ≡ Live) × ((d : Document) × IsDocumentOf (shape_of c) bytes d × IsRefusedEdit d text)
+  unfolding IsAnswer
+  says_edit is = edit_value (json_of bytes) refl is
 
 module _ (laws : Laws) (c : Command) where
   for_value : (v : Data) (d : Document) (a : Answer) → IsRead (shape_of c) v (Ok d) → KeepsRulesOf c d → IsAnswerFor c v a → a.status ≡ status.Done

@@ -39,10 +39,16 @@ use Rattle.policy_review.specs.Levels.{levels_of}
 use Rattle.policy_review.specs.Matrix.{matrix_of}
 use Rattle.policy_review.specs.declared.rows.PolicyLevel.{PolicyLevel}
 use Rattle.policy_review.specs.declared.rows.ReviewRow.{ReviewRow}
+use Rattle.policy_validate.specs.Accepted.{IsAccepted}
+use Rattle.live_manifest.specs.Edits.{Refusal}
+use Rattle.policy_set.specs.PolicySet.{PolicySetData}
+use Rattle.schema_core.specs.Schema.{SchemaData}
 use Rattle.policy_gate.specs.Command.{shape_of}
+use Rattle.policy_gate.specs.Listing.{asked_fault, is_whole_but, list_text}
+use Rattle.policy_gate.specs.Live.{edit_text, policies_after, refused_edit}
 use Rattle.policy_gate.specs.Reply.{Answer, answer}
 use Rattle.policy_gate.specs.declared.command.Command.{Command}
-use Rattle.policy_gate.specs.declared.command.Command.TheVariants.{Check, Level, Request as Conformance, Manifest as Reads, Slice, Decide, Sample, Batch, Review}
+use Rattle.policy_gate.specs.declared.command.Command.TheVariants.{Check, Level, Request as Conformance, Manifest as Reads, Slice, Decide, Sample, Batch, Live, Review, List as Page}
 use Rattle.policy_gate.specs.declared.status.Status.{Status}
 use Rattle.policy_gate.specs.declared.status.Status.TheVariants as status
 
@@ -116,6 +122,22 @@ refused_decision d = option_or (refused_partial d) (option_or (refused_data d) (
 abbrev pub refused_batch : Document → Option Answer
 refused_batch d = option_or (refused_store d) (refused_policies d)
 
+-- that an edit is refused
+abbrev pub refused_first : Option (ℕ × Refusal) → Option Answer
+refused_first o = option_map (λ r. answer status.Edit (edit_text r)) o
+
+-- that an entry of the request but for the principal is not known
+abbrev pub refused_entries : Document → Option Answer
+refused_entries d = if is_whole_but d.request then None else Some partial_request
+
+-- that the request breaks a rule that does not speak of the principal
+abbrev pub refused_asked : Document → Option Answer
+refused_asked d = option_map (λ e. answer status.Request (request_text e)) (asked_fault d)
+
+-- why there is no page: the request is not whole but for the principal, or breaks another rule, or the store does, or there are errors in the policies
+abbrev pub refused_listing : Document → Option Answer
+refused_listing d = option_or (refused_entries d) (option_or (refused_asked d) (refused_batch d))
+
 -- what is answered in place of the command's work, where some rule of it is broken
 abbrev pub refusal : Command → Document → Option Answer
 refusal Check d = refused_policies d
@@ -126,7 +148,9 @@ refusal Slice d = refused_decision d
 refusal Decide d = refused_decision d
 refusal (Sample seed size) d = refused_decision d
 refusal Batch d = refused_batch d
+refusal Live d = refused_first (refused_edit d)
 refusal Review d = refused_policies d
+refusal (Page limit after) d = refused_listing d
 
 -- the document's store restricted to what its policies read on its request
 abbrev pub slice_of : Document → Store
@@ -135,6 +159,10 @@ slice_of d = slice d.schema d.policies.policies d.request d.entities
 -- a manifest's JSON without spaces, and a newline
 unfoldable pub manifest_text : Manifest → List ℕ
 manifest_text m = compact_text (manifest_data m) ++ codes "\n"
+
+-- the policies are accepted, and the text is their manifest
+abbrev pub IsManifestText : SchemaData → PolicySetData → List ℕ → Type 0
+IsManifestText schema set text = (m : Manifest) × IsAccepted schema set × IsManifestOf schema set.policies m × (text ≡ manifest_text m)
 
 -- the line on a slice: of how many entities the store is made, how many are kept, and the decision
 abbrev pub sample_text : ℕ → ℕ → Decision → List ℕ
@@ -187,7 +215,8 @@ abbrev pub review_text : Document → List ℕ
 review_text d = flat_map row_line (matrix_of d.schema d.policies) ++ flat_map level_line (levels_of d.schema d.policies)
 
 -- the text is that of the command's work: the findings; that all conforms; the manifest of the policies; the restricted store, with the response on it; the response on
--- the whole store; the line on the restricted store; a line for each request; the review of the policies
+-- the whole store; the line on the restricted store; a line for each request; the manifest of the policies after the edits, which are accepted; the
+-- review of the policies; the page of principals
 abbrev pub IsWork : Command → Document → List ℕ → Type 0
 IsWork Check d text = text ≡ findings_text (found_in d)
 IsWork (Level n) d text = text ≡ findings_text (found_at n d)
@@ -197,7 +226,9 @@ IsWork Slice d text = text ≡ slice_text (response d.policies.policies d.reques
 IsWork Decide d text = text ≡ response_text (response d.policies.policies d.request d.entities)
 IsWork (Sample seed size) d text = text ≡ sample_text size (length (slice_of d)) (response d.policies.policies d.request (slice_of d)).decision
 IsWork Batch d text = text ≡ batch_text d
+IsWork Live d text = IsManifestText d.schema (policies_after d) text
 IsWork Review d text = text ≡ review_text d
+IsWork (Page limit after) d text = text ≡ list_text limit after d
 
 -- the refusal, where there is one, or else the work
 abbrev pub IsRefusedOr : Option Answer → (List ℕ → Type 0) → Answer → Type 0

@@ -1,5 +1,5 @@
 -- What status 0 says of each command.
-use Rattle.std.specs.Prelude.{◌≡◌, ℕ, List, length, Some, None, Ok, codes}
+use Rattle.std.specs.Prelude.{◌≡◌, ℕ, List, length, Option, Some, None, Ok, codes}
 use Rattle.policy_set.specs.Allowed.{AreAllowed}
 use Rattle.policy_set.specs.Response.{response}
 use Rattle.json_document.specs.Reading.{IsRead}
@@ -18,9 +18,14 @@ use Rattle.json_values.specs.Json.{json_of}
 use Rattle.manifest_core.specs.Manifest.{Manifest as Tries}
 use Rattle.manifest_computation.specs.Computed.{IsManifestOf}
 use Rattle.policy_review.specs.Laws.{NeversAreNeverTrue, LevelsAreLeast}
+use Rattle.policy_values.specs.declared.entity_uid.EntityUID.{EntityUID}
+use Rattle.live_manifest.specs.Edits.{Refusal}
+use Rattle.principal_listing.specs.Allowed.{KeepOtherRules}
+use Rattle.policy_gate.specs.Listing.{list_text}
+use Rattle.policy_gate.specs.Live.{edit_text, policies_after, refused_edit}
 use Rattle.policy_gate.specs.Answer.{batch_text, found_in, found_at, manifest_text, request_fault, request_line, review_text, sample_text, slice_of}
 use Rattle.policy_gate.specs.declared.command.Command.{Command}
-use Rattle.policy_gate.specs.declared.command.Command.TheVariants.{Check, Level, Request, Manifest, Slice, Decide, Sample, Batch, Review}
+use Rattle.policy_gate.specs.declared.command.Command.TheVariants.{Check, Level, Request, Manifest, Slice, Decide, Sample, Batch, Live, Review, List as Page}
 
 -- the document of the shape that the bytes are
 abbrev pub IsDocumentOf : Shape → List ℕ → Document → Type 0
@@ -48,6 +53,14 @@ pub record IsReadyForRequests (d : Document) : Type 0 where
 abbrev pub KeepsRules : Document → Type 0
 KeepsRules d = KeepRules d.schema d.policies d.request d.entities
 
+-- the document keeps every rule that does not speak of the principal
+abbrev pub KeepsOtherRules : Document → Type 0
+KeepsOtherRules d = KeepOtherRules d.schema d.policies d.request d.entities
+
+-- none of its edits is refused
+abbrev pub HasNoRefusedEdit : Document → Type 0
+HasNoRefusedEdit d = refused_edit d ≡ None
+
 -- the text says that the request and the store conform, and they do
 pub record IsConforming (d : Document) (text : List ℕ) : Type 0 where
   pub written : text ≡ codes "conforms\n"
@@ -63,7 +76,9 @@ KeepsRulesOf Slice d = KeepsRules d
 KeepsRulesOf Decide d = KeepsRules d
 KeepsRulesOf (Sample seed size) d = KeepsRules d
 KeepsRulesOf Batch d = IsReadyForRequests d
+KeepsRulesOf Live d = HasNoRefusedEdit d
 KeepsRulesOf Review d = HasAcceptedPolicies d
+KeepsRulesOf (Page limit after) d = KeepsOtherRules d
 
 -- the policies keep what the command asks of policies
 abbrev pub HasPoliciesFor : Command → Document → Type 0
@@ -125,6 +140,28 @@ pub record IsReviewed (d : Document) (text : List ℕ) : Type 0 where
   pub never : NeversAreNeverTrue d.schema d.policies
   pub least : LevelsAreLeast d.schema d.policies
 
+-- none of the document's edits is refused, and the text is the manifest of the policies that they leave, which are accepted: what they read and ask
+-- for in each environment of the schema
+pub record IsLive (d : Document) (text : List ℕ) : Type 0 where
+  pub manifest : Tries
+  pub computed : IsManifestOf d.schema (policies_after d).policies manifest
+  pub written : text ≡ manifest_text manifest
+  pub accepted : IsAccepted d.schema (policies_after d)
+  pub made : HasNoRefusedEdit d
+
+-- the text is the page of at most so many principals that comes after the id, of those of the store that may do what the request asks; every rule
+-- holds that does not speak of the principal
+pub record IsListed (limit : ℕ) (after : Option EntityUID) (d : Document) (text : List ℕ) : Type 0 where
+  pub written : text ≡ list_text limit after d
+  pub rules : KeepsOtherRules d
+
+-- the text says which of the document's edits is the first that is refused, and why
+pub record IsRefusedEdit (d : Document) (text : List ℕ) : Type 0 where
+  pub number : ℕ
+  pub why : Refusal
+  pub first : refused_edit d ≡ Some (number, why)
+  pub written : text ≡ edit_text (number, why)
+
 -- what 0 says
 abbrev pub Says : Command → Document → List ℕ → Type 0
 Says Check d text = IsChecked d text
@@ -135,4 +172,6 @@ Says Slice d text = KeepsRules d × IsSliced d text
 Says Decide d text = KeepsRules d × IsDecided d text
 Says (Sample seed size) d text = KeepsRules d × IsSampled size d text
 Says Batch d text = IsBatch d text
+Says Live d text = IsLive d text
 Says Review d text = IsReviewed d text
+Says (Page limit after) d text = IsListed limit after d text

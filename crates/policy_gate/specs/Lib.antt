@@ -3,6 +3,8 @@ pub mod Batch
 pub mod Command
 pub mod Headline
 pub mod Laws
+pub mod Listing
+pub mod Live
 pub mod Reply
 pub mod Run
 pub mod Status

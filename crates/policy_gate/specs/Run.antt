@@ -11,11 +11,11 @@ use Rattle.policy_gate.specs.Reply.{Answer, answer}
 use Rattle.policy_gate.specs.Status.{after_fault}
 use Rattle.policy_gate.specs.declared.command.Command.{Command}
 use Rattle.policy_gate.specs.declared.status.Status.{Status}
-use Rattle.policy_gate.specs.declared.status.Status.TheVariants.{Done, Findings, Usage, Document, Request, Store, PartialRequest, ReadFault, WriteFault, OutOfMemory, TooLong}
+use Rattle.policy_gate.specs.declared.status.Status.TheVariants.{Done, Findings, Usage, Document, Request, Store, PartialRequest, ReadFault, WriteFault, OutOfMemory, TooLong, Edit}
 
 -- for words that are no command
 abbrev pub usage : Answer
-usage = answer Usage (codes "usage: check | level N | request | manifest | slice | decide | sample SEED SIZE | batch | review\n")
+usage = answer Usage (codes "usage: check | level N | request | manifest | slice | decide | sample SEED SIZE | batch | live | review | list LIMIT [TYPE EID]\n")
 
 -- for a source that failed before its end
 abbrev pub read_fault : Answer
@@ -99,3 +99,4 @@ Cause command source source' sink sink' WriteFault = Rose sink.faults sink'.faul
     × ((text : List ℕ) × IsDocumentDue command source source' Done text × ((n : ℕ) × Appends sink.holds sink'.holds (take n text)))
 Cause command source source' sink sink' OutOfMemory = Keeps sink.holds sink'.holds
 Cause command source source' sink sink' TooLong = IsReader command × TakesTooMany source source'
+Cause command source source' sink sink' Edit = (text : List ℕ) × IsDocumentDue command source source' Edit text

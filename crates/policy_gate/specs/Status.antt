@@ -1,7 +1,7 @@
 -- The numbers of the statuses, and where each comes from.
 use Rattle.std.specs.Prelude.{ℕ}
 use Rattle.policy_gate.specs.declared.status.Status.{Status}
-use Rattle.policy_gate.specs.declared.status.Status.TheVariants.{Done, Findings, Usage, Document, Request, Store, PartialRequest, ReadFault, WriteFault, OutOfMemory, TooLong}
+use Rattle.policy_gate.specs.declared.status.Status.TheVariants.{Done, Findings, Usage, Document, Request, Store, PartialRequest, ReadFault, WriteFault, OutOfMemory, TooLong, Edit}
 
 -- the number that a program ends with
 abbrev pub code_of : Status → ℕ
@@ -16,6 +16,7 @@ code_of ReadFault = 8
 code_of WriteFault = 9
 code_of OutOfMemory = 10
 code_of TooLong = 11
+code_of Edit = 12
 
 -- the status to end with where a write failed
 abbrev pub after_fault : Status → Status
@@ -30,6 +31,7 @@ after_fault ReadFault = ReadFault
 after_fault WriteFault = WriteFault
 after_fault OutOfMemory = OutOfMemory
 after_fault TooLong = TooLong
+after_fault Edit = Edit
 
 -- the bytes of a document alone decide on such a status
 abbrev pub IsOfDocument : Status → Type 0
@@ -44,6 +46,7 @@ IsOfDocument ReadFault = ⊥
 IsOfDocument WriteFault = ⊥
 IsOfDocument OutOfMemory = ⊥
 IsOfDocument TooLong = ⊥
+IsOfDocument Edit = Unit {0}
 
 -- such a status comes only after the source's end
 abbrev pub IsAfterEnd : Status → Type 0
@@ -58,3 +61,4 @@ IsAfterEnd ReadFault = ⊥
 IsAfterEnd WriteFault = Unit {0}
 IsAfterEnd OutOfMemory = ⊥
 IsAfterEnd TooLong = ⊥
+IsAfterEnd Edit = Unit {0}

@@ -16,6 +16,8 @@ ghost use Rattle.policy_gate.specs.Reply.{reply_view};
 use crate::batch::batch;
 use crate::command::{Command, shape_of};
 use crate::laws::laws;
+use crate::listing::listed;
+use crate::live::live;
 use crate::reply::{Reply, reply_with};
 use crate::review::reviewed;
 use crate::status::Status;
@@ -43,13 +45,13 @@ const NO_JSON: &str = "document: json\n";
 
 const CONFORMS: &str = "conforms\n";
 
-const PARTIAL_REQUEST: &str =
+pub(crate) const PARTIAL_REQUEST: &str =
     "request: entity slicing requires a fully concrete request. Got a partial request\n";
 
 /// The reply that is due for the command and a document of these bytes.
 #[tactic(auto, unfolding(crate::specs::Answer::IsAnswer))]
-pub(crate) fn reply(alloc: Global, command: Command, bytes: &[u8]) -> Result<Reply, AllocError>
-    ensures { IfOk result (λ r. IsAnswer command bytes.now (reply_view r)) }
+pub(crate) fn reply(alloc: Global, command: &Command, bytes: &[u8]) -> Result<Reply, AllocError>
+    ensures { IfOk result (λ r. IsAnswer command.now bytes.now (reply_view r)) }
 {
     match parse_json(alloc, bytes)? {
         Some(value) => reply_to_value(alloc, command, value),
@@ -58,8 +60,8 @@ pub(crate) fn reply(alloc: Global, command: Command, bytes: &[u8]) -> Result<Rep
 }
 
 // The reply to a JSON value: the place of its first fault, or what is due for the document that it is.
-fn reply_to_value(alloc: Global, command: Command, value: Value) -> Result<Reply, AllocError>
-    ensures { IfOk result (λ r. IsAnswerFor command (view value) (reply_view r)) }
+fn reply_to_value(alloc: Global, command: &Command, value: Value) -> Result<Reply, AllocError>
+    ensures { IfOk result (λ r. IsAnswerFor command.now (view value) (reply_view r)) }
 {
     let read = read_document_as(alloc, shape_of(command), &value);
     // The value takes as much memory as the document: it is let go of before the reply is made.
@@ -67,9 +69,7 @@ fn reply_to_value(alloc: Global, command: Command, value: Value) -> Result<Reply
     match read {
         Ok(document) => {
             is_well_made(&document);
-            let reply = reply_to(alloc, command, &document);
-            drop(document);
-            reply
+            reply_to(alloc, command, document)
         }
         Err(DocumentFault::Place(place)) => Ok(Reply {
             status: Status::Document,
@@ -89,19 +89,21 @@ pub(crate) fn is_well_made(document: &Document)
 }
 
 // The reply to a document.
-fn reply_to(alloc: Global, command: Command, document: &Document) -> Result<Reply, AllocError>
-    ensures { IfOk result (λ r. IsAnswerTo command document.now (reply_view r)) }
+fn reply_to(alloc: Global, command: &Command, document: Document) -> Result<Reply, AllocError>
+    ensures { IfOk result (λ r. IsAnswerTo command.now document (reply_view r)) }
 {
     match command {
-        Command::Check => with_findings(alloc, document),
-        Command::Level(level) => with_levels(alloc, document, level),
-        Command::Request => conforming(alloc, document),
-        Command::Manifest => with_manifest(alloc, document),
-        Command::Slice => cut(alloc, document),
-        Command::Decide => decided(alloc, document),
-        Command::Sample { seed, size } => sampled(alloc, document, seed, size),
-        Command::Batch => batch(alloc, document),
-        Command::Review => reviewed(alloc, document),
+        Command::Check => with_findings(alloc, &document),
+        Command::Level(level) => with_levels(alloc, &document, *level),
+        Command::Request => conforming(alloc, &document),
+        Command::Manifest => with_manifest(alloc, &document),
+        Command::Slice => cut(alloc, &document),
+        Command::Decide => decided(alloc, &document),
+        Command::Sample { seed, size } => sampled(alloc, &document, *seed, *size),
+        Command::Batch => batch(alloc, &document),
+        Command::Live => live(alloc, document),
+        Command::Review => reviewed(alloc, &document),
+        Command::List { limit, after } => listed(alloc, &document, limit, after),
     }
 }
 
@@ -163,7 +165,11 @@ fn with_manifest(alloc: Global, document: &Document) -> Result<Reply, AllocError
     }
 }
 
-fn written_manifest(alloc: Global, manifest: &EntityManifest) -> Result<Reply, AllocError>
+/// The manifest, written.
+pub(crate) fn written_manifest(
+    alloc: Global,
+    manifest: &EntityManifest,
+) -> Result<Reply, AllocError>
     ensures { IfOk result (λ r. (r.status ≡ Status.Done) × (string_bytes r.text ≡ manifest_text manifest.now)) }
 {
     let text = manifest_text(alloc, manifest)?;

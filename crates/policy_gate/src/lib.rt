@@ -5,6 +5,8 @@ mod answer;
 mod batch;
 mod command;
 mod laws;
+mod listing;
+mod live;
 mod reply;
 mod review;
 mod runner;
@@ -14,11 +16,11 @@ pub use byte_streams::{
     MemorySink, MemorySource, NoSink, ReadAnswer, Sink, SliceSource, Source, StdSink, StdSource,
     WriteAnswer,
 };
-pub use command::{Command, command_of};
+pub use command::{Command, PageLimit, command_of};
 pub use conformance::{EntityDoesNotConform, RequestValidationError, conforms, validate_request};
 pub use json_document::{
-    Document, DocumentFault, Place, Requests, Shape, read_document, read_document_as, read_schema,
-    read_value,
+    Document, DocumentFault, Edit, Edits, Place, Requests, Shape, read_document, read_document_as,
+    read_schema, read_value,
 };
 pub use json_expressions::{Bounded, read_expr};
 pub use json_response::write_value;

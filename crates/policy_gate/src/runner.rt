@@ -1,5 +1,5 @@
 //! The whole run, from a source to a sink.
-ghost use Rattle.std.specs.Prelude.{◌≡◌, ◌+◌, ◌<◌, ◌≤◌, ◌⊎◌, ℕ, List, length, Some, None, IfOk, map, string_bytes};
+ghost use Rattle.std.specs.Prelude.{◌≡◌, ◌+◌, ◌<◌, ◌≤◌, ◌⊎◌, ℕ, List, length, Option, Some, None, IfOk, map, string_bytes};
 ghost use Rattle.std.specs.Io.KnownBytes.{Appends};
 ghost use Rattle.byte_streams.specs.Document.{TakesFew, WasRead};
 ghost use Rattle.byte_streams.specs.Steps.{IsQuiet};
@@ -7,7 +7,8 @@ ghost use Rattle.policy_gate.specs.Answer.{IsAnswer};
 ghost use Rattle.policy_gate.specs.Command.{command_of, own_document, shape_of};
 ghost use Rattle.json_document.specs.declared.document.Document.{Document};
 ghost use Rattle.json_document.specs.declared.shape.Shape.TheVariants as shape;
-ghost use Rattle.policy_gate.specs.Headline.{HasPoliciesFor, IsBatch, IsChecked, IsCheckedAt, IsConforming, IsDecided, IsDocumentOf, IsManifested, IsReviewed, IsSampled, IsSliced, KeepsRules, KeepsRulesOf};
+ghost use Rattle.policy_gate.specs.Headline.{HasPoliciesFor, IsBatch, IsChecked, IsCheckedAt, IsConforming, IsDecided, IsDocumentOf, IsListed, IsLive, IsManifested, IsRefusedEdit, IsReviewed, IsSampled, IsSliced, KeepsRules, KeepsRulesOf};
+ghost use Rattle.policy_values.specs.declared.entity_uid.EntityUID.{EntityUID};
 ghost use Rattle.policy_gate.specs.Reply.{answer, reply_view};
 ghost use Rattle.policy_gate.specs.Run.{Cause, Gives, IsDue, IsDueAfterReading, IsDueFor, IsGiven, IsToWorkOn, Reads, Runs};
 ghost use Rattle.json_samples.specs.Sample.{sample_document};
@@ -22,7 +23,7 @@ use byte_streams::{DOCUMENT_LIMIT, ReadError, Sink, Source, read_document_bytes,
 use std::alloc::{AllocError, Global};
 
 const USAGE: &str =
-    "usage: check | level N | request | manifest | slice | decide | sample SEED SIZE | batch | review\n";
+    "usage: check | level N | request | manifest | slice | decide | sample SEED SIZE | batch | live | review | list LIMIT [TYPE EID]\n";
 
 const READ_FAULT: &str = "read fault\n";
 
@@ -41,11 +42,11 @@ fn finish<K: Sink>(sink: &mut K, status: Status, text: &str) -> Status
 // Reads the document, and makes the reply to it.
 fn from_document<S: Source>(
     alloc: Global,
-    command: Command,
+    command: &Command,
     source: &mut S,
 ) -> Result<Reply, AllocError>
     ensures due { IfOk result (λ r.
-        IsDueAfterReading command (S.state source.old) (S.state source.new) (reply_view r)) }
+        IsDueAfterReading command.now (S.state source.old) (S.state source.new) (reply_view r)) }
     ensures taken { TakesFew (S.state source.old) (S.state source.new) }
 {
     match read_document_bytes(alloc, source) {
@@ -57,14 +58,52 @@ fn from_document<S: Source>(
 }
 
 // Makes the reply to a command, which reads a document or has one of its own.
-fn reply_to<S: Source>(alloc: Global, command: Command, source: &mut S) -> Result<Reply, AllocError>
+fn reply_to<S: Source>(
+    alloc: Global,
+    command: &Command,
+    source: &mut S,
+) -> Result<Reply, AllocError>
     ensures due { IfOk result (λ r.
-        IsDueFor (own_document command) command (S.state source.old) (S.state source.new) (reply_view r)) }
+        IsDueFor (own_document command.now) command.now (S.state source.old) (S.state source.new) (reply_view r)) }
     ensures taken { TakesFew (S.state source.old) (S.state source.new) }
 {
     match own_document(alloc, command)? {
         Some(document) => reply(alloc, command, document.as_bytes()),
         None => from_document(alloc, command, source),
+    }
+}
+
+// What a run does for a command.
+fn outcome_of<S: Source, K: Sink>(
+    alloc: Global,
+    command: &Command,
+    source: &mut S,
+    sink: &mut K,
+) -> Status
+    ensures runs { Runs (Some command.now)
+        (S.state source.old) (S.state source.new) (K.state sink.old) (K.state sink.new) result }
+    ensures taken { TakesFew (S.state source.old) (S.state source.new) }
+{
+    match reply_to(alloc, command, source) {
+        Ok(reply) => finish(sink, reply.status, reply.text.as_str()),
+        Err(_) => Status::OutOfMemory,
+    }
+}
+
+// What a run does for the command that the words are, if they are one.
+fn outcome_for<S: Source, K: Sink>(
+    alloc: Global,
+    command: Option<Command>,
+    source: &mut S,
+    sink: &mut K,
+) -> Status
+    ensures runs { Runs command
+        (S.state source.old) (S.state source.new) (K.state sink.old) (K.state sink.new) result }
+    ensures taken { TakesFew (S.state source.old) (S.state source.new) }
+{
+    match command {
+        Some(command) => outcome_of(alloc, &command, source, sink),
+        None => finish(sink, Status::Usage, USAGE),
     }
 }
 
@@ -79,11 +118,8 @@ fn outcome<S: Source, K: Sink>(
         (S.state source.old) (S.state source.new) (K.state sink.old) (K.state sink.new) result }
     ensures taken { TakesFew (S.state source.old) (S.state source.new) }
 {
-    let Some(command) = command_of(words) else {
-        return finish(sink, Status::Usage, USAGE);
-    };
-    match reply_to(alloc, command, source) {
-        Ok(reply) => finish(sink, reply.status, reply.text.as_str()),
+    match command_of(alloc, words) {
+        Ok(command) => outcome_for(alloc, command, source, sink),
         Err(_) => Status::OutOfMemory,
     }
 }
@@ -202,6 +238,28 @@ pub fn run<S: Source, K: Sink>(
         → (bytes : List ℕ) × (text : List ℕ) × WasRead (S.state source.old) (S.state source.new) bytes
         × ((document : Document) × IsDocumentOf shape.Whole bytes document × IsReviewed document text)
         × Appends (K.state sink.old).holds (K.state sink.new).holds text }
+
+    // Where `live` ends with 0 none of the document's edits is refused, and the text is the manifest of the policies that they leave, which are accepted:
+    // for each environment of the schema what they read and ask for there.
+    ensures lived { command_of (map string_bytes words.now.items) ≡ Some Command.Live
+        → result ≡ Status.Done
+        → (bytes : List ℕ) × (text : List ℕ) × WasRead (S.state source.old) (S.state source.new) bytes
+        × ((document : Document) × IsDocumentOf shape.Live bytes document × IsLive document text)
+        × Appends (K.state sink.old).holds (K.state sink.new).holds text }
+
+    // Where `list` ends with 0 every rule holds that does not speak of the principal, and the text is a page of those principals of the store for which
+    // the decision on the whole store is Allow.
+    ensures listed { (limit : ℕ) (after : Option EntityUID) → command_of (map string_bytes words.now.items) ≡ Some (Command.List limit after)
+        → result ≡ Status.Done
+        → (bytes : List ℕ) × (text : List ℕ) × WasRead (S.state source.old) (S.state source.new) bytes
+        × ((document : Document) × IsDocumentOf shape.Whole bytes document × IsListed limit after document text)
+        × Appends (K.state sink.old).holds (K.state sink.new).holds text }
+
+    // An edit is refused by `live` alone: the text that is due says which one is the first, and why.
+    ensures edit_refused { result ≡ Status.Edit
+        → (command_of (map string_bytes words.now.items) ≡ Some Command.Live)
+        × ((bytes : List ℕ) × (text : List ℕ) × WasRead (S.state source.old) (S.state source.new) bytes
+        × ((document : Document) × IsDocumentOf shape.Live bytes document × IsRefusedEdit document text)) }
 
     // A command finds errors in the policies of no other documents than those whose policies are not accepted, for `level` at the level.
     ensures refused { result ≡ Status.Findings

@@ -25,6 +25,8 @@ pub enum Status {
     OutOfMemory,
     /// There are more bytes than a document may have.
     TooLong,
+    /// One of the edits is refused.
+    Edit,
 }
 
 impl Status {
@@ -47,6 +49,7 @@ impl Status {
             Status::WriteFault => 9,
             Status::OutOfMemory => 10,
             Status::TooLong => 11,
+            Status::Edit => 12,
         }
     }
 

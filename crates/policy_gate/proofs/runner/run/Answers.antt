@@ -1,5 +1,5 @@
-use Rattle.policy_gate.proofs.Runs.{both_for, causes, complete_for, done_for, exact_for, own_for, read_for, refused_for, too_long_for, too_long_told, usage_for}
-use Rattle.policy_gate.specs.declared.command.Command.TheVariants.{Check, Level, Request, Manifest, Slice, Decide, Sample, Batch, Review}
+use Rattle.policy_gate.proofs.Runs.{both_for, causes, complete_for, done_for, edit_for, exact_for, own_for, read_for, refused_for, too_long_for, too_long_told, usage_for}
+use Rattle.policy_gate.specs.declared.command.Command.TheVariants.{Check, Level, Request, Manifest, Slice, Decide, Sample, Batch, Live, Review, List as Page}
 use Rattle.policy_gate.specs.Headline.{IsSliced, IsDecided, IsSampled}
 use Rattle.json_samples.specs.Sample.{sample_document}
 use Rattle.policy_gate.proofs.runner.run.Goals as goal
@@ -53,6 +53,15 @@ returns-clause-batched g c is ends = done_for c.laws.ensures _ _ _ _ _ _ c.outco
 
 pub returns-clause-reviewed : goal.returns-clause-reviewed
 returns-clause-reviewed g c is ends = done_for c.laws.ensures _ _ _ _ _ _ c.outcome.ensures.runs Review is ends
+
+pub returns-clause-lived : goal.returns-clause-lived
+returns-clause-lived g c is ends = done_for c.laws.ensures _ _ _ _ _ _ c.outcome.ensures.runs Live is ends
+
+pub returns-clause-listed : goal.returns-clause-listed
+returns-clause-listed g c limit after is ends = done_for c.laws.ensures _ _ _ _ _ _ c.outcome.ensures.runs (Page limit after) is ends
+
+pub returns-clause-edit_refused : goal.returns-clause-edit_refused
+returns-clause-edit_refused g c ends = edit_for c.laws.ensures _ _ _ _ _ _ c.outcome.ensures.runs ends
 
 pub returns-clause-refused : goal.returns-clause-refused
 returns-clause-refused g c ends = refused_for c.laws.ensures _ _ _ _ _ _ c.outcome.ensures.runs ends

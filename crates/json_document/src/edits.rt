@@ -1,0 +1,117 @@
+//! Edits to a set of policies, in JSON.
+
+ghost use Rattle.std.specs.Prelude.{◌≡◌, [], IfOk};
+ghost use Rattle.serde_json.specs.View.{view, items_view};
+ghost use Rattle.json_document.specs.Edits.{addition_at, edit_at, edits_of, removal_at, removed_of};
+ghost use Rattle.json_document.specs.Faults.{ComesTo};
+
+use crate::{DocumentFault, Edit, Place};
+use json_policies::{PolicyRead, read_entry};
+use json_values::has_only;
+use policy_values::Text;
+use serde_json::Value;
+use std::alloc::{AllocError, Global};
+use std::marker::Model;
+
+/// Edits, in their order; contracts see them as their list.
+#[derive(Drop)]
+pub struct Edits {
+    items: Vec<Edit>,
+}
+
+impl Model for Edits {
+    ghost use Rattle.std.specs.Prelude.{List};
+    ghost use Rattle.std.specs.Coded.{coded_list};
+    ghost use Rattle.json_document.specs.declared.edit.Edit.{Edit};
+    ghost use Rattle.json_document.specs.contracts.edit.Edit.{the_row as edit_row};
+
+    ghost Value = { List Edit };
+
+    ghost coded = { coded_list edit_row.coded };
+
+    ghost view = { λ e. e.items.items };
+}
+
+impl Edits {
+    /// These edits.
+    pub fn new(items: Vec<Edit>) -> Edits
+        ensures { result ≡ items.items }
+    {
+        Edits { items }
+    }
+
+    /// The edits, for whoever makes them.
+    pub fn into_vec(self) -> Vec<Edit>
+        ensures { result.items ≡ self }
+    {
+        self.items
+    }
+}
+
+// The id that an object without other members says to remove.
+#[tactic(auto, unfolding(crate::specs::Edits::removed_of))]
+fn read_removal(alloc: Global, value: &Value) -> Result<Option<Text>, AllocError>
+    ensures { IfOk result (λ o. o ≡ removed_of (view value.now)) }
+{
+    let Some(members) = value.as_object() else {
+        return Ok(None);
+    };
+    let Some(id) = value.get("remove").and_then(Value::as_str) else {
+        return Ok(None);
+    };
+    if !has_only(&["remove"], members) {
+        return Ok(None);
+    }
+    Ok(Some(Text::from_str(alloc, id)?))
+}
+
+fn removal(index: usize, removed: Option<Text>) -> Result<Edit, DocumentFault>
+    ensures { ComesTo (λ e. e) result (removal_at index removed) }
+{
+    match removed {
+        Some(id) => Ok(Edit::Remove(id)),
+        None => Err(DocumentFault::Place(Place::Edit(index))),
+    }
+}
+
+fn addition(index: usize, read: Option<PolicyRead>) -> Result<Edit, DocumentFault>
+    ensures { ComesTo (λ e. e) result (addition_at index read) }
+{
+    match read {
+        Some(PolicyRead::Policy(template)) => Ok(Edit::Policy(template)),
+        Some(PolicyRead::Link(link)) => Ok(Edit::Link(link)),
+        Some(PolicyRead::Nested) => Err(DocumentFault::Place(Place::EditNested(index))),
+        None => Err(DocumentFault::Place(Place::Edit(index))),
+    }
+}
+
+// The edit that the value is: a removal, where it has the member `remove`, else what a list of policies may have.
+fn read_edit(alloc: Global, index: usize, value: &Value) -> Result<Edit, DocumentFault>
+    ensures { ComesTo (λ e. e) result (edit_at index (view value.now)) }
+{
+    if value.get("remove").is_none() {
+        let read = read_entry(alloc, value)?;
+        return addition(index, read);
+    }
+    let removed = read_removal(alloc, value)?;
+    removal(index, removed)
+}
+
+fn read_items(alloc: Global, items: &[Value]) -> Result<Vec<Edit>, DocumentFault>
+    ensures { ComesTo (λ v. v.items) result (edits_of [] (items_view items.now)) }
+{
+    let mut edits = Vec::new(alloc);
+    for item in items {
+        let edit = read_edit(alloc, edits.len(), item)?;
+        edits.push(edit)?;
+    }
+    Ok(edits)
+}
+
+/// The edits of the items; else the place of the first fault.
+pub(crate) fn read_edits(alloc: Global, items: &[Value]) -> Result<Edits, DocumentFault>
+    ensures { ComesTo (λ es. es) result (edits_of [] (items_view items.now)) }
+{
+    let edits = read_items(alloc, items)?;
+    Ok(Edits::new(edits))
+}
