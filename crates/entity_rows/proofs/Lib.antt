@@ -1,0 +1,4 @@
+mod Added
+mod Honest
+mod Lookups
+mod Stores
