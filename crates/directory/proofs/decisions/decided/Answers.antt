@@ -1,0 +1,9 @@
+use Rattle.sqlite.specs.Held.{state}
+use Rattle.entity_rows.specs.Rows.{told_store}
+use Rattle.directory.proofs.decisions.decided.Goals as goal
+
+pub loop-round-init : goal.loop-round-init
+loop-round-init g c = record {
+  ready = c.requires.ready;
+  fetched = c.new-fetched.ensures (told_store (state g.S.Store c.args.conn.now));
+}

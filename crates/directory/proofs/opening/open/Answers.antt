@@ -1,0 +1,4 @@
+use Rattle.directory.proofs.opening.open.Goals as goal
+
+pub over-requires : goal.over-requires
+over-requires g c clean = (c.in_ok-connect.ensures clean).0
