@@ -4,13 +4,13 @@ import re
 from findings import Broken, Finding, ask
 
 
-def replayed(program, document, ask=ask):
+def replayed(program, document):
     """The document with policies in place of edits; a function that puts the places of findings back into the edits; and
     the first edit that is refused, as a finding. Of the edits those before it are made; an edit that is refused for what is
     found of its entry stands among the policies too, so that this is found again."""
     if "edits" not in document:
         return document, lambda found: found, []
-    refused, why = first_refused(program, document, ask)
+    refused, why = first_refused(program, document)
     left = left_by(document["edits"][:refused])
     if why == "findings":
         left.append((refused, document["edits"][refused]))
@@ -26,7 +26,7 @@ def replayed(program, document, ask=ask):
     return rest | {"policies": [edit for _, edit in left]}, moved, found
 
 
-def first_refused(program, document, ask):
+def first_refused(program, document):
     """The place of the first edit that `live` refuses, and why; None where none is."""
     status, told = ask(program, ["live"], document)
     if status == 0:
