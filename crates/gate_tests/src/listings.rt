@@ -109,6 +109,9 @@ fn table(alloc: Global, lines: &str) -> Result<String, Fail> {
 fn pages_are_listed(rt: HostRuntime) -> Result<(), Fail> {
     let lines = table(rt.alloc(), PAGES)?;
     for line in lines.as_str().lines() {
+        if line.starts_with("#") {
+            continue;
+        }
         if let Some((words, row)) = line.split_once(" of ") {
             let failures = failures(rt.alloc(), words, row)?;
             assert_eq!(rt; failures.as_str(), "", "{words}");

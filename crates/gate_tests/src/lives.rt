@@ -251,11 +251,11 @@ fn written(alloc: Global, letters: &str) -> Result<String, Fail> {
     table(alloc, written.as_str())
 }
 
-// All lists of so many edits, as letters.
-fn lists(alloc: Global, length: usize) -> Result<Vec<String>, Fail> {
+// All lists of three edits behind these, as letters.
+fn lists(alloc: Global, first: &str) -> Result<Vec<String>, Fail> {
     let mut lists = Vec::new(alloc);
-    lists.push(String::new(alloc))?;
-    for _ in 0..length {
+    lists.push(String::from_str(alloc, first)?)?;
+    for _ in 0..3 {
         let mut longer = Vec::new(alloc);
         for list in &lists {
             for letter in ["p", "t", "l", "P", "T", "L"] {
@@ -268,13 +268,15 @@ fn lists(alloc: Global, length: usize) -> Result<Vec<String>, Fail> {
 }
 
 #[test]
-fn each_list_of_four_edits(rt: HostRuntime) -> Result<(), Fail> {
-    let lists = lists(rt.alloc(), 4)?;
-    for edits in &lists {
-        let list = written(rt.alloc(), edits.as_str())?;
-        let live = manifest(rt.alloc(), "live", "edits", list.as_str())?;
-        let due = due(rt.alloc(), edits.as_str())?;
-        assert_eq!(rt; live.as_str(), due.as_str(), "{edits}");
+fn each_list_of_three_edits(rt: HostRuntime) -> Result<(), Fail> {
+    for first in ["", "t"] {
+        let lists = lists(rt.alloc(), first)?;
+        for edits in &lists {
+            let list = written(rt.alloc(), edits.as_str())?;
+            let live = manifest(rt.alloc(), "live", "edits", list.as_str())?;
+            let due = due(rt.alloc(), edits.as_str())?;
+            assert_eq!(rt; live.as_str(), due.as_str(), "{edits}");
+        }
     }
     Ok(())
 }
