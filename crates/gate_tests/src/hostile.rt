@@ -378,7 +378,7 @@ fn texts_are_utf8(rt: HostRuntime) -> Result<(), Fail> {
         document.extend_from_slice(bytes)?;
         document.extend_from_slice(b"\"}]}")?;
         let no_json = is_no_json(rt.alloc(), document.as_slice())?;
-        assert_eq!(rt; !no_json, is_text, "{bytes:?}");
+        assert_eq!(rt; !no_json, is_text);
     }
     Ok(())
 }
