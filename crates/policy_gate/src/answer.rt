@@ -91,11 +91,7 @@ pub(crate) fn is_well_made(document: &Document)
 }
 
 // The reply to a document; `live` takes its edits.
-fn reply_to(
-    alloc: Global,
-    command: &Command,
-    document: &mut Document,
-) -> Result<Reply, AllocError>
+fn reply_to(alloc: Global, command: &Command, document: &mut Document) -> Result<Reply, AllocError>
     ensures { IfOk result (λ r. IsAnswerTo command.now document.old (reply_view r)) }
 {
     match command {
