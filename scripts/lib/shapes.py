@@ -113,6 +113,15 @@ def requests(size):
     return made | {"requests": [REQUEST | {"principal": ["User", f"u{i}"]} for i in range(size)]}
 
 
+def edits(size):
+    """edits, each of which adds or removes one of 500 policies that are added first"""
+    made = [permit(i, compared(i)) for i in range(500)]
+    again = [edit for i in range(size // 2) for edit in ({"remove": f"p{i % 500}"}, made[i % 500])]
+    whole = document([])
+    del whole["policies"]
+    return whole | {"edits": made + again}
+
+
 def policies(size):
     """policies of a few comparisons, in one environment"""
     return document([permit(i, compared(i)) for i in range(size)])
