@@ -184,6 +184,7 @@ fn manifests_are_those_from_scratch(rt: HostRuntime) -> Result<(), Fail> {
 // The edits of the lists: the policy, the template and its link are added, and removed. Of each the letter, the text, and what
 // stands in a set where it has been added.
 const ADDITIONS: [(&str, &str); 3] = [("p", "$friends"), ("t", "$template"), ("l", "$linked")];
+
 const REMOVALS: [(&str, &str); 3] = [
     ("P", r#"{"remove":"p0"}"#),
     ("T", r#"{"remove":"t"}"#),

@@ -78,7 +78,10 @@ fn told_fault(fault: &PolicySetError) -> &'static str {
 fn told_added(alloc: Global, added: Result<(), LiveManifestError>) -> Result<String, Fail> {
     match added {
         Ok(()) => Ok(String::from_str(alloc, "ok")?),
-        Err(LiveManifestError::PolicySet(fault)) => Ok(String::from_str(alloc, told_fault(&fault))?),
+        Err(LiveManifestError::PolicySet(fault)) => Ok(String::from_str(
+            alloc,
+            told_fault(&fault),
+        )?),
         Err(LiveManifestError::Validation(found)) => {
             let errors = found.validation_errors().len();
             drop(found);
@@ -153,7 +156,11 @@ fn ids(alloc: Global, set: &PolicySet) -> Result<String, Fail> {
 }
 
 // Whether the manifest that is kept is written as the one that is computed of the policies.
-fn is_computed(alloc: Global, schema: &ValidatorSchema, live: &LiveManifest<'_>) -> Result<bool, Fail> {
+fn is_computed(
+    alloc: Global,
+    schema: &ValidatorSchema,
+    live: &LiveManifest<'_>,
+) -> Result<bool, Fail> {
     let kept = written(alloc, live.manifest())?;
     match compute_entity_manifest(alloc, schema, live.policies()) {
         Ok(computed) => {
@@ -181,7 +188,11 @@ fn told<L: Ledger>(alloc: Global, document: Document, blank: Blank) -> Result<(S
     for edit in edits.into_vec() {
         let told = make(alloc, &mut live, edit, &mut steps)?;
         let ids = ids(alloc, live.policies())?;
-        let kept = if is_computed(alloc, &schema, &live)? { "" } else { " another manifest" };
+        let kept = if is_computed(alloc, &schema, &live)? {
+            ""
+        } else {
+            " another manifest"
+        };
         text.push_str(format!(in alloc; "{told}{ids}{kept}; ")?.as_str())?;
     }
     Ok((text, steps.count()))
