@@ -4,7 +4,7 @@
 use crate::manifests::written;
 use entity_manifest::compute_entity_manifest;
 use json_document::{
-    Document, Edit, Shape, TemplateLink, parse_json, read_document_as, slot_pairs,
+    Document, Edit, Edits, Shape, TemplateLink, parse_json, read_document_as, slot_pairs,
 };
 use live_manifest::{LiveManifest, LiveManifestError, LiveRemovalError, Steps};
 use policy_set::{PolicySet, PolicySetError, RemovalError};
@@ -175,7 +175,41 @@ fn is_computed(
     }
 }
 
-// What each edit is told, with the ids behind it, and how many environments were typed.
+// What an edit is told, with the ids behind it.
+fn told_edit<L: Ledger>(
+    alloc: Global,
+    schema: &ValidatorSchema,
+    live: &mut LiveManifest<'_>,
+    edit: Edit,
+    steps: &mut Steps<L>,
+) -> Result<String, Fail> {
+    let told = make(alloc, live, edit, steps)?;
+    let ids = ids(alloc, live.policies())?;
+    let kept = if is_computed(alloc, schema, live)? {
+        ""
+    } else {
+        " another manifest"
+    };
+    Ok(format!(in alloc; "{told}{ids}{kept}; ")?)
+}
+
+// What each edit is told, one after another.
+fn told_edits<L: Ledger>(
+    alloc: Global,
+    schema: &ValidatorSchema,
+    edits: Edits,
+    steps: &mut Steps<L>,
+) -> Result<String, Fail> {
+    let mut live = LiveManifest::new(alloc, schema);
+    let mut text = String::new(alloc);
+    for edit in edits.into_vec() {
+        let told = told_edit(alloc, schema, &mut live, edit, steps)?;
+        text.push_str(told.as_str())?;
+    }
+    Ok(text)
+}
+
+// The same, and how many environments were typed.
 fn told<L: Ledger>(alloc: Global, document: Document, blank: Blank) -> Result<(String, u64), Fail>
     requires name { blank.name ≡ L.name }
     requires parts { blank.parts ≡ L.parts }
@@ -183,18 +217,7 @@ fn told<L: Ledger>(alloc: Global, document: Document, blank: Blank) -> Result<(S
 {
     let Document { schema, edits, .. } = document;
     let mut steps = Steps::<L>::new(blank);
-    let mut live = LiveManifest::new(alloc, &schema);
-    let mut text = String::new(alloc);
-    for edit in edits.into_vec() {
-        let told = make(alloc, &mut live, edit, &mut steps)?;
-        let ids = ids(alloc, live.policies())?;
-        let kept = if is_computed(alloc, &schema, &live)? {
-            ""
-        } else {
-            " another manifest"
-        };
-        text.push_str(format!(in alloc; "{told}{ids}{kept}; ")?.as_str())?;
-    }
+    let text = told_edits(alloc, &schema, edits, &mut steps)?;
     Ok((text, steps.count()))
 }
 
