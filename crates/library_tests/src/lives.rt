@@ -1,6 +1,8 @@
 //! Sets of policies under edits, beside their manifest. The command `live` ends with the first edit that is refused; here the
 //! others are made after it.
 
+ghost use Rattle.std.specs.Prelude.{◌≡◌};
+
 use crate::manifests::written;
 use entity_manifest::compute_entity_manifest;
 use json_document::{
