@@ -28,9 +28,10 @@ class Finding:
 
 
 def ask(program, words, document):
-    """The status and the text that the program answers with; a list of requests is for `batch` alone."""
-    if words != ["batch"]:
-        document = {name: part for name, part in document.items() if name != "requests"}
+    """The status and the text that the program answers with; a list of requests is for `batch` alone, and a list of
+    edits for `live`."""
+    others = {"requests": ["batch"], "edits": ["live"]}
+    document = {name: part for name, part in document.items() if others.get(name, list(words)) == list(words)}
     try:
         ran = subprocess.run(
             [program, *words], input=json.dumps(document, ensure_ascii=False).encode(), capture_output=True

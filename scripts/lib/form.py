@@ -30,6 +30,8 @@ DUE = {
     "two": "a list of the left and the right operand",
     "place": "a number of bytes, to 4294967295",
     "request": "an object with a principal, an action, a resource and a context",
+    "policy": 'an object with "id" and "effect"',
+    "link": 'an object with "id" and "link"',
 }
 NOUNS = {
     "uid": "id",
@@ -170,9 +172,9 @@ def object_faults(value, schema, path, definition):
     found += [
         Fault(path, f'the member "{name}" is missing') for name in schema.get("required", []) if name not in value
     ]
-    beside = schema.get("not", {}).get("required", [])
-    if beside and all(name in value for name in beside):
-        found.append(Fault(path + (beside[1],), f'the member "{beside[1]}" stands in place of "{beside[0]}"', True))
+    for first, other in (pair["required"] for pair in schema.get("not", {}).get("anyOf", [])):
+        if first in value and other in value:
+            found.append(Fault(path + (other,), f'no command takes the member "{other}" beside "{first}"', True))
     least, most = schema.get("minProperties", 0), schema.get("maxProperties", len(value))
     if not strange and not least <= len(value) <= most:
         found.append(unfit(value, path, definition, schema))

@@ -23,12 +23,17 @@ def faults_of(document):
                 "and scripts/from-cedar makes one of what Cedar has",
             )
         ]
-    broken = {fault.path[:2] if fault.path[:1] in (("policies",), ("entities",)) else fault.path[:1] for fault in found}
+    lists = (("policies",), ("edits",), ("entities",))
+    broken = {fault.path[:2] if fault.path[:1] in lists else fault.path[:1] for fault in found}
     if ("schema",) not in broken and "schema" in document:
         found += rules.schema_faults(document["schema"])
     if ("policies",) not in broken:
         found += rules.policy_faults(
             [known_part(p) if ("policies", i) in broken else p for i, p in enumerate(document.get("policies", []))]
+        )
+    if ("edits",) not in broken:
+        found += rules.edit_faults(
+            [None if ("edits", i) in broken else e for i, e in enumerate(document.get("edits", []))]
         )
     if ("entities",) not in broken:
         found += rules.entity_faults(

@@ -135,15 +135,24 @@ def policy_faults(policies):
             slots.setdefault(id_, slots_of(policy))
         if "link" in policy:
             found += link_faults(policy, path, slots, policies)
-        elif "faulty" not in policy and depth_of(policy) > DEEPEST:
-            found.append(
-                Fault(
-                    path + ("body",),
-                    f"the condition is nested {depth_of(policy)} deep, and {DEEPEST} is the most: "
-                    "`all` and `any` of n are nested n deep",
-                )
-            )
+        elif "faulty" not in policy:
+            found += depth_faults(policy, path)
     return found
+
+
+def depth_faults(policy, path):
+    """A condition that is nested too deep."""
+    depth = depth_of(policy)
+    if depth <= DEEPEST:
+        return []
+    why = f"the condition is nested {depth} deep, and {DEEPEST} is the most: `all` and `any` of n are nested n deep"
+    return [Fault(path + ("body",), why)]
+
+
+def edit_faults(edits):
+    """The faults of edits, of which one that has not the due form is None; which are refused, `live` says."""
+    added = [(i, edit) for i, edit in enumerate(edits) if edit is not None and "effect" in edit]
+    return [fault for i, edit in added for fault in depth_faults(edit, ("edits", i))]
 
 
 def slots_of(policy):

@@ -113,6 +113,22 @@ def requests(size):
     return made | {"requests": [REQUEST | {"principal": ["User", f"u{i}"]} for i in range(size)]}
 
 
+def members(size):
+    """users, of whom one of twenty is in the group that a policy permits"""
+    people = [{"id": ["User", f"u{i}"], "parents": [["Group", f"g{i % 20}"]]} for i in range(size)]
+    types = {"Group": {}, "Photo": {}, "User": {"memberOf": ["Group"]}}
+    return document([{"id": "p", "effect": "permit", "principal": {"in": ["Group", "g7"]}}], people, types)
+
+
+def edits(size):
+    """edits behind 500 that add a policy each: by turns one is removed and added again"""
+    made = [permit(i, compared(i)) for i in range(500)]
+    again = [edit for i in range(size // 2) for edit in ({"remove": f"p{i % 500}"}, made[i % 500])]
+    whole = document([])
+    del whole["policies"]
+    return whole | {"edits": made + again}
+
+
 def policies(size):
     """policies of a few comparisons, in one environment"""
     return document([permit(i, compared(i)) for i in range(size)])

@@ -87,13 +87,14 @@ ALONE = {
     "enum": 'an enumerated type has the member "enum" alone',
     "link": 'a link has the members "id", "link", "principal" and "resource" alone',
     "is": '"is" stands alone, or with "in"',
+    "remove": 'an edit that removes has the member "remove" alone',
     "==": '"==" stands alone',
 }
 
 
 def of_member(name, known, definition):
     """What was probably meant by a member that has no meaning where it stands."""
-    if name in ALONE and definition in (None, "scope"):
+    if name in ALONE and definition in (None, "scope", "policy", "link"):
         return f"; {ALONE[name]}"
     if definition in ("expression", "value") and name in OPERATORS:
         return f"; here it is {OPERATORS[name]}"

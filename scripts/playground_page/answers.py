@@ -6,7 +6,8 @@ from cedar.to_text import Unsayable
 
 from playground_page import placing, reading
 
-COMMANDS = ("check", "level", "request", "manifest", "slice", "decide")
+COMMANDS = ("check", "level", "review", "request", "manifest", "slice", "decide", "list")
+PAGE = "100"  # so many principals are listed
 FORMS = ("text", "json", "document")
 
 
@@ -36,6 +37,8 @@ def words_of(job):
     command, level = job.get("command"), job.get("level", 0)
     if command not in COMMANDS:
         raise BadJob(f"`command` is one of {', '.join(COMMANDS)}")
+    if command == "list":
+        return [command, PAGE]
     if command != "level":
         return [command]
     if isinstance(level, bool) or not isinstance(level, int) or not 0 <= level <= 200:

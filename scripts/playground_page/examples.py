@@ -22,13 +22,13 @@ GROUPS = (
 
 
 def examples():
-    """All examples: those in Cedar's files with their requests, then documents. A document with many requests is none:
-    the page has no `batch`."""
+    """All examples: those in Cedar's files with their requests, then documents. A document with many requests or
+    with edits is none: the page has no `batch` and no `live`."""
     found = [of_files(folder) for folder in sorted((EXAMPLES / "cedar").iterdir()) if folder.is_dir()]
     for group, pattern in GROUPS:
         for path in sorted(EXAMPLES.glob(pattern)):
             text = path.read_text(encoding="utf-8")
-            if "requests" not in json.loads(text):
+            if not {"requests", "edits"} & set(json.loads(text)):
                 found.append(example(path, group, {"document": {"document": text}}, []))
     return found
 

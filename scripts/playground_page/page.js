@@ -14,10 +14,12 @@ const CEDAR = ["policies", "schema", "entities", "request", "links"];
 const COMMANDS = {
   check: "what is wrong with the policies",
   level: "and whether they read more than N steps from the request",
+  review: "on which types of requests each policy can be true, and the least level of each",
   request: "whether request and entities conform to the schema",
   manifest: "what the policies can read, for each type of requests",
   slice: "the decision, and the entities that are enough for it",
   decide: "the decision on all entities",
+  list: "which principals of the entities may do what is asked, 100 at most",
 };
 
 class Page {

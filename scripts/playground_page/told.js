@@ -43,7 +43,15 @@ function accepted({ answer, findings }, decision, document) {
   }
   if (command === "request") return conforms(document.request || {});
   if (command === "manifest") return "What the policies can read, for each type of requests:";
+  if (command === "review") return "On which types of requests each policy can be true, and its least level, stand below.";
+  if (command === "list") return listed(answer.text.split("\n"));
   return decided(decision);
+}
+
+// The last line says whether more follow; behind it there is nothing.
+function listed(lines) {
+  const may = counted(lines.length - 2, "principal of the entities", "principals of the entities");
+  return `${may} may do what is asked${lines.at(-2) === "more" ? ", and more follow" : ""}.`;
 }
 
 function conforms(request) {

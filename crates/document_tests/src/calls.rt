@@ -1,4 +1,4 @@
-//! Calls that no command makes yet: that they succeed, and what they tell.
+//! Environments of a schema, types of ids and capabilities: that these calls succeed, and what they tell.
 
 use json_document::{parse_json, read_schema};
 use policy_expressions::{Expr, Var};

@@ -7,6 +7,37 @@ use policy_gate::Status;
 use std::alloc::Global;
 use std::test::Fail;
 
+// Words of the table below, each with the text that it stands for.
+const WORDS: [(&str, &str); 12] = [
+    ("$mark", "\u{feff}"),
+    ("$tab", "\t"),
+    ("$feed", "\u{c}"),
+    ("$blank", "\u{a0}"),
+    ("$zero", "\u{0}"),
+    ("$in", r#"{"schema":$photos,"policies":[$friends]"#),
+    (
+        "$wrong",
+        r#"{"schema":$photos,"policies":[{"id":"p0","effect":"permit","body":[{"when":{"isEmpty":[]}}]}]"#,
+    ),
+    (
+        "$friends",
+        r#"{"id":"p0","effect":"permit","principal":{"in":["Group","g"]}}"#,
+    ),
+    (
+        "$stored",
+        r#""entities":[{"id":["User","alice"],"parents":[["Group","g"],["Group","h"]]}]"#,
+    ),
+    ("$stray", r#""entities":[{"id":["Nope","x"]}]"#),
+    (
+        "$when",
+        r#"{"schema":$photos,"policies":[{"id":"p0","effect":"permit","body":[{"when":"#,
+    ),
+    (
+        "$member",
+        r#"{"principal":["Group","g"],"action":["Action","view"],"resource":["Photo","x"],"context":{}}"#,
+    ),
+];
+
 // Words, a document and, behind ` => `, the status and the text, in which a bar ends a line. A line with # says what the
 // next ones show. Each run is tried again with each of its reads and writes failing, and with one byte a call.
 const CASES: &str = r#"# no document
@@ -22,8 +53,36 @@ manifest; {"schema":$photos,"policies":[]} => Done {"perAction":[]}|
 sample 0 1; not read => Done entities 1 kept 1 decision Allow|
 batch; {"schema":$photos,"policies":[{"id":"p0","effect":"permit","principal":{"in":["Group","g"]}}],"entities":[{"id":["User","alice"],"parents":[["Group","g"],["Group","h"]]}],"requests":[$view,{},{"principal":["User","bob"],"action":["Action","view"],"resource":["Photo","x"],"context":{}},{"principal":["Group","g"],"action":["Action","view"],"resource":["Photo","x"],"context":{}}]} => Done {"decision":"Allow","errors":[],"reasons":["p0"]}|{"refused":"entity slicing requires a fully concrete request. Got a partial request"}|{"decision":"Deny","errors":[],"reasons":[]}|{"refused":"principal type `Group` is not valid for `Action::\"view\"`"}|
 batch; {"schema":$photos,"requests":[]} => Done 
-# refusals, whose status a failing write leaves
-check; {"schema":$photos,"policies":[{"id":"p0","effect":"permit","body":[{"when":{"isEmpty":[]}}]}]} => Findings error EmptySetForbidden: for policy `p0`, empty set literals are forbidden in policies|errors 1, warnings 0|
+live; {"schema":$photos,"edits":[$friends,{"remove":"p0"}]} => Done {"perAction":[]}|
+review; $in} => Done may p0: User, Action::"view", Photo|level p0: 1|
+review; {"schema":$photos} => Done 
+list 1; $in,$stored,"request":$view} => Done User::"alice"|end|
+list 1 User alice; $in,$stored,"request":$view} => Done end|
+request; {"schema":$photos,"request":{}} => Done conforms|
+# refusals, whose status a failing write leaves: those of each command, in the order in which they are looked for
+check; $wrong} => Findings error EmptySetForbidden: for policy `p0`, empty set literals are forbidden in policies|errors 1, warnings 0|
+level 9; $wrong} => Findings error EmptySetForbidden: for policy `p0`, empty set literals are forbidden in policies|errors 1, warnings 0|
+level 0; $in} => Findings error EntityDerefLevelViolation: for policy `p0`, this policy requires level 1, which exceeds the maximum allowed level (0)|errors 1, warnings 0|
+manifest; $wrong} => Findings error EmptySetForbidden: for policy `p0`, empty set literals are forbidden in policies|errors 1, warnings 0|
+review; $wrong} => Findings error EmptySetForbidden: for policy `p0`, empty set literals are forbidden in policies|errors 1, warnings 0|
+request; {"schema":$photos,$stray,"request":$member} => Request request: principal type `Group` is not valid for `Action::"view"`|  help: valid principal types for `Action::"view"`: `User`|
+request; {"schema":$photos,$stray,"request":$view} => Store entity: Nope::"x": type is not declared|
+slice; $wrong,$stray} => PartialRequest request: entity slicing requires a fully concrete request. Got a partial request|
+slice; $wrong,$stray,"request":$member} => Request request: principal type `Group` is not valid for `Action::"view"`|  help: valid principal types for `Action::"view"`: `User`|
+slice; $wrong,$stray,"request":$view} => Store entity: Nope::"x": type is not declared|
+decide; $wrong,$stray} => PartialRequest request: entity slicing requires a fully concrete request. Got a partial request|
+decide; $wrong,$stray,"request":$member} => Request request: principal type `Group` is not valid for `Action::"view"`|  help: valid principal types for `Action::"view"`: `User`|
+decide; $wrong,$stray,"request":$view} => Store entity: Nope::"x": type is not declared|
+decide; $wrong,$stored,"request":$view} => Findings error EmptySetForbidden: for policy `p0`, empty set literals are forbidden in policies|errors 1, warnings 0|
+batch; $wrong,$stray,"requests":[7]} => Document document: requests[0]|
+batch; $wrong,$stray,"requests":[{}]} => Store entity: Nope::"x": type is not declared|
+batch; $wrong,$stored,"requests":[{}]} => Findings error EmptySetForbidden: for policy `p0`, empty set literals are forbidden in policies|errors 1, warnings 0|
+live; {"schema":$photos,"edits":[7]} => Document document: edits[0]|
+live; {"schema":$photos,"edits":[$friends,{"remove":"p1"}]} => Edit edit 1: unknown id|
+list 1; $wrong,$stray} => PartialRequest request: entity slicing requires a fully concrete request. Got a partial request|
+list 1; $wrong,$stray,"request":{"principal":null,"action":["Action","view"],"resource":["Foo","x"],"context":{}}} => Request request: resource type `Foo` is not declared in the schema|
+list 1; $wrong,$stray,"request":$view} => Store entity: Nope::"x": type is not declared|
+list 1; $wrong,$stored,"request":$view} => Findings error EmptySetForbidden: for policy `p0`, empty set literals are forbidden in policies|errors 1, warnings 0|
 slice; {"schema":$photos,"policies":[{"id":"p0","effect":"permit","body":[{"when":{"isEmpty":[]}}]}],"request":$view} => Findings error EmptySetForbidden: for policy `p0`, empty set literals are forbidden in policies|errors 1, warnings 0|
 request; {"schema":$photos,"request":{"principal":["User","alice"],"action":["Action","view"],"resource":["Foo","x"],"context":{}}} => Request request: resource type `Foo` is not declared in the schema|
 decide; {"schema":$photos,"entities":[{"id":["Nope","x"]}],"request":$view} => Store entity: Nope::"x": type is not declared|
@@ -31,14 +90,52 @@ slice; {"schema":$photos,"request":{"principal":null,"action":["Action","view"],
 # an id twice, and two groups in each other
 slice; {"schema":$photos,"entities":[{"id":["User","a"]},{"id":["User","a"]}]} => Document document: entities[1]: duplicate|
 slice; {"schema":$groups,"entities":[{"id":["Group","g"],"parents":[["Group","h"]]},{"id":["Group","h"],"parents":[["Group","g"]]}]} => Document document: entities[0]: cycle|
-# no JSON: bytes behind the value, a lone surrogate, a byte order mark, a number beyond all bounds, a comment, a comma too many
+# no JSON: bytes behind the value, lone surrogates, a byte order mark, a number beyond all bounds, a comment, a comma too many
 check; {"schema":{}}{} => Document document: json|
 check; {"schema":{},"policies":[{"id":"\ud800","effect":"permit"}]} => Document document: json|
+check; {"schema":{},"policies":[{"id":"\udc00","effect":"permit"}]} => Document document: json|
+check; {"schema":{},"policies":[{"id":"\udc00\ud800","effect":"permit"}]} => Document document: json|
+check; {"schema":{},"policies":[{"id":"\ud800\ud800","effect":"permit"}]} => Document document: json|
+check; {"schema":{},"policies":[{"id":"\ud800x","effect":"permit"}]} => Document document: json|
+check; {"schema":{},"\ud800":1} => Document document: json|
 check; $mark{"schema":{}} => Document document: json|
+check; {"schema":{}}$mark => Document document: json|
 check; {"schema":{},"more":1e999} => Document document: json|
 check; {"schema":{}/* */} => Document document: json|
 check; {"schema":{},} => Document document: json|
+# nor with blanks that JSON does not have, or a byte below a blank in a text
+check; $feed{"schema":{}} => Document document: json|
+check; $blank{"schema":{}} => Document document: json|
+check; {"schema":{}}$zero => Document document: json|
+check; {"schema":{"entityTypes":{"F":{"enum":["$tab"]}}}} => Document document: json|
+check; {"schema":{"entityTypes":{"F":{"enum":["$zero"]}}}} => Document document: json|
+check; {"schema":{"entityTypes":{"F":{"enum":["\x"]}}}} => Document document: json|
+check; {"schema":{"entityTypes":{"F":{"enum":["\u00"]}}}} => Document document: json|
+# other characters stand for themselves, and an escaped one for the same
+check; $tab{"schema" :$tab{"entityTypes":{"F":{"enum":["$mark$feed","\ud83d\ude00","\u0000"]}}}} => Document document: json|
+check; $tab{"schema" :$tab{"entityTypes":{"F":{"enum":["$mark$blank","\ud83d\ude00","\u0000"]}}}} => Done errors 0, warnings 0|
+check; {"\u0073chema":{},"policies":[{"\u0069d":"\u0070","effect":"\u0070ermit"}]} => Findings error InvalidActionApplication: for policy `p`, unable to find an applicable action given the policy scope constraints|warning ImpossiblePolicy: for policy `p`, policy is impossible: the policy expression evaluates to false for all valid requests|errors 1, warnings 1|
+# no JSON numbers
+check; $when{"<":[01,2]}}]}]} => Document document: json|
+check; $when{"<":[+1,2]}}]}]} => Document document: json|
+check; $when{"<":[-,2]}}]}]} => Document document: json|
+check; $when{"<":[1.,2]}}]}]} => Document document: json|
+check; $when{"<":[.5,2]}}]}]} => Document document: json|
+check; $when{"<":[1e,2]}}]}]} => Document document: json|
+check; $when{"<":[-01,2]}}]}]} => Document document: json|
+check; $when{"<":[0x1,2]}}]}]} => Document document: json|
+check; $when{"<":[NaN,2]}}]}]} => Document document: json|
+check; $when{"<":[-Infinity,2]}}]}]} => Document document: json|
+check; $when{"<":[-1e999,2]}}]}]} => Document document: json|
+check; $when{"<":[1 2,2]}}]}]} => Document document: json|
 # numbers that are no longs
+check; $when{"<":[18446744073709551615,2]}}]}]} => Document document: policies[0]|
+check; $when{"<":[18446744073709551616,2]}}]}]} => Document document: policies[0]|
+check; $when{"<":[99999999999999999999.5,2]}}]}]} => Document document: policies[0]|
+check; $when{"<":[100000000000000000000000000000000000000000,2]}}]}]} => Document document: policies[0]|
+check; $when{"<":[1e-999,2]}}]}]} => Document document: policies[0]|
+check; $when{"<":[0.0,2]}}]}]} => Document document: policies[0]|
+check; $when{"<":[9223372036854775807.0,2]}}]}]} => Document document: policies[0]|
 check; {"schema":{},"policies":[{"id":"p0","effect":"permit","body":[{"when":{"==":[1.5,1]}}]}]} => Document document: policies[0]|
 check; {"schema":{},"policies":[{"id":"p0","effect":"permit","body":[{"when":{"==":[1.0,1]}}]}]} => Document document: policies[0]|
 check; {"schema":{},"policies":[{"id":"p0","effect":"permit","body":[{"when":{"==":[1e2,1]}}]}]} => Document document: policies[0]|
@@ -48,6 +145,28 @@ check; {"schema":{},"policies":[{"id":"p0","effect":"permit","body":[{"when":{"=
 check; {"schema":{},"policies":[{"id":"p0","effect":"permit","body":[{"when":{"==":[123456789012345678901,1]}}]}]} => Document document: policies[0]|
 # the least and the greatest long
 check; {"schema":$photos,"policies":[{"id":"p0","effect":"permit","body":[{"when":{"<":[-9223372036854775808,9223372036854775807]}}]}]} => Done errors 0, warnings 0|
+check; $when{"<":[0,-1]}}]}]} => Done errors 0, warnings 0|
+# places of numbers that are none
+check; $when{"at":[0,-1],"of":true}}]}]} => Document document: policies[0]|
+check; $when{"at":[0,1.5],"of":true}}]}]} => Document document: policies[0]|
+request; {"schema":$photos,"request":{"context":{"a":9223372036854775808}}} => Document document: request|
+request; {"schema":$photos,"entities":[{"id":["User","a"],"attrs":{"a":-9223372036854775809}}]} => Document document: entities[0]|
+# names at the edges of the grammar
+check; {"schema":{"entityTypes":{"_":{},"__":{},"A_::_9":{},"a::b::c::d":{},"__cedar_::cedar":{},"Actions":{},"Action::A":{}}}} => Done errors 0, warnings 0|
+check; {"schema":{"entityTypes":{"::A":{}}}} => Document document: schema|
+check; {"schema":{"entityTypes":{"A:B":{}}}} => Document document: schema|
+check; {"schema":{"entityTypes":{"A:::B":{}}}} => Document document: schema|
+check; {"schema":{"entityTypes":{"A::::B":{}}}} => Document document: schema|
+check; {"schema":{"entityTypes":{"A::9":{}}}} => Document document: schema|
+check; {"schema":{"entityTypes":{"A ":{}}}} => Document document: schema|
+check; {"schema":{"entityTypes":{" A":{}}}} => Document document: schema|
+check; {"schema":{"entityTypes":{"A\u0000":{}}}} => Document document: schema|
+check; {"schema":{"entityTypes":{"A-B":{}}}} => Document document: schema|
+check; {"schema":{"entityTypes":{"é":{}}}} => Document document: schema|
+check; {"schema":{"entityTypes":{"A::__cedar":{}}}} => Document document: schema|
+check; {"schema":{"entityTypes":{"A::__cedar::B":{}}}} => Document document: schema|
+check; {"schema":{"entityTypes":{"__cedar":{}}}} => Document document: schema|
+check; {"schema":{"entityTypes":{"Action":{}}}} => Document document: schema: declared type has basename Action|
 # of a repeated member the last counts
 check; {"schema":1,"schema":{},"policies":[{"id":"p0","id":"p1","effect":"permit"}],"policies":[]} => Done errors 0, warnings 0|
 # words
@@ -61,6 +180,24 @@ sample 18446744073709551616 1; [] => Usage $usage
 sample +1 1; [] => Usage $usage
 batch batch; [] => Usage $usage
 CHECK; [] => Usage $usage
+level 00; [] => Usage $usage
+level -0; [] => Usage $usage
+level 1 1; [] => Usage $usage
+level 4294967296; [] => Usage $usage
+sample 0; [] => Usage $usage
+sample 00 1; [] => Usage $usage
+sample 0 01; [] => Usage $usage
+sample 0 18446744073709551617; [] => Usage $usage
+list; [] => Usage $usage
+list 0; [] => Usage $usage
+list 01; [] => Usage $usage
+list 10001; [] => Usage $usage
+list 18446744073709551617; [] => Usage $usage
+list 1 User; [] => Usage $usage
+list 1 9User a; [] => Usage $usage
+list 1 User a b; [] => Usage $usage
+review 1; [] => Usage $usage
+live 1; [] => Usage $usage
 ; [] => Usage $usage"#;
 
 // A document and what `slice` writes of it.
@@ -76,6 +213,15 @@ fn words_of(alloc: Global, text: &str) -> Result<Vec<&str>, Fail> {
         words.push(word)?;
     }
     Ok(words)
+}
+
+// The document that a line says, in full.
+fn written_out(alloc: Global, line: &str) -> Result<String, Fail> {
+    let mut document = String::from_str(alloc, line)?;
+    for (word, text) in WORDS {
+        document = document.as_str().replace(alloc, word, text)?;
+    }
+    in_full(alloc, document.as_str())
 }
 
 // How a run ends and what it writes, on one line.
@@ -173,25 +319,66 @@ fn cases_end_as_they_are_due(rt: HostRuntime) -> Result<(), Fail> {
         let Some((words, document)) = case.split_once("; ") else {
             return Err(Fail::new("a line has no document"));
         };
-        let document = in_full(rt.alloc(), document)?;
-        let document = document.as_str().replace(rt.alloc(), "$mark", "\u{feff}")?;
+        let document = written_out(rt.alloc(), document)?;
         let words = words_of(rt.alloc(), words)?;
         see_case(rt.alloc(), words.as_slice(), document.as_bytes(), wanted)?;
     }
     Ok(())
 }
 
+// Whether the bytes are no JSON.
+fn is_no_json(alloc: Global, document: &[u8]) -> Result<bool, Fail> {
+    let (status, written) = run_on(alloc, &["slice"], document, 5000, &[], &[])?;
+    Ok(status == Status::Document && written.as_slice() == b"document: json\n".as_slice())
+}
+
 #[test]
-fn what_is_cut_short_is_no_json(rt: HostRuntime) -> Result<(), Fail> {
+fn what_is_cut_short_or_no_text_is_no_json(rt: HostRuntime) -> Result<(), Fail> {
     let document = in_full(rt.alloc(), KEPT)?;
     let bytes = document.as_bytes();
     for length in 0..bytes.len() {
-        let (status, written) = run_on(rt.alloc(), &["slice"], &bytes[..length], 5000, &[], &[])?;
-        assert_eq!(rt; status, Status::Document, "{length}");
-        assert!(rt;
-            written.as_slice() == b"document: json\n".as_slice(),
-            "{length}"
-        );
+        let cut = is_no_json(rt.alloc(), &bytes[..length])?;
+        assert!(rt; cut, "{length}");
+        // The byte stands in no UTF-8 text.
+        let mut changed = Vec::from_slice(rt.alloc(), &bytes[..length])?;
+        changed.push(b'\xff')?;
+        changed.extend_from_slice(&bytes[length + 1..])?;
+        let no_text = is_no_json(rt.alloc(), changed.as_slice())?;
+        assert!(rt; no_text, "{length}");
+    }
+    Ok(())
+}
+
+// Bytes at the edges of UTF-8, and whether they are a text: parts without a front and fronts without a part, what could be
+// shorter, halves of pairs, and what is above U+10FFFF; then the least and the greatest of each length.
+const BYTES: [(&[u8], bool); 17] = [
+    (b"\x80", false),
+    (b"\xc3", false),
+    (b"\xe2\x82", false),
+    (b"\xf0\x9f\x98", false),
+    (b"\xc0\x80", false),
+    (b"\xe0\x9f\xbf", false),
+    (b"\xf0\x8f\xbf\xbf", false),
+    (b"\xed\xa0\x80", false),
+    (b"\xed\xbf\xbf", false),
+    (b"\xf4\x90\x80\x80", false),
+    (b"\xfe", false),
+    (b"\xc2\x80", true),
+    (b"\xdf\xbf", true),
+    (b"\xe0\xa0\x80", true),
+    (b"\xef\xbf\xbf", true),
+    (b"\xf0\x90\x80\x80", true),
+    (b"\xf4\x8f\xbf\xbf", true),
+];
+
+#[test]
+fn texts_are_utf8(rt: HostRuntime) -> Result<(), Fail> {
+    for (bytes, is_text) in BYTES {
+        let mut document = Vec::from_slice(rt.alloc(), b"{\"schema\":{},\"policies\":[{\"id\":\"")?;
+        document.extend_from_slice(bytes)?;
+        document.extend_from_slice(b"\"}]}")?;
+        let no_json = is_no_json(rt.alloc(), document.as_slice())?;
+        assert_eq!(rt; !no_json, is_text);
     }
     Ok(())
 }

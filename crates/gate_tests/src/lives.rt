@@ -180,3 +180,104 @@ fn manifests_are_those_from_scratch(rt: HostRuntime) -> Result<(), Fail> {
     }
     Ok(())
 }
+
+// The edits of the lists: the policy, the template and its link are added, and removed. Of each the letter, the text, and what
+// stands in a set where it has been added.
+const ADDITIONS: [(&str, &str); 3] = [("p", "$friends"), ("t", "$template"), ("l", "$linked")];
+
+const REMOVALS: [(&str, &str); 3] = [
+    ("P", r#"{"remove":"p0"}"#),
+    ("T", r#"{"remove":"t"}"#),
+    ("L", r#"{"remove":"l"}"#),
+];
+
+// Why the edit is refused where just these letters stand, by the rules of docs/FORMAT.md.
+fn refusal(standing: &str, edit: &str) -> Option<&'static str> {
+    let link = standing.contains("l");
+    let template = standing.contains("t");
+    match edit {
+        "l" if link => Some("duplicate id"),
+        "l" if !template => Some("unknown template"),
+        "l" => None,
+        "T" if !template => Some("unknown id"),
+        "T" if link => Some("template in use"),
+        "T" => None,
+        "L" if !link => Some("unknown id"),
+        "P" if !standing.contains("p") => Some("unknown id"),
+        "P" | "L" => None,
+        _ if standing.contains(edit) => Some("duplicate id"),
+        _ => None,
+    }
+}
+
+// The letters after an edit that is not refused.
+fn after(alloc: Global, standing: &str, edit: &str) -> Result<String, Fail> {
+    let gone = match edit {
+        "P" => "p",
+        "T" => "t",
+        "L" => "l",
+        _ => return Ok(format!(in alloc; "{standing}{edit}")?),
+    };
+    Ok(standing.replace(alloc, gone, "")?)
+}
+
+// What `live` says of a list of edits, letter by letter.
+fn due(alloc: Global, edits: &str) -> Result<String, Fail> {
+    let mut standing = String::new(alloc);
+    for (i, letter) in edits.chars().enumerate() {
+        let edit = format!(in alloc; "{letter}")?;
+        if let Some(why) = refusal(standing.as_str(), edit.as_str()) {
+            return Ok(format!(in alloc; "Edit edit {i}: {why}|")?);
+        }
+        standing = after(alloc, standing.as_str(), edit.as_str())?;
+    }
+    let policies = written(alloc, standing.as_str())?;
+    manifest(alloc, "manifest", "policies", policies.as_str())
+}
+
+// The texts of the letters, with commas between.
+fn written(alloc: Global, letters: &str) -> Result<String, Fail> {
+    let mut written = String::new(alloc);
+    for letter in letters.chars() {
+        let letter = format!(in alloc; "{letter}")?;
+        for (own, text) in ADDITIONS.iter().chain(REMOVALS.iter()) {
+            if *own == letter.as_str() {
+                if !written.is_empty() {
+                    written.push_str(",")?;
+                }
+                written.push_str(text)?;
+            }
+        }
+    }
+    table(alloc, written.as_str())
+}
+
+// All lists of three edits behind these, as letters.
+fn lists(alloc: Global, first: &str) -> Result<Vec<String>, Fail> {
+    let mut lists = Vec::new(alloc);
+    lists.push(String::from_str(alloc, first)?)?;
+    for _ in 0..3 {
+        let mut longer = Vec::new(alloc);
+        for list in &lists {
+            for letter in ["p", "t", "l", "P", "T", "L"] {
+                longer.push(format!(in alloc; "{list}{letter}")?)?;
+            }
+        }
+        lists = longer;
+    }
+    Ok(lists)
+}
+
+#[test]
+fn each_list_of_three_edits(rt: HostRuntime) -> Result<(), Fail> {
+    for first in ["", "t"] {
+        let lists = lists(rt.alloc(), first)?;
+        for edits in &lists {
+            let list = written(rt.alloc(), edits.as_str())?;
+            let live = manifest(rt.alloc(), "live", "edits", list.as_str())?;
+            let due = due(rt.alloc(), edits.as_str())?;
+            assert_eq!(rt; live.as_str(), due.as_str(), "{edits}");
+        }
+    }
+    Ok(())
+}

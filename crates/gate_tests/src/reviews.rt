@@ -1,7 +1,8 @@
 //! Documents whose policies are reviewed, each with how `review` ends and the lines that are due, which come from the rules
 //! in docs/FORMAT.md.
 
-use crate::documents::failures;
+use crate::documents::{failures, told};
+use std::alloc::Global;
 use std::test::Fail;
 
 // Each line says a document and, behind ` => `, the status and the text, in which a bar ends a line. A line with # says what
@@ -40,5 +41,83 @@ const REVIEWS: &str =
 fn policies_are_reviewed(rt: HostRuntime) -> Result<(), Fail> {
     let failures = failures(rt.alloc(), "review", REVIEWS)?;
     assert_eq!(rt; failures.as_str(), "");
+    Ok(())
+}
+
+// A document of one policy, in the place of $policy.
+const STEPS: &str =
+    r#"{"schema":{"entityTypes":{"Photo":{"attributes":{"user":{"entity":"User"}}},"User":{"attributes":{"bool":"Bool","nested":{"record":{"user":{"entity":"User"}}},"user":{"entity":"User"}},"memberOf":["User"],"tags":{"entity":"User"}}},"actions":[{"id":["Action","view"],"principals":["User"],"resources":["Photo"],"context":{"nested":{"record":{"user":{"entity":"User"}}},"user":{"entity":"User"}}}]},"policies":[{"id":"p0","effect":"permit",$policy}]}"#;
+
+// Each line says what a policy asks and, behind ` => `, its least level. A line with # says what the next ones show.
+const LEAST: &str =
+    r#"# an id below the context, and a field of a record literal, are asked for nothing
+"body":[{"when":{"is":[{"get":[{"var":"context"},"nested","user"]},"User"]}}] => 0
+"body":[{"when":{"is":[{"get":[{"record":{"foo":{"var":"principal"}}},"foo"]},"User"]}}] => 0
+# nor is what is compared
+"body":[{"when":{"==":[{"var":"principal"},{"id":["User","u"]}]}}] => 0
+"resource":{"is":"Photo"} => 0
+"principal":{"==":"?"} => 0
+# nor what is not reached
+"body":[{"when":{"any":[true,{"get":[{"var":"principal"},"bool"]}]}}] => 0
+"body":[{"when":{"all":[false,{"get":[{"var":"principal"},"bool"]}]}}] => 0
+# one step
+"body":[{"when":{"is":[{"get":[{"var":"principal"},"nested","user"]},"User"]}}] => 1
+"body":[{"when":{"in":[{"id":["Action","view"]},{"var":"action"}]}}] => 1
+"body":[{"when":{"get":[{"var":"context"},"user","bool"]}}] => 1
+"body":[{"when":{"not":{"has":[{"var":"action"},"x"]}}}] => 1
+"body":[{"when":{"==":[{"get":[{"var":"resource"},"user"]},{"var":"principal"}]}}] => 1
+# a literal on the right of `in`, and in a set there, is asked for nothing
+"body":[{"when":{"in":[{"var":"principal"},{"id":["User","u"]}]}}] => 1
+"body":[{"when":{"in":[{"var":"principal"},[{"get":[{"var":"resource"},"user"]},{"id":["User","u"]}]]}}] => 1
+# `in` of a scope, and of a template
+"principal":{"in":["User","u"]} => 1
+"action":{"in":[["Action","view"]]} => 1
+"principal":{"in":"?"} => 1
+"principal":{"is":"User","in":"?"} => 1
+# two steps
+"body":[{"when":{"all":[{"hasTag":[{"var":"principal"},"t"]},{"get":[{"getTag":[{"var":"principal"},"t"]},"bool"]}]}}] => 2
+"body":[{"when":{"get":[{"record":{"foo":{"get":[{"var":"principal"},"user"]}}},"foo","bool"]}}] => 2
+"body":[{"when":{"in":[{"var":"principal"},{"get":[{"var":"principal"},"user","user"]}]}}] => 2
+# three steps, on the right of `in`, and in the farther of two branches
+"body":[{"when":{"all":[{"hasTag":[{"get":[{"var":"principal"},"user"]},"t"]},{"in":[{"getTag":[{"get":[{"var":"principal"},"user"]},"t"]},{"get":[{"var":"resource"},"user"]}]}]}}] => 3
+"body":[{"when":{"get":[{"if":[{"get":[{"var":"principal"},"user","bool"]},{"get":[{"var":"principal"},"user","user"]},{"get":[{"var":"resource"},"user","user"]}]},"bool"]}}] => 3
+# the other fields of a record literal count
+"body":[{"when":{"get":[{"record":{"bar":{"get":[{"var":"principal"},"user","user","user","user"]},"foo":{"var":"principal"}}},"foo","bool"]}}] => 4
+# a literal is dereferenced: left of `in`, in a field, and in one of two branches
+"body":[{"when":{"get":[{"id":["User","u"]},"bool"]}}] => none
+"body":[{"when":{"in":[{"id":["User","u"]},{"var":"principal"}]}}] => none
+"body":[{"when":{"get":[{"record":{"bar":{"get":[{"id":["User","u"]},"user"]},"foo":{"var":"principal"}}},"foo","bool"]}}] => none
+"body":[{"when":{"get":[{"if":[{"get":[{"var":"principal"},"bool"]},{"id":["User","u"]},{"var":"principal"}]},"bool"]}}] => none"#;
+
+// The policy has the least level that `review` tells of it, and passes from there on.
+fn has_least(alloc: Global, policy: &str, least: &str) -> Result<bool, Fail> {
+    let document = STEPS.replace(alloc, "$policy", policy)?;
+    let line = format!(in alloc; "level p0: {least}|")?;
+    let mut holds = told(alloc, "review", document.as_str())?
+        .as_str()
+        .ends_with(line.as_str());
+    let least = least.parse::<u32>().unwrap_or(201);
+    for level in [0, 1, 2, 3, 4, 5, 200] {
+        let words = format!(in alloc; "level {level}")?;
+        let passes = told(alloc, words.as_str(), document.as_str())?
+            .as_str()
+            .starts_with("Done");
+        holds = holds && passes == (level >= least);
+    }
+    Ok(holds)
+}
+
+#[test]
+fn policies_pass_from_their_least_level_on(rt: HostRuntime) -> Result<(), Fail> {
+    for line in LEAST.lines() {
+        if line.starts_with("#") {
+            continue;
+        }
+        let Some((policy, least)) = line.split_once(" => ") else {
+            return Err(Fail::new("a line says nothing"));
+        };
+        let holds = has_least(rt.alloc(), policy, least)?;
+        assert!(rt; holds, "{line}");
+    }
     Ok(())
 }

@@ -89,12 +89,15 @@ fn bounds_the_document(rt: HostRuntime) -> Result<(), Fail> {
     );
     assert_eq!(rt; status, Status::Document);
     blanks.push(b' ')?;
+    let mut sink = MemorySink::new(rt.alloc(), 5000, Vec::new(rt.alloc()));
     let status = run(
         rt.alloc(),
         &words,
         &mut SliceSource::new(blanks.as_slice()),
-        &mut NoSink,
+        &mut sink,
     );
+    let MemorySink { bytes, .. } = sink;
     assert_eq!(rt; status, Status::TooLong);
+    assert!(rt; bytes.as_slice() == b"document: more than 16777216 bytes\n".as_slice());
     Ok(())
 }

@@ -4,6 +4,8 @@
 #[cfg(test)]
 mod faces;
 #[cfg(test)]
+mod lives;
+#[cfg(test)]
 mod manifests;
 #[cfg(test)]
 mod stores;

@@ -59,7 +59,7 @@ fn told_error(alloc: Global, error: &EntityManifestFromJsonError) -> Result<Stri
     }
 }
 
-fn written(alloc: Global, manifest: &EntityManifest) -> Result<String, Fail> {
+pub(crate) fn written(alloc: Global, manifest: &EntityManifest) -> Result<String, Fail> {
     let json = manifest.to_json(alloc)?;
     let text = json.to_string(alloc);
     drop(json);

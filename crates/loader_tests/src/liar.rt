@@ -16,6 +16,10 @@ pub(crate) enum Way {
     OneMore,
     /// So, but with no list of ancestors at all.
     NoLists,
+    /// So, and with a list of ancestors more.
+    OneListMore,
+    /// So, but that the call for ancestors fails.
+    FailsForAncestors,
     /// With the last entity of the store in place of each user.
     LastUser,
     /// With whole entities; in the round of this number, counted from 1, with the attributes of the store's last entity.
@@ -80,6 +84,10 @@ impl EntityLoader for Liar<'_> {
         alloc: Global,
         requests: &Vec<AncestorsRequest>,
     ) -> Result<Vec<Vec<EntityUID>>, LoadError> {
+        if self.way == Way::FailsForAncestors {
+            self.faults = self.faults.saturating_add(1);
+            return Err(LoadError::Failed);
+        }
         self.strays = self.strays.saturating_add(1);
         match lists(alloc, self.way, requests) {
             Ok(found) => Ok(found),
@@ -140,7 +148,7 @@ fn under(alloc: Global, uid: &EntityUID, entity: &Entity) -> Result<Entity, Allo
     Ok(Entity::new(uid.try_clone()?, attrs, ancestors, tags))
 }
 
-// An empty list for each request, but for a loader that answers with no list.
+// An empty list for each request, but for a loader that answers with no list or with one more.
 fn lists(
     alloc: Global,
     way: Way,
@@ -151,6 +159,9 @@ fn lists(
         for _request in requests {
             found.push(Vec::new(alloc))?;
         }
+    }
+    if way == Way::OneListMore {
+        found.push(Vec::new(alloc))?;
     }
     Ok(found)
 }

@@ -270,6 +270,12 @@ fn entities_are_given(rt: HostRuntime) -> Result<(), Fail> {
             Giver::Liar(Way::NoLists),
             "WrongNumberOfAncestors 1 0",
         ),
+        (
+            GROUPS,
+            Giver::Liar(Way::OneListMore),
+            "WrongNumberOfAncestors 1 2",
+        ),
+        (GROUPS, Giver::Liar(Way::FailsForAncestors), "LoaderFault 1"),
         (RECORDS, Giver::Slice, "IncompatibleEntityManifest 5"),
         (NOBODY, Giver::Slice, "PartialRequest"),
         (NOBODY, Giver::Honest, "PartialRequest"),

@@ -2,7 +2,7 @@
 use Rattle.std.proofs.Common.{◌≡◌, ℕ, ◌⊎◌, inl, inr, ap, refl, ◌∙◌, arith}
 use Rattle.policy_gate.specs.Status.{code_of}
 use Rattle.policy_gate.specs.declared.status.Status.{Status}
-use Rattle.policy_gate.specs.declared.status.Status.TheVariants.{Done, Findings, Usage, Document, Request, Store, PartialRequest, ReadFault, WriteFault, OutOfMemory, TooLong}
+use Rattle.policy_gate.specs.declared.status.Status.TheVariants.{Done, Findings, Usage, Document, Request, Store, PartialRequest, ReadFault, WriteFault, OutOfMemory, TooLong, Edit}
 
 -- 0 is of `Done` alone
 pub done_from_code : (s : Status) → code_of s ≡ 0 → s ≡ Done
@@ -17,6 +17,7 @@ done_from_code ReadFault e = absurd (omega (arith, e))
 done_from_code WriteFault e = absurd (omega (arith, e))
 done_from_code OutOfMemory e = absurd (omega (arith, e))
 done_from_code TooLong e = absurd (omega (arith, e))
+done_from_code Edit e = absurd (omega (arith, e))
 
 -- the numbers of the two ends that there are where every rule holds
 pub code_of_either : (s : Status) (n : ℕ) → n ≡ code_of s → (s ≡ Done) ⊎ (s ≡ OutOfMemory) → (n ≡ 0) ⊎ (n ≡ 10)

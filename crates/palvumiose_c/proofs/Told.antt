@@ -12,22 +12,13 @@ use Rattle.policy_gate.specs.Run.{Gives, IsDue, IsDueAfterReading, IsDueFor, IsT
 use Rattle.policy_gate.specs.declared.command.Command.{Command}
 use Rattle.policy_gate.specs.declared.status.Status.{Status}
 use Rattle.policy_gate.specs.declared.status.Status.TheVariants.{OutOfMemory}
+use Rattle.policy_gate.proofs.Runs.{all_taken, longer}
 use Rattle.palvumiose_c.specs.Told.{IsDueOn, IsDueTo, IsTold}
 
 -- a count of faults at 0 has not risen
 not_risen : (old new : ℕ) → new ≤ 0 → Rose old new → ⊥
 not_risen old new none (inl up) = omega arith
 not_risen old new none (inr end) = omega arith
-
--- what was taken up to the end is all that was left
-all_taken : (bytes taken : List ℕ) (new : Option (List ℕ)) → Consumes (Some bytes) new taken → IsAtEnd new → bytes ≡ taken
-all_taken bytes taken None took end = absurd took
-all_taken bytes taken (Some rest) took end = took ∙ ap (λ r. taken ++ r) end ∙ append-nil taken
-
--- what was taken is no more than was left
-longer : (bytes taken : List ℕ) (new : Option (List ℕ)) → Consumes (Some bytes) new taken → length taken ≤ length bytes
-longer bytes taken None took = absurd took
-longer bytes taken (Some rest) took = rw took (simp length-append (omega arith))
 
 -- a source that gives a document from its first byte on and does not fail, and a sink that holds nothing, then a text, and does not fail
 pub record IsInMemory (document text : List ℕ) (source source' : SourceState) (sink sink' : SinkState) : Type 0 where

@@ -1,10 +1,9 @@
 -- What is known of every answer to a document.
-use Rattle.std.proofs.Common.{◌≡◌, ℕ, List, inl, inr, Option, Some, None, sym, subst}
+use Rattle.std.proofs.Common.{ℕ, List, inl, inr, Option, Some, None, sym, subst}
 use Rattle.serde_json.specs.Data.{Data}
-use Rattle.json_document.specs.declared.document.Document.{Document}
 use Rattle.policy_gate.specs.Answer.{IsAnswer, IsAnswerIf, IsAnswerFor, IsRefusedOr, IsWork, refusal}
 use Rattle.json_values.specs.Json.{json_of}
-use Rattle.policy_gate.specs.Reply.{Answer, answer}
+use Rattle.policy_gate.specs.Reply.{Answer}
 use Rattle.policy_gate.specs.Status.{IsOfDocument}
 use Rattle.std.specs.Prelude.{IfSome}
 use Rattle.policy_gate.specs.declared.command.Command.{Command}

@@ -2,7 +2,7 @@ mod Answers
 mod Lines
 mod Listings
 mod Lives
-mod Runs
+pub mod Runs
 mod Manifests
 mod Says
 mod Results

@@ -12,7 +12,6 @@ use Rattle.conformance_errors.specs.declared.request_error.RequestValidationErro
 use Rattle.conformance_errors.specs.declared.store_rule.EntityDoesNotConform.{EntityDoesNotConform}
 use Rattle.json_document.specs.declared.document.Document.{Document}
 use Rattle.policy_validate.specs.Accepted.{findings_of, IsAccepted}
-use Rattle.typing_spec.specs.Conforms.{StoreConforms}
 use Rattle.principal_listing.specs.Allowed.{IsWholeBut, passed_over}
 use Rattle.principal_listing.specs.Pages.{page_ids, has_more}
 use Rattle.principal_listing.specs.Refused.{WhyNoPage}

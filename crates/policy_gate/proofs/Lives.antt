@@ -1,6 +1,6 @@
 -- Edits one after another, and what their end is written as.
-use Rattle.std.proofs.Common.{◌≡◌, ◌∙◌, ◌+◌, ◌++◌, ℕ, List, [], ◌∷◌, Option, Some, None, true, false, IsOk, OnOk, true≢false, Result, Ok, Err, refl, sym, ap, subst}
-use Rattle.std.specs.Prelude.{IfErr, IfOk, codes, decimal}
+use Rattle.std.proofs.Common.{◌≡◌, ◌∙◌, ◌+◌, ◌++◌, ℕ, List, ◌∷◌, Option, Some, None, true, false, IsOk, OnOk, true≢false, Result, Ok, Err, refl, sym, ap, subst}
+use Rattle.std.specs.Prelude.{IfOk, codes, decimal}
 use Rattle.std.specs.Option.{option_map, option_or}
 use Rattle.json_document.specs.declared.edit.Edit.TheVariants.{Policy}
 use Rattle.policy_set.specs.Condition.{has_scope_slot}

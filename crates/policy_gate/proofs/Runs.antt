@@ -104,11 +104,12 @@ quiet old new q (inl up) = omega arith
 quiet old new q (inr end) = omega arith
 
 -- what was taken up to the end is all that was left
-all_taken : (bytes taken : List ℕ) (new : Option (List ℕ)) → Consumes (Some bytes) new taken → IsAtEnd new → bytes ≡ taken
+pub all_taken : (bytes taken : List ℕ) (new : Option (List ℕ)) → Consumes (Some bytes) new taken → IsAtEnd new → bytes ≡ taken
 all_taken bytes taken None p e = absurd p
 all_taken bytes taken (Some rest) p e = p ∙ ap (λ r. taken ++ r) e ∙ append-nil taken
 
-longer : (bytes taken : List ℕ) (new : Option (List ℕ)) → Consumes (Some bytes) new taken → length taken ≤ length bytes
+-- what was taken is no more than was left
+pub longer : (bytes taken : List ℕ) (new : Option (List ℕ)) → Consumes (Some bytes) new taken → length taken ≤ length bytes
 longer bytes taken None p = absurd p
 longer bytes taken (Some rest) p = rw p (simp length-append (omega arith))
 

@@ -1,5 +1,5 @@
 -- What an answer with status 0 or 1 says, and when 0 is due.
-use Rattle.std.proofs.Common.{◌≡◌, ◌⊎◌, ◌&&◌, ℕ, Bool, true, false, List, [], ◌∷◌, inl, inr, Option, Some, None, is_some, IsSome, IfSome, IsSomeAnd, IsTrue, Ok, Err, sym, ◌∙◌, ap, refl, subst, if◌then◌else◌}
+use Rattle.std.proofs.Common.{◌≡◌, ◌&&◌, ℕ, Bool, true, false, List, [], ◌∷◌, inl, inr, Option, Some, None, is_some, IfSome, IsSomeAnd, Ok, Err, sym, ap, refl, subst, if◌then◌else◌}
 use Rattle.std.specs.Option.{option_or, option_map}
 use Rattle.serde_json.specs.Data.{Data}
 use Rattle.policy_values.specs.declared.entity_uid.EntityUID.{EntityUID}
@@ -12,8 +12,8 @@ use Rattle.finding_messages.specs.Findings.{Findings}
 use Rattle.findings.specs.declared.error.ValidationError.{ValidationError}
 use Rattle.conformance_errors.specs.Written.{request_text, entity_text}
 use Rattle.typing_spec.specs.Conforms.{RequestConforms, StoreConforms}
-use Rattle.policy_gate.specs.Answer.{IsAnswer, IsAnswerIf, IsAnswerFor, IsWellMade, IsAnswerTo, IsRefusedOr, IsWork, found_in, found_at, refused_batch, refused_levels, refused_listing, is_whole, partial_message, partial_request, refusal, refused_line, request_line, whole_line, refused_asked, refused_data, refused_decision, refused_entries, refused_first, refused_partial, refused_policies, refused_request, refused_store, refused_with, request_fault, slice_of, store_fault}
-use Rattle.policy_gate.specs.Headline.{Conforms, HasAcceptedPolicies, HasPoliciesAt, HasPoliciesFor, IsDocumentOf, KeepsOtherRules, KeepsRules, KeepsRulesOf, IsChecked, IsSliced, IsDecided, IsReadyForRequests, IsRefusedEdit, Says}
+use Rattle.policy_gate.specs.Answer.{IsAnswer, IsAnswerIf, IsAnswerFor, IsWellMade, IsRefusedOr, IsWork, found_in, found_at, refused_batch, refused_levels, refused_listing, is_whole, partial_message, partial_request, refusal, refused_line, request_line, whole_line, refused_asked, refused_data, refused_decision, refused_entries, refused_first, refused_partial, refused_policies, refused_request, refused_store, refused_with, request_fault, slice_of, store_fault}
+use Rattle.policy_gate.specs.Headline.{Conforms, HasAcceptedPolicies, HasAllowedOutcomes, HasPoliciesAt, HasPoliciesFor, IsDocumentOf, KeepsOtherRules, KeepsRules, KeepsRulesOf, IsSliced, IsDecided, IsReadyForRequests, IsRefusedEdit, ReadsAreEnough, Says}
 use Rattle.policy_gate.specs.Listing.{asked_fault, is_whole_but}
 use Rattle.policy_gate.specs.Live.{edit_text, refused_edit}
 use Rattle.live_manifest.specs.Edits.{Refusal}
@@ -283,11 +283,17 @@ module _ (laws : Laws) (d : Document) where
 
     -- ---- what 0 says
 
+    allowed : HasAllowedOutcomes d
+    allowed q s rules = laws.outcomes d.schema made.schema d.policies made.policies made.keys q s rules
+
+    reads_enough : ReadsAreEnough d
+    reads_enough q s rules = laws.slices d.schema made.schema d.policies made.policies made.keys q s rules
+
     enough : KeepsRules d → IsEnough d.policies.policies d.request (slice_of d) d.entities
-    enough rules = laws.slices d.schema made.schema d.policies made.policies made.keys d.request d.entities rules
+    enough rules = reads_enough d.request d.entities rules
 
     decided : (text : List ℕ) → KeepsRules d → IsWork Decide d text → IsDecided d text
-    decided text rules is = record { written = is; allowed = laws.outcomes d.schema made.schema d.policies made.policies made.keys d.request d.entities rules }
+    decided text rules is = record { written = is; allowed = allowed d.request d.entities rules }
 
     sliced : (text : List ℕ) → KeepsRules d → IsWork Slice d text → IsSliced d text
     sliced text rules is = record { written = is; enough = enough rules }
@@ -297,12 +303,12 @@ module _ (laws : Laws) (d : Document) where
     line_decided q whole conforms = rw (parts_whole q whole, (laws.requests d.schema made.schema q whole).1 conforms) refl
 
     says : (c : Command) (text : List ℕ) → refusal c d ≡ None → IsWork c d text → Says c d text
-    says Check text none is = record { written = is; accepted = accepted none }
+    says Check text none is = record { written = is; accepted = accepted none; sound = allowed }
     says (Level n) text none is =
         let at = accepted_at n none in
         record { written = is; accepted = at; enough = laws.levels d.schema made.schema n d.policies made.policies made.keys at }
-    says Conformance text none is = record { written = is; conforms = conforming none }
-    says Manifest text none is = record { manifest = is.0; computed = is.1; written = is.2; accepted = accepted none }
+    says Conformance text none is = let both = conforming none in record { written = is; conforms = both; whole = λ whole. request_kept whole both.request }
+    says Manifest text none is = record { manifest = is.0; computed = is.1; written = is.2; accepted = accepted none; enough = reads_enough }
     says Slice text none is = let rules = keeping none in (rules, sliced text rules is)
     says Decide text none is = let rules = keeping none in (rules, decided text rules is)
     says (Sample seed size) text none is = let rules = keeping none in (rules, record { written = is; enough = enough rules })
@@ -328,7 +334,7 @@ module _ (laws : Laws) (d : Document) where
     says (Page limit after) text none is = record { written = is; rules = page_rules none }
     says Batch text none is = record {
       written = is;
-      decided = λ q rules. record { written = line_decided q rules.whole rules.request; allowed = laws.outcomes d.schema made.schema d.policies made.policies made.keys q d.entities rules };
+      decided = λ q rules. record { written = line_decided q rules.whole rules.request; allowed = allowed q d.entities rules };
       rules = ready none;
     }
 

@@ -11,7 +11,6 @@ use Rattle.policy_set.specs.PolicySet.{IsPolicySet, AreKeyedOnce}
 use Rattle.schema_core.specs.Faults.{IsSchema}
 use Rattle.policy_set.specs.Response.{response}
 use Rattle.policy_set.specs.declared.response.Decision.{Decision}
-use Rattle.policy_set.specs.declared.response.Decision.TheVariants.{Allow, Deny}
 use Rattle.std.specs.Fmt.{decimal}
 use Rattle.json_document.specs.PlaceText.{place_text}
 use Rattle.json_document.specs.Reading.{IsRead}

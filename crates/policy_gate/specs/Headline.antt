@@ -5,14 +5,17 @@ use Rattle.policy_set.specs.Response.{response}
 use Rattle.json_document.specs.Reading.{IsRead}
 use Rattle.json_document.specs.declared.document.Document.{Document}
 use Rattle.json_document.specs.declared.shape.Shape.{Shape}
+use Rattle.entity_store.specs.Request.{IsWhole}
+use Rattle.entity_store.specs.Store.{Store}
 use Rattle.entity_store.specs.declared.request.Request.{Request as ARequest}
 use Rattle.serde_json.specs.Data.{Data}
 use Rattle.finding_messages.specs.Written.{findings_text}
-use Rattle.typing_spec.specs.Conforms.{StoreConforms}
+use Rattle.typing_spec.specs.Conforms.{RequestConforms, StoreConforms}
 use Rattle.policy_validate.specs.Accepted.{IsAccepted}
 use Rattle.policy_validate.specs.Levels.{IsAcceptedAt, CutIsEnough}
 use Rattle.manifest_computation.specs.Enough.{IsEnough}
 use Rattle.manifest_computation.specs.Rules.{KeepRules}
+use Rattle.manifest_computation.specs.Slice.{slice}
 use Rattle.json_response.specs.SliceJson.{slice_text, response_text}
 use Rattle.json_values.specs.Json.{json_of}
 use Rattle.manifest_core.specs.Manifest.{Manifest as Tries}
@@ -61,10 +64,19 @@ KeepsOtherRules d = KeepOtherRules d.schema d.policies d.request d.entities
 abbrev pub HasNoRefusedEdit : Document → Type 0
 HasNoRefusedEdit d = refused_edit d ≡ None
 
--- the text says that the request and the store conform, and they do
+-- on each request and store that conform, the outcome of each policy is a truth value, a missing entity or an overflow
+abbrev pub HasAllowedOutcomes : Document → Type 0
+HasAllowedOutcomes d = (q : ARequest) (s : Store) → KeepRules d.schema d.policies q s → AreAllowed d.policies.policies q s
+
+-- for each request and store that conform, the store restricted to what the policies read in the request's environment is enough
+abbrev pub ReadsAreEnough : Document → Type 0
+ReadsAreEnough d = (q : ARequest) (s : Store) → KeepRules d.schema d.policies q s → IsEnough d.policies.policies q (slice d.schema d.policies.policies q s) s
+
+-- the text says that the request and the store conform, and they do; a request that is whole conforms to the schema
 pub record IsConforming (d : Document) (text : List ℕ) : Type 0 where
   pub written : text ≡ codes "conforms\n"
   pub conforms : Conforms d
+  pub whole : IsWhole d.request → RequestConforms d.schema d.request
 
 -- it keeps every rule of the command
 abbrev pub KeepsRulesOf : Command → Document → Type 0
@@ -85,10 +97,11 @@ abbrev pub HasPoliciesFor : Command → Document → Type 0
 HasPoliciesFor (Level n) d = HasPoliciesAt n d
 HasPoliciesFor c d = HasAcceptedPolicies d
 
--- the text is the findings on the document's policies, which are accepted: there may be warnings
+-- the text is the findings on the document's policies, which are accepted: there may be warnings. So each of them has an outcome that is allowed
 pub record IsChecked (d : Document) (text : List ℕ) : Type 0 where
   pub written : text ≡ findings_text (found_in d)
   pub accepted : HasAcceptedPolicies d
+  pub sound : HasAllowedOutcomes d
 
 -- the text is the findings on the document's policies, which are accepted at the level. So on the store cut at the level each of them has the
 -- outcome that it has on the whole store, for each request and store that conform
@@ -97,12 +110,14 @@ pub record IsCheckedAt (n : ℕ) (d : Document) (text : List ℕ) : Type 0 where
   pub accepted : HasPoliciesAt n d
   pub enough : CutIsEnough d.schema n d.policies
 
--- the text is the manifest of the document's policies, which are accepted: what they read and ask for in each environment of the schema
+-- the text is the manifest of the document's policies, which are accepted: what they read and ask for in each environment of the schema, which is
+-- enough to decide on
 pub record IsManifested (d : Document) (text : List ℕ) : Type 0 where
   pub manifest : Tries
   pub computed : IsManifestOf d.schema d.policies.policies manifest
   pub written : text ≡ manifest_text manifest
   pub accepted : HasAcceptedPolicies d
+  pub enough : ReadsAreEnough d
 
 -- the text is the slice with the response on it. The slice is a part of the store, and enough: on it, and on every store between the
 -- two, each policy has the outcome that it has on the whole store, which is a truth value, a missing entity or an overflow; so the

@@ -1,5 +1,5 @@
 -- What the edits of a document come to, and how it is said which one is refused.
-use Rattle.std.specs.Prelude.{ℕ, ◌+◌, List, [], ◌∷◌, ◌++◌, map, Option, Some, None, option_map, codes, decimal, if◌then◌else◌}
+use Rattle.std.specs.Prelude.{ℕ, ◌+◌, List, [], ◌∷◌, ◌++◌, map, Option, None, option_map, codes, decimal, if◌then◌else◌}
 use Rattle.std.specs.Option.{option_or}
 use Rattle.finding_messages.specs.Written.{findings_text}
 use Rattle.policy_set.specs.Condition.{has_scope_slot}

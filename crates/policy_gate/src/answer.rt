@@ -67,9 +67,11 @@ fn reply_to_value(alloc: Global, command: &Command, value: Value) -> Result<Repl
     // The value takes as much memory as the document: it is let go of before the reply is made.
     drop(value);
     match read {
-        Ok(document) => {
+        Ok(mut document) => {
             is_well_made(&document);
-            reply_to(alloc, command, document)
+            let reply = reply_to(alloc, command, &mut document);
+            drop(document);
+            reply
         }
         Err(DocumentFault::Place(place)) => Ok(Reply {
             status: Status::Document,
@@ -88,22 +90,22 @@ pub(crate) fn is_well_made(document: &Document)
     let _actions = document.schema.action_ids();
 }
 
-// The reply to a document.
-fn reply_to(alloc: Global, command: &Command, document: Document) -> Result<Reply, AllocError>
-    ensures { IfOk result (λ r. IsAnswerTo command.now document (reply_view r)) }
+// The reply to a document; `live` takes its edits.
+fn reply_to(alloc: Global, command: &Command, document: &mut Document) -> Result<Reply, AllocError>
+    ensures { IfOk result (λ r. IsAnswerTo command.now document.old (reply_view r)) }
 {
     match command {
-        Command::Check => with_findings(alloc, &document),
-        Command::Level(level) => with_levels(alloc, &document, *level),
-        Command::Request => conforming(alloc, &document),
-        Command::Manifest => with_manifest(alloc, &document),
-        Command::Slice => cut(alloc, &document),
-        Command::Decide => decided(alloc, &document),
-        Command::Sample { seed, size } => sampled(alloc, &document, *seed, *size),
-        Command::Batch => batch(alloc, &document),
+        Command::Check => with_findings(alloc, document),
+        Command::Level(level) => with_levels(alloc, document, *level),
+        Command::Request => conforming(alloc, document),
+        Command::Manifest => with_manifest(alloc, document),
+        Command::Slice => cut(alloc, document),
+        Command::Decide => decided(alloc, document),
+        Command::Sample { seed, size } => sampled(alloc, document, *seed, *size),
+        Command::Batch => batch(alloc, document),
         Command::Live => live(alloc, document),
-        Command::Review => reviewed(alloc, &document),
-        Command::List { limit, after } => listed(alloc, &document, limit, after),
+        Command::Review => reviewed(alloc, document),
+        Command::List { limit, after } => listed(alloc, document, limit, after),
     }
 }
 

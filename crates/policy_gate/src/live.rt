@@ -21,14 +21,15 @@ use policy_values::Text;
 use schema_core::ValidatorSchema;
 use std::alloc::{AllocError, Global};
 use std::marker::Brand;
+use std::mem;
 use std::sync::ledger::{Blank, Ledger};
 
-/// The manifest of the policies that the document's edits leave, where none of them is refused.
-pub(crate) fn live(alloc: Global, document: Document) -> Result<Reply, AllocError>
-    ensures { IfOk result (λ r. IsAnswerTo Command.Live document (reply_view r)) }
+/// The manifest of the policies that the document's edits leave, where none of them is refused; the edits are taken out.
+pub(crate) fn live(alloc: Global, document: &mut Document) -> Result<Reply, AllocError>
+    ensures { IfOk result (λ r. IsAnswerTo Command.Live document.old (reply_view r)) }
 {
-    let Document { schema, edits, .. } = document;
-    edited::<Brand>(alloc, &schema, edits, Blank::new(1))
+    let edits = mem::replace(&mut document.edits, Edits::new(Vec::new(alloc)));
+    edited::<Brand>(alloc, &document.schema, edits, Blank::new(1))
 }
 
 // The same of these edits, by a ledger that nothing else counts on.

@@ -1,4 +1,4 @@
-use Rattle.std.proofs.Common.{◌≡◌, List, [], ◌∷◌, refl, sym, subst, ap, ◌∙◌}
+use Rattle.std.proofs.Common.{◌≡◌, List, [], ◌∷◌, ap, ◌∙◌}
 use Rattle.findings.specs.declared.error.ValidationError.{ValidationError}
 use Rattle.finding_messages.specs.Findings.{Findings}
 use Rattle.finding_messages.specs.Written.{findings_text}
