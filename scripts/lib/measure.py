@@ -4,7 +4,7 @@ most MiB, and the status where it is not 0, as cells of a table.
 
 The most memory that wait4 tells of a child has a floor: what this interpreter had when it made the
 child. So the program is stopped at its first write, by a pipe that is full, and what the kernel knows
-of its own memory is read then; it has made the whole text before it writes."""
+of its own memory is read then, when each of its threads waits; it has made the whole text before it writes."""
 import contextlib
 import fcntl
 import os
@@ -30,12 +30,19 @@ def full_pipe():
     return reader, writer
 
 
+def of_status(name, path):
+    """What a line of a status file of /proc says first; None where there is no such line."""
+    with open(path) as status:
+        found = re.search(rf"^{name}:\s+(\w+)", status.read(), re.MULTILINE)
+    return found and found[1]
+
+
 def most_memory(pid):
-    """What the most memory of a process was up to now, in KiB, and whether it waits."""
-    with open(f"/proc/{pid}/status") as status:
-        text = status.read()
-    most = re.search(r"^VmHWM:\s+(\d+)", text, re.MULTILINE)
-    return int(most[1]) if most else 0, re.search(r"^State:\s+(\w)", text, re.MULTILINE)[1] == "S"
+    """What the most memory of a process was up to now, in KiB, and whether all its threads wait."""
+    most = of_status("VmHWM", f"/proc/{pid}/status")
+    tasks = f"/proc/{pid}/task"
+    waits = all(of_status("State", f"{tasks}/{task}/status") == "S" for task in os.listdir(tasks))
+    return int(most or 0), waits
 
 
 def run(program, words, path, seconds=60, mebibytes=4096):
