@@ -19,6 +19,7 @@ use crate::{
 };
 use std::alloc::{AllocError, Global};
 use std::collections::BTreeMap;
+use std::rc::Rc;
 
 /// Evaluates an expression on a whole request and a store: its value, or its first error.
 ///
@@ -104,9 +105,9 @@ fn outcome_of<T>(
 #[cycle(evaluate)]
 fn if_of<T>(
     alloc: Global,
-    x: &Box<Expr<T>>,
-    y: &Box<Expr<T>>,
-    z: &Box<Expr<T>>,
+    x: &Rc<Expr<T>>,
+    y: &Rc<Expr<T>>,
+    z: &Rc<Expr<T>>,
     request: &Request,
     entities: &Entities,
 ) -> Result<Outcome, AllocError>
@@ -123,8 +124,8 @@ fn if_of<T>(
 #[cycle(evaluate)]
 fn and_of<T>(
     alloc: Global,
-    x: &Box<Expr<T>>,
-    y: &Box<Expr<T>>,
+    x: &Rc<Expr<T>>,
+    y: &Rc<Expr<T>>,
     request: &Request,
     entities: &Entities,
 ) -> Result<Outcome, AllocError>
@@ -141,8 +142,8 @@ fn and_of<T>(
 #[cycle(evaluate)]
 fn or_of<T>(
     alloc: Global,
-    x: &Box<Expr<T>>,
-    y: &Box<Expr<T>>,
+    x: &Rc<Expr<T>>,
+    y: &Rc<Expr<T>>,
     request: &Request,
     entities: &Entities,
 ) -> Result<Outcome, AllocError>
@@ -161,8 +162,8 @@ fn or_of<T>(
 fn both_of<T>(
     alloc: Global,
     op: BinaryOp,
-    x: &Box<Expr<T>>,
-    y: &Box<Expr<T>>,
+    x: &Rc<Expr<T>>,
+    y: &Rc<Expr<T>>,
     request: &Request,
     entities: &Entities,
 ) -> Result<Outcome, AllocError>

@@ -2,4 +2,5 @@ mod AroundSteps
 mod FillSteps
 mod KeySteps
 mod ShapeSteps
+mod SlotSteps
 pub mod TreeSteps

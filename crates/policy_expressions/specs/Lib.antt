@@ -1,5 +1,6 @@
 pub mod Functions
 pub mod Keys
+pub mod KindSlots
 pub mod Plain
 pub mod Shape
 pub mod Show

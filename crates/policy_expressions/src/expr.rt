@@ -4,23 +4,27 @@ ghost use Rattle.std.specs.Prelude.{◌≡◌, ◌≢◌, ◌≤◌, IfOk, max, 
 ghost use Rattle.policy_expressions.specs.Tree.{Tree, lit, var, slot, ite, conj, disj, unary, binary, attr, has, like, is_type, call, set, rec, Mark, mark_of, with_mark, depth_of, deepest, trees_of, deepest_named, named_of};
 ghost use Rattle.policy_expressions.specs.TreeView.{tree_of};
 ghost use Rattle.policy_expressions.specs.Keys.{HasKeysOnce, HaveKeysOnce, AreKeysOnce};
-ghost use Rattle.policy_expressions.specs.Slots.{filled};
+ghost use Rattle.policy_expressions.specs.Slots.{filled, has_slot};
 
+use crate::slots::slot_in;
 use crate::{BinaryOp, Literal, Loc, Note, Pattern, SlotId, SlotValues, UnaryOp, Var};
 use policy_values::{EntityType, Name, Text};
 use std::alloc::{AllocError, Global};
 use std::collections::BTreeMap;
 use std::fmt;
 use std::marker::Model;
+use std::rc::Rc;
 
 /// An expression, with a note of type T at each node and the place where it stands in its source. It is at most 400
 /// deep: a literal, a variable or a slot has depth 1, any other expression one more than its deepest operand. Each
-/// record in it has each of its keys once.
+/// record in it has each of its keys once. Copies share its operands.
 #[derive(Debug, Drop)]
 #[cycle(expr)]
 pub struct Expr<T> {
     kind: ExprKind<T>,
     depth: u32,
+    // Whether a slot is in it.
+    slotted: bool,
     note: T,
     loc: Option<Loc>,
 }
@@ -36,23 +40,23 @@ pub enum ExprKind<T> {
     /// A slot.
     Slot(SlotId),
     /// `if` the first `then` the second `else` the third.
-    If(Box<Expr<T>>, Box<Expr<T>>, Box<Expr<T>>),
+    If(Rc<Expr<T>>, Rc<Expr<T>>, Rc<Expr<T>>),
     /// `&&`.
-    And(Box<Expr<T>>, Box<Expr<T>>),
+    And(Rc<Expr<T>>, Rc<Expr<T>>),
     /// `||`.
-    Or(Box<Expr<T>>, Box<Expr<T>>),
+    Or(Rc<Expr<T>>, Rc<Expr<T>>),
     /// An operator of one operand.
-    UnaryApp(UnaryOp, Box<Expr<T>>),
+    UnaryApp(UnaryOp, Rc<Expr<T>>),
     /// An operator of two operands.
-    BinaryApp(BinaryOp, Box<Expr<T>>, Box<Expr<T>>),
+    BinaryApp(BinaryOp, Rc<Expr<T>>, Rc<Expr<T>>),
     /// `.`: an attribute of an entity, or a field of a record.
-    GetAttr(Box<Expr<T>>, Text),
+    GetAttr(Rc<Expr<T>>, Text),
     /// `has`: whether there is that attribute or field.
-    HasAttr(Box<Expr<T>>, Text),
+    HasAttr(Rc<Expr<T>>, Text),
     /// `like`: whether a string matches the pattern.
-    Like(Box<Expr<T>>, Pattern),
+    Like(Rc<Expr<T>>, Pattern),
     /// `is`: whether an id is of the type.
-    Is(Box<Expr<T>>, EntityType),
+    Is(Rc<Expr<T>>, EntityType),
     /// A call of the extension function of a name.
     ExtensionFunctionApp(Name, Vec<Expr<T>>),
     /// A set of elements.
@@ -75,8 +79,9 @@ impl<T> Model for Expr<T> {
     ghost view = { λ a. tree_of a.kind (record { note = a.note; loc = a.loc }) };
 
     ghost use Rattle.policy_expressions.specs.Keys.{HasKeysOnce};
+    ghost use Rattle.policy_expressions.specs.KindSlots.{slot_in};
 
-    ghost invariant = { λ a. (a.depth ≡ depth_of (tree_of a.kind (record { note = a.note; loc = a.loc }))) × (a.depth ≤ 400) × HasKeysOnce (tree_of a.kind (record { note = a.note; loc = a.loc })) };
+    ghost invariant = { λ a. (a.depth ≡ depth_of (tree_of a.kind (record { note = a.note; loc = a.loc }))) × (a.depth ≤ 400) × HasKeysOnce (tree_of a.kind (record { note = a.note; loc = a.loc })) × (a.slotted ≡ slot_in a.kind) };
 
     ghost size = { depth_of };
 
@@ -134,6 +139,14 @@ impl<T> Expr<T> {
         self.depth
     }
 
+    /// Whether some part is a slot.
+    #[tactic(auto, using(crate::proofs::SlotSteps::slot_in_tree))]
+    pub fn has_slot(&self) -> bool
+        ensures { result ≡ has_slot self.now }
+    {
+        self.slotted
+    }
+
     /// The note.
     pub fn data(&self) -> &T
         ensures { result.now ≡ (mark_of self.now).note }
@@ -155,6 +168,7 @@ impl<T> Expr<T> {
         Expr {
             kind: ExprKind::Lit(value),
             depth: 1,
+            slotted: false,
             note,
             loc,
         }
@@ -167,6 +181,7 @@ impl<T> Expr<T> {
         Expr {
             kind: ExprKind::Var(value),
             depth: 1,
+            slotted: false,
             note,
             loc,
         }
@@ -179,6 +194,7 @@ impl<T> Expr<T> {
         Expr {
             kind: ExprKind::Slot(id),
             depth: 1,
+            slotted: true,
             note,
             loc,
         }
@@ -205,13 +221,8 @@ impl<T: Drop> Expr<T> {
             drop(z);
             return Err(BuildError::Nested);
         }
-        let (x, y, z) = three_boxes(alloc, x, y, z)?;
-        Ok(Expr {
-            kind: ExprKind::If(x, y, z),
-            depth: depth + 1,
-            note,
-            loc,
-        })
+        let (x, y, z) = three_shared(alloc, x, y, z)?;
+        Ok(made(ExprKind::If(x, y, z), depth + 1, note, loc))
     }
 
     /// The conjunction of two operands. Errs with `Nested` exactly where it would be more than 400 deep.
@@ -231,13 +242,8 @@ impl<T: Drop> Expr<T> {
             drop(y);
             return Err(BuildError::Nested);
         }
-        let (x, y) = two_boxes(alloc, x, y)?;
-        Ok(Expr {
-            kind: ExprKind::And(x, y),
-            depth: depth + 1,
-            note,
-            loc,
-        })
+        let (x, y) = two_shared(alloc, x, y)?;
+        Ok(made(ExprKind::And(x, y), depth + 1, note, loc))
     }
 
     /// The disjunction of two operands. Errs with `Nested` exactly where it would be more than 400 deep.
@@ -257,13 +263,8 @@ impl<T: Drop> Expr<T> {
             drop(y);
             return Err(BuildError::Nested);
         }
-        let (x, y) = two_boxes(alloc, x, y)?;
-        Ok(Expr {
-            kind: ExprKind::Or(x, y),
-            depth: depth + 1,
-            note,
-            loc,
-        })
+        let (x, y) = two_shared(alloc, x, y)?;
+        Ok(made(ExprKind::Or(x, y), depth + 1, note, loc))
     }
 
     /// An operator applied to its operand. Errs with `Nested` exactly where it would be more than 400 deep.
@@ -282,13 +283,8 @@ impl<T: Drop> Expr<T> {
             drop(x);
             return Err(BuildError::Nested);
         }
-        let x = Box::new(alloc, x).map_err(AllocError::from)?;
-        Ok(Expr {
-            kind: ExprKind::UnaryApp(op, x),
-            depth: depth + 1,
-            note,
-            loc,
-        })
+        let x = Rc::new(alloc, x).map_err(AllocError::from)?;
+        Ok(made(ExprKind::UnaryApp(op, x), depth + 1, note, loc))
     }
 
     /// An operator applied to its two operands, the left one first. Errs with `Nested` exactly where it would be more than 400 deep.
@@ -309,13 +305,8 @@ impl<T: Drop> Expr<T> {
             drop(y);
             return Err(BuildError::Nested);
         }
-        let (x, y) = two_boxes(alloc, x, y)?;
-        Ok(Expr {
-            kind: ExprKind::BinaryApp(op, x, y),
-            depth: depth + 1,
-            note,
-            loc,
-        })
+        let (x, y) = two_shared(alloc, x, y)?;
+        Ok(made(ExprKind::BinaryApp(op, x, y), depth + 1, note, loc))
     }
 
     /// The attribute or field of a name. Errs with `Nested` exactly where it would be more than 400 deep.
@@ -334,13 +325,8 @@ impl<T: Drop> Expr<T> {
             drop(x);
             return Err(BuildError::Nested);
         }
-        let x = Box::new(alloc, x).map_err(AllocError::from)?;
-        Ok(Expr {
-            kind: ExprKind::GetAttr(x, name),
-            depth: depth + 1,
-            note,
-            loc,
-        })
+        let x = Rc::new(alloc, x).map_err(AllocError::from)?;
+        Ok(made(ExprKind::GetAttr(x, name), depth + 1, note, loc))
     }
 
     /// The test for an attribute or field of a name. Errs with `Nested` exactly where it would be more than 400 deep.
@@ -359,13 +345,8 @@ impl<T: Drop> Expr<T> {
             drop(x);
             return Err(BuildError::Nested);
         }
-        let x = Box::new(alloc, x).map_err(AllocError::from)?;
-        Ok(Expr {
-            kind: ExprKind::HasAttr(x, name),
-            depth: depth + 1,
-            note,
-            loc,
-        })
+        let x = Rc::new(alloc, x).map_err(AllocError::from)?;
+        Ok(made(ExprKind::HasAttr(x, name), depth + 1, note, loc))
     }
 
     /// The test of a string against a pattern. Errs with `Nested` exactly where it would be more than 400 deep.
@@ -384,13 +365,8 @@ impl<T: Drop> Expr<T> {
             drop(x);
             return Err(BuildError::Nested);
         }
-        let x = Box::new(alloc, x).map_err(AllocError::from)?;
-        Ok(Expr {
-            kind: ExprKind::Like(x, pattern),
-            depth: depth + 1,
-            note,
-            loc,
-        })
+        let x = Rc::new(alloc, x).map_err(AllocError::from)?;
+        Ok(made(ExprKind::Like(x, pattern), depth + 1, note, loc))
     }
 
     /// The test for the type of an id. Errs with `Nested` exactly where it would be more than 400 deep.
@@ -409,13 +385,8 @@ impl<T: Drop> Expr<T> {
             drop(x);
             return Err(BuildError::Nested);
         }
-        let x = Box::new(alloc, x).map_err(AllocError::from)?;
-        Ok(Expr {
-            kind: ExprKind::Is(x, entity_type),
-            depth: depth + 1,
-            note,
-            loc,
-        })
+        let x = Rc::new(alloc, x).map_err(AllocError::from)?;
+        Ok(made(ExprKind::Is(x, entity_type), depth + 1, note, loc))
     }
 
     /// The call of an extension function. Errs with `Nested` exactly where it would be more than 400 deep.
@@ -433,12 +404,12 @@ impl<T: Drop> Expr<T> {
             drop(args);
             return Err(BuildError::Nested);
         }
-        Ok(Expr {
-            kind: ExprKind::ExtensionFunctionApp(name, args),
-            depth: depth + 1,
+        Ok(made(
+            ExprKind::ExtensionFunctionApp(name, args),
+            depth + 1,
             note,
             loc,
-        })
+        ))
     }
 
     /// The set of elements. Errs with `Nested` exactly where it would be more than 400 deep.
@@ -450,12 +421,7 @@ impl<T: Drop> Expr<T> {
         if depth >= MAX_DEPTH {
             return Err(BuildError::Nested);
         }
-        Ok(Expr {
-            kind: ExprKind::Set(items),
-            depth: depth + 1,
-            note,
-            loc,
-        })
+        Ok(made(ExprKind::Set(items), depth + 1, note, loc))
     }
 
     /// The record of fields. Errs with `Nested` exactly where it would be more than 400 deep.
@@ -471,12 +437,7 @@ impl<T: Drop> Expr<T> {
         if depth >= MAX_DEPTH {
             return Err(BuildError::Nested);
         }
-        Ok(Expr {
-            kind: ExprKind::Record(fields),
-            depth: depth + 1,
-            note,
-            loc,
-        })
+        Ok(made(ExprKind::Record(fields), depth + 1, note, loc))
     }
 
     /// Puts another note in the place of the note.
@@ -497,24 +458,41 @@ impl<T: Drop> Expr<T> {
 // The deepest that an expression can be.
 const MAX_DEPTH: u32 = 400;
 
-fn two_boxes<X: Drop>(alloc: Global, x: X, y: X) -> Result<(Box<X>, Box<X>), AllocError>
-    ensures { IfOk result (λ r. (r.0.value ≡ x) × (r.1.value ≡ y)) }
+// The expression of a kind.
+fn made<T>(kind: ExprKind<T>, depth: u32, note: T, loc: Option<Loc>) -> Expr<T>
+    requires depth { depth ≡ depth_of (tree_of kind (record { note = note; loc = loc })) }
+    requires bound { depth ≤ 400 }
+    requires keys { HasKeysOnce (tree_of kind (record { note = note; loc = loc })) }
+    ensures { result ≡ tree_of kind (record { note = note; loc = loc }) }
 {
-    let x = Box::new(alloc, x)?;
-    Ok((x, Box::new(alloc, y)?))
+    let slotted = slot_in(&kind);
+    Expr {
+        kind,
+        depth,
+        slotted,
+        note,
+        loc,
+    }
 }
 
-fn three_boxes<X: Drop>(
+fn two_shared<X: Drop>(alloc: Global, x: X, y: X) -> Result<(Rc<X>, Rc<X>), AllocError>
+    ensures { IfOk result (λ r. (r.0.value ≡ x) × (r.1.value ≡ y)) }
+{
+    let x = Rc::new(alloc, x)?;
+    Ok((x, Rc::new(alloc, y)?))
+}
+
+fn three_shared<X: Drop>(
     alloc: Global,
     x: X,
     y: X,
     z: X,
-) -> Result<(Box<X>, Box<X>, Box<X>), AllocError>
+) -> Result<(Rc<X>, Rc<X>, Rc<X>), AllocError>
     ensures { IfOk result (λ r. (r.0.value ≡ x) × (r.1.value ≡ y) × (r.2.value ≡ z)) }
 {
-    let x = Box::new(alloc, x)?;
-    let y = Box::new(alloc, y)?;
-    Ok((x, y, Box::new(alloc, z)?))
+    let x = Rc::new(alloc, x)?;
+    let y = Rc::new(alloc, y)?;
+    Ok((x, y, Rc::new(alloc, z)?))
 }
 
 // The depth of an operand.
@@ -566,9 +544,11 @@ pub(crate) fn around<T: Note>(
 {
     let _values = values;
     let note = e.note.try_copy(alloc)?;
+    let slotted = slot_in(&kind);
     Ok(Expr {
         kind,
         depth: e.depth,
+        slotted,
         note,
         loc: e.loc,
     })

@@ -1,4 +1,4 @@
-//! Copies of expressions, with ids in the places of slots.
+//! Copies of expressions, with ids in the places of slots. They share what has no slot.
 
 ghost use Rattle.std.specs.Prelude.{◌≡◌, IfOk, map};
 ghost use Rattle.policy_expressions.specs.Slots.{filled, filled_entry};
@@ -10,16 +10,18 @@ use crate::{Expr, ExprKind, Literal, Note, SlotValues};
 use policy_values::{Text, push_entry};
 use std::alloc::{AllocError, Global};
 use std::collections::BTreeMap;
+use std::rc::Rc;
 
 impl<T: Note> Expr<T> {
-    /// The expression with a literal for each slot that has an id among the values; other slots stay.
+    /// The expression with a literal for each slot that has an id among the values; other slots stay. Operands without slots are
+    /// shared.
     pub fn substitute(&self, alloc: Global, values: &SlotValues) -> Result<Expr<T>, AllocError>
         ensures { IfOk result (λ e. e ≡ filled values.now self.now) }
     {
         fill(alloc, self, values)
     }
 
-    /// An equal expression.
+    /// An equal expression. Operands without slots are shared.
     pub fn try_clone(&self, alloc: Global) -> Result<Expr<T>, AllocError>
         ensures { IfOk result (λ e. e ≡ self.now) }
     {
@@ -59,7 +61,7 @@ fn fill_kind<T: Note>(
             None => Ok(ExprKind::Slot(*slot)),
         },
         ExprKind::If(x, y, z) => {
-            let x = fill_box(alloc, x, values)?;
+            let x = fill_shared(alloc, x, values)?;
             let (y, z) = fill_two(alloc, y, z, values)?;
             Ok(ExprKind::If(x, y, z))
         }
@@ -82,49 +84,54 @@ fn fill_kind<T: Note>(
         }
         ExprKind::Set(items) => Ok(ExprKind::Set(fill_all(alloc, items, values)?)),
         ExprKind::Record(fields) => Ok(ExprKind::Record(fill_named(alloc, fields, values)?)),
-        ExprKind::UnaryApp(op, x) => Ok(ExprKind::UnaryApp(*op, fill_box(alloc, x, values)?)),
+        ExprKind::UnaryApp(op, x) => Ok(ExprKind::UnaryApp(*op, fill_shared(alloc, x, values)?)),
         ExprKind::GetAttr(x, name) => {
             let name = name.try_clone()?;
-            Ok(ExprKind::GetAttr(fill_box(alloc, x, values)?, name))
+            Ok(ExprKind::GetAttr(fill_shared(alloc, x, values)?, name))
         }
         ExprKind::HasAttr(x, name) => {
             let name = name.try_clone()?;
-            Ok(ExprKind::HasAttr(fill_box(alloc, x, values)?, name))
+            Ok(ExprKind::HasAttr(fill_shared(alloc, x, values)?, name))
         }
         ExprKind::Like(x, pattern) => {
             let pattern = pattern.try_clone(alloc)?;
-            Ok(ExprKind::Like(fill_box(alloc, x, values)?, pattern))
+            Ok(ExprKind::Like(fill_shared(alloc, x, values)?, pattern))
         }
         ExprKind::Is(x, entity_type) => {
             let entity_type = entity_type.try_clone()?;
-            Ok(ExprKind::Is(fill_box(alloc, x, values)?, entity_type))
+            Ok(ExprKind::Is(fill_shared(alloc, x, values)?, entity_type))
         }
     }
 }
 
+// The operand with ids in the places of its slots. One that has no slot is shared.
 #[cycle(fill)]
-fn fill_box<T: Note>(
+#[tactic(auto, using(crate::proofs::SlotSteps::filled_without_slot))]
+fn fill_shared<T: Note>(
     alloc: Global,
-    e: &Box<Expr<T>>,
+    e: &Rc<Expr<T>>,
     values: &SlotValues,
-) -> Result<Box<Expr<T>>, AllocError>
+) -> Result<Rc<Expr<T>>, AllocError>
     ensures { IfOk result (λ r. r.value ≡ filled values.now e.now.value) }
 {
+    if !e.has_slot() {
+        return e.clone();
+    }
     let copy = fill(alloc, e, values)?;
-    Ok(Box::new(alloc, copy)?)
+    Ok(Rc::new(alloc, copy)?)
 }
 
 #[cycle(fill)]
 fn fill_two<T: Note>(
     alloc: Global,
-    x: &Box<Expr<T>>,
-    y: &Box<Expr<T>>,
+    x: &Rc<Expr<T>>,
+    y: &Rc<Expr<T>>,
     values: &SlotValues,
-) -> Result<(Box<Expr<T>>, Box<Expr<T>>), AllocError>
+) -> Result<(Rc<Expr<T>>, Rc<Expr<T>>), AllocError>
     ensures { IfOk result (λ r. (r.0.value ≡ filled values.now x.now.value) × (r.1.value ≡ filled values.now y.now.value)) }
 {
-    let x = fill_box(alloc, x, values)?;
-    Ok((x, fill_box(alloc, y, values)?))
+    let x = fill_shared(alloc, x, values)?;
+    Ok((x, fill_shared(alloc, y, values)?))
 }
 
 #[cycle(fill)]

@@ -10,8 +10,8 @@ decreases-fill g l = 5 * depth_of l.e.now + 1
 abbrev pub decreases-fill_kind : goal.decreases-fill_kind
 decreases-fill_kind g l = 5 * depth_of l.e.now
 
-abbrev pub decreases-fill_box : goal.decreases-fill_box
-decreases-fill_box g l = 5 * depth_of l.e.now.value + 2
+abbrev pub decreases-fill_shared : goal.decreases-fill_shared
+decreases-fill_shared g l = 5 * depth_of l.e.now.value + 2
 
 abbrev pub decreases-fill_two : goal.decreases-fill_two
 decreases-fill_two g l = 5 * max (depth_of l.x.now.value) (depth_of l.y.now.value) + 3
