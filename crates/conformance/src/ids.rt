@@ -2,10 +2,7 @@
 
 ghost use Rattle.std.specs.Prelude.{◌≡◌, None, Some, IfOk, if◌then◌else◌};
 ghost use Rattle.std.specs.Option.{option_copied};
-ghost use Rattle.std.specs.Ordering.{is_eq};
-ghost use Rattle.policy_values.specs.Uid.{text_cmp};
 ghost use Rattle.policy_values.specs.Value.{vals_of, fields_of};
-ghost use Rattle.schema_types.specs.Names.{has_name};
 ghost use Rattle.schema_core.specs.KindView.{kind_of};
 ghost use Rattle.typing_spec.specs.Conforms.{is_listed, is_listed_in, lists_ids};
 ghost use Rattle.policy_scope.specs.Names.{choices_without, choices_in, others_listed};
@@ -13,9 +10,8 @@ ghost use Rattle.conformance.specs.Ids.{unlisted_in, unlisted_in_all, unlisted_i
 
 use findings::{InvalidEnumEntityError, ListOf};
 use policy_values::{Eid, EntityUID, Text, Value, ValueKind};
-use schema_core::{ValidatorEntityTypeKind, ValidatorSchema};
+use schema_core::{ListedIds, ValidatorEntityTypeKind, ValidatorSchema};
 use std::alloc::{AllocError, Global};
-use std::cmp::Ordering;
 use std::collections::BTreeMap;
 
 /// Whether the id is listed, where its type is enumerated.
@@ -32,21 +28,9 @@ fn is_listed_in(kind: &ValidatorEntityTypeKind, eid: &Eid) -> bool
     ensures { result ≡ is_listed_in (kind_of kind.now) eid.now }
 {
     match kind {
-        ValidatorEntityTypeKind::Enum(ids) => are_listing(ids.as_slice(), eid),
+        ValidatorEntityTypeKind::Enum(ids) => ids.contains(eid),
         ValidatorEntityTypeKind::Standard { .. } => true,
     }
-}
-
-fn are_listing(choices: &[Eid], eid: &Eid) -> bool
-    ensures { result ≡ has_name choices.now eid.now }
-{
-    choices.iter().any(|other| same_eid(eid, other))
-}
-
-fn same_eid(one: &Eid, other: &Eid) -> bool
-    ensures { result ≡ is_eq (text_cmp one.now other.now) }
-{
-    one.cmp(other) == Ordering::Equal
 }
 
 /// The ids that the id's type lists, where it is enumerated and does not list this one.
@@ -58,21 +42,21 @@ pub(crate) fn choices_without<'a>(schema: &'a ValidatorSchema, uid: &EntityUID) 
     others_listed(uid, choices)
 }
 
-fn others_listed<'a>(uid: &EntityUID, choices: &'a [Eid]) -> Option<&'a [Eid]>
+fn others_listed<'a>(uid: &EntityUID, choices: &'a ListedIds) -> Option<&'a [Eid]>
     ensures { option_copied result ≡ others_listed uid.now choices.now }
 {
-    if are_listing(choices, &uid.eid) {
+    if choices.contains(&uid.eid) {
         None
     } else {
-        Some(choices)
+        Some(choices.as_slice())
     }
 }
 
-fn choices_in(kind: &ValidatorEntityTypeKind) -> Option<&[Eid]>
+fn choices_in(kind: &ValidatorEntityTypeKind) -> Option<&ListedIds>
     ensures { option_copied result ≡ choices_in (kind_of kind.now) }
 {
     match kind {
-        ValidatorEntityTypeKind::Enum(ids) => Some(ids.as_slice()),
+        ValidatorEntityTypeKind::Enum(ids) => Some(ids),
         ValidatorEntityTypeKind::Standard { .. } => None,
     }
 }

@@ -85,13 +85,13 @@ fn listed(alloc: Global, declared: &ValidatorEntityType) -> Result<Option<Vec<Ei
     ensures { IfOk result (λ eids. option_map (λ v. v.items) eids ≡ listed_in declared.now.kind) }
 {
     match declared.kind() {
-        ValidatorEntityTypeKind::Enum(choices) => Ok(Some(copies_of(alloc, choices)?)),
+        ValidatorEntityTypeKind::Enum(choices) => Ok(Some(copies_of(alloc, choices.as_slice())?)),
         ValidatorEntityTypeKind::Standard { .. } => Ok(None),
     }
 }
 
-fn copies_of(alloc: Global, eids: &Vec<Eid>) -> Result<Vec<Eid>, AllocError>
-    ensures { IfOk result (λ copies. copies.items ≡ eids.now.items) }
+fn copies_of(alloc: Global, eids: &[Eid]) -> Result<Vec<Eid>, AllocError>
+    ensures { IfOk result (λ copies. copies.items ≡ eids.now) }
 {
     let mut copies = Vec::new(alloc);
     for eid in eids {

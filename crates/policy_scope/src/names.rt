@@ -6,9 +6,6 @@ ghost use Rattle.policy_expressions.specs.Tree.{trees_of, named_of};
 ghost use Rattle.findings.specs.Mentioned.{type_of, names_in, names_in_all, names_in_named, is_known_type, is_known_action, an_id};
 ghost use Rattle.policy_scope.specs.Names.{distinct, entity_type_cmp, entity_type_finding, entity_type_findings, slot_type_findings, action_id_findings, enum_findings, choices_without, others_listed, choices_in, action_id_hint, occurs_in};
 ghost use Rattle.std.specs.List.{filter_map};
-ghost use Rattle.std.specs.Ordering.{is_eq};
-ghost use Rattle.policy_values.specs.Reaches.{has};
-ghost use Rattle.policy_values.specs.Uid.{text_cmp};
 ghost use Rattle.policy_set.specs.Condition.{condition_of};
 ghost use Rattle.schema_core.specs.KindView.{kind_of};
 ghost use Rattle.policy_scope.specs.Literals.{mentioned, pair_of};
@@ -20,9 +17,8 @@ use findings::{
 use policy_expressions::{Expr, ExprKind, Literal, Loc, SlotValues};
 use policy_set::{Policy, Template};
 use policy_values::{Eid, EntityType, EntityUID, Text};
-use schema_core::{ValidatorEntityTypeKind, ValidatorSchema};
+use schema_core::{ListedIds, ValidatorEntityTypeKind, ValidatorSchema};
 use std::alloc::{AllocError, Global};
-use std::cmp::Ordering;
 use std::collections::{BTreeMap, BTreeSet};
 
 /// The types that literals and `is` tests of the template name, in its scope and in its body, and that are neither
@@ -242,35 +238,22 @@ fn choices_without<'a>(schema: &'a ValidatorSchema, uid: &EntityUID) -> Option<&
 }
 
 // The ids, where this one is not among them.
-fn others_listed<'a>(uid: &EntityUID, choices: &'a [Eid]) -> Option<&'a [Eid]>
+fn others_listed<'a>(uid: &EntityUID, choices: &'a ListedIds) -> Option<&'a [Eid]>
     ensures { option_copied result ≡ others_listed uid.now choices.now }
 {
-    if are_listing(choices, &uid.eid) {
+    if choices.contains(&uid.eid) {
         None
     } else {
-        Some(choices)
+        Some(choices.as_slice())
     }
 }
 
-// Whether the id is among them.
-fn are_listing(choices: &[Eid], eid: &Eid) -> bool
-    ensures { result ≡ has text_cmp choices.now eid.now }
-{
-    choices.iter().any(|other| same_eid(eid, other))
-}
-
-fn same_eid(one: &Eid, other: &Eid) -> bool
-    ensures { result ≡ is_eq (text_cmp one.now other.now) }
-{
-    one.cmp(other) == Ordering::Equal
-}
-
 // The ids that a type lists, where it is enumerated.
-fn choices_in(kind: &ValidatorEntityTypeKind) -> Option<&[Eid]>
+fn choices_in(kind: &ValidatorEntityTypeKind) -> Option<&ListedIds>
     ensures { option_copied result ≡ choices_in (kind_of kind.now) }
 {
     match kind {
-        ValidatorEntityTypeKind::Enum(ids) => Some(ids.as_slice()),
+        ValidatorEntityTypeKind::Enum(ids) => Some(ids),
         ValidatorEntityTypeKind::Standard { .. } => None,
     }
 }

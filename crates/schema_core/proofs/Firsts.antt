@@ -2,6 +2,7 @@
 use Rattle.std.proofs.Common.{◌≡◌, ℕ, Bool, true, false, not, ◌||◌, ◌&&◌, cond, List, [], ◌∷◌, ◌++◌, refl, sym, ◌∙◌, ap, append_assoc, arith}
 use Rattle.std.specs.Prelude.{filter}
 use Rattle.std.specs.Ordering.{is_eq}
+use Rattle.std.specs.List.Sorted.{IsStrictlySortedBy}
 use Rattle.std.specs.Cmp.Lexicographic.{nat_list_cmp_total}
 use Rattle.std.proofs.lemmas.Cmp.{eq_by_cmp_equiv}
 use Rattle.std.proofs.lemmas.List.Folds.{list_any-append}
@@ -18,6 +19,7 @@ others kept = filter (λ y. not (has text_cmp kept y))
 
 -- what is kept and what is left are all; the set has what is kept
 pub record AreFirsts (all left kept seen : List (List ℕ)) : Type 0 where
+  pub ordered : IsStrictlySortedBy text_cmp seen
   pub same : (q : List ℕ) → has text_cmp seen q ≡ has text_cmp kept q
   pub whole : kept ++ others kept (firsts left) ≡ firsts all
 
@@ -35,10 +37,10 @@ filter_all : (xs : List (List ℕ)) → filter (λ y. true) xs ≡ xs
 filter_all [] = refl
 filter_all (x ∷ xs) = ap (λ ys. x ∷ ys) (filter_all xs)
 
-pub firsts_none : (all seen : List (List ℕ)) → seen ≡ [] → AreFirsts all all [] seen
-firsts_none all seen empty = record { same = λ q. rw empty refl; whole = filter_all (firsts all) }
+pub firsts_none : (all seen : List (List ℕ)) → seen ≡ [] → IsStrictlySortedBy text_cmp seen → AreFirsts all all [] seen
+firsts_none all seen empty s = record { ordered = s; same = λ q. rw empty refl; whole = filter_all (firsts all) }
 
-module _ (all left rest kept seen seen' : List (List ℕ)) (x : List ℕ) (t : AreFirsts all left kept seen) (e : left ≡ x ∷ rest) (u : (q : List ℕ) → has text_cmp seen' q ≡ cond (is_eq (text_cmp x q)) true (has text_cmp seen q)) where
+module _ (all left rest kept seen seen' : List (List ℕ)) (x : List ℕ) (t : AreFirsts all left kept seen) (e : left ≡ x ∷ rest) (s : IsStrictlySortedBy text_cmp seen') (u : (q : List ℕ) → has text_cmp seen' q ≡ cond (is_eq (text_cmp x q)) true (has text_cmp seen q)) where
   before : kept ++ others kept (x ∷ filter (λ y. not (is_eq (text_cmp x y))) (firsts rest)) ≡ firsts all
   before = rw e at t.whole
 
@@ -47,7 +49,7 @@ module _ (all left rest kept seen seen' : List (List ℕ)) (x : List ℕ) (t : A
 
   -- the next one is new
   pub firsts_new : has text_cmp seen x ≡ false → AreFirsts all rest (kept ++ x ∷ []) seen'
-  firsts_new new = record { same = same; whole = append_assoc kept (x ∷ []) (others (kept ++ x ∷ []) (firsts rest)) ∙ ap (λ ys. kept ++ x ∷ ys) now ∙ rw here at before } where
+  firsts_new new = record { ordered = s; same = same; whole = append_assoc kept (x ∷ []) (others (kept ++ x ∷ []) (firsts rest)) ∙ ap (λ ys. kept ++ x ∷ ys) now ∙ rw here at before } where
     added : (q : List ℕ) → has text_cmp (kept ++ x ∷ []) q ≡ (has text_cmp kept q || is_eq (text_cmp x q))
     added q = let a = list_any-append (λ y. is_eq (text_cmp q y)) kept (x ∷ []) in let f = (eq_by_cmp_equiv nat_list_cmp_total).symm q x in grind arith
 
@@ -65,7 +67,7 @@ module _ (all left rest kept seen seen' : List (List ℕ)) (x : List ℕ) (t : A
 
   -- the next one is kept already
   pub firsts_again : has text_cmp seen x ≡ true → AreFirsts all rest kept seen'
-  firsts_again there = record { same = same; whole = ap (λ ys. kept ++ ys) (sym (both ∙ filter_same _ _ tests (firsts rest))) ∙ rw here at before } where
+  firsts_again there = record { ordered = s; same = same; whole = ap (λ ys. kept ++ ys) (sym (both ∙ filter_same _ _ tests (firsts rest))) ∙ rw here at before } where
     here : has text_cmp kept x ≡ true
     here = sym (t.same x) ∙ there
 

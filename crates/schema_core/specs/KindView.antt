@@ -5,4 +5,4 @@ use Rattle.schema_core.specs.declared.kind.ValidatorEntityTypeKind.TheVariants.{
 
 abbrev pub kind_of : ValidatorEntityTypeKind → Kind
 kind_of (Standard xs t) = standard xs t
-kind_of (Enum ids) = enumerated ids.items
+kind_of (Enum ids) = enumerated ids

@@ -4,7 +4,7 @@ ghost use Rattle.std.specs.Prelude.{◌≡◌};
 ghost use Rattle.schema_core.specs.Kinds.{is_enum, is_empty_enum};
 ghost use Rattle.schema_core.specs.KindView.{kind_of};
 
-use policy_values::Eid;
+use crate::ListedIds;
 use schema_types::{Attributes, Type};
 
 /// What an entity type is.
@@ -18,7 +18,7 @@ pub enum ValidatorEntityTypeKind {
         tags: Option<Type>,
     },
     /// Its entities are those with the listed ids, in the order in which they are declared.
-    Enum(Vec<Eid>),
+    Enum(ListedIds),
 }
 
 impl ValidatorEntityTypeKind {
@@ -38,7 +38,7 @@ impl ValidatorEntityTypeKind {
     {
         match self {
             ValidatorEntityTypeKind::Standard { .. } => false,
-            ValidatorEntityTypeKind::Enum(choices) => choices.is_empty(),
+            ValidatorEntityTypeKind::Enum(choices) => choices.as_slice().is_empty(),
         }
     }
 }

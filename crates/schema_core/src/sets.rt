@@ -4,6 +4,7 @@ ghost use Rattle.std.specs.BTreeSet.{IsOrdered};
 ghost use Rattle.policy_values.specs.Reaches.{has};
 ghost use Rattle.schema_core.specs.Kinds.{firsts};
 
+use crate::ListedIds;
 use policy_values::{Eid, Key};
 use std::alloc::{AllocError, Global};
 use std::collections::BTreeSet;
@@ -33,8 +34,8 @@ pub fn add_all<K: Key>(set: &mut BTreeSet<K>, keys: &BTreeSet<K>) -> Result<(), 
 }
 
 /// The ids of a list, each at its first place alone.
-pub fn firsts_of(alloc: Global, eids: Vec<Eid>) -> Result<Vec<Eid>, AllocError>
-    ensures { IfOk result (λ kept. kept.items ≡ firsts eids.items) }
+pub fn firsts_of(alloc: Global, eids: Vec<Eid>) -> Result<ListedIds, AllocError>
+    ensures { IfOk result (λ kept. kept ≡ firsts eids.items) }
 {
     let mut seen = BTreeSet::new(alloc);
     let mut kept = Vec::new(alloc);
@@ -43,5 +44,5 @@ pub fn firsts_of(alloc: Global, eids: Vec<Eid>) -> Result<Vec<Eid>, AllocError>
             kept.push(eid)?;
         }
     }
-    Ok(kept)
+    Ok(ListedIds::new(kept, seen))
 }

@@ -11,11 +11,13 @@ use std::cmp::Ordering;
 use std::collections::{BTreeSet, btree_set};
 use std::hash::{Hash, Hasher};
 use std::marker::Model;
+use std::rc::Rc;
 
 /// One or more entity types: the type of the entities of any of them. They are kept ascending, each once.
+/// A copy shares them.
 #[derive(Debug, Drop)]
 pub struct EntityLUB {
-    lub_elements: BTreeSet<EntityType>,
+    lub_elements: Rc<BTreeSet<EntityType>>,
 }
 
 impl Model for EntityLUB {
@@ -23,12 +25,12 @@ impl Model for EntityLUB {
 
     ghost Value = { List (List ℕ) };
 
-    ghost view = { λ l. l.lub_elements.keys };
+    ghost view = { λ l. l.lub_elements.value.keys };
 
     ghost use Rattle.std.specs.BTreeSet.{IsOrdered};
     ghost use Rattle.policy_values.specs.Uid.{text_cmp};
 
-    ghost invariant = { λ l. IsOrdered text_cmp l.lub_elements };
+    ghost invariant = { λ l. IsOrdered text_cmp l.lub_elements.value };
 }
 
 impl EntityLUB {
@@ -36,8 +38,9 @@ impl EntityLUB {
     pub fn single_entity(alloc: Global, entity_type: EntityType) -> Result<EntityLUB, AllocError>
         ensures { IfOk result (λ l. l ≡ entity_type ∷ []) }
     {
-        let mut lub_elements = BTreeSet::new(alloc);
-        lub_elements.insert(entity_type)?;
+        let mut names = BTreeSet::new(alloc);
+        names.insert(entity_type)?;
+        let lub_elements = Rc::new(alloc, names)?;
         Ok(EntityLUB { lub_elements })
     }
 
@@ -45,7 +48,7 @@ impl EntityLUB {
     pub fn get_single_entity(&self) -> Option<&EntityType>
         ensures { option_copied result ≡ only_name self.now }
     {
-        let mut names = self.lub_elements.iter();
+        let mut names = self.iter();
         let first = names.next();
         match names.next() {
             Some(_) => None,
@@ -54,19 +57,20 @@ impl EntityLUB {
     }
 
     /// The type, where it is one alone.
-    pub fn into_single_entity(self) -> Option<EntityType>
-        ensures { result ≡ only_name self }
+    pub fn into_single_entity(self) -> Result<Option<EntityType>, AllocError>
+        ensures { IfOk result (λ name. name ≡ only_name self) }
     {
-        let EntityLUB { mut lub_elements } = self;
-        let first = lub_elements.pop_first();
-        if lub_elements.is_empty() { first } else { None }
+        match self.get_single_entity() {
+            Some(entity_type) => Ok(Some(entity_type.try_clone()?)),
+            None => Ok(None),
+        }
     }
 
     /// Whether the type is among the types.
     pub fn contains(&self, entity_type: &EntityType) -> bool
         ensures { result ≡ has_name self.now entity_type.now }
     {
-        self.lub_elements.contains(entity_type)
+        self.lub_elements.as_ref().contains(entity_type)
     }
 
     /// The types, ascending.
@@ -74,35 +78,44 @@ impl EntityLUB {
         ensures value { result ≡ self.now }
         ensures ascending { IsStrictlySortedBy text_cmp self.now }
     {
-        self.lub_elements.iter()
+        self.lub_elements.as_ref().iter()
     }
 
     /// Whether each type is among the other's.
     pub fn is_subtype(&self, other: &EntityLUB) -> bool
         ensures { IsTrue result ↔ AreAmong self.now other.now }
     {
-        self.lub_elements.is_subset(&other.lub_elements)
+        self.lub_elements
+            .as_ref()
+            .is_subset(other.lub_elements.as_ref())
     }
 
     /// Whether no type is among the other's.
     pub fn is_disjoint(&self, other: &EntityLUB) -> bool
         ensures { IsTrue result ↔ AreApart self.now other.now }
     {
-        self.lub_elements.is_disjoint(&other.lub_elements)
+        self.lub_elements
+            .as_ref()
+            .is_disjoint(other.lub_elements.as_ref())
     }
 
     /// The types of both.
-    pub fn least_upper_bound(&self, other: &EntityLUB) -> Result<EntityLUB, AllocError>
+    pub fn least_upper_bound(
+        &self,
+        alloc: Global,
+        other: &EntityLUB,
+    ) -> Result<EntityLUB, AllocError>
         ensures { IfOk result (λ l. l ≡ union self.now other.now) }
     {
-        let mut lub_elements = self.lub_elements.clone()?;
-        for entity_type in other.lub_elements.iter() {
-            lub_elements.insert(entity_type.try_clone()?)?;
+        let mut names = self.lub_elements.as_ref().clone()?;
+        for entity_type in other.iter() {
+            names.insert(entity_type.try_clone()?)?;
         }
+        let lub_elements = Rc::new(alloc, names)?;
         Ok(EntityLUB { lub_elements })
     }
 
-    /// An equal union, which shares the characters.
+    /// An equal union, which shares the types.
     pub fn try_clone(&self) -> Result<EntityLUB, AllocError>
         ensures { IfOk result (λ l. l ≡ self.now) }
     {
@@ -149,7 +162,7 @@ impl Ord for EntityLUB {
     ghost matches_eq = { λ a b. refl };
 
     fn cmp(&self, other: &EntityLUB) -> Ordering {
-        self.lub_elements.cmp(&other.lub_elements)
+        self.lub_elements.as_ref().cmp(other.lub_elements.as_ref())
     }
 }
 
@@ -177,6 +190,6 @@ impl Hash for EntityLUB {
     ghost respects_eq = { alike_texts };
 
     fn hash<H: Hasher>(&self, state: &mut H) {
-        self.lub_elements.hash(state);
+        self.lub_elements.as_ref().hash(state);
     }
 }

@@ -187,7 +187,9 @@ fn join_kinds(
             Ok(join_apart(mode))
         }
         (EntityRecordKind::Entity(_), EntityRecordKind::AnyEntity) => Ok(join_apart(mode)),
-        (EntityRecordKind::Entity(m), EntityRecordKind::Entity(n)) => join_entities(m, n, mode),
+        (EntityRecordKind::Entity(m), EntityRecordKind::Entity(n)) => {
+            join_entities(alloc, m, n, mode)
+        }
         (EntityRecordKind::Entity(_), EntityRecordKind::ActionEntity { .. }) => {
             Ok(join_apart(mode))
         }
@@ -384,6 +386,7 @@ fn join_apart(mode: SubtypeMode) -> Result<Type, LubHelp>
 }
 
 fn join_entities(
+    alloc: Global,
     a: &EntityLUB,
     b: &EntityLUB,
     mode: SubtypeMode,
@@ -400,7 +403,7 @@ fn join_entities(
             }
         }
         SubtypeMode::Permissive => {
-            let lub = a.least_upper_bound(b)?;
+            let lub = a.least_upper_bound(alloc, b)?;
             Ok(Ok(Type::entity_or_record(EntityRecordKind::Entity(lub))))
         }
     }

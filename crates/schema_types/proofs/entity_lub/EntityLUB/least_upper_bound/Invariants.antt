@@ -7,6 +7,6 @@ use Rattle.schema_types.proofs.entity_lub.EntityLUB.least_upper_bound.Given as g
 -- what is left is still to be put in
 abbrev pub invariant-loop-entity_type : goal.invariant-loop-entity_type
 invariant-loop-entity_type l = record {
-  made : union l.lub_elements.keys l.entity_type-iterator ≡ union l.self l.other;
-  ordered : IsOrdered text_cmp l.lub_elements;
+  made : union l.names.keys l.entity_type-iterator ≡ union l.self l.other;
+  ordered : IsOrdered text_cmp l.names;
 }
