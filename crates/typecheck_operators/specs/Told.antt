@@ -22,8 +22,8 @@ abbrev pub typing_from : Typing → definition.Typing
 typing_from a = record { type = a.of; caps = a.caps; tree = a.tree }
 
 abbrev pub walked_of : Told → Walked
-walked_of (told.Success a) = Success (typing_from a)
-walked_of (told.Fail t fs) = Fail t (findings_from fs.items)
+walked_of (told.Success a) = Success (typing_from a.value)
+walked_of (told.Fail a) = Fail a.value.tree (findings_from a.value.found.items)
 
 -- of the operands of a list, and of the fields of a record
 abbrev pub all_of : List Told → List Walked

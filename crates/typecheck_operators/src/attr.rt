@@ -7,7 +7,7 @@ ghost use Rattle.typecheck_rules.specs.Found.{findings_from};
 ghost use Rattle.typecheck_operators.specs.Operands as definition;
 ghost use Rattle.typecheck_operators.specs.Told.{mark, operand_of, walked_of};
 
-use crate::told::{Part, Told, Typing, ended_typed, expect, parted};
+use crate::told::{Part, Told, Typing, ended_typed, expect, failed, parted};
 use policy_expressions::{BuildError, Expr, Loc};
 use policy_values::Text;
 use schema_core::{RequestEnv, ValidatorSchema};
@@ -79,12 +79,12 @@ fn attr_ended<'a>(alloc: Global, o: &Access<'_, '_>, v: Part<'a>) -> Result<Told
                 drop(t);
                 let found = or_drop!(joined(found, own), tree);
                 let tree = or_drop!(attr_lending(alloc, o, tree, None), found);
-                Ok(Told::Fail(tree, found))
+                Ok(failed(alloc, tree, found)?)
             }
         },
         None => {
             let tree = or_drop!(attr_lending(alloc, o, tree, None), found);
-            Ok(Told::Fail(tree, found))
+            Ok(failed(alloc, tree, found)?)
         }
     }
 }
@@ -110,7 +110,7 @@ fn declared_ended<'a>(
         let tree = or_drop!(attr_lending(alloc, o, tree, Some(note)), attr_type, found);
         let caps = CapabilitySet::new(alloc);
         let of = attr_type;
-        Ok(ended_typed(ok, Typing { of, caps, tree }, found))
+        Ok(ended_typed(alloc, ok, Typing { of, caps, tree }, found)?)
     } else {
         let own = or_drop!(
             optional_found(alloc, o.env, &tree, o.name, o.loc),
@@ -120,7 +120,7 @@ fn declared_ended<'a>(
         );
         let found = or_drop!(joined(found, own), attr_type, tree);
         let tree = or_drop!(attr_lending(alloc, o, tree, Some(attr_type)), found);
-        Ok(Told::Fail(tree, found))
+        Ok(failed(alloc, tree, found)?)
     }
 }
 

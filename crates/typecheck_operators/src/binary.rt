@@ -7,7 +7,7 @@ ghost use Rattle.typecheck_rules.specs.Found.{findings_from};
 ghost use Rattle.typecheck_operators.specs.Operands as definition;
 ghost use Rattle.typecheck_operators.specs.Told.{operand_of, walked_of};
 
-use crate::told::{Part, Told, Typing, expect_if, parted, rest_of};
+use crate::told::{Part, Told, Typing, expect_if, failed, parted, rest_of, typed};
 use policy_expressions::{BinaryOp, BuildError, Expr, Loc};
 use schema_core::{RequestEnv, ValidatorSchema};
 use schema_types::Type;
@@ -153,11 +153,8 @@ fn binary_success<'a>(
     drop(found);
     let tree = or_drop!(binary_tree(alloc, o, &own, left, right), own);
     let caps = or_drop!(binary_caps(alloc, o.op, o.left, o.right), own, tree);
-    Ok(Told::Success(Typing {
-        of: own,
-        caps,
-        tree,
-    }))
+    let of = own;
+    Ok(typed(alloc, Typing { of, caps, tree })?)
 }
 
 fn binary_tree<'a>(
@@ -192,7 +189,7 @@ fn binary_failure<'a>(
         Expr::binary_app(alloc, o.op, left, right, lent, o.loc),
         found
     );
-    Ok(Told::Fail(tree, found))
+    Ok(failed(alloc, tree, found)?)
 }
 
 fn joined_all(

@@ -6,7 +6,7 @@ ghost use Rattle.std.specs.List.{slice_get};
 ghost use Rattle.policy_expressions.specs.Tree.{call, trees_of, no_trees};
 ghost use Rattle.typing_spec.specs.Signatures.{call_type};
 ghost use Rattle.findings.specs.Finding as finding;
-ghost use Rattle.typecheck_rules.specs.Walked as failed;
+ghost use Rattle.typecheck_rules.specs.Walked as walked;
 ghost use Rattle.typecheck_rules.specs.Walked.{lends, one};
 ghost use Rattle.typecheck_rules.specs.Operators as definition;
 ghost use Rattle.typecheck_rules.specs.Found.{findings_from};
@@ -14,7 +14,7 @@ ghost use Rattle.typecheck_operators.specs.Parts.{argument_walked, call_by_type}
 ghost use Rattle.typecheck_operators.specs.Told.{mark, walked_of, all_of};
 
 use crate::parts::{Rest, are_typed, rest_of_all, types_lent};
-use crate::told::{Told, Typing, ended_typed, expect};
+use crate::told::{Told, Typing, ended_typed, expect, failed};
 use policy_expressions::{BuildError, Expr, Loc};
 use policy_values::Name;
 use schema_types::Type;
@@ -28,12 +28,12 @@ use typing_spec::CapabilitySet;
 /// A call of an undefined function, whose arguments are not looked at. Errs where memory runs out.
 pub fn undefined_told<'a>(alloc: Global, f: &Name, loc: Option<Loc>) -> Result<Told<'a>, BuildError>
     ensures { IfOk result (λ r. walked_of r ≡
-        failed.Fail (call f.now no_trees (lends None (mark loc)))
+        walked.Fail (call f.now no_trees (lends None (mark loc)))
         (one (finding.UndefinedFunction f.now) loc)) }
 {
     let found = undefined_found(alloc, f, loc)?;
     let tree = Expr::extension_function_app(f.try_clone()?, Vec::new(alloc), None, loc)?;
-    Ok(Told::Fail(tree, found))
+    Ok(failed(alloc, tree, found)?)
 }
 
 /// A call, by what its arguments come to. Errs where memory runs out, or the expression would be
@@ -164,12 +164,12 @@ fn call_ended<'a>(
             let note = of.try_clone(alloc)?;
             let tree = Expr::extension_function_app(f.try_clone()?, trees, Some(note), loc)?;
             let caps = CapabilitySet::new(alloc);
-            Ok(ended_typed(ok, Typing { of, caps, tree }, found))
+            Ok(ended_typed(alloc, ok, Typing { of, caps, tree }, found)?)
         }
         None => {
             let note = result_type(alloc, g)?;
             let tree = Expr::extension_function_app(f.try_clone()?, trees, Some(note), loc)?;
-            Ok(Told::Fail(tree, found))
+            Ok(failed(alloc, tree, found)?)
         }
     }
 }

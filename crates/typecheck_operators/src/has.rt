@@ -10,7 +10,7 @@ ghost use Rattle.typecheck_rules.specs.Found.{findings_from};
 ghost use Rattle.typecheck_operators.specs.Operands.{ended_as, has_of};
 ghost use Rattle.typecheck_operators.specs.Told.{mark, operand_of, walked_of};
 
-use crate::told::{Part, Told, Typing, ended_typed, expect, parted};
+use crate::told::{Part, Told, Typing, ended_typed, expect, failed, parted};
 use policy_expressions::{BuildError, Expr, Loc};
 use policy_values::Text;
 use schema_core::ValidatorSchema;
@@ -87,13 +87,13 @@ fn has_ended<'a>(
                 }
                 None => {
                     let tree = or_drop!(has_lending(alloc, tree, n, loc), found);
-                    Ok(Told::Fail(tree, found))
+                    Ok(failed(alloc, tree, found)?)
                 }
             }
         }
         None => {
             let tree = or_drop!(has_lending(alloc, tree, n, loc), found);
-            Ok(Told::Fail(tree, found))
+            Ok(failed(alloc, tree, found)?)
         }
     }
 }
@@ -119,7 +119,7 @@ fn has_typed<'a>(
         caps,
         found
     );
-    Ok(ended_typed(ok, Typing { of, caps, tree }, found))
+    Ok(ended_typed(alloc, ok, Typing { of, caps, tree }, found)?)
 }
 
 fn has_lending(

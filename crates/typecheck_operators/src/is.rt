@@ -8,7 +8,7 @@ ghost use Rattle.typecheck_rules.specs.Operators as definition;
 ghost use Rattle.typecheck_operators.specs.Operands.{is_of};
 ghost use Rattle.typecheck_operators.specs.Told.{mark, operand_of, walked_of};
 
-use crate::told::{Part, Told, Typing, ended_typed, expect, parted};
+use crate::told::{Part, Told, Typing, ended_typed, expect, failed, parted};
 use policy_expressions::{BuildError, Expr, Loc};
 use policy_values::EntityType;
 use schema_types::Type;
@@ -71,17 +71,17 @@ fn is_ended<'a>(
                     let name = or_drop!(name.try_clone(), of, note, tree, found);
                     let tree = or_drop!(Expr::is(alloc, tree, name, Some(note), loc), of, found);
                     let caps = CapabilitySet::new(alloc);
-                    Ok(ended_typed(ok, Typing { of, caps, tree }, found))
+                    Ok(ended_typed(alloc, ok, Typing { of, caps, tree }, found)?)
                 }
                 None => {
                     let tree = or_drop!(is_lending(alloc, tree, name, loc), found);
-                    Ok(Told::Fail(tree, found))
+                    Ok(failed(alloc, tree, found)?)
                 }
             }
         }
         None => {
             let tree = or_drop!(is_lending(alloc, tree, name, loc), found);
-            Ok(Told::Fail(tree, found))
+            Ok(failed(alloc, tree, found)?)
         }
     }
 }

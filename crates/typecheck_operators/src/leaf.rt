@@ -7,7 +7,7 @@ ghost use Rattle.typing_spec.specs.Environment as environment;
 ghost use Rattle.typecheck_rules.specs.Operators.{leaf_walked};
 ghost use Rattle.typecheck_operators.specs.Told.{mark, walked_of};
 
-use crate::told::{Told, Typing};
+use crate::told::{Told, Typing, failed, typed};
 use policy_expressions::{BuildError, Expr, Literal, Loc, SlotId, Var};
 use schema_core::{RequestEnv, ValidatorSchema};
 use schema_types::Type;
@@ -31,11 +31,11 @@ pub fn literal_told<'a>(
             let l = or_drop!(l.try_clone(), of, note);
             let tree = Expr::lit(l, Some(note), loc);
             let caps = CapabilitySet::new(alloc);
-            Ok(Told::Success(Typing { of, caps, tree }))
+            Ok(typed(alloc, Typing { of, caps, tree })?)
         }
         None => {
             let tree = Expr::lit(l.try_clone()?, None, loc);
-            Ok(Told::Fail(tree, Vec::new(alloc)))
+            Ok(failed(alloc, tree, Vec::new(alloc))?)
         }
     }
 }
@@ -57,11 +57,11 @@ pub fn variable_told<'a>(
             let note = or_drop!(of.try_clone(alloc), of);
             let tree = Expr::var(v, Some(note), loc);
             let caps = CapabilitySet::new(alloc);
-            Ok(Told::Success(Typing { of, caps, tree }))
+            Ok(typed(alloc, Typing { of, caps, tree })?)
         }
         None => {
             let tree = Expr::var(v, None, loc);
-            Ok(Told::Fail(tree, Vec::new(alloc)))
+            Ok(failed(alloc, tree, Vec::new(alloc))?)
         }
     }
 }
@@ -81,5 +81,5 @@ pub fn slot_told<'a>(
     let note = or_drop!(of.try_clone(alloc), of);
     let tree = Expr::slot(id, Some(note), loc);
     let caps = CapabilitySet::new(alloc);
-    Ok(Told::Success(Typing { of, caps, tree }))
+    Ok(typed(alloc, Typing { of, caps, tree })?)
 }

@@ -39,5 +39,8 @@ pub use leaf::{literal_told, slot_told, variable_told};
 pub use like::like_told;
 pub use record::record_told;
 pub use set::set_told;
-pub use told::{Part, Told, Typing, ended_typed, expect, parted, rest_of, skipped, unreached};
+pub use told::{
+    Failure, Part, Told, Typing, ended_typed, expect, failed, into_tree, parted, rest_of, skipped,
+    typed, unreached,
+};
 pub use unary::unary_told;

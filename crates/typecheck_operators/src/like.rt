@@ -8,7 +8,7 @@ ghost use Rattle.typecheck_rules.specs.Operators as definition;
 ghost use Rattle.typecheck_operators.specs.Operands.{like_of};
 ghost use Rattle.typecheck_operators.specs.Told.{mark, operand_of, walked_of};
 
-use crate::told::{Part, Told, Typing, ended_typed, expect, parted};
+use crate::told::{Part, Told, Typing, ended_typed, expect, failed, parted};
 use policy_expressions::{BuildError, Expr, Loc, Pattern};
 use schema_types::Type;
 use std::alloc::Global;
@@ -74,17 +74,17 @@ fn like_ended<'a>(
                         found
                     );
                     let caps = CapabilitySet::new(alloc);
-                    Ok(ended_typed(ok, Typing { of, caps, tree }, found))
+                    Ok(ended_typed(alloc, ok, Typing { of, caps, tree }, found)?)
                 }
                 None => {
                     let tree = or_drop!(like_lending(alloc, tree, pattern, loc), found);
-                    Ok(Told::Fail(tree, found))
+                    Ok(failed(alloc, tree, found)?)
                 }
             }
         }
         None => {
             let tree = or_drop!(like_lending(alloc, tree, pattern, loc), found);
-            Ok(Told::Fail(tree, found))
+            Ok(failed(alloc, tree, found)?)
         }
     }
 }

@@ -8,7 +8,7 @@ ghost use Rattle.typecheck_rules.specs.Found.{findings_from};
 ghost use Rattle.typecheck_operators.specs.Parts.{types_lent};
 ghost use Rattle.typecheck_operators.specs.Told.{walked_of, all_of};
 
-use crate::told::{Told, Typing};
+use crate::told::{Failure, Told, into_tree};
 use policy_expressions::Expr;
 use schema_types::Type;
 use std::alloc::{AllocError, Global};
@@ -20,7 +20,7 @@ pub(crate) fn is_typed(w: &Told<'_>) -> bool
 {
     match w {
         Told::Success(_) => true,
-        Told::Fail(_, _) => false,
+        Told::Fail(_) => false,
     }
 }
 
@@ -30,7 +30,7 @@ pub(crate) fn type_lent(alloc: Global, w: &Told<'_>) -> Result<Option<Type>, All
 {
     match w {
         Told::Success(a) => Ok(Some(a.of.try_clone(alloc)?)),
-        Told::Fail(tree, _) => match tree.data() {
+        Told::Fail(failure) => match failure.tree.data() {
             Some(t) => Ok(Some(t.try_clone(alloc)?)),
             None => Ok(None),
         },
@@ -44,12 +44,13 @@ pub(crate) fn told_rest(alloc: Global, w: Told<'_>) -> (Expr<Option<Type>>, Vec<
 {
     match w {
         Told::Success(a) => {
-            let Typing { of, caps, tree } = a;
-            drop(of);
-            drop(caps);
+            let tree = into_tree(Box::into_inner(a));
             (tree, Vec::new(alloc))
         }
-        Told::Fail(tree, found) => (tree, found),
+        Told::Fail(failure) => {
+            let Failure { tree, found } = Box::into_inner(failure);
+            (tree, found)
+        }
     }
 }
 

@@ -11,7 +11,7 @@ ghost use Rattle.typecheck_operators.specs.Parts.{fields_lent, trees_in_fields, 
 ghost use Rattle.typecheck_operators.specs.Told.{mark, walked_of, field_of};
 
 use crate::parts::{add_found, is_typed, told_rest, type_lent};
-use crate::told::{Told, Typing, ended_typed};
+use crate::told::{Told, Typing, ended_typed, failed};
 use policy_expressions::{BuildError, Expr, Loc};
 use policy_values::{Text, push_entry};
 use schema_types::Type;
@@ -111,11 +111,11 @@ fn record_ended<'a>(
             let note = of.try_clone(alloc)?;
             let tree = Expr::record(trees, Some(note), loc)?;
             let caps = CapabilitySet::new(alloc);
-            Ok(ended_typed(ok, Typing { of, caps, tree }, found))
+            Ok(ended_typed(alloc, ok, Typing { of, caps, tree }, found)?)
         }
         None => {
             let tree = Expr::record(trees, None, loc)?;
-            Ok(Told::Fail(tree, found))
+            Ok(failed(alloc, tree, found)?)
         }
     }
 }

@@ -8,7 +8,7 @@ ghost use Rattle.typecheck_operators.specs.Parts.{set_by_type, set_in_parts};
 ghost use Rattle.typecheck_operators.specs.Told.{mark, walked_of, all_of};
 
 use crate::parts::{are_typed, rest_of_all, types_lent};
-use crate::told::{Told, Typing, ended_typed};
+use crate::told::{Told, Typing, ended_typed, failed};
 use policy_expressions::{BuildError, Expr, Loc};
 use schema_types::Type;
 use std::alloc::Global;
@@ -53,7 +53,7 @@ fn set_ended<'a>(
         }
         None => {
             let tree = Expr::set(trees, None, loc)?;
-            Ok(Told::Fail(tree, found))
+            Ok(failed(alloc, tree, found)?)
         }
     }
 }
@@ -74,11 +74,11 @@ fn set_typed<'a>(
             let note = of.try_clone(alloc)?;
             let tree = Expr::set(trees, Some(note), loc)?;
             let caps = CapabilitySet::new(alloc);
-            Ok(ended_typed(ok, Typing { of, caps, tree }, found))
+            Ok(ended_typed(alloc, ok, Typing { of, caps, tree }, found)?)
         }
         None => {
             let tree = Expr::set(trees, None, loc)?;
-            Ok(Told::Fail(tree, found))
+            Ok(failed(alloc, tree, found)?)
         }
     }
 }

@@ -28,14 +28,43 @@ pub struct Typing<'a> {
     pub tree: Expr<Option<Type>>,
 }
 
-/// What the walk through an expression comes to.
+/// An expression that has no typing.
+#[derive(Drop)]
+pub struct Failure {
+    /// The expression with the types that are known, of which its own is lent to the operator
+    /// above.
+    pub tree: Expr<Option<Type>>,
+    /// What is found.
+    pub found: Vec<Finding>,
+}
+
+/// What the walk through an expression comes to. It is small, since each operator hands it on.
 #[derive(Drop)]
 pub enum Told<'a> {
     /// The typing.
-    Success(Typing<'a>),
-    /// The expression with the types that are known, of which its own is lent to the operator
-    /// above; and what is found.
-    Fail(Expr<Option<Type>>, Vec<Finding>),
+    Success(Box<Typing<'a>>),
+    /// There is none.
+    Fail(Box<Failure>),
+}
+
+/// The answer that is a typing.
+pub fn typed<'a>(alloc: Global, a: Typing<'a>) -> Result<Told<'a>, AllocError>
+    ensures { IfOk result (λ r. walked_of r ≡ Success (typing_from a.entry)) }
+{
+    let a = Box::new(alloc, a)?;
+    Ok(Told::Success(a))
+}
+
+/// The answer where there is no typing: the expression, and what is found.
+pub fn failed<'a>(
+    alloc: Global,
+    tree: Expr<Option<Type>>,
+    found: Vec<Finding>,
+) -> Result<Told<'a>, AllocError>
+    ensures { IfOk result (λ r. walked_of r ≡ definition.Fail tree (findings_from found.items)) }
+{
+    let failure = Box::new(alloc, Failure { tree, found })?;
+    Ok(Told::Fail(failure))
 }
 
 /// An operand taken apart.
@@ -64,7 +93,7 @@ pub fn parted<'a>(alloc: Global, v: Told<'a>) -> Result<Part<'a>, AllocError>
 {
     match v {
         Told::Success(a) => {
-            let Typing { of, caps, tree } = a;
+            let Typing { of, caps, tree } = Box::into_inner(a);
             Ok(Part {
                 ok: true,
                 of: Some(of),
@@ -73,7 +102,8 @@ pub fn parted<'a>(alloc: Global, v: Told<'a>) -> Result<Part<'a>, AllocError>
                 found: Vec::new(alloc),
             })
         }
-        Told::Fail(tree, found) => {
+        Told::Fail(failure) => {
+            let Failure { tree, found } = Box::into_inner(failure);
             let Ok(of) = lent(alloc, &tree) else {
                 drop(tree);
                 drop(found);
@@ -119,19 +149,32 @@ fn lent(alloc: Global, tree: &Expr<Option<Type>>) -> Result<Option<Type>, AllocE
 }
 
 /// The end of an operator that has a typing of its own over what its operands lend.
-pub fn ended_typed<'a>(ok: bool, a: Typing<'a>, found: Vec<Finding>) -> Told<'a>
-    ensures { walked_of result ≡ cond ok (Success (typing_from a.entry))
-        (definition.Fail a.entry.tree (findings_from found.items)) }
+pub fn ended_typed<'a>(
+    alloc: Global,
+    ok: bool,
+    a: Typing<'a>,
+    found: Vec<Finding>,
+) -> Result<Told<'a>, AllocError>
+    ensures { IfOk result (λ r. walked_of r ≡ cond ok (Success (typing_from a.entry))
+        (definition.Fail a.entry.tree (findings_from found.items))) }
 {
     if ok {
         drop(found);
-        Told::Success(a)
+        typed(alloc, a)
     } else {
-        let Typing { of, caps, tree } = a;
-        drop(of);
-        drop(caps);
-        Told::Fail(tree, found)
+        let tree = into_tree(a);
+        failed(alloc, tree, found)
     }
+}
+
+/// The typed expression. The rest is dropped by calls, which keeps proofs short.
+pub fn into_tree(a: Typing<'_>) -> Expr<Option<Type>>
+    ensures { result ≡ a.entry.tree }
+{
+    let Typing { of, caps, tree } = a;
+    drop(of);
+    drop(caps);
+    tree
 }
 
 fn untyped(mut tree: Expr<Option<Type>>) -> Expr<Option<Type>>
@@ -149,14 +192,15 @@ pub fn unreached() -> Expr<Option<Type>>
 }
 
 /// What stands in the place of an operand that is not reached.
-pub fn skipped<'a>(alloc: Global) -> Told<'a>
-    ensures { walked_of result ≡ operator.skipped }
+pub fn skipped<'a>(alloc: Global) -> Result<Told<'a>, AllocError>
+    ensures { IfOk result (λ r. walked_of r ≡ operator.skipped) }
 {
-    Told::Success(Typing {
+    let a = Typing {
         of: Type::singleton_boolean(true),
         caps: CapabilitySet::new(alloc),
         tree: unreached(),
-    })
+    };
+    typed(alloc, a)
 }
 
 /// An operand that has to fit.
@@ -174,15 +218,26 @@ pub fn expect<'a>(
             if fits(x, &a.of) {
                 Ok(Told::Success(a))
             } else {
-                let found = unexpected(alloc, x, loc, &a.of)?;
-                let Typing { of, caps, tree } = a;
-                drop(of);
-                drop(caps);
-                Ok(Told::Fail(untyped(tree), found))
+                misfit(alloc, x, loc, Box::into_inner(a))
             }
         }
-        Told::Fail(tree, found) => expect_lent(alloc, x, loc, tree, found),
+        Told::Fail(failure) => expect_lent(alloc, x, loc, failure),
     }
+}
+
+// An operand that does not fit.
+fn misfit<'a>(
+    alloc: Global,
+    x: Expected<'_>,
+    loc: Option<Loc>,
+    a: Typing<'a>,
+) -> Result<Told<'a>, AllocError>
+    ensures { IfOk result (λ r. walked_of r ≡ definition.Fail (definition.untyped a.entry.tree)
+        (definition.unexpected (expected_of x.entry) loc a.entry.of)) }
+{
+    let found = or_drop!(unexpected(alloc, x, loc, &a.of), a);
+    let tree = into_tree(a);
+    failed(alloc, untyped(tree), found)
 }
 
 /// An operand that has to fit, where something is expected.
@@ -201,26 +256,27 @@ pub(crate) fn expect_if<'a>(
     }
 }
 
+// An operand that failed, and has to fit.
 fn expect_lent<'a>(
     alloc: Global,
     x: Expected<'_>,
     loc: Option<Loc>,
-    tree: Expr<Option<Type>>,
-    found: Vec<Finding>,
+    failure: Box<Failure>,
 ) -> Result<Told<'a>, AllocError>
     ensures { IfOk result (λ r. walked_of r ≡
-        definition.expect_lent (expected_of x.entry) loc (mark_of tree).note tree
-        (findings_from found.items)) }
+        definition.expect_lent (expected_of x.entry) loc (mark_of failure.value.tree).note
+        failure.value.tree (findings_from failure.value.found.items)) }
 {
-    match tree.data() {
-        None => Ok(Told::Fail(tree, found)),
+    match failure.tree.data() {
+        None => Ok(Told::Fail(failure)),
         Some(t) => {
             if fits(x, t) {
-                Ok(Told::Fail(tree, found))
+                Ok(Told::Fail(failure))
             } else {
                 let more = unexpected(alloc, x, loc, t)?;
+                let Failure { tree, found } = Box::into_inner(failure);
                 let found = joined(found, more)?;
-                Ok(Told::Fail(untyped(tree), found))
+                failed(alloc, untyped(tree), found)
             }
         }
     }

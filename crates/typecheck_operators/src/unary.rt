@@ -5,7 +5,7 @@ ghost use Rattle.typecheck_rules.specs.Operators.{unary_lent, unary_fitting, una
 ghost use Rattle.typecheck_operators.specs.Operands.{unary_of};
 ghost use Rattle.typecheck_operators.specs.Told.{mark, operand_of, walked_of};
 
-use crate::told::{Part, Told, Typing, ended_typed, expect, parted};
+use crate::told::{Part, Told, Typing, ended_typed, expect, failed, parted};
 use policy_expressions::{BuildError, Expr, Loc, UnaryOp};
 use schema_types::Type;
 use std::alloc::Global;
@@ -77,14 +77,14 @@ fn unary_ended<'a>(
                         found
                     );
                     let caps = CapabilitySet::new(alloc);
-                    Ok(ended_typed(ok, Typing { of: t, caps, tree }, found))
+                    Ok(ended_typed(alloc, ok, Typing { of: t, caps, tree }, found)?)
                 }
                 None => {
                     let tree = or_drop!(
                         Expr::unary_app(alloc, op, tree, Some(unary_lent(op)), loc),
                         found
                     );
-                    Ok(Told::Fail(tree, found))
+                    Ok(failed(alloc, tree, found)?)
                 }
             }
         }
@@ -93,7 +93,7 @@ fn unary_ended<'a>(
                 Expr::unary_app(alloc, op, tree, Some(unary_lent(op)), loc),
                 found
             );
-            Ok(Told::Fail(tree, found))
+            Ok(failed(alloc, tree, found)?)
         }
     }
 }

@@ -21,7 +21,9 @@ use findings::LubContext;
 use policy_expressions::{BuildError, Expr, Loc};
 use schema_types::{Primitive, Type, TypeKind};
 use std::alloc::{AllocError, Global};
-use typecheck_operators::{Part, Told, Typing, ended_typed, or_drop, parted, rest_of};
+use typecheck_operators::{
+    Failure, Part, Told, Typing, ended_typed, failed, or_drop, parted, rest_of,
+};
 use typecheck_rules::{Finding, joined, no_join, strict_join};
 use typing_spec::CapabilitySet;
 
@@ -83,7 +85,7 @@ fn test_of<'a>(alloc: Global, u: Told<'a>) -> Result<Test<'a>, AllocError>
 {
     match u {
         Told::Success(a) => {
-            let Typing { of, caps, tree } = a;
+            let Typing { of, caps, tree } = Box::into_inner(a);
             Ok(Test {
                 ok: true,
                 of,
@@ -92,7 +94,8 @@ fn test_of<'a>(alloc: Global, u: Told<'a>) -> Result<Test<'a>, AllocError>
                 found: Vec::new(alloc),
             })
         }
-        Told::Fail(tree, found) => {
+        Told::Fail(failure) => {
+            let Failure { tree, found } = Box::into_inner(failure);
             let of = or_drop!(lent_or_boolean(alloc, &tree), tree, found);
             Ok(Test {
                 ok: false,
@@ -374,7 +377,7 @@ fn if_typed<'a>(
         caps,
         found
     );
-    Ok(ended_typed(ok, Typing { of, caps, tree }, found))
+    Ok(ended_typed(alloc, ok, Typing { of, caps, tree }, found)?)
 }
 
 fn if_tree(
@@ -404,5 +407,5 @@ fn if_failed<'a>(alloc: Global, loc: Option<Loc>, parts: Branches) -> Result<Tol
         found,
     } = parts;
     let tree = or_drop!(Expr::ite(alloc, test, first, second, None, loc), found);
-    Ok(Told::Fail(tree, found))
+    Ok(failed(alloc, tree, found)?)
 }

@@ -14,9 +14,9 @@ use crate::walks::walk;
 use findings::{TooDeep, ValidationError};
 use policy_expressions::{BuildError, Expr};
 use policy_values::Text;
-use schema_types::{Primitive, Type, TypeKind};
+use schema_types::{Primitive, TypeKind};
 use std::alloc::{AllocError, Global};
-use typecheck_operators::{Told, Typing, expect};
+use typecheck_operators::{Failure, Told, expect, into_tree};
 use typecheck_rules::Expected;
 use typing_spec::CapabilitySet;
 
@@ -89,26 +89,17 @@ fn answer(alloc: Global, id: &Text, told: Told<'_>) -> Result<PolicyCheck, Alloc
             TypeKind::True
             | TypeKind::Primitive {
                 primitive_type: Primitive::Bool,
-            } => Ok(PolicyCheck::Success(tree_of(a))),
-            TypeKind::False => Ok(PolicyCheck::Irrelevant(tree_of(a))),
+            } => Ok(PolicyCheck::Success(into_tree(Box::into_inner(a)))),
+            TypeKind::False => Ok(PolicyCheck::Irrelevant(into_tree(Box::into_inner(a)))),
             _ => {
                 drop(a);
                 Ok(PolicyCheck::Fail(Vec::new(alloc)))
             }
         },
-        Told::Fail(tree, found) => {
+        Told::Fail(failure) => {
+            let Failure { tree, found } = Box::into_inner(failure);
             drop(tree);
             Ok(PolicyCheck::Fail(errors_of(alloc, id, found)?))
         }
     }
-}
-
-// The typed expression. The rest is dropped by calls, which keeps proofs short.
-fn tree_of(a: Typing<'_>) -> Expr<Option<Type>>
-    ensures { result ≡ a.entry.tree }
-{
-    let Typing { of, caps, tree } = a;
-    drop(of);
-    drop(caps);
-    tree
 }

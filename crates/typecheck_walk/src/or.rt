@@ -12,7 +12,7 @@ use crate::sides::{Own, Sides, if_reached, sides_of};
 use policy_expressions::{BuildError, Expr, Loc};
 use schema_types::{Type, TypeKind};
 use std::alloc::{AllocError, Global};
-use typecheck_operators::{Part, Told, Typing, ended_typed, or_drop, parted};
+use typecheck_operators::{Part, Told, Typing, ended_typed, failed, or_drop, parted};
 use typecheck_rules::or_type;
 use typing_spec::CapabilitySet;
 
@@ -148,7 +148,7 @@ fn or_typed<'a>(
     } = sides;
     let right = if_reached(is_reached, right);
     let tree = or_drop!(or_tree(alloc, &of, left, right, loc), of, caps, found);
-    Ok(ended_typed(ok, Typing { of, caps, tree }, found))
+    Ok(ended_typed(alloc, ok, Typing { of, caps, tree }, found)?)
 }
 
 fn or_tree(
@@ -176,5 +176,5 @@ fn or_failed<'a>(alloc: Global, loc: Option<Loc>, sides: Sides) -> Result<Told<'
     } = sides;
     let note = Type::primitive_boolean();
     let tree = or_drop!(Expr::or(alloc, left, right, Some(note), loc), found);
-    Ok(Told::Fail(tree, found))
+    Ok(failed(alloc, tree, found)?)
 }

@@ -149,13 +149,13 @@ fn walk_after<'a>(
 {
     match v {
         Told::Success(a) => match a.of.kind() {
-            TypeKind::False => Ok(skipped(at.alloc)),
+            TypeKind::False => Ok(skipped(at.alloc)?),
             _ => {
                 let inner = caps.union(&a.caps)?;
                 walk(at, &inner, y)
             }
         },
-        Told::Fail(_, _) => walk(at, caps, y),
+        Told::Fail(_) => walk(at, caps, y),
     }
 }
 
@@ -171,10 +171,10 @@ fn walk_besides<'a>(
 {
     match v {
         Told::Success(a) => match a.of.kind() {
-            TypeKind::True => Ok(skipped(at.alloc)),
+            TypeKind::True => Ok(skipped(at.alloc)?),
             _ => walk(at, caps, z),
         },
-        Told::Fail(_, _) => walk(at, caps, z),
+        Told::Fail(_) => walk(at, caps, z),
     }
 }
 
@@ -190,13 +190,13 @@ fn walk_right_of_and<'a>(
 {
     match v {
         Told::Success(a) => match a.of.kind() {
-            TypeKind::False => Ok(skipped(at.alloc)),
+            TypeKind::False => Ok(skipped(at.alloc)?),
             _ => {
                 let inner = caps.union(&a.caps)?;
                 walk_boolean(at, &inner, y)
             }
         },
-        Told::Fail(_, _) => walk_boolean(at, caps, y),
+        Told::Fail(_) => walk_boolean(at, caps, y),
     }
 }
 
@@ -212,10 +212,10 @@ fn walk_right_of_or<'a>(
 {
     match v {
         Told::Success(a) => match a.of.kind() {
-            TypeKind::True => Ok(skipped(at.alloc)),
+            TypeKind::True => Ok(skipped(at.alloc)?),
             _ => walk_boolean(at, caps, y),
         },
-        Told::Fail(_, _) => walk_boolean(at, caps, y),
+        Told::Fail(_) => walk_boolean(at, caps, y),
     }
 }
 
