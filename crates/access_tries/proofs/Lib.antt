@@ -3,6 +3,7 @@ mod Alike
 mod Behind
 pub mod Branching
 mod Chains
+mod Fronts
 mod Listing
 pub mod Making
 pub mod Merging

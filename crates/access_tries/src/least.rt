@@ -1,11 +1,12 @@
 //! The least trie that has given paths and demands.
 
-ghost use Rattle.std.specs.Prelude.{◌≡◌, ◌<◌, ◌++◌, [], ◌∷◌, map, false, length, IfOk, OnOk};
+ghost use Rattle.std.specs.Prelude.{◌≡◌, ◌<◌, ◌+◌, ◌++◌, [], ◌∷◌, map, drop, true, false, length, IfOk, OnOk};
 ghost use Rattle.access_tries.specs.Table.{IsClosed, IsOrdered};
-ghost use Rattle.access_tries.specs.Walks.{Keeps, IsChain, IsOf, addresses_in};
+ghost use Rattle.access_tries.specs.Walks.{HaveSameFronts, Keeps, IsChain, IsOf, addresses_in};
 ghost use Rattle.access_tries.specs.Paths.{address_of, demand_of, IsLeast};
 
 use crate::edge::{AccessPath, Edge};
+use crate::order::goes_on;
 use crate::table::{Link, Node};
 use crate::tries::RootAccessTrie;
 use std::alloc::{AllocError, Global};
@@ -36,15 +37,25 @@ pub fn least_trie(
     read.union(alloc, &demanded)
 }
 
-// The edges of each path.
+// The edges of each path from which the next does not go on: the others are fronts of these.
 fn addresses_of(alloc: Global, paths: &[AccessPath]) -> Result<Vec<Vec<Edge>>, AllocError>
-    ensures { IfOk result (λ r. addresses_in r.items ≡ map address_of paths.now) }
+    ensures { IfOk result (λ r. HaveSameFronts (addresses_in r.items) (map address_of paths.now)) }
 {
     let mut addresses = Vec::new(alloc);
-    for path in paths {
-        addresses.push(address_of(alloc, path)?)?;
+    for i in 0..paths.len() {
+        if !is_gone_on(paths, i) {
+            addresses.push(address_of(alloc, &paths[i])?)?;
+        }
     }
     Ok(addresses)
+}
+
+// Whether the next path goes on from the one at the place.
+fn is_gone_on(paths: &[AccessPath], place: usize) -> bool
+    requires { place < length paths.now }
+    ensures { result ≡ true → HaveSameFronts (map address_of (drop (place + 1) paths.now)) (map address_of (drop place paths.now)) }
+{
+    place + 1 < paths.len() && goes_on(&paths[place + 1], &paths[place])
 }
 
 // The edges of each demand.
