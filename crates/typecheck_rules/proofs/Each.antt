@@ -1,13 +1,14 @@
--- Findings that all keep a property.
-use Rattle.std.proofs.Common.{◌≡◌, Bool, true, false, List, [], ◌∷◌, ◌++◌, Option, Some, None, cond, refl}
+-- Findings that all keep a property; what operands lend that have to fit.
+use Rattle.std.proofs.Common.{◌≡◌, ◌∙◌, sym, ap, Bool, true, false, List, [], ◌∷◌, ◌++◌, Option, Some, None, option_map, cond, refl}
 use Rattle.std.specs.List.{AllByRecursion}
 use Rattle.policy_expressions.specs.declared.kinds.Loc.{Loc}
-use Rattle.policy_expressions.specs.Tree.{mark_of}
+use Rattle.policy_expressions.specs.Tree.{lit, var, slot, ite, conj, disj, unary, binary, attr, has, like, is_type, call, set, rec, Mark, mark_of, with_mark}
 use Rattle.schema_types.specs.Ty.{Ty}
-use Rattle.typing_spec.specs.Typing.{Typed, Typing}
+use Rattle.typing_spec.specs.Typing.{Typed, Typing, typing}
 use Rattle.findings.specs.Finding.{Finding, UnexpectedType}
 use Rattle.typecheck_rules.specs.Expected.{Expected}
-use Rattle.typecheck_rules.specs.Walked.{Walked, Success, Fail, findings_of, untyped, unexpected, expect_lent, expect, ended}
+use Rattle.typecheck_rules.specs.Walked.{Walked, Success, Fail, findings_of, untyped, unexpected, expect_lent, expect, expect_if, ended}
+use Rattle.typecheck_rules.specs.Operators.{type_lent}
 use Rattle.typecheck_rules.specs.Own.{if_none, if_not}
 use Rattle.typecheck_rules.proofs.Steps.{IfFalse}
 
@@ -38,19 +39,68 @@ module _ (Q : Finding → Type 0) where
   each_if_not false fs h = h refl
 
   -- what is found of an operand that does not fit
-  module _ (x : Expected) (l : Option Loc) (q : (t : Ty) → IfFalse (x.fits t) (Q (record { kind = UnexpectedType x.types t (x.help t); loc = l }))) where
-    pub each_expect : (v : Walked) → Each Q (findings_of v) → Each Q (findings_of (expect x l v))
-    each_expect (Success a) h = by (x.fits a.type) (q a.type)
-      where
-        by : (b : Bool) → IfFalse b (Q (record { kind = UnexpectedType x.types a.type (x.help a.type); loc = l })) → Each Q (findings_of (cond b (Success a) (Fail (untyped a.tree) (unexpected x l a.type))))
-        by true k = tt
-        by false k = (k, tt)
-    each_expect (Fail t fs) h = of_lent (mark_of t).note
-      where
-        fit : (u : Ty) (b : Bool) → IfFalse b (Q (record { kind = UnexpectedType x.types u (x.help u); loc = l })) → Each Q (findings_of (cond b (Fail t fs) (Fail (untyped t) (fs ++ unexpected x l u))))
-        fit u true k = h
-        fit u false k = each_both fs (unexpected x l u) h (k, tt)
+  abbrev pub Bar : Expected → Option Loc → Walked → Type 0
+  Bar x l v = (t : Ty) → type_lent v ≡ Some t → IfFalse (x.fits t) (Q (record { kind = UnexpectedType x.types t (x.help t); loc = l }))
 
-        of_lent : (n : Option Ty) → Each Q (findings_of (expect_lent x l n t fs))
-        of_lent None = h
-        of_lent (Some u) = fit u (x.fits u) (q u)
+  pub each_expect : (x : Expected) (l : Option Loc) (v : Walked) → Bar x l v → Each Q (findings_of v) → Each Q (findings_of (expect x l v))
+  each_expect x l (Success a) q h = by (x.fits a.type) (q a.type refl)
+    where
+      by : (b : Bool) → IfFalse b (Q (record { kind = UnexpectedType x.types a.type (x.help a.type); loc = l })) → Each Q (findings_of (cond b (Success a) (Fail (untyped a.tree) (unexpected x l a.type))))
+      by true k = tt
+      by false k = (k, tt)
+  each_expect x l (Fail t fs) q h = of_lent (mark_of t).note refl
+    where
+      fit : (u : Ty) (b : Bool) → IfFalse b (Q (record { kind = UnexpectedType x.types u (x.help u); loc = l })) → Each Q (findings_of (cond b (Fail t fs) (Fail (untyped t) (fs ++ unexpected x l u))))
+      fit u true k = h
+      fit u false k = each_both fs (unexpected x l u) h (k, tt)
+
+      of_lent : (n : Option Ty) → (mark_of t).note ≡ n → Each Q (findings_of (expect_lent x l n t fs))
+      of_lent None e = h
+      of_lent (Some u) e = fit u (x.fits u) (q u (ap (λ o. option_map (λ a. a.type) (option_map (λ s. typing s [] t) o)) e))
+
+pub mark_with : (t : Typed) (m : Mark (Option Ty)) → mark_of (with_mark t m) ≡ m
+mark_with (lit l a) m = refl
+mark_with (var v a) m = refl
+mark_with (slot i a) m = refl
+mark_with (ite x y z a) m = refl
+mark_with (conj x y a) m = refl
+mark_with (disj x y a) m = refl
+mark_with (unary o x a) m = refl
+mark_with (binary o x y a) m = refl
+mark_with (attr x n a) m = refl
+mark_with (has x n a) m = refl
+mark_with (like x p a) m = refl
+mark_with (is_type x t a) m = refl
+mark_with (call f xs a) m = refl
+mark_with (set xs a) m = refl
+mark_with (rec xs a) m = refl
+
+-- an expression without a type of its own lends none
+none_lent : (t : Typed) (fs : List Finding) (s : Ty) → type_lent (Fail (untyped t) fs) ≡ Some s → ⊥
+none_lent t fs s h =
+    let none = ap (λ m. option_map (λ a. a.type) (option_map (λ u. typing u [] (untyped t)) m.note)) (mark_with t (record { note = None; loc = (mark_of t).loc })) in
+    absurd (none≢some (sym none ∙ h))
+  where
+    none≢some : None ≡ Some s → ⊥
+    none≢some e = cc
+
+-- what an operand lends that has to fit, it lends without that too
+pub expect_lends : (x : Expected) (l : Option Loc) (v : Walked) (s : Ty) → type_lent (expect x l v) ≡ Some s → type_lent v ≡ Some s
+expect_lends x l (Success a) s = by (x.fits a.type)
+  where
+    by : (b : Bool) → type_lent (cond b (Success a) (Fail (untyped a.tree) (unexpected x l a.type))) ≡ Some s → Some a.type ≡ Some s
+    by true h = h
+    by false h = absurd (none_lent a.tree (unexpected x l a.type) s h)
+expect_lends x l (Fail t fs) s = of_lent (mark_of t).note
+  where
+    fit : (u : Ty) (b : Bool) → type_lent (cond b (Fail t fs) (Fail (untyped t) (fs ++ unexpected x l u))) ≡ Some s → type_lent (Fail t fs) ≡ Some s
+    fit u true h = h
+    fit u false h = absurd (none_lent t (fs ++ unexpected x l u) s h)
+
+    of_lent : (n : Option Ty) → type_lent (expect_lent x l n t fs) ≡ Some s → type_lent (Fail t fs) ≡ Some s
+    of_lent None h = h
+    of_lent (Some u) h = fit u (x.fits u) h
+
+pub expect_if_lends : (o : Option Expected) (l : Option Loc) (v : Walked) (s : Ty) → type_lent (expect_if o l v) ≡ Some s → type_lent v ≡ Some s
+expect_if_lends None l v s h = h
+expect_if_lends (Some x) l v s h = expect_lends x l v s h
