@@ -45,22 +45,6 @@ const CHAINS: &str = r#"[{"when":{"if":[ 380 true]}}] => allowed
 [{"when":{"if":[ 798 true]}}] => nested
 [{"when":{"if":[ 379 true]}}] => form"#;
 
-// Each command that reads a document, what stands in it beside the schema, up to the name of the list with the policy, and
-// what is due where the policy's condition is 400 deep.
-const COMMANDS: &str = r#"slice; "request":$view,"policies" => Findings $deep
-decide; "request":$view,"policies" => Findings $deep
-check; "policies" => Findings $deep
-level 1; "policies" => Findings $deep
-request; "request":$view,"policies" => Done conforms|
-manifest; "policies" => Findings $deep
-review; "policies" => Findings $deep
-list 5; "request":$view,"policies" => Findings $deep
-batch; "requests":[$view],"policies" => Findings $deep
-live; "edits" => Edit edit 0: findings|$deep"#;
-
-const DEEP: &str =
-    "error TooDeep: for policy `p0`, condition nests deeper than 200|errors 1, warnings 0|";
-
 // What is no body.
 const NO_BODIES: &str = r#"true
 null
@@ -149,43 +133,6 @@ fn bodies_of_each_depth(rt: HostRuntime) -> Result<(), Fail> {
     for line in NO_BODIES.lines() {
         let told = told(rt.alloc(), "slice", document_of(rt.alloc(), line)?.as_str())?;
         assert_eq!(rt; told.as_str(), due("slice", "form"), "{line}");
-    }
-    Ok(())
-}
-
-// What the command says of a policy whose body is an `all` of so many `true` and one more.
-fn told_of_all(alloc: Global, command: &str, members: &str, count: usize) -> Result<String, Fail> {
-    let front = format!(in alloc;
-        r#"{{"schema":$groups,{members}:[{{"id":"p0","effect":"permit","body":[{{"when":{{"all":["#
-    )?;
-    let mut document = front;
-    for _ in 0..count {
-        document.push_str("true,")?;
-    }
-    document.push_str("true]}}]}]}")?;
-    told(alloc, command, in_full(alloc, document.as_str())?.as_str())
-}
-
-#[test]
-fn each_command_bounds_the_depth(rt: HostRuntime) -> Result<(), Fail> {
-    for line in COMMANDS.lines() {
-        let Some((case, due)) = line.split_once(" => ") else {
-            return Err(Fail::new("a line says nothing"));
-        };
-        let Some((command, members)) = case.split_once("; ") else {
-            return Err(Fail::new("a line has no document"));
-        };
-        let due = due.replace(rt.alloc(), "$deep", DEEP)?;
-        let told = told_of_all(rt.alloc(), command, members, 398)?;
-        assert_eq!(rt; told.as_str(), due.as_str(), "{line}");
-        let list = if command == "live" {
-            "edits"
-        } else {
-            "policies"
-        };
-        let due = format!(in rt.alloc(); "Document document: {list}[0]: nested deeper than 400|")?;
-        let told = told_of_all(rt.alloc(), command, members, 399)?;
-        assert_eq!(rt; told.as_str(), due.as_str(), "{line}");
     }
     Ok(())
 }
