@@ -11,7 +11,7 @@ mod traits;
 mod writing;
 
 pub use memory::{MemorySink, MemorySource, NoSink, SliceSource};
-pub use reading::{DOCUMENT_LIMIT, ReadError, read_document_bytes};
+pub use reading::{DOCUMENT_LIMIT, ReadError, limit_is_stated, read_document_bytes};
 pub use standard::{StdSink, StdSource};
 pub use traits::{Sink, Source};
 pub use writing::{WriteFault, write_text};

@@ -1,6 +1,6 @@
 //! Reading a document of bounded length.
-ghost use Rattle.std.specs.Prelude.{◌≤◌, List, ℕ, length, IfOk, IfErr, IsErrOf};
-ghost use Rattle.byte_streams.specs.Document.{StopsAfter, Takes, TakesFew, WasRead};
+ghost use Rattle.std.specs.Prelude.{◌≡◌, ◌≤◌, List, ℕ, length, IfOk, IfErr, IsErrOf};
+ghost use Rattle.byte_streams.specs.Document.{document_limit, StopsAfter, Takes, TakesFew, WasRead};
 ghost use Rattle.byte_streams.specs.Steps.{Rose};
 
 use crate::ReadAnswer;
@@ -11,6 +11,11 @@ use std::alloc::Global;
 pub const DOCUMENT_LIMIT: usize = 16777216;
 
 const PIECE_LEN: usize = 4096;
+
+/// The constant is the limit that contracts speak of.
+pub fn limit_is_stated()
+    ensures { DOCUMENT_LIMIT ≡ document_limit }
+{}
 
 /// Why no document was read.
 #[derive(Clone, Copy, Debug, PartialEq, Eq)]

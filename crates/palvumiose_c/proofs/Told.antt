@@ -1,10 +1,9 @@
 -- From what `run` does with a source and a sink in memory to what a call tells.
 use Rattle.std.proofs.Common.{◌≡◌, ℕ, ◌≤◌, List, [], ◌++◌, length, inl, inr, Option, Some, None, append-nil, length-append, sym, ap, ◌∙◌, subst, arith}
 use Rattle.std.specs.Io.KnownBytes.{Appends, Consumes, IsAtEnd, Keeps}
-use Rattle.byte_streams.specs.Document.{WasRead}
+use Rattle.byte_streams.specs.Document.{document_limit, WasRead}
 use Rattle.byte_streams.specs.State.{SinkState, SourceState}
 use Rattle.byte_streams.specs.Steps.{IsQuiet, Rose}
-use Rattle.byte_streams.specs.declared.reading.TheConstants.{DOCUMENT_LIMIT}
 use Rattle.policy_gate.specs.Answer.{IsAnswer}
 use Rattle.policy_gate.specs.Command.{own_document}
 use Rattle.policy_gate.specs.Reply.{Answer, answer}
@@ -42,7 +41,7 @@ module _ {document held : List ℕ} {source source' : SourceState} {sink sink' :
   nothing k = subst (λ o. Keeps (Some []) o) m.full (subst (λ o. Keeps o sink'.holds) m.empty k)
 
   after_reading : (c : Command) (a : Answer) → IsDueAfterReading c source source' a → IsDueOn None c document a
-  after_reading c a (inl (bytes, read, is)) = inl (subst (λ b. (length b ≤ DOCUMENT_LIMIT) × IsAnswer c b a) (sym (whole bytes read)) (read.0, is))
+  after_reading c a (inl (bytes, read, is)) = inl (subst (λ b. (length b ≤ document_limit) × IsAnswer c b a) (sym (whole bytes read)) (read.0, is))
   after_reading c a (inr (inl d)) = absurd (not_risen source.faults source'.faults m.sound d.1)
   after_reading c a (inr (inr (is, (taken, many, (count, front))))) = let most = longer document taken source'.left (at_start taken front) in inr (omega (arith, most), is)
 
@@ -69,7 +68,7 @@ module _ {document held : List ℕ} {source source' : SourceState} {sink sink' :
   said_of_both Says (bytes, text, read, said, w) = subst (λ t. Says document t) (sym (written text w)) (subst (λ b. Says b text) (sym (whole bytes read)) said)
 
   -- the document is what a command that reads one works on
-  pub to_work_on : (c : Command) → Reads c → length document ≤ DOCUMENT_LIMIT → IsToWorkOn c source source' document
+  pub to_work_on : (c : Command) → Reads c → length document ≤ document_limit → IsToWorkOn c source source' document
   to_work_on c reads few = subst (λ o. IsToReadBy o source source' document) (sym reads) (m.left, few, (omega (arith, m.sound), omega (arith, m.sound)))
 
   pub took_all : IsQuiet sink.faults sink'.faults

@@ -2,7 +2,7 @@
 use Rattle.std.specs.Prelude.{◌≡◌, ◌==◌, ◌<◌, ◌≤◌, ◌⊎◌, ℕ, List, [], ◌++◌, length, take, drop, Option, Some, None, if◌then◌else◌}
 use Rattle.std.specs.List.{slice_split}
 use Rattle.std.specs.Str.{is_utf8}
-use Rattle.byte_streams.specs.declared.reading.TheConstants.{DOCUMENT_LIMIT}
+use Rattle.byte_streams.specs.Document.{document_limit}
 use Rattle.policy_gate.specs.Answer.{IsAnswer}
 use Rattle.policy_gate.specs.Command.{own_document}
 use Rattle.policy_gate.specs.Reply.{Answer, answer}
@@ -17,8 +17,8 @@ words_in bytes = if is_utf8 bytes then slice_split (λ b. b == 0) bytes else []
 -- what is due for a command that has a document of its own; and for the others, which read the caller's
 abbrev pub IsDueOn : Option (List ℕ) → Command → List ℕ → Answer → Type 0
 IsDueOn (Some own) command document a = IsAnswer command own a
-IsDueOn None command document a = ((length document ≤ DOCUMENT_LIMIT) × IsAnswer command document a)
-    ⊎ ((DOCUMENT_LIMIT < length document) × (a ≡ too_long))
+IsDueOn None command document a = ((length document ≤ document_limit) × IsAnswer command document a)
+    ⊎ ((document_limit < length document) × (a ≡ too_long))
 
 -- what is due for words that are no command, and for those that are one
 abbrev pub IsDueTo : Option Command → List ℕ → Answer → Type 0

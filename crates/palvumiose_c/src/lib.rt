@@ -2,7 +2,7 @@
 #![tactic(auto)]
 
 ghost use Rattle.std.specs.Prelude.{◌≡◌, ◌==◌, ◌≤◌, ◌⊎◌, ℕ, List, length, Some, IfOk, map, string_bytes};
-ghost use Rattle.byte_streams.specs.declared.reading.TheConstants.{DOCUMENT_LIMIT};
+ghost use Rattle.byte_streams.specs.Document.{document_limit};
 ghost use Rattle.json_document.specs.declared.document.Document.{Document};
 ghost use Rattle.json_document.specs.declared.shape.Shape.TheVariants as shape;
 ghost use Rattle.policy_gate.specs.Command.{command_of, shape_of};
@@ -63,7 +63,7 @@ fn reply_to(alloc: Global, command: &[u8], document: &[u8]) -> Result<Reply, All
         → IfOk result (λ r. r.status ≡ Status.Done
         → (d : Document) × IsDocumentOf shape.Whole document.now d × KeepsRules d × IsDecided d r.text.items) }
     ensures complete { (c : Command) (d : Document) → command_of (words_in command.now) ≡ Some c → Reads c
-        → length document.now ≤ DOCUMENT_LIMIT → IsDocumentOf (shape_of c) document.now d → KeepsRulesOf c d
+        → length document.now ≤ document_limit → IsDocumentOf (shape_of c) document.now d → KeepsRulesOf c d
         → IfOk result (λ r. (r.status ≡ Status.Done) ⊎ (r.status ≡ Status.OutOfMemory)) }
 {
     let words = words_of(alloc, command)?;
@@ -88,7 +88,7 @@ fn answer_to(alloc: Global, command: &[u8], document: &[u8]) -> Reply
     ensures decided { command_of (words_in command.now) ≡ Some Command.Decide → result.status ≡ Status.Done
         → (d : Document) × IsDocumentOf shape.Whole document.now d × KeepsRules d × IsDecided d result.text.items }
     ensures complete { (c : Command) (d : Document) → command_of (words_in command.now) ≡ Some c → Reads c
-        → length document.now ≤ DOCUMENT_LIMIT → IsDocumentOf (shape_of c) document.now d → KeepsRulesOf c d
+        → length document.now ≤ document_limit → IsDocumentOf (shape_of c) document.now d → KeepsRulesOf c d
         → (result.status ≡ Status.Done) ⊎ (result.status ≡ Status.OutOfMemory) }
 {
     match reply_to(alloc, command, document) {
@@ -125,7 +125,7 @@ fn lay_over(text: &[u8], out: &mut [u8])
 ///   the four, or reads `out` and `size`.
 /// - `malloc`, `realloc` and `free`, which the call uses, are those of one allocator, and may be called in the thread: not in
 ///   a signal handler, and not in a child that was forked from a process with threads.
-/// - The thread has 2 MiB of stack left. A document may be nested so deep that less is not enough, and then the process ends.
+/// - The thread has 1 MiB of stack left. A document may be nested so deep that less is not enough, and then the process ends.
 #[unsafe(no_mangle)]
 pub extern "C" fn palvumiose_c_run(
     alloc: Global,
@@ -153,7 +153,7 @@ pub extern "C" fn palvumiose_c_run(
 
     // And 0 comes wherever every rule of the command holds, unless memory runs out.
     ensures complete { (c : Command) (d : Document) → command_of (words_in command.now) ≡ Some c → Reads c
-        → length document.now ≤ DOCUMENT_LIMIT → IsDocumentOf (shape_of c) document.now d → KeepsRulesOf c d
+        → length document.now ≤ document_limit → IsDocumentOf (shape_of c) document.now d → KeepsRulesOf c d
         → (result ≡ 0) ⊎ (result ≡ 10) }
 {
     let reply = answer_to(alloc, command, document);

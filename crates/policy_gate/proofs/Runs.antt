@@ -1,10 +1,9 @@
 -- From what a run does to why it ends so. Nothing here looks into what answers a document has.
 use Rattle.std.proofs.Common.{◌≡◌, ℕ, ◌+◌, ◌<◌, ◌≤◌, List, ◌++◌, length, true≢false, ◌⊎◌, inl, inr, Option, Some, None, append-nil, length-append, sym, ap, ◌∙◌, refl, subst, arith}
 use Rattle.std.specs.Io.KnownBytes.{Appends, Consumes, IsAtEnd}
-use Rattle.byte_streams.specs.Document.{WasRead}
+use Rattle.byte_streams.specs.Document.{document_limit, WasRead}
 use Rattle.byte_streams.specs.State.{SinkState, SourceState}
 use Rattle.byte_streams.specs.Steps.{IsQuiet, Rose}
-use Rattle.byte_streams.specs.declared.reading.TheConstants.{DOCUMENT_LIMIT}
 use Rattle.policy_gate.specs.Answer.{IsAnswer}
 use Rattle.policy_gate.specs.Reply.{Answer, answer}
 use Rattle.policy_gate.specs.Command.{own_document, shape_of}
@@ -127,7 +126,7 @@ module _ (command : Option Command) (source source' : SourceState) (sink sink' :
   usage_for runs is = usage_at (subst (λ o. Runs o source source' sink sink' status) is runs)
 
   -- more was taken than a document may have
-  past : (o : Option Command) (a : Answer) → source.taken + DOCUMENT_LIMIT < source'.taken → IsDue o source source' a → Gives a sink sink' status → status ≡ TooLong
+  past : (o : Option Command) (a : Answer) → source.taken + document_limit < source'.taken → IsDue o source source' a → Gives a sink sink' status → status ≡ TooLong
   past None a more (is, same) g = let still = ap (λ s. s.taken) same in absurd (omega (arith, still))
   past (Some c) a more d g = past_for (own_document c) d
     where
@@ -137,7 +136,7 @@ module _ (command : Option Command) (source source' : SourceState) (sink sink' :
       past_for None (inr (inr d)) = stays a TooLong sink sink' status (ap (λ b. b.status) d.0) refl g
       past_for (Some own) (same, is) = let still = ap (λ s. s.taken) same in absurd (omega (arith, still))
 
-  pub too_long_for : Runs command source source' sink sink' status → source.taken + DOCUMENT_LIMIT < source'.taken → (status ≡ TooLong) ⊎ (status ≡ OutOfMemory)
+  pub too_long_for : Runs command source source' sink sink' status → source.taken + document_limit < source'.taken → (status ≡ TooLong) ⊎ (status ≡ OutOfMemory)
   too_long_for (inl d) more = inr d.1
   too_long_for (inr (a, d, g)) more = inl (past command a more d g)
 
@@ -145,12 +144,12 @@ module _ (bytes : List ℕ) (source source' : SourceState) (sink sink' : SinkSta
   told_at : (taken : List ℕ) → Consumes source.left source'.left taken → Consumes (Some bytes) source'.left taken
   told_at taken p = subst (λ l. Consumes l source'.left taken) told p
 
-  past_told : (c : Command) (a : Answer) → DOCUMENT_LIMIT < length bytes → IsDueAfterReading c source source' a → Gives a sink sink' status → status ≡ TooLong
+  past_told : (c : Command) (a : Answer) → document_limit < length bytes → IsDueAfterReading c source source' a → Gives a sink sink' status → status ≡ TooLong
   past_told c a long (inl (taken, (short, t, end), is)) g = let same = ap length (all_taken bytes taken source'.left (told_at taken t.1) end) in absurd (omega (arith, same))
   past_told c a long (inr (inl d)) g = absurd (quiet source.faults source'.faults q d.1)
   past_told c a long (inr (inr d)) g = stays a TooLong sink sink' status (ap (λ b. b.status) d.0) refl g
 
-  pub too_long_told : (command : Option Command) (c : Command) → Runs command source source' sink sink' status → command ≡ Some c → Reads c → DOCUMENT_LIMIT < length bytes → (status ≡ TooLong) ⊎ (status ≡ OutOfMemory)
+  pub too_long_told : (command : Option Command) (c : Command) → Runs command source source' sink sink' status → command ≡ Some c → Reads c → document_limit < length bytes → (status ≡ TooLong) ⊎ (status ≡ OutOfMemory)
   too_long_told command c (inl d) is reads long = inr d.1
   too_long_told command c (inr (a, d, g)) is reads long = inl (past_told c a long (subst (λ o. IsDueFor o c source source' a) reads (subst (λ o. IsDue o source source' a) is d)) g)
 
@@ -163,7 +162,7 @@ module _ (bytes : List ℕ) (source source' : SourceState) (sink sink' : SinkSta
   given c a is q' (inl g) = (a.text, subst (λ t. IsAnswer c bytes (answer t a.text)) (sym g.0) is, g.1)
   given c a is q' (inr g) = absurd (quiet sink.faults sink'.faults q' g.0)
 
-  within : (c : Command) (a : Answer) → source.left ≡ Some bytes → length bytes ≤ DOCUMENT_LIMIT → IsQuiet source.faults source'.faults → IsQuiet sink.faults sink'.faults → IsDueAfterReading c source source' a → Gives a sink sink' status → Answered c
+  within : (c : Command) (a : Answer) → source.left ≡ Some bytes → length bytes ≤ document_limit → IsQuiet source.faults source'.faults → IsQuiet sink.faults sink'.faults → IsDueAfterReading c source source' a → Gives a sink sink' status → Answered c
   within c a told short q q' (inl (taken, (few, t, end), is)) g = given c a (subst (λ b. IsAnswer c b a) (sym (all_taken bytes taken source'.left (subst (λ l. Consumes l source'.left taken) told t.1) end)) is) q' g
   within c a told short q q' (inr (inl d)) g = absurd (quiet source.faults source'.faults q d.1)
   within c a told short q q' (inr (inr (is, (taken, many, t)))) g = let most = longer bytes taken source'.left (subst (λ l. Consumes l source'.left taken) told t.1) in absurd (omega (arith, most))

@@ -1,10 +1,9 @@
 -- What a whole run does.
 use Rattle.std.specs.Prelude.{◌≡◌, ℕ, ◌+◌, ◌≤◌, ◌⊎◌, List, length, take, Option, Some, None, IsSome, codes}
 use Rattle.std.specs.Io.KnownBytes.{Keeps, Appends}
-use Rattle.byte_streams.specs.Document.{TakesTooMany, WasRead}
+use Rattle.byte_streams.specs.Document.{document_limit, TakesTooMany, WasRead}
 use Rattle.byte_streams.specs.State.{SinkState, SourceState}
 use Rattle.byte_streams.specs.Steps.{IsQuiet, Rose}
-use Rattle.byte_streams.specs.declared.reading.TheConstants.{DOCUMENT_LIMIT}
 use Rattle.policy_gate.specs.Answer.{IsAnswer}
 use Rattle.policy_gate.specs.Command.{own_document}
 use Rattle.policy_gate.specs.Reply.{Answer, answer}
@@ -28,7 +27,7 @@ too_long = answer TooLong (codes "document: more than 16777216 bytes\n")
 -- what is due where a document is read: what the command asks for its bytes; or the source failed, or gave too many bytes
 abbrev pub IsDueAfterReading : Command → SourceState → SourceState → Answer → Type 0
 IsDueAfterReading command source source' a = ((bytes : List ℕ) × WasRead source source' bytes × IsAnswer command bytes a)
-    ⊎ (((a ≡ read_fault) × Rose source.faults source'.faults × (source'.taken ≤ source.taken + DOCUMENT_LIMIT))
+    ⊎ (((a ≡ read_fault) × Rose source.faults source'.faults × (source'.taken ≤ source.taken + document_limit))
     ⊎ ((a ≡ too_long) × TakesTooMany source source'))
 
 -- what is due for a command that has a document of its own: the source is left alone; the others read one
@@ -57,7 +56,7 @@ Reads command = own_document command ≡ None
 -- these bytes are what the command is to work on: what the source has left, where that is no more than a document may have and the source does not fail; or
 -- those of its own document
 abbrev pub IsToReadBy : Option (List ℕ) → SourceState → SourceState → List ℕ → Type 0
-IsToReadBy None source source' bytes = (source.left ≡ Some bytes) × (length bytes ≤ DOCUMENT_LIMIT) × IsQuiet source.faults source'.faults
+IsToReadBy None source source' bytes = (source.left ≡ Some bytes) × (length bytes ≤ document_limit) × IsQuiet source.faults source'.faults
 IsToReadBy (Some own) source source' bytes = bytes ≡ own
 
 -- the same for a command

@@ -1,7 +1,7 @@
 //! The whole run, from a source to a sink.
 ghost use Rattle.std.specs.Prelude.{◌≡◌, ◌+◌, ◌<◌, ◌≤◌, ◌⊎◌, ℕ, List, length, Option, Some, None, IfOk, map, string_bytes};
 ghost use Rattle.std.specs.Io.KnownBytes.{Appends};
-ghost use Rattle.byte_streams.specs.Document.{TakesFew, WasRead};
+ghost use Rattle.byte_streams.specs.Document.{document_limit, TakesFew, WasRead};
 ghost use Rattle.byte_streams.specs.Steps.{IsQuiet};
 ghost use Rattle.policy_gate.specs.Answer.{IsAnswer};
 ghost use Rattle.policy_gate.specs.Command.{command_of, own_document, shape_of};
@@ -19,7 +19,7 @@ use crate::command::{Command, command_of, own_document};
 use crate::laws::laws;
 use crate::reply::{Reply, reply_with};
 use crate::status::Status;
-use byte_streams::{DOCUMENT_LIMIT, ReadError, Sink, Source, read_document_bytes, write_text};
+use byte_streams::{ReadError, Sink, Source, read_document_bytes, write_text};
 use std::alloc::{AllocError, Global};
 
 const USAGE: &str =
@@ -152,11 +152,11 @@ pub fn run<S: Source, K: Sink>(
 
     // Each status comes where its rule says so, unless memory runs out.
     ensures usage { command_of (map string_bytes words.now.items) ≡ None → result ≡ Status.Usage }
-    ensures too_long { (S.state source.old).taken + DOCUMENT_LIMIT < (S.state source.new).taken
+    ensures too_long { (S.state source.old).taken + document_limit < (S.state source.new).taken
         → (result ≡ Status.TooLong) ⊎ (result ≡ Status.OutOfMemory) }
     ensures too_long_told { (command : Command) (bytes : List ℕ)
         → command_of (map string_bytes words.now.items) ≡ Some command → Reads command
-        → (S.state source.old).left ≡ Some bytes → DOCUMENT_LIMIT < length bytes
+        → (S.state source.old).left ≡ Some bytes → document_limit < length bytes
         → IsQuiet (S.state source.old).faults (S.state source.new).faults
         → (result ≡ Status.TooLong) ⊎ (result ≡ Status.OutOfMemory) }
     ensures exact { (command : Command) (bytes : List ℕ)
