@@ -12,7 +12,7 @@ use crate::requests::read_requests;
 use crate::schema::read_schema;
 use crate::{DocumentFault, Edits, Place, Requests, Shape, read_request, read_store};
 use entity_store::{Entities, Request};
-use policy_set::PolicySet;
+use policy_set::{PolicySet, or_drop};
 use schema_core::ValidatorSchema;
 use serde_json::Value;
 use std::alloc::Global;
@@ -45,7 +45,14 @@ fn with_requests(
 ) -> Result<Document, DocumentFault>
     ensures { MayComeTo result (IsReadBehindRequest (parts_view parts.now) schema policies edits entities request) }
 {
-    let requests = read_requests(alloc, parts.requests)?;
+    let requests = or_drop!(
+        read_requests(alloc, parts.requests),
+        schema,
+        policies,
+        edits,
+        entities,
+        request
+    );
     Ok(Document {
         schema,
         policies,
@@ -66,7 +73,12 @@ fn with_request(
 ) -> Result<Document, DocumentFault>
     ensures { MayComeTo result (IsReadBehindStore (parts_view parts.now) schema policies edits entities) }
 {
-    let Some(request) = read_request(alloc, parts.request)? else {
+    let request = read_request(alloc, parts.request);
+    let Some(request) = or_drop!(request, schema, policies, edits, entities) else {
+        drop(schema);
+        drop(policies);
+        drop(edits);
+        drop(entities);
         return Err(DocumentFault::Place(Place::Request));
     };
     with_requests(alloc, parts, schema, policies, edits, entities, request)
@@ -81,7 +93,7 @@ fn with_entities(
 ) -> Result<Document, DocumentFault>
     ensures { MayComeTo result (IsReadBehindEdits (parts_view parts.now) schema policies edits) }
 {
-    let entities = read_store(alloc, parts.entities)?;
+    let entities = or_drop!(read_store(alloc, parts.entities), schema, policies, edits);
     with_request(alloc, parts, schema, policies, edits, entities)
 }
 
@@ -93,7 +105,7 @@ fn with_edits(
 ) -> Result<Document, DocumentFault>
     ensures { MayComeTo result (IsReadBehindPolicies (parts_view parts.now) schema policies) }
 {
-    let edits = read_edits(alloc, parts.edits)?;
+    let edits = or_drop!(read_edits(alloc, parts.edits), schema, policies);
     with_entities(alloc, parts, schema, policies, edits)
 }
 
@@ -104,7 +116,7 @@ fn with_policies(
 ) -> Result<Document, DocumentFault>
     ensures { MayComeTo result (IsReadBehindSchema (parts_view parts.now) schema) }
 {
-    let policies = read_policies(alloc, parts.policies)?;
+    let policies = or_drop!(read_policies(alloc, parts.policies), schema);
     with_edits(alloc, parts, schema, policies)
 }
 

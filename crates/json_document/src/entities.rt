@@ -12,6 +12,7 @@ use crate::fields::read_attrs_and_tags;
 use crate::{DocumentFault, Place};
 use entity_store::Entity;
 use json_values::{has_only, list_items, read_uid_like};
+use policy_set::or_drop;
 use policy_values::EntityUID;
 use serde_json::{Map, Value};
 use std::alloc::{AllocError, Global};
@@ -68,14 +69,20 @@ fn read_given_entity(
         return Ok(None);
     };
     let Some(items) = list_items(value.get("parents")) else {
+        drop(uid);
         return Ok(None);
     };
-    let Some(parents) = read_uid_set(alloc, items, parent_of(before))? else {
+    let Some(parents) = or_drop!(read_uid_set(alloc, items, parent_of(before)), uid) else {
+        drop(uid);
         return Ok(None);
     };
-    match read_attrs_and_tags(alloc, value)? {
+    match or_drop!(read_attrs_and_tags(alloc, value), uid, parents) {
         Some((attrs, tags)) => Ok(Some(Entity::new(uid, attrs, parents, tags))),
-        None => Ok(None),
+        None => {
+            drop(uid);
+            drop(parents);
+            Ok(None)
+        }
     }
 }
 

@@ -10,7 +10,7 @@ ghost use Rattle.json_document.specs.Policies.{added, added_link, added_read, ad
 use crate::{DocumentFault, Place};
 use json_policies::{PolicyRead, TemplateLink, read_entry};
 use policy_expressions::{SlotId, SlotValues};
-use policy_set::{PolicySet, PolicySetError, Template};
+use policy_set::{PolicySet, PolicySetError, Template, or_drop};
 use policy_values::EntityUID;
 use serde_json::Value;
 use std::alloc::{AllocError, Global};
@@ -62,7 +62,7 @@ pub fn slot_pairs(alloc: Global, values: SlotValues) -> Result<Vec<(SlotId, Enti
     } = values;
     let mut pairs = Vec::new(alloc);
     if let Some(principal) = principal {
-        pairs.push((SlotId::Principal, principal))?;
+        or_drop!(pairs.push((SlotId::Principal, principal)), resource);
     }
     if let Some(resource) = resource {
         pairs.push((SlotId::Resource, resource))?;

@@ -6,6 +6,7 @@ ghost use Rattle.json_document.specs.Request.{context_of, entries_of, given_requ
 
 use entity_store::{Context, Request};
 use json_values::{has_only, read_fields, read_uid};
+use policy_set::or_drop;
 use policy_values::EntityUID;
 use serde_json::Value as Json;
 use std::alloc::{AllocError, Global};
@@ -49,13 +50,22 @@ fn read_entries(alloc: Global, value: &Json) -> Result<Option<Request>, AllocErr
     let Some(principal) = read_known(alloc, value.get("principal"))? else {
         return Ok(None);
     };
-    let Some(action) = read_known(alloc, value.get("action"))? else {
+    let action = read_known(alloc, value.get("action"));
+    let Some(action) = or_drop!(action, principal) else {
+        drop(principal);
         return Ok(None);
     };
-    let Some(resource) = read_known(alloc, value.get("resource"))? else {
+    let resource = read_known(alloc, value.get("resource"));
+    let Some(resource) = or_drop!(resource, principal, action) else {
+        drop(principal);
+        drop(action);
         return Ok(None);
     };
-    let Some(context) = read_context(alloc, value.get("context"))? else {
+    let context = read_context(alloc, value.get("context"));
+    let Some(context) = or_drop!(context, principal, action, resource) else {
+        drop(principal);
+        drop(action);
+        drop(resource);
         return Ok(None);
     };
     Ok(Some(Request {

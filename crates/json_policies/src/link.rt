@@ -6,6 +6,7 @@ ghost use Rattle.json_policies.specs.Link.{given_id, link_of};
 
 use json_values::{has_only, read_uid};
 use policy_expressions::SlotValues;
+use policy_set::or_drop;
 use policy_values::{EntityUID, Text};
 use serde_json::Value;
 use std::alloc::{AllocError, Global};
@@ -56,16 +57,20 @@ pub(crate) fn read_link(alloc: Global, value: &Value) -> Result<Option<TemplateL
     let Some(principal) = read_given_id(alloc, value.get("principal"))? else {
         return Ok(None);
     };
-    let Some(resource) = read_given_id(alloc, value.get("resource"))? else {
+    let resource = read_given_id(alloc, value.get("resource"));
+    let Some(resource) = or_drop!(resource, principal) else {
+        drop(principal);
         return Ok(None);
     };
     let values = SlotValues {
         principal,
         resource,
     };
+    let id = or_drop!(Text::from_str(alloc, id), values);
+    let template = or_drop!(Text::from_str(alloc, template), id, values);
     Ok(Some(TemplateLink {
-        id: Text::from_str(alloc, id)?,
-        template: Text::from_str(alloc, template)?,
+        id,
+        template,
         values,
     }))
 }

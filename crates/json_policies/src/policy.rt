@@ -13,7 +13,7 @@ use json_expressions::Bounded;
 use json_values::has_only;
 use policy_expressions::Expr;
 use policy_set::{
-    ActionConstraint, Effect, PrincipalOrResourceConstraint, Template, TemplateError,
+    ActionConstraint, Effect, PrincipalOrResourceConstraint, Template, TemplateError, or_drop,
 };
 use policy_values::Text;
 use serde_json::Value;
@@ -74,15 +74,18 @@ fn read_policy_parts(alloc: Global, value: &Value) -> Result<Option<PolicyParts>
     let Some(principal) = read_constraint(alloc, value.get("principal"))? else {
         return Ok(None);
     };
-    let Some(action) = read_action_constraint(alloc, value.get("action"))? else {
-        return Ok(None);
-    };
-    let Some(resource) = read_constraint(alloc, value.get("resource"))? else {
-        drop(action);
+    let action = read_action_constraint(alloc, value.get("action"));
+    let Some(action) = or_drop!(action, principal) else {
         drop(principal);
         return Ok(None);
     };
-    let id = Text::from_str(alloc, id)?;
+    let resource = read_constraint(alloc, value.get("resource"));
+    let Some(resource) = or_drop!(resource, principal, action) else {
+        drop(principal);
+        drop(action);
+        return Ok(None);
+    };
+    let id = or_drop!(Text::from_str(alloc, id), principal, action, resource);
     Ok(Some(PolicyParts {
         id,
         effect,
@@ -135,7 +138,10 @@ fn with_body(
 {
     match body {
         Bounded::Within(body) => with_expression(alloc, parts, body),
-        Bounded::Nested => Ok(Some(PolicyRead::Nested)),
+        Bounded::Nested => {
+            drop(parts);
+            Ok(Some(PolicyRead::Nested))
+        }
     }
 }
 
@@ -147,7 +153,8 @@ fn read_whole(alloc: Global, value: &Value) -> Result<Option<PolicyRead>, AllocE
     let Some(parts) = read_policy_parts(alloc, value)? else {
         return Ok(None);
     };
-    let Some(body) = read_body(alloc, value.get("body"))? else {
+    let Some(body) = or_drop!(read_body(alloc, value.get("body")), parts) else {
+        drop(parts);
         return Ok(None);
     };
     with_body(alloc, parts, body)

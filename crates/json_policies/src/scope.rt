@@ -6,7 +6,9 @@ ghost use Rattle.json_values.specs.Names.{name_of, uid_of, uids_of};
 ghost use Rattle.json_policies.specs.Scope.{action_constraint_of, action_form, action_form_of, asked, constraint_of, given_constraint_of, is_in, reference_of, slot_of};
 
 use json_values::{has_only, only_member, read_name, read_uid, read_uids};
-use policy_set::{ActionConstraint, ActionList, EntityReference, PrincipalOrResourceConstraint};
+use policy_set::{
+    ActionConstraint, ActionList, EntityReference, PrincipalOrResourceConstraint, or_drop,
+};
 use serde_json::{Map, Value};
 use std::alloc::{AllocError, Global};
 
@@ -78,9 +80,12 @@ fn read_is_in(
     let Some(name) = read_name(alloc, name)? else {
         return Ok(None);
     };
-    match read_reference(alloc, entity)? {
+    match or_drop!(read_reference(alloc, entity), name) {
         Some(entity) => Ok(Some(PrincipalOrResourceConstraint::IsIn(name, entity))),
-        None => Ok(None),
+        None => {
+            drop(name);
+            Ok(None)
+        }
     }
 }
 

@@ -98,8 +98,9 @@ impl PrincipalOrResourceConstraint {
                 PrincipalOrResourceConstraint::Is(entity_type.try_clone()?)
             }
             PrincipalOrResourceConstraint::IsIn(entity_type, entity) => {
-                let entity = entity.with_id(id)?;
-                PrincipalOrResourceConstraint::IsIn(entity_type.try_clone()?, entity)
+                let entity_type = entity_type.try_clone()?;
+                let entity = or_drop!(entity.with_id(id), entity_type);
+                PrincipalOrResourceConstraint::IsIn(entity_type, entity)
             }
         })
     }

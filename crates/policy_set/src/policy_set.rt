@@ -254,8 +254,10 @@ impl PolicySet {
         requires { removal_fault self.old id.now ≡ None }
         ensures { self.new ≡ without id.now self.old }
     {
-        let _template = self.templates.remove(id);
-        let _policy = self.policies.remove(id);
+        let template = self.templates.remove(id);
+        drop(template);
+        let policy = self.policies.remove(id);
+        drop(policy);
     }
 
     /// How many policies there are, static ones and links.
@@ -381,7 +383,9 @@ fn stands_on(policy: &Policy, id: &Text) -> bool
 fn duplicate(template: Template) -> PolicySetError
     ensures { IsNotAdded (Some (DuplicateId template.id)) result }
 {
-    match template.id().try_clone() {
+    let id = template.id().try_clone();
+    drop(template);
+    match id {
         Ok(id) => PolicySetError::DuplicateId(id),
         Err(e) => e.into(),
     }
@@ -394,7 +398,10 @@ fn put<V: Drop>(map: &mut BTreeMap<Text, V>, key: Text, value: V) -> Result<(), 
     ensures unchanged { OnErr result (map.new.entries ≡ map.old.entries) }
 {
     match map.insert(key, value) {
-        Ok(_replaced) => Ok(()),
+        Ok(replaced) => {
+            drop(replaced);
+            Ok(())
+        }
         Err(e) => Err(AllocError::from(e)),
     }
 }

@@ -179,30 +179,35 @@ impl Template {
         ensures link { IfOk result (λ t. t ≡ record (linked_of values.now self.now) { id = id }) }
         ensures condition { IfOk result (λ t. condition_of t ≡ own_condition values.now self.now) }
     {
-        let principal_constraint = self
-            .principal_constraint
-            .with_id(values.value(SlotId::Principal))?;
-        let action_constraint = self.action_constraint.try_clone()?;
-        let resource_constraint = self
-            .resource_constraint
-            .with_id(values.value(SlotId::Resource))?;
-        match self.condition.substitute(alloc, values) {
-            Ok(condition) => Ok(Template {
-                id,
-                effect: self.effect,
-                principal_constraint,
-                action_constraint,
-                resource_constraint,
-                condition,
-            }),
-            Err(e) => {
-                drop(id);
-                drop(principal_constraint);
-                drop(action_constraint);
-                drop(resource_constraint);
-                Err(e)
-            }
-        }
+        let principal = values.value(SlotId::Principal);
+        let principal_constraint = or_drop!(self.principal_constraint.with_id(principal), id);
+        let action_constraint = or_drop!(
+            self.action_constraint.try_clone(),
+            id,
+            principal_constraint
+        );
+        let resource = values.value(SlotId::Resource);
+        let resource_constraint = or_drop!(
+            self.resource_constraint.with_id(resource),
+            id,
+            principal_constraint,
+            action_constraint
+        );
+        let condition = or_drop!(
+            self.condition.substitute(alloc, values),
+            id,
+            principal_constraint,
+            action_constraint,
+            resource_constraint
+        );
+        Ok(Template {
+            id,
+            effect: self.effect,
+            principal_constraint,
+            action_constraint,
+            resource_constraint,
+            condition,
+        })
     }
 
     /// Whether its scope has a slot, so that it is to be linked.

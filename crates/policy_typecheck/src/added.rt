@@ -108,7 +108,9 @@ fn unmarked(
     let mut marks = known.into_iter();
     let mut more = Vec::new(alloc);
     for error in found {
-        if marks.next() != Some(true) {
+        if marks.next() == Some(true) {
+            drop(error);
+        } else {
             more.push(error)?;
         }
     }

@@ -241,7 +241,9 @@ impl<'a, 'x> Typechecker<'a, 'x> {
     {
         check_is_exact();
         let check = self.typecheck_linked_in(alloc, p, env)?;
-        Ok(verdict_by(&check))
+        let verdict = verdict_by(&check);
+        drop(check);
+        Ok(verdict)
     }
 
     fn check_in<'b>(

@@ -161,14 +161,16 @@ fn call_ended<'a>(
     let Rest { trees, found } = rest;
     match of {
         Some(of) => {
-            let note = of.try_clone(alloc)?;
-            let tree = Expr::extension_function_app(f.try_clone()?, trees, Some(note), loc)?;
+            let note = or_drop!(of.try_clone(alloc), of);
+            let f = or_drop!(f.try_clone(), of, note);
+            let tree = or_drop!(Expr::extension_function_app(f, trees, Some(note), loc), of);
             let caps = CapabilitySet::new(alloc);
             Ok(ended_typed(alloc, ok, Typing { of, caps, tree }, found)?)
         }
         None => {
             let note = result_type(alloc, g)?;
-            let tree = Expr::extension_function_app(f.try_clone()?, trees, Some(note), loc)?;
+            let f = or_drop!(f.try_clone(), note);
+            let tree = Expr::extension_function_app(f, trees, Some(note), loc)?;
             Ok(failed(alloc, tree, found)?)
         }
     }

@@ -61,7 +61,7 @@ fn fields_lent(
     for (key, w) in fs.iter() {
         match type_lent(alloc, w)? {
             Some(t) => {
-                let key = key.try_clone()?;
+                let key = or_drop!(key.try_clone(), t);
                 push_entry(&mut types, key, t)?;
             }
             None => return Ok(None),
@@ -108,8 +108,8 @@ fn record_ended<'a>(
     match types {
         Some(types) => {
             let of = record_type(alloc, types)?;
-            let note = of.try_clone(alloc)?;
-            let tree = Expr::record(trees, Some(note), loc)?;
+            let note = or_drop!(of.try_clone(alloc), of);
+            let tree = or_drop!(Expr::record(trees, Some(note), loc), of);
             let caps = CapabilitySet::new(alloc);
             Ok(ended_typed(alloc, ok, Typing { of, caps, tree }, found)?)
         }

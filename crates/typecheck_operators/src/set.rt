@@ -49,7 +49,8 @@ fn set_ended<'a>(
             let own = set_found(alloc, loc, types.as_slice())?;
             let of = set_type(alloc, types.as_slice())?;
             drop(types);
-            set_typed(alloc, loc, ok, of, trees, joined(found, own)?)
+            let found = or_drop!(joined(found, own), of);
+            set_typed(alloc, loc, ok, of, trees, found)
         }
         None => {
             let tree = Expr::set(trees, None, loc)?;
@@ -71,8 +72,8 @@ fn set_typed<'a>(
 {
     match of {
         Some(of) => {
-            let note = of.try_clone(alloc)?;
-            let tree = Expr::set(trees, Some(note), loc)?;
+            let note = or_drop!(of.try_clone(alloc), of);
+            let tree = or_drop!(Expr::set(trees, Some(note), loc), of);
             let caps = CapabilitySet::new(alloc);
             Ok(ended_typed(alloc, ok, Typing { of, caps, tree }, found)?)
         }

@@ -273,9 +273,9 @@ fn expect_lent<'a>(
             if fits(x, t) {
                 Ok(Told::Fail(failure))
             } else {
-                let more = unexpected(alloc, x, loc, t)?;
+                let more = or_drop!(unexpected(alloc, x, loc, t), failure);
                 let Failure { tree, found } = Box::into_inner(failure);
-                let found = joined(found, more)?;
+                let found = or_drop!(joined(found, more), tree);
                 failed(alloc, untyped(tree), found)
             }
         }

@@ -15,7 +15,7 @@ push_entry-requires c =
     let done = keys_of c.loop-key.types.entries in
     let keys = c.loop-key.invariant.keys ∙ ap (λ es. done ++ keys_of es) c.in-Some.ensures.steps in
     let next = next-seam done c.in-Some.key.now (keys_of c.next.new.self) (subst (IsStrictlySortedBy text_cmp) keys c.iter-key-items.ensures.ordered) in
-    subst (λ k. IsNext k done) (sym c.in_ok-key-in-Some-2.ensures) next
+    subst (λ k. IsNext k done) (sym c.in-Ok.ensures) next
 
 pub loop-key-preserved : goal.loop-key-preserved
 loop-key-preserved c =
@@ -24,7 +24,7 @@ loop-key-preserved c =
     let t = c.in-Some-2.t in
     let is = c.in-Some.ensures.steps in
     let rest = fields_lent (map field_of c.next.new.self) in
-    let pushed = c.in_ok-push_entry-in-Some-2.ensures.added ∙ ap (λ l. done ++ (l, t) ∷ []) c.in_ok-key-in-Some-2.ensures in
+    let pushed = c.in_ok-push_entry-in-Some-2.ensures.added ∙ ap (λ l. done ++ (l, t) ∷ []) c.in-Ok.ensures in
     let lent = sym c.in_ok-t.ensures ∙ c.in-Some-2.is in
     record {
       all = some_step _ done _ (k, t) rest pushed

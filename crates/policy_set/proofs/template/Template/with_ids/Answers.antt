@@ -7,19 +7,19 @@ use Rattle.policy_set.proofs.template.Template.with_ids.Goals as goal
 pub invariant_of-result : goal.invariant_of-result
 invariant_of-result c =
     let t = template_with c.self.inside.id c.self.inside.effect c.self.inside.principal_constraint c.self.inside.action_constraint c.self.inside.resource_constraint c.self.inside.condition in
-    copied_keeps c.args.values.now t c.self.inside.condition c.self.invariant c.args.id c.in_ok-principal_constraint.principal_constraint c.in_ok-action_constraint.action_constraint c.in_ok-resource_constraint.resource_constraint c.in-Ok.condition
-    (c.in_ok-principal_constraint.ensures ∙ ap (λ o. linked o t.principal) c.value.ensures) c.in_ok-action_constraint.ensures (c.in_ok-resource_constraint.ensures ∙ ap (λ o. linked o t.resource) c.value-2.ensures) c.in-Ok.ensures
+    copied_keeps c.args.values.now t c.self.inside.condition c.self.invariant c.args.id c.in-Ok.value c.in-Ok-try_clone.value c.in-Ok-with_id.value c.in-Ok-substitute.value
+    (c.in-Ok.ensures ∙ ap (λ o. linked o t.principal) c.value-principal.ensures) c.in-Ok-try_clone.ensures (c.in-Ok-with_id.ensures ∙ ap (λ o. linked o t.resource) c.value-resource.ensures) c.in-Ok-substitute.ensures
 
-pub returns-in-Ok-clause-link : goal.returns-in-Ok-clause-link
-returns-in-Ok-clause-link c =
+pub returns-clause-link : goal.returns-clause-link
+returns-clause-link c =
     let t = template_with c.self.inside.id c.self.inside.effect c.self.inside.principal_constraint c.self.inside.action_constraint c.self.inside.resource_constraint c.self.inside.condition in
-    copied c.args.values.now t c.self.inside.condition c.self.invariant c.args.id c.in_ok-principal_constraint.principal_constraint c.in_ok-action_constraint.action_constraint c.in_ok-resource_constraint.resource_constraint c.in-Ok.condition
-    (c.in_ok-principal_constraint.ensures ∙ ap (λ o. linked o t.principal) c.value.ensures) c.in_ok-action_constraint.ensures (c.in_ok-resource_constraint.ensures ∙ ap (λ o. linked o t.resource) c.value-2.ensures) c.in-Ok.ensures
+    copied c.args.values.now t c.self.inside.condition c.self.invariant c.args.id c.in-Ok.value c.in-Ok-try_clone.value c.in-Ok-with_id.value c.in-Ok-substitute.value
+    (c.in-Ok.ensures ∙ ap (λ o. linked o t.principal) c.value-principal.ensures) c.in-Ok-try_clone.ensures (c.in-Ok-with_id.ensures ∙ ap (λ o. linked o t.resource) c.value-resource.ensures) c.in-Ok-substitute.ensures
     ∙ ap (λ t. record (linked_of c.args.values.now t) { id = c.args.id }) c.self.view_is
 
-pub returns-in-Ok-clause-condition : goal.returns-in-Ok-clause-condition
-returns-in-Ok-clause-condition c =
+pub returns-clause-condition : goal.returns-clause-condition
+returns-clause-condition c =
     let t = template_with c.self.inside.id c.self.inside.effect c.self.inside.principal_constraint c.self.inside.action_constraint c.self.inside.resource_constraint c.self.inside.condition in
-    copied_condition c.args.values.now t c.self.inside.condition c.self.invariant c.args.id c.in_ok-principal_constraint.principal_constraint c.in_ok-action_constraint.action_constraint c.in_ok-resource_constraint.resource_constraint c.in-Ok.condition
-    (c.in_ok-principal_constraint.ensures ∙ ap (λ o. linked o t.principal) c.value.ensures) c.in_ok-action_constraint.ensures (c.in_ok-resource_constraint.ensures ∙ ap (λ o. linked o t.resource) c.value-2.ensures) c.in-Ok.ensures
+    copied_condition c.args.values.now t c.self.inside.condition c.self.invariant c.args.id c.in-Ok.value c.in-Ok-try_clone.value c.in-Ok-with_id.value c.in-Ok-substitute.value
+    (c.in-Ok.ensures ∙ ap (λ o. linked o t.principal) c.value-principal.ensures) c.in-Ok-try_clone.ensures (c.in-Ok-with_id.ensures ∙ ap (λ o. linked o t.resource) c.value-resource.ensures) c.in-Ok-substitute.ensures
     ∙ ap (own_condition c.args.values.now) c.self.view_is
