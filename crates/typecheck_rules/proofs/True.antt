@@ -22,7 +22,7 @@ use Rattle.findings.specs.declared.access.AttributeAccess.{AttributeAccess}
 use Rattle.findings.specs.Finding.{Finding, Kind, UnexpectedType}
 use Rattle.typecheck_rules.specs.Own.{of_both, incompatible, no_join, contains_found, is_comparable, wrong, order_wrong, tag_found, binary_found, attribute_found, set_found, text_found, call_found}
 use Rattle.typecheck_rules.specs.Operators.{place}
-use Rattle.typecheck_rules.specs.Truth.{NoneAbove, Lends, IsSo, IsTrueAt}
+use Rattle.typecheck_rules.specs.Truth.{NoneAbove, Lends, LendEach, IsToJoin, IsSo, IsTrueAt}
 use Rattle.typecheck_rules.proofs.Each.{Each, each_both, each_if_none, each_if_not}
 use Rattle.typecheck_rules.proofs.Below.{same_is, IsLeast, least_long, least_extension, not_below, unordered}
 
@@ -37,21 +37,21 @@ module _ (schema : SchemaData) (env : EnvData) (ps : List Plain) where
   pub one_true : (k : Kind) (e : Plain) → Contains ps e → IsSo schema env e k → Each Q (record { kind = k; loc = place e } ∷ [])
   one_true k e at h = (record { part = e; among = at; at = refl; so = h }, tt)
 
-  incompatible_true : (context : LubContext) (e : Plain) (ts : List Ty) (j : Result Ty LubHelp) → Contains ps e → ((h : LubHelp) → j ≡ Err h → join_all Strict ts ≡ Err h) → Each Q (incompatible context (place e) ts j)
-  incompatible_true context e ts (Ok t) at k = tt
-  incompatible_true context e ts (Err h) at k = one_true _ e at (ts, refl, k h refl)
+  incompatible_true : (context : LubContext) (e : Plain) (ts : List Ty) (j : Result Ty LubHelp) → Contains ps e → IsToJoin schema env e ts → ((h : LubHelp) → j ≡ Err h → join_all Strict ts ≡ Err h) → Each Q (incompatible context (place e) ts j)
+  incompatible_true context e ts (Ok t) at joins k = tt
+  incompatible_true context e ts (Err h) at joins k = one_true _ e at (ts, joins, refl, k h refl)
 
-  pub no_join_true : (context : LubContext) (e : Plain) (t u : Ty) → Contains ps e → Each Q (no_join context (place e) t u)
-  no_join_true context e t u at = incompatible_true context e (t ∷ u ∷ []) (join Strict t u) at (λ h k. ap (λ r. join_rest Strict r []) k)
+  pub no_join_true : (context : LubContext) (e : Plain) (t u : Ty) → Contains ps e → IsToJoin schema env e (t ∷ u ∷ []) → Each Q (no_join context (place e) t u)
+  no_join_true context e t u at joins = incompatible_true context e (t ∷ u ∷ []) (join Strict t u) at joins (λ h k. ap (λ r. join_rest Strict r []) k)
 
   pub of_both_true : (found : Ty → Ty → List Finding) (t u : Option Ty) → ((a b : Ty) → t ≡ Some a → u ≡ Some b → Each Q (found a b)) → Each Q (of_both found t u)
   of_both_true found (Some t) (Some u) h = h t u refl refl
   of_both_true found (Some t) None h = tt
   of_both_true found None u h = tt
 
-  contains_true : (e : Plain) (t u : Ty) → Contains ps e → Each Q (contains_found (place e) t u)
-  contains_true e (set_of t) u at = no_join_true context.Contains e t u at
-  contains_true e _ u at = tt
+  contains_true : (x y : Plain) (m : Mark (Unit {0})) (t u : Ty) → Contains ps (binary ContainsOp x y m) → Lends schema env x t → Lends schema env y u → Each Q (contains_found m.loc t u)
+  contains_true x y m (set_of t) u at lx ly = no_join_true context.Contains (binary ContainsOp x y m) t u at (lx, ly)
+  contains_true x y m _ u at lx ly = tt
 
   -- `<` and `<=`
   wrong_true : (ts : List Ty) (e : Plain) (t : Ty) → Contains ps e → Lends schema env e t → NoneAbove t ts → Each Q (wrong ts (place e) t)
@@ -115,16 +115,16 @@ module _ (schema : SchemaData) (env : EnvData) (ps : List Plain) where
 
   pub binary_true : (o : BinaryOp) (known : Bool) (x y : Plain) (m : Mark (Unit {0})) (type t u : Option Ty) → Contains ps x → Contains ps y → Contains ps (binary o x y m) → MayLend x t → MayLend y u →
       Each Q (binary_found schema o known y type (place x) (place y) m.loc t u)
-  binary_true Eq known x y m type t u at to here lx ly = of_both_true _ t u (λ a b p q. each_if_none Q type _ (λ e. no_join_true context.Equality (binary Eq x y m) a b here))
+  binary_true Eq known x y m type t u at to here lx ly = of_both_true _ t u (λ a b p q. each_if_none Q type _ (λ e. no_join_true context.Equality (binary Eq x y m) a b here (lx a p, ly b q)))
   binary_true Less known x y m type t u at to here lx ly = of_both_true _ t u (λ a b p q. each_if_none Q (order_type a b) _ (λ e. order_true x y a b at to (lx a p) (ly b q) e))
   binary_true LessEq known x y m type t u at to here lx ly = of_both_true _ t u (λ a b p q. each_if_none Q (order_type a b) _ (λ e. order_true x y a b at to (lx a p) (ly b q) e))
   binary_true Add known x y m type t u at to here lx ly = tt
   binary_true Sub known x y m type t u at to here lx ly = tt
   binary_true Mul known x y m type t u at to here lx ly = tt
   binary_true In known x y m type t u at to here lx ly = tt
-  binary_true ContainsOp known x y m type t u at to here lx ly = of_both_true _ t u (λ a b p q. contains_true (binary ContainsOp x y m) a b here)
-  binary_true ContainsAll known x y m type t u at to here lx ly = of_both_true _ t u (λ a b p q. no_join_true context.ContainsAnyAll (binary ContainsAll x y m) a b here)
-  binary_true ContainsAny known x y m type t u at to here lx ly = of_both_true _ t u (λ a b p q. no_join_true context.ContainsAnyAll (binary ContainsAny x y m) a b here)
+  binary_true ContainsOp known x y m type t u at to here lx ly = of_both_true _ t u (λ a b p q. contains_true x y m a b here (lx a p) (ly b q))
+  binary_true ContainsAll known x y m type t u at to here lx ly = of_both_true _ t u (λ a b p q. no_join_true context.ContainsAnyAll (binary ContainsAll x y m) a b here (lx a p, ly b q))
+  binary_true ContainsAny known x y m type t u at to here lx ly = of_both_true _ t u (λ a b p q. no_join_true context.ContainsAnyAll (binary ContainsAny x y m) a b here (lx a p, ly b q))
   binary_true GetTag known x y m type t u at to here lx ly = tag_if known x y m t here lx
   binary_true HasTag known x y m type t u at to here lx ly = tt
 
@@ -144,9 +144,9 @@ module _ (schema : SchemaData) (env : EnvData) (ps : List Plain) where
       by None e = one_true _ (attr x n m) at (t, lent, e, refl)
       by (Some a) e = each_if_none Q (safe_type known a) _ (λ d. one_true _ (attr x n m) at (t, lent, subst (λ o. IsSomeAnd o (λ b. b.is_required ≡ false)) (sym e) (unsafe known a d)))
 
-  pub set_true : (xs : Trees (Mark (Unit {0}))) (m : Mark (Unit {0})) (ts : List Ty) → Contains ps (set xs m) → (ts ≡ [] → xs ≡ no_trees) → Each Q (set_found m.loc ts)
-  set_true xs m [] at k = one_true _ (set xs m) at (k refl)
-  set_true xs m (t ∷ ts) at k = incompatible_true context.Set (set xs m) (t ∷ ts) (join_all Strict (t ∷ ts)) at (λ h e. e)
+  pub set_true : (xs : Trees (Mark (Unit {0}))) (m : Mark (Unit {0})) (ts : List Ty) → Contains ps (set xs m) → (ts ≡ [] → xs ≡ no_trees) → LendEach schema env xs ts → Each Q (set_found m.loc ts)
+  set_true xs m [] at k lent = one_true _ (set xs m) at (k refl)
+  set_true xs m (t ∷ ts) at k lent = incompatible_true context.Set (set xs m) (t ∷ ts) (join_all Strict (t ∷ ts)) at lent (λ h e. e)
 
   -- calls
   text_true : (f : List ℕ) (g : ExtensionFunction) (xs : Trees (Mark (Unit {0}))) (m : Mark (Unit {0})) (o : Option (List ℕ)) → function_of f ≡ Some g → only_text xs ≡ o → option_map_or (is_readable g) o true ≡ false →

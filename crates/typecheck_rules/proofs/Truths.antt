@@ -1,5 +1,5 @@
 -- What is found is so, and stands at a part of the expression.
-use Rattle.std.proofs.Common.{◌≡◌, sym, Bool, true, false, List, [], ◌∷◌, ◌++◌, Option, Some, None, map, option_map, Contains, ℕ, ◌&&◌, refl}
+use Rattle.std.proofs.Common.{◌≡◌, sym, Bool, true, false, List, [], ◌∷◌, ◌++◌, Option, Some, None, map, option_map, Contains, ℕ, ◌&&◌, refl, ap, subst}
 use Rattle.std.specs.List.{AllByRecursion, list_all}
 use Rattle.std.specs.Option.{option_map_or, option_and_then}
 use Rattle.std.proofs.lemmas.List.Elements.{Contains-append_left, Contains-append_right, Contains-push, All-from_recursion}
@@ -25,7 +25,7 @@ use Rattle.typecheck_rules.specs.Walked.{Walked, Success, Fail, findings_of, tre
 use Rattle.typecheck_rules.specs.Own.{no_join, set_found, call_found}
 use Rattle.typecheck_rules.specs.Operators.{place, type_lent, leaf_walked, unless_false, unless_true, reached_after, reached_besides, unary_lent, unary_typing, unary_fitting, like_typing, like_fitting, is_typing, is_fitting, has_typing_of, has_fitting, attr_typing, attr_lent, attr_found, attr_fitting, binary_lent, binary_typing, binary_type_lent, binary_own, binary_fitting, and_sides, or_sides, test_lent, branches_found, if_typing_of, if_parts, set_typing, set_walked, Fields, parts_of, lent_fields, record_typing, record_walked, arguments_fitting, arguments_walked, call_typing, call_fitting, call_walked}
 use Rattle.typecheck_rules.specs.Walk.{walked, walked_all, walked_named}
-use Rattle.typecheck_rules.specs.Truth.{parts, all_parts, named_parts, Lends, IsTrueAt, FindingsAreTrue}
+use Rattle.typecheck_rules.specs.Truth.{parts, all_parts, named_parts, Lends, LendEach, IsTrueAt, FindingsAreTrue}
 use Rattle.typecheck_rules.proofs.Steps.{IfFalse}
 use Rattle.typecheck_rules.proofs.Each.{Each, each_both, each_of, each_ended, each_expect, expect_lends, expect_if_lends}
 use Rattle.typecheck_rules.proofs.Below.{Bars, BarsIf, IsLeast, boolean_bars, string_bars, entity_bars, owner_bars, argument_bars, arguments_least, unary_bars, left_bars, right_bars}
@@ -55,6 +55,12 @@ part_in (call f xs m) = here (call f xs m) (all_parts xs)
 part_in (set xs m) = here (set xs m) (all_parts xs)
 part_in (rec xs m) = here (rec xs m) (named_parts xs)
 
+-- a test that is not known to be true or false
+abbrev IsOpen : Ty → Type 0
+IsOpen true_type = ⊥
+IsOpen false_type = ⊥
+IsOpen t = Unit {0}
+
 module _ (schema : SchemaData) (env : EnvData) where
   -- at more parts
   wider : (ps qs : List Plain) → ((e : Plain) → Contains ps e → Contains qs e) → (fs : List Finding) → Each (IsTrueAt schema env ps) fs → Each (IsTrueAt schema env qs) fs
@@ -83,10 +89,11 @@ module _ (schema : SchemaData) (env : EnvData) where
     attr_own known x n m None at lent = tt
     attr_own known x n m (Some a) at lent = attribute_true schema env ps (attribute_access env a.tree n) known x n m a.type at (lent a.type refl)
 
-    branches_true : (x y z : Plain) (m : Mark (Unit {0})) (s : Ty) (t u : Option Ty) → Contains ps (ite x y z m) → Each (IsTrueAt schema env ps) (branches_found m s t u)
-    branches_true x y z m true_type t u at = tt
-    branches_true x y z m false_type t u at = tt
-    branches_true x y z m s t u at = of_both_true schema env ps (no_join context.Conditional m.loc) t u (λ a b p q. no_join_true schema env ps context.Conditional (ite x y z m) a b at)
+    branches_true : (x y z : Plain) (m : Mark (Unit {0})) (s : Ty) (t u : Option Ty) → Contains ps (ite x y z m) → (IsOpen s → MayLend schema env ps y t) → (IsOpen s → MayLend schema env ps z u) →
+        Each (IsTrueAt schema env ps) (branches_found m s t u)
+    branches_true x y z m true_type t u at ly lz = tt
+    branches_true x y z m false_type t u at ly lz = tt
+    branches_true x y z m s t u at ly lz = of_both_true schema env ps (no_join context.Conditional m.loc) t u (λ a b p q. no_join_true schema env ps context.Conditional (ite x y z m) a b at (ly tt a p, lz tt b q))
 
     unless_false_true : (t : Ty) (w : Walked) → Each (IsTrueAt schema env ps) (findings_of w) → Each (IsTrueAt schema env ps) (findings_of (unless_false t w))
     unless_false_true false_type w h = tt
@@ -106,9 +113,9 @@ module _ (schema : SchemaData) (env : EnvData) where
     besides_true (Fail t fs) w h = h
 
     set_own : (xs : Trees (Mark (Unit {0}))) (m : Mark (Unit {0})) (o : Option (List Typing)) → Contains ps (set xs m) → ((ys : List Typing) → o ≡ Some ys → types_in ys ≡ [] → xs ≡ no_trees) →
-        Each (IsTrueAt schema env ps) (option_map_or (λ ys. set_found m.loc (types_in ys)) o [])
-    set_own xs m None at k = tt
-    set_own xs m (Some ys) at k = set_true schema env ps xs m (types_in ys) at (k ys refl)
+        ((ys : List Typing) → o ≡ Some ys → LendEach schema env xs (types_in ys)) → Each (IsTrueAt schema env ps) (option_map_or (λ ys. set_found m.loc (types_in ys)) o [])
+    set_own xs m None at k lent = tt
+    set_own xs m (Some ys) at k lent = set_true schema env ps xs m (types_in ys) at (k ys refl) (lent ys refl)
 
     -- an operator has only true findings where its operands do, and its own are true
     one_is_true : (rule : Typing → Option Typing) (failed : Typed) (own : List Finding) (v : Walked) → Each (IsTrueAt schema env ps) (findings_of v) → Each (IsTrueAt schema env ps) own →
@@ -159,20 +166,22 @@ module _ (schema : SchemaData) (env : EnvData) where
         each_ended (IsTrueAt schema env ps) (has_typing v && has_typing w) (option_and_then (λ a. or_typing a.type a.caps a.tree m (lent_by w)) (lent_by v)) (disj (tree_of v) (tree_of w) (lends (Some bool_type) m))
         (findings_of v ++ findings_of w) (each_both (IsTrueAt schema env ps) (findings_of v) (findings_of w) h k)
 
-    if_parts_true : (x y z : Plain) (m : Mark (Unit {0})) (u v w : Walked) → Contains ps (ite x y z m) → Each (IsTrueAt schema env ps) (findings_of u) → Each (IsTrueAt schema env ps) (findings_of v) → Each (IsTrueAt schema env ps) (findings_of w) →
+    if_parts_true : (x y z : Plain) (m : Mark (Unit {0})) (u v w : Walked) → Contains ps (ite x y z m) → (IsOpen (test_lent u).type → MayLend schema env ps y (type_lent v)) →
+        (IsOpen (test_lent u).type → MayLend schema env ps z (type_lent w)) → Each (IsTrueAt schema env ps) (findings_of u) → Each (IsTrueAt schema env ps) (findings_of v) → Each (IsTrueAt schema env ps) (findings_of w) →
         Each (IsTrueAt schema env ps) (findings_of (if_parts m u v w))
-    if_parts_true x y z m u v w at h k i =
+    if_parts_true x y z m u v w at ly lz h k i =
         each_ended (IsTrueAt schema env ps) (has_typing u && (has_typing v && has_typing w)) (if_typing_of m (test_lent u) (lent_by v) (lent_by w)) (ite (tree_of u) (tree_of v) (tree_of w) (lends None m))
         (findings_of u ++ (findings_of v ++ (findings_of w ++ branches_found m (test_lent u).type (type_lent v) (type_lent w))))
         (each_both (IsTrueAt schema env ps) (findings_of u) (findings_of v ++ (findings_of w ++ branches_found m (test_lent u).type (type_lent v) (type_lent w))) h
         (each_both (IsTrueAt schema env ps) (findings_of v) (findings_of w ++ branches_found m (test_lent u).type (type_lent v) (type_lent w)) k
-        (each_both (IsTrueAt schema env ps) (findings_of w) (branches_found m (test_lent u).type (type_lent v) (type_lent w)) i (branches_true x y z m (test_lent u).type (type_lent v) (type_lent w) at))))
+        (each_both (IsTrueAt schema env ps) (findings_of w) (branches_found m (test_lent u).type (type_lent v) (type_lent w)) i (branches_true x y z m (test_lent u).type (type_lent v) (type_lent w) at ly lz))))
 
     set_is_true : (xs : Trees (Mark (Unit {0}))) (m : Mark (Unit {0})) (ws : List Walked) → Contains ps (set xs m) → ((ys : List Typing) → lent_by_all ws ≡ Some ys → types_in ys ≡ [] → xs ≡ no_trees) →
+        ((ys : List Typing) → lent_by_all ws ≡ Some ys → LendEach schema env xs (types_in ys)) →
         Each (IsTrueAt schema env ps) (findings_of_all ws) → Each (IsTrueAt schema env ps) (findings_of (set_walked m ws))
-    set_is_true xs m ws at k h =
+    set_is_true xs m ws at k lent h =
         all_is_true (set_typing m) (set (trees_walked ws) (lends None m)) (findings_of_all ws ++ option_map_or (λ ys. set_found m.loc (types_in ys)) (lent_by_all ws) []) ws
-        (each_both (IsTrueAt schema env ps) (findings_of_all ws) (option_map_or (λ ys. set_found m.loc (types_in ys)) (lent_by_all ws) []) h (set_own xs m (lent_by_all ws) at k))
+        (each_both (IsTrueAt schema env ps) (findings_of_all ws) (option_map_or (λ ys. set_found m.loc (types_in ys)) (lent_by_all ws) []) h (set_own xs m (lent_by_all ws) at k lent))
 
     record_is_true : (m : Mark (Unit {0})) (es : Fields) → Each (IsTrueAt schema env ps) (findings_of_all (parts_of es)) → Each (IsTrueAt schema env ps) (findings_of (record_walked m es))
     record_is_true m es h =
@@ -233,6 +242,40 @@ module _ (schema : SchemaData) (env : EnvData) where
   all_lent ps cs no_trees = tt
   all_lent ps cs (tree x xs) = (lent cs x, all_lent ps cs xs)
 
+  -- so are the branches of an `if` whose test is open: both are walked
+  after_lent : (ps : List Plain) (u : Walked) (cs : List Capability) (y : Plain) → IsOpen (test_lent u).type →
+      MayLend schema env ps y (type_lent (reached_after u (λ ds. walked schema env (cs ++ ds) y) (walked schema env cs y)))
+  after_lent ps (Fail t fs) cs y h = lent cs y
+  after_lent ps (Success a) cs y h = by a.type h
+    where
+      by : (s : Ty) → IsOpen s → MayLend schema env ps y (type_lent (unless_false s (walked schema env (cs ++ a.caps) y)))
+      by true_type i = absurd i
+      by false_type i = absurd i
+      by s i = lent (cs ++ a.caps) y
+
+  besides_lent : (ps : List Plain) (u : Walked) (cs : List Capability) (z : Plain) → IsOpen (test_lent u).type → MayLend schema env ps z (type_lent (reached_besides u (walked schema env cs z)))
+  besides_lent ps (Fail t fs) cs z h = lent cs z
+  besides_lent ps (Success a) cs z h = by a.type h
+    where
+      by : (s : Ty) → IsOpen s → MayLend schema env ps z (type_lent (unless_true s (walked schema env cs z)))
+      by true_type i = absurd i
+      by false_type i = absurd i
+      by s i = lent cs z
+
+  -- where each element lends a type, these are the types that they lend
+  each_lent : (cs : List Capability) (xs : Trees (Mark (Unit {0}))) (ys : List Typing) → lent_by_all (walked_all schema env cs xs) ≡ Some ys → LendEach schema env xs (types_in ys)
+  each_lent cs no_trees [] h = tt
+  each_lent cs no_trees (y ∷ ys) h = absurd (cc h)
+  each_lent cs (tree x xs) ys h = by (lent_by (walked schema env cs x)) refl (lent_by_all (walked_all schema env cs xs)) (each_lent cs xs) h
+    where
+      by : (o : Option Typing) → lent_by (walked schema env cs x) ≡ o → (os : Option (List Typing)) → ((zs : List Typing) → os ≡ Some zs → LendEach schema env xs (types_in zs)) →
+          option_and_then (λ a. option_map (λ more. a ∷ more) os) o ≡ Some ys → LendEach schema env (tree x xs) (types_in ys)
+      by None e os k i = absurd (cc i)
+      by (Some a) e None k i = absurd (cc i)
+      by (Some a) e (Some more) k i =
+          let same : a ∷ more ≡ ys = cc i in
+          subst (λ zs. LendEach schema env (tree x xs) (types_in zs)) same ((cs, ap (option_map (λ b. b.type)) e), k more refl)
+
   -- operands without types are none
   no_operands : (cs : List Capability) (xs : Trees (Mark (Unit {0}))) (ys : List Typing) → lent_by_all (walked_all schema env cs xs) ≡ Some ys → types_in ys ≡ [] → xs ≡ no_trees
   no_operands cs no_trees ys h e = refl
@@ -260,7 +303,8 @@ module _ (schema : SchemaData) (env : EnvData) where
         let hy = after_true schema env (parts (ite x y z m)) (expect a_boolean (place x) (walked schema env cs x)) (λ ds. walked schema env (cs ++ ds) y) (walked schema env cs y)
         (λ ds. up _ y rest (walked schema env (cs ++ ds) y) in_y (true_of (cs ++ ds) y)) (up _ y rest (walked schema env cs y) in_y (true_of cs y)) in
         let hz = besides_true schema env (parts (ite x y z m)) (expect a_boolean (place x) (walked schema env cs x)) (walked schema env cs z) (up _ z rest (walked schema env cs z) in_z (true_of cs z)) in
-        if_parts_true schema env (parts (ite x y z m)) x y z m u (reached_after u (λ ds. walked schema env (cs ++ ds) y) (walked schema env cs y)) (reached_besides u (walked schema env cs z)) (here _ rest) hx hy hz
+        if_parts_true schema env (parts (ite x y z m)) x y z m u (reached_after u (λ ds. walked schema env (cs ++ ds) y) (walked schema env cs y)) (reached_besides u (walked schema env cs z)) (here _ rest)
+        (after_lent (parts (ite x y z m)) u cs y) (besides_lent (parts (ite x y z m)) u cs z) hx hy hz
     true_of cs (conj x y m) =
         let v = expect a_boolean (place x) (walked schema env cs x) in
         let rest = parts x ++ parts y in
@@ -314,7 +358,7 @@ module _ (schema : SchemaData) (env : EnvData) where
         call_is_true schema env (parts (call f xs m)) f (function_of f) xs m (walked_all schema env cs xs) refl (here _ (all_parts xs)) (λ e i. behind _ e (all_parts xs) i) (all_lent (parts (call f xs m)) cs xs)
         (wider schema env (all_parts xs) (parts (call f xs m)) (λ e i. behind _ e (all_parts xs) i) (findings_of_all (walked_all schema env cs xs)) (true_of_all cs xs))
     true_of cs (set xs m) =
-        set_is_true schema env (parts (set xs m)) xs m (walked_all schema env cs xs) (here _ (all_parts xs)) (no_operands cs xs)
+        set_is_true schema env (parts (set xs m)) xs m (walked_all schema env cs xs) (here _ (all_parts xs)) (no_operands cs xs) (each_lent cs xs)
         (wider schema env (all_parts xs) (parts (set xs m)) (λ e i. behind _ e (all_parts xs) i) (findings_of_all (walked_all schema env cs xs)) (true_of_all cs xs))
     true_of cs (rec xs m) =
         record_is_true schema env (parts (rec xs m)) m (walked_named schema env cs xs)

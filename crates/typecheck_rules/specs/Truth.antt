@@ -9,7 +9,7 @@ use Rattle.type_relations.specs.declared.mode.SubtypeMode.TheVariants.{Strict, P
 use Rattle.type_relations.specs.Attributes.{may_have, names_of}
 use Rattle.type_relations.specs.Join.{join_all}
 use Rattle.type_relations.specs.Subtype.{Subtype}
-use Rattle.policy_expressions.specs.declared.kinds.BinaryOp.TheVariants.{GetTag}
+use Rattle.policy_expressions.specs.declared.kinds.BinaryOp.TheVariants.{Contains as ContainsOp, GetTag}
 use Rattle.policy_expressions.specs.declared.functions.ExtensionFunction.{ExtensionFunction}
 use Rattle.policy_expressions.specs.Functions.{function_of}
 use Rattle.policy_expressions.specs.Tree.{Tree, lit, var, slot, ite, conj, disj, unary, binary, attr, has, like, is_type, call, set, rec, Trees, no_trees, tree, Named, no_named, named, Mark}
@@ -68,10 +68,25 @@ module _ (schema : SchemaData) (env : EnvData) where
   abbrev pub Lends : Plain → Ty → Type 0
   Lends e t = (cs : List Capability) × (type_lent (walked schema env cs e) ≡ Some t)
 
+  -- the types that the elements of a set literal lend, in their order
+  abbrev pub LendEach : Trees (Mark (Unit {0})) → List Ty → Type 0
+  LendEach no_trees [] = ⊤
+  LendEach (tree x xs) (t ∷ ts) = Lends x t × LendEach xs ts
+  LendEach xs ts = ⊥
+
+  -- the types of which a part wants a join: of the branches of an `if`, of a set's elements, of the elements of the left operand of `contains` and of
+  -- its right operand, of the operands of another operator
+  abbrev pub IsToJoin : Plain → List Ty → Type 0
+  IsToJoin (ite x y z m) (t ∷ u ∷ []) = Lends y t × Lends z u
+  IsToJoin (set xs m) ts = LendEach xs ts
+  IsToJoin (binary ContainsOp x y m) (t ∷ u ∷ []) = Lends x (set_of t) × Lends y u
+  IsToJoin (binary o x y m) (t ∷ u ∷ []) = Lends x t × Lends y u
+  IsToJoin e ts = ⊥
+
   -- what a finding of the kind says of the part at which it stands
   abbrev pub IsSo : Plain → Kind → Type 0
   IsSo e (UnexpectedType expected actual help) = Lends e actual × NoneAbove actual expected
-  IsSo e (IncompatibleTypes types why context) = (ts : List Ty) × (types ≡ ascending ts) × (join_all Strict ts ≡ Err why)
+  IsSo e (IncompatibleTypes types why context) = (ts : List Ty) × IsToJoin e ts × (types ≡ ascending ts) × (join_all Strict ts ≡ Err why)
   IsSo (attr x n m) (UnsafeAttributeAccess access may_exist) =
       (t : Ty) × Lends x t × (attribute_of schema t n ≡ None) × (may_exist ≡ may_have (declared_attributes schema) t n)
   IsSo (attr x n m) (UnsafeOptionalAttributeAccess access) = (t : Ty) × Lends x t × IsSomeAnd (attribute_of schema t n) (λ a. a.is_required ≡ false)
