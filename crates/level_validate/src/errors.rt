@@ -20,6 +20,7 @@ use schema_core::RequestEnv;
 use schema_types::Type;
 use std::alloc::{AllocError, Global};
 use std::collections::BTreeSet;
+use std::marker::Model;
 
 /// The errors of a policy that is checked for a level, by its typed conditions in environments: for each dereference that
 /// needs a higher level, and for each that is of a literal or a slot. They stand in the order of the conditions, and in
@@ -36,25 +37,88 @@ pub fn level_errors(
     ensures told { IfOk result (λ errors. AllByRecursion (IsToldOf policy_id.now max_level (flat_map dereferences_in (map condition_in conditions.now.items))) errors.items) }
 {
     level_errors_are_exact();
-    let faults = distinct_faults(alloc, max_level, conditions)?;
-    errors_of(alloc, policy_id, max_level, &faults)
+    let faults = faults_in_all(alloc, max_level, conditions)?;
+    faults.errors(alloc, policy_id, max_level)
 }
 
 // What is found, each once.
-fn distinct_faults(
+fn faults_in_all(
     alloc: Global,
     max_level: u32,
     conditions: &Vec<(RequestEnv<'_>, Expr<Option<Type>>)>,
-) -> Result<Vec<Fault>, AllocError>
-    ensures { IfOk result (λ faults. map fault_of faults.items ≡ distinct fault_cmp (flat_map (faults_in max_level) (map condition_in conditions.now.items))) }
+) -> Result<LevelFaults, AllocError>
+    ensures { IfOk result (λ faults. faults ≡ distinct fault_cmp (flat_map (faults_in max_level) (map condition_in conditions.now.items))) }
 {
-    let mut seen = BTreeSet::new(alloc);
-    let mut distinct = Vec::new(alloc);
+    let mut faults = LevelFaults::new(alloc);
     for (env, condition) in conditions {
+        faults = faults.with(alloc, env, max_level, condition)?;
+    }
+    Ok(faults)
+}
+
+/// What is found in the typed conditions of a policy that is checked for a level, one after another: each fault once, at
+/// its first place.
+#[derive(Drop)]
+pub struct LevelFaults {
+    seen: BTreeSet<(Option<u32>, Option<Loc>)>,
+    distinct: Vec<Fault>,
+}
+
+impl Model for LevelFaults {
+    ghost use Rattle.std.specs.Prelude.{List, map};
+    ghost use Rattle.level_spec.specs.Findings.{LevelFault};
+    ghost use Rattle.level_validate.specs.Faults.{fault_of};
+
+    ghost Value = { List LevelFault };
+
+    ghost view = { λ a. map fault_of a.distinct.items };
+
+    ghost use Rattle.level_validate.specs.Seen.{HasSeen};
+
+    ghost invariant = { λ a. HasSeen a.seen (map fault_of a.distinct.items) };
+}
+
+impl LevelFaults {
+    /// Nothing yet.
+    pub fn new(alloc: Global) -> LevelFaults
+        ensures { result ≡ [] }
+    {
+        LevelFaults {
+            seen: BTreeSet::new(alloc),
+            distinct: Vec::new(alloc),
+        }
+    }
+
+    /// With what is found in one condition more, typed in an environment.
+    pub fn with(
+        self,
+        alloc: Global,
+        env: &RequestEnv<'_>,
+        max_level: u32,
+        condition: &Expr<Option<Type>>,
+    ) -> Result<LevelFaults, AllocError>
+        ensures { IfOk result (λ faults. faults ≡ fold (with_new fault_cmp) self (level_faults (action_in (env_data_of env.now)) max_level condition.now)) }
+    {
+        let LevelFaults {
+            mut seen,
+            mut distinct,
+        } = self;
         let faults = faults_of(alloc, env, max_level, condition)?;
         add_new(faults, &mut seen, &mut distinct)?;
+        Ok(LevelFaults { seen, distinct })
     }
-    Ok(distinct)
+
+    /// As errors of the policy.
+    pub fn errors(
+        &self,
+        alloc: Global,
+        policy_id: &Text,
+        max_level: u32,
+    ) -> Result<Vec<ValidationError>, AllocError>
+        ensures { IfOk result (λ errors. errors.items ≡ map (level_error policy_id.now max_level) self.now) }
+    {
+        errors_of(alloc, policy_id, max_level, &self.distinct)
+    }
 }
 
 // What is found in a condition.

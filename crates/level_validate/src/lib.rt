@@ -10,6 +10,6 @@ mod pending;
 mod slice;
 mod walk;
 
-pub use errors::level_errors;
+pub use errors::{LevelFaults, level_errors};
 pub use level_spec::laws::{link_levels_are_sound, static_levels_are_sound};
 pub use slice::slice_at_level;

@@ -1,5 +1,5 @@
 -- Accepted policies have types in the environment of a request that conforms.
-use Rattle.std.proofs.Common.{◌≡◌, ℕ, true, false, List, [], ◌∷◌, map, Option, Some, None, IsTrue, IfSome, IsSomeAnd, option_map, refl, sym, ap, ◌∙◌, subst}
+use Rattle.std.proofs.Common.{◌≡◌, ℕ, suc, length, true, false, List, [], ◌∷◌, map, Option, Some, None, IsTrue, IfSome, IsSomeAnd, option_map, refl, sym, ap, ◌∙◌, subst}
 use Rattle.std.specs.List.{AllByRecursion, cons_option}
 use Rattle.policy_values.specs.Reaches.{has}
 use Rattle.policy_values.specs.Uid.{text_cmp}
@@ -67,3 +67,13 @@ all_typed_in everywhere schema q env conforms is ps typed =
     for_request schema q conforms (λ a at applies of.
     let same : declared_action (env_for a q) ≡ env = cc (sym (ap (option_map (λ b. declared_action (env_for b q))) at) ∙ is) in
     subst (λ e. AllByRecursion (λ p. IsTyped schema p.condition e) ps) same (all_typed_here everywhere schema q a at applies ps typed))
+
+-- where each condition has a type, none is left out
+pub each_typed : (schema : SchemaData) (env : EnvData) (ps : List PolicyData) → AllByRecursion (λ p. IsTyped schema p.condition env) ps → length (typed_conditions schema env ps) ≡ length ps
+each_typed schema env [] h = refl
+each_typed schema env (p ∷ ps) h = by (types schema env [] p.condition) h.0 (each_typed schema env ps h.1)
+  where
+    by : (o : Option Typing) → IsSomeAnd o (λ x. IsTrue (is_boolean x.type)) → length (typed_conditions schema env ps) ≡ length ps →
+        length (cons_option (option_map (λ a. a.tree) o) (typed_conditions schema env ps)) ≡ suc (length ps)
+    by None e k = absurd e
+    by (Some x) e k = ap suc k

@@ -1,30 +1,28 @@
 //! The store restricted to what policies read on a request.
 
-ghost use Rattle.std.specs.Prelude.{◌≡◌, IfOk, Some, option_map};
-ghost use Rattle.access_tries.specs.Paths.{IsLeast};
+ghost use Rattle.std.specs.Prelude.{◌≡◌, IfOk, IfSome, None, Some, option_map};
 ghost use Rattle.reads_spec.specs.Cover.{restricted};
-ghost use Rattle.reads_spec.specs.Reads.{declared_reads, declared_demands};
 ghost use Rattle.entity_store.specs.Request.{IsWhole};
 ghost use Rattle.typing_spec.specs.Conforms.{RequestConforms};
 ghost use Rattle.policy_validate.specs.Accepted.{IsAccepted};
+ghost use Rattle.policy_validate.specs.AcceptanceLaws.{LeavesAll};
 ghost use Rattle.schema_core.specs.RequestEnvs.{env_data_of};
 ghost use Rattle.policy_validate.specs.Found.{found_conditions};
 ghost use Rattle.policy_validate.specs.Typed.{typed_conditions};
+ghost use Rattle.manifest_computation.specs.Gathered.{IsTrieLeft};
 ghost use Rattle.manifest_computation.specs.Rules.{KeepRules};
 ghost use Rattle.manifest_computation.specs.Slice.{env_of, slice};
 
+use crate::gathering::trie_of_policies;
 use access_tries::RootAccessTrie;
 use entity_store::{Entities, Request};
 use link_spec::laws::typed_everywhere;
-use path_analysis::conditions_trie;
-use policy_expressions::Expr;
 use policy_set::PolicySet;
 use policy_set::laws::is_policy_set;
+use policy_validate::Typechecker;
 use policy_validate::condition_laws::found_are_typed;
 use policy_validate::laws::accepted_are_typed;
-use policy_validate::{Typechecker, conditions_in};
 use schema_core::{RequestEnv, ValidationMode, ValidatorSchema};
-use schema_types::Type;
 use std::alloc::{AllocError, Global};
 use store_slices::restricted_store;
 use typing_spec::{ExtensionSchemas, all_objects};
@@ -69,7 +67,7 @@ fn environment<'a>(schema: &'a ValidatorSchema, request: &'a Request) -> Option<
 fn restricted_in<'a>(
     alloc: Global,
     schema: &'a ValidatorSchema,
-    policies: &PolicySet,
+    policies: &'a PolicySet,
     request: &Request,
     entities: &Entities,
     env: &'a RequestEnv<'a>,
@@ -79,41 +77,30 @@ fn restricted_in<'a>(
     ensures { IfOk result (λ s. s ≡ restricted schema.now (env_data_of env.now) (typed_conditions schema.now (env_data_of env.now) policies.now.policies) request.now entities.now) }
 {
     found_in_environment(schema, policies, request, env);
-    let trie = trie_of(alloc, schema, policies, env)?;
-    restricted_store(alloc, &trie, request, entities)
+    match trie_of(alloc, schema, policies, env)? {
+        Some(trie) => restricted_store(alloc, &trie, request, entities),
+        // Checks leave each condition of accepted policies.
+        None => Ok(Entities::new(alloc)),
+    }
 }
 
-// The trie of what the conditions read and ask for in the environment, of all that have a type there.
+// The trie of what the conditions read and ask for in the environment.
 fn trie_of<'a>(
     alloc: Global,
     schema: &'a ValidatorSchema,
-    policies: &PolicySet,
-    env: &'a RequestEnv<'a>,
-) -> Result<RootAccessTrie, AllocError>
-    ensures { IfOk result (IsLeast
-        (declared_reads schema.now (env_data_of env.now) (found_conditions schema.now (env_data_of env.now) policies.now.policies))
-        (declared_demands schema.now (env_data_of env.now) (found_conditions schema.now (env_data_of env.now) policies.now.policies))) }
-{
-    let conditions = found_in(alloc, schema, policies, env)?;
-    conditions_trie(alloc, schema, env, &conditions)
-}
-
-// The conditions that checks leave in the environment.
-fn found_in<'a>(
-    alloc: Global,
-    schema: &ValidatorSchema,
     policies: &'a PolicySet,
     env: &'a RequestEnv<'a>,
-) -> Result<Vec<Expr<Option<Type>>>, AllocError>
-    ensures { IfOk result (λ r. r.items ≡ found_conditions schema.now (env_data_of env.now) policies.now.policies) }
+) -> Result<Option<RootAccessTrie>, AllocError>
+    ensures trie { IfOk result (λ o. IfSome o (IsTrieLeft schema.now (env_data_of env.now) policies.now.policies)) }
+    ensures missing { IfOk result (λ o. o ≡ None → ¬ LeavesAll schema.now policies.now.policies (env_data_of env.now)) }
 {
     let objects = all_objects(alloc)?;
     let extensions = ExtensionSchemas::all_available(alloc, &objects)?;
     let typechecker = Typechecker::new(schema, &extensions, ValidationMode::Strict);
-    conditions_in(alloc, &typechecker, env, policies)
+    trie_of_policies(alloc, schema, &typechecker, env, policies)
 }
 
-// Of accepted policies the conditions that checks leave are those that typing gives.
+// Of accepted policies checks leave each condition, as typing gives it.
 fn found_in_environment(
     schema: &ValidatorSchema,
     policies: &PolicySet,
@@ -123,7 +110,8 @@ fn found_in_environment(
     requires accepted { IsAccepted schema.now policies.now }
     requires conforms { RequestConforms schema.now request.now }
     requires environment { env_of schema.now request.now ≡ Some (env_data_of env.now) }
-    ensures { found_conditions schema.now (env_data_of env.now) policies.now.policies ≡ typed_conditions schema.now (env_data_of env.now) policies.now.policies }
+    ensures same { found_conditions schema.now (env_data_of env.now) policies.now.policies ≡ typed_conditions schema.now (env_data_of env.now) policies.now.policies }
+    ensures left { LeavesAll schema.now policies.now.policies (env_data_of env.now) }
 {
     found_are_typed();
     accepted_are_typed();

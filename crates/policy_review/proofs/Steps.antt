@@ -1,8 +1,8 @@
 -- Steps through the environments of a policy, and through the policies of a set.
-use Rattle.std.proofs.Common.{◌≡◌, ℕ, Bool, true, false, ◌&&◌, List, [], ◌∷◌, ◌++◌, map, fold, append-nil, append_assoc, Option, Result, Ok, Err, IfOk, sym, ap, ◌∙◌}
+use Rattle.std.proofs.Common.{◌≡◌, ℕ, Bool, true, false, ◌&&◌, List, [], ◌∷◌, ◌++◌, map, fold, append-nil, append_assoc, Option, Some, None, Result, Ok, Err, IfOk, sym, ap, ◌∙◌}
 use Rattle.std.specs.Bool.{OnTrue}
 use Rattle.std.specs.Option.{option_to_list}
-use Rattle.std.specs.List.{list_all, filter, filter_map, flat_map}
+use Rattle.std.specs.List.{list_all, filter, filter_map, cons_option, flat_map}
 use Rattle.schema_core.specs.EnvData.{EnvData, unlinked_envs}
 use Rattle.schema_core.specs.Schema.{SchemaData}
 use Rattle.policy_set.specs.Data.{PolicyData}
@@ -13,13 +13,17 @@ use Rattle.level_spec.specs.Levels.{greater}
 use Rattle.policy_typecheck.specs.Policies.{passes}
 use Rattle.policy_typecheck.specs.Verdict.{verdict_of}
 use Rattle.policy_typecheck.specs.declared.verdict.Verdict.{Verdict}
-use Rattle.policy_validate.proofs.Checks.{condition_added}
 use Rattle.policy_review.specs.Levels.{greatest}
 use Rattle.policy_review.specs.Matrix.{row_at, row_of, rows_of}
 use Rattle.policy_review.specs.Found.{level_found_in, with_level, with_static, passes_everywhere}
 use Rattle.policy_review.specs.declared.rows.ReviewRow.{ReviewRow}
 use Rattle.policy_review.proofs.Raising.{greater_zero, greater_assoc}
 use Rattle.policy_review.proofs.Placing.{static_next}
+
+-- one row more, where there is one
+row_added : {X : Type 0} (o : Option X) (xs ys : List X) → (xs ++ option_to_list o) ++ ys ≡ xs ++ cons_option o ys
+row_added None xs ys = append_assoc xs [] ys
+row_added (Some x) xs ys = append_assoc xs (x ∷ []) ys
 
 pub anyway : {P : Type 0} → P → (b : Bool) → OnTrue b P
 anyway p true = p
@@ -58,7 +62,7 @@ module _ (schema : SchemaData) (p : PolicyData) where
       passes = ap (λ b. b && list_all passes_in rest) (sym pass) ∙ ap (list_all passes_in) (sym is) ∙ on.passes;
       rows =
           ap (λ rs. rs ++ filter_map (row_of schema p) rest) (added ∙ ap (λ w. matrix ++ option_to_list (row_at p.id env w)) says)
-          ∙ condition_added (row_of schema p env) matrix (filter_map (row_of schema p) rest) ∙ ap (λ envs. matrix ++ filter_map (row_of schema p) envs) (sym is) ∙ on.rows;
+          ∙ row_added (row_of schema p env) matrix (filter_map (row_of schema p) rest) ∙ ap (λ envs. matrix ++ filter_map (row_of schema p) envs) (sym is) ∙ on.rows;
       least =
           ap (λ l. greater l (levels_in rest)) raised ∙ greater_assoc level (level_found_in schema p.condition env) (levels_in rest)
           ∙ ap (λ envs. greater level (levels_in envs)) (sym is) ∙ on.least;

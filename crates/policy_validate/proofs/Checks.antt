@@ -1,7 +1,6 @@
 -- The conditions that checks leave are those that typing gives, where all are accepted.
-use Rattle.std.proofs.Common.{◌≡◌, ◌≤◌, ℕ, true, List, [], ◌∷◌, ◌++◌, append_assoc, Option, Some, None, option_map, IsTrue, IsSomeAnd, refl, sym, ap, ◌∙◌, subst, if◌then◌else◌}
+use Rattle.std.proofs.Common.{◌≡◌, ◌≤◌, ℕ, true, List, [], ◌∷◌, Option, Some, None, option_map, IsTrue, IsSomeAnd, refl, sym, ap, ◌∙◌, subst, if◌then◌else◌}
 use Rattle.std.proofs.lemmas.Bool.{le-ltb}
-use Rattle.std.specs.Option.{option_to_list}
 use Rattle.std.specs.List.{AllByRecursion, cons_option}
 use Rattle.findings.specs.Finding.{Finding}
 use Rattle.schema_types.specs.declared.kinds.Primitive.TheVariants.{Bool as BoolType}
@@ -54,14 +53,3 @@ module _ (exact : CheckIsExact) (schema : SchemaData) where
   pub conditions_same : (env : EnvData) (ps : List PolicyData) → AllByRecursion (IsReady schema env) ps → found_conditions schema env ps ≡ typed_conditions schema env ps
   conditions_same env [] h = refl
   conditions_same env (p ∷ ps) h = λ i. cons_option (condition_same env p.condition h.0.0 h.0.1 i) (conditions_same env ps h.1 i)
-
--- one condition more
-pub condition_added : {X : Type 0} (o : Option X) (xs ys : List X) → (xs ++ option_to_list o) ++ ys ≡ xs ++ cons_option o ys
-condition_added None xs ys = append_assoc xs [] ys
-condition_added (Some x) xs ys = append_assoc xs (x ∷ []) ys
-
-pub condition_next : (schema : SchemaData) (env : EnvData) (it rest : List PolicyData) (p : PolicyData) → it ≡ p ∷ rest → (o : Option Typed) (old new : List Typed) → new ≡ old ++ option_to_list o →
-    o ≡ condition_in (checked schema env p.condition) → (all : List Typed) → old ++ found_conditions schema env it ≡ all → new ++ found_conditions schema env rest ≡ all
-condition_next schema env it rest p is o old new added same all h =
-    ap (λ l. l ++ found_conditions schema env rest) added ∙ condition_added o old (found_conditions schema env rest)
-    ∙ ap (λ q. old ++ cons_option q (found_conditions schema env rest)) same ∙ ap (λ es. old ++ found_conditions schema env es) (sym is) ∙ h

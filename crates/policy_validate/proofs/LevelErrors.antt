@@ -7,9 +7,7 @@ use Rattle.findings.specs.Finding.{Finding}
 use Rattle.schema_types.specs.declared.kinds.Primitive.TheVariants.{Bool as BoolType}
 use Rattle.schema_types.specs.Ty.{Ty, true_type, false_type, primitive}
 use Rattle.schema_core.specs.EnvData.{EnvData, action_in}
-use Rattle.schema_core.specs.RequestEnvs.{env_data_of}
 use Rattle.schema_core.specs.Schema.{SchemaData}
-use Rattle.schema_core.specs.declared.request_env.RequestEnv.{RequestEnv}
 use Rattle.policy_expressions.specs.Tree.{depth_of}
 use Rattle.policy_expressions.specs.Plain.{Plain}
 use Rattle.typing_spec.specs.Operands.{is_boolean}
@@ -26,7 +24,7 @@ use Rattle.link_spec.specs.Linked.{linked_envs}
 use Rattle.level_validate.specs.Levels.{passes}
 use Rattle.level_validate.specs.Policies as level
 use Rattle.level_validate.specs.Policies.{PassesAt}
-use Rattle.policy_typecheck.specs.Answer.{Tells, TellsIn}
+use Rattle.policy_typecheck.specs.Answer.{Tells}
 use Rattle.policy_typecheck.specs.declared.PolicyCheck.{PolicyCheck}
 use Rattle.policy_typecheck.specs.declared.PolicyCheck.TheVariants.{Success, Irrelevant, Fail}
 use Rattle.level_validate.specs.Errors.{Condition, PassesIn, LevelErrorsAreExact}
@@ -34,25 +32,17 @@ use Rattle.policy_validate.specs.Accepted.{errors_of_written, errors_of_link}
 use Rattle.policy_validate.specs.Checks.{condition_in}
 use Rattle.policy_validate.specs.Laws.{NoErrorsWhereAccepted}
 use Rattle.policy_validate.specs.Levels.{or_else, condition_at, conditions_of, level_errors_of, errors_at_level, level_findings_of, IsAcceptedAt, LevelErrorsOfAreExact, NoErrorsWhereAcceptedAt}
-use Rattle.policy_validate.specs.Told.{told_by, level_condition_told}
+use Rattle.policy_validate.specs.Told.{told_by}
 use Rattle.policy_validate.proofs.Empty.{parts_empty, empty_parts, all_more, all_both, none_in_each, each_none}
 use Rattle.policy_validate.proofs.NoErrors.{template_accepted}
 
 -- what is told of checks is what the definitions say of their environments
-tells_same : (id : List ℕ) (env : EnvData) (c : Check) (p : PolicyCheck) → Tells id c p → told_by env p ≡ option_map {U = Condition} (λ t. (action_in env, t)) (condition_in c)
+pub tells_same : (id : List ℕ) (env : EnvData) (c : Check) (p : PolicyCheck) → Tells id c p → told_by env p ≡ option_map {U = Condition} (λ t. (action_in env, t)) (condition_in c)
 tells_same id env (check.Success t) (Success u) h = ap (λ v. Some (action_in env, v)) h
 tells_same id env (check.Irrelevant t) (Irrelevant u) h = ap (λ v. Some (action_in env, v)) h
 tells_same id env (check.Fail fs) (Fail es) h = refl
 tells_same id env check.TooDeep (Fail es) h = refl
 tells_same id env c p h = absurd h
-
-pub conditions_told : (schema : SchemaData) (id : List ℕ) (x : Plain) (rs : List (RequestEnv × PolicyCheck)) → AllByRecursion (TellsIn schema id x) rs →
-    (envs : List EnvData) → map (λ r. env_data_of r.0) rs ≡ envs → filter_map level_condition_told rs ≡ filter_map (condition_at schema x) envs
-conditions_told schema id x rs h envs same = each rs h ∙ ap (filter_map (condition_at schema x)) same
-  where
-    each : (rs : List (RequestEnv × PolicyCheck)) → AllByRecursion (TellsIn schema id x) rs → filter_map level_condition_told rs ≡ filter_map (condition_at schema x) (map (λ r. env_data_of r.0) rs)
-    each [] h = refl
-    each (r ∷ rs) h = λ i. cons_option (tells_same id (env_data_of r.0) (checked schema (env_data_of r.0) x) r.1 h.0 i) (each rs h.1 i)
 
 -- a typed condition is that of its typing
 tree_of : (u : Ty) (t : Typed) (fs : List Finding) → is_boolean u ≡ true → condition_in (check_of u t fs) ≡ Some t

@@ -1,4 +1,5 @@
 pub mod AllWritten
+mod AtLevel
 pub mod Empty
 mod Entries
 pub mod KnownNames

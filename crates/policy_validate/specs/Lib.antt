@@ -1,4 +1,5 @@
 pub mod Accepted
+pub mod AtLevel
 pub mod Checks
 pub mod Laws
 pub mod Levels

@@ -1,22 +1,30 @@
 //! Policies that are checked for a level.
 
-ghost use Rattle.std.specs.Prelude.{◌≡◌, ◌↔◌, ◌++◌, [], map, flat_map, IfOk, OnOk};
-ghost use Rattle.std.specs.List.{filter_map};
+ghost use Rattle.std.specs.Prelude.{◌≡◌, ◌↔◌, ◌++◌, ◌∷◌, ◌&&◌, [], fold, map, flat_map, IfOk, OnOk, MatchOption, if◌then◌else◌};
+ghost use Rattle.schema_core.specs.EnvData.{action_in};
+ghost use Rattle.schema_core.specs.RequestEnvs.{env_data_of};
+ghost use Rattle.policy_scope.specs.Names.{with_new};
 ghost use Rattle.policy_set.specs.PolicySet.{written};
-ghost use Rattle.level_validate.specs.Errors.{condition_in};
-ghost use Rattle.policy_validate.specs.Accepted.{warnings_of};
-ghost use Rattle.policy_validate.specs.Levels.{level_errors_of, errors_at_level, level_findings_of, IsAcceptedAt, CutIsEnough};
-ghost use Rattle.policy_validate.specs.Told.{level_condition_told};
+ghost use Rattle.level_spec.specs.Findings.{level_faults};
+ghost use Rattle.level_validate.specs.Errors.{level_error};
+ghost use Rattle.level_validate.specs.Faults.{fault_cmp};
+ghost use Rattle.policy_typecheck.specs.Checks.{errors_in, is_false};
+ghost use Rattle.policy_typecheck.specs.Policies.{impossible};
+ghost use Rattle.policy_validate.specs.Accepted.{typing_errors, warnings_of};
+ghost use Rattle.policy_validate.specs.AtLevel.{faults_told, has_any, IsTypedAt};
+ghost use Rattle.policy_validate.specs.Levels.{or_else, level_errors_of, errors_at_level, level_findings_of, IsAcceptedAt, CutIsEnough};
 
 use crate::Validator;
 use crate::laws::{accepted_levels_are_sound, no_errors_where_accepted_at};
-use crate::validator::{add_all_links, add_written};
-use level_validate::level_errors;
+use crate::validator::{add_all_links, add_typing, add_untyped};
+use findings::ImpossiblePolicy;
+use level_validate::LevelFaults;
 use policy_expressions::Expr;
 use policy_scope::{ValidationError, ValidationResult, ValidationWarning};
 use policy_set::laws::{have_keys_once, is_policy_set};
 use policy_set::{PolicySet, Template};
-use policy_typecheck::{PolicyCheck, Typechecker};
+use policy_typecheck::{PolicyCheck, Typechecker, is_too_deep, linked_request_envs};
+use policy_values::Text;
 use schema_core::{RequestEnv, ValidationMode, ValidatorSchema};
 use schema_types::Type;
 use std::alloc::{AllocError, Global};
@@ -144,47 +152,162 @@ fn add_at(
     ensures warnings { OnOk result (warnings.new.items ≡ warnings.old.items ++ warnings_of schema.now template.now) }
 {
     let mut found = Vec::new(alloc);
-    add_written(alloc, schema, typechecker, template, &mut found, warnings)?;
+    add_untyped(alloc, schema, template, &mut found)?;
     if found.is_empty() {
-        add_levels(alloc, typechecker, template, level, errors)
+        add_typed_at(
+            alloc,
+            schema,
+            typechecker,
+            template,
+            level,
+            errors,
+            warnings,
+        )
     } else {
+        add_typing(alloc, typechecker, template, &mut found, warnings)?;
         errors.append(&mut found)?;
         Ok(())
     }
 }
 
-// Adds what is found on the levels of a template or a static policy.
-fn add_levels(
+// The same where nothing is found but by typing.
+fn add_typed_at(
     alloc: Global,
+    schema: &ValidatorSchema,
     typechecker: &Typechecker<'_, '_>,
     template: &Template,
     level: u32,
     errors: &mut Vec<ValidationError>,
+    warnings: &mut Vec<ValidationWarning>,
 ) -> Result<(), AllocError>
-    ensures { OnOk result (errors.new.items ≡ errors.old.items ++ level_errors_of typechecker.now level template.now) }
+    requires { typechecker.now ≡ schema.now }
+    ensures errors { OnOk result (errors.new.items ≡ errors.old.items ++ or_else (typing_errors schema.now template.now) (level_errors_of schema.now level template.now)) }
+    ensures warnings { OnOk result (warnings.new.items ≡ warnings.old.items ++ warnings_of schema.now template.now) }
 {
-    let checks = typechecker.typecheck_by_request_env(alloc, template)?;
-    let conditions = typed_conditions(alloc, checks)?;
-    let mut found = level_errors(alloc, template.id(), level, &conditions)?;
-    errors.append(&mut found)?;
-    Ok(())
+    match typed_at(alloc, schema, typechecker, template, level)? {
+        Some(typed) => add_levels(alloc, template.id(), level, &typed, errors, warnings),
+        None => add_typing(alloc, typechecker, template, errors, warnings),
+    }
 }
 
-// The typed conditions of checks, with their environments.
-fn typed_conditions<'a>(
+// What typing leaves of a condition where it finds no error: whether it is false in each environment, and what of it is
+// too far from the request.
+#[derive(Drop)]
+struct TypedAt {
+    impossible: bool,
+    faults: LevelFaults,
+}
+
+// Types the condition in its environments, one after another, up to the first in which it finds an error.
+fn typed_at(
     alloc: Global,
-    checks: Vec<(RequestEnv<'a>, PolicyCheck)>,
-) -> Result<Vec<(RequestEnv<'a>, Expr<Option<Type>>)>, AllocError>
-    ensures { IfOk result (λ conditions. map condition_in conditions.items ≡ filter_map level_condition_told checks.entry.items) }
+    schema: &ValidatorSchema,
+    typechecker: &Typechecker<'_, '_>,
+    template: &Template,
+    level: u32,
+) -> Result<Option<TypedAt>, AllocError>
+    requires { typechecker.now ≡ schema.now }
+    ensures { IfOk result (λ o. MatchOption o (¬ (typing_errors schema.now template.now ≡ [])) (IsTypedAt schema.now level template.now)) }
 {
-    let mut conditions = Vec::new(alloc);
-    for (env, check) in checks {
-        match check {
-            PolicyCheck::Success(condition) | PolicyCheck::Irrelevant(condition) => {
-                conditions.push((env, condition))?;
-            }
-            PolicyCheck::Fail(errors) => drop(errors),
+    if is_too_deep(template.condition()) {
+        return Ok(None);
+    }
+    let mut typed = TypedAt {
+        impossible: true,
+        faults: LevelFaults::new(alloc),
+    };
+    for env in linked_request_envs(alloc, schema, template)? {
+        let check = typechecker.typecheck_by_single_request_env(alloc, template, &env)?;
+        if has_errors(&check) {
+            drop(check);
+            drop(typed);
+            return Ok(None);
+        }
+        typed = with_check(alloc, typed, &env, level, check)?;
+    }
+    Ok(Some(typed))
+}
+
+fn has_errors(check: &PolicyCheck) -> bool
+    ensures { result ≡ has_any (errors_in check.now) }
+{
+    match check {
+        PolicyCheck::Success(_) | PolicyCheck::Irrelevant(_) => false,
+        PolicyCheck::Fail(errors) => match errors.as_slice() {
+            [] => false,
+            _ => true,
+        },
+    }
+}
+
+// With what one check more leaves.
+fn with_check(
+    alloc: Global,
+    typed: TypedAt,
+    env: &RequestEnv<'_>,
+    level: u32,
+    check: PolicyCheck,
+) -> Result<TypedAt, AllocError>
+    ensures impossible { IfOk result (λ a. a.impossible ≡ (is_false check && typed.impossible)) }
+    ensures faults { IfOk result (λ a. a.faults ≡ fold (with_new fault_cmp) typed.faults (faults_told level (env_data_of env.now) check)) }
+{
+    let TypedAt { impossible, faults } = typed;
+    match check {
+        PolicyCheck::Success(condition) => {
+            let faults = with_condition(alloc, faults, env, level, condition)?;
+            Ok(TypedAt {
+                impossible: false,
+                faults,
+            })
+        }
+        PolicyCheck::Irrelevant(condition) => {
+            let faults = with_condition(alloc, faults, env, level, condition)?;
+            Ok(TypedAt { impossible, faults })
+        }
+        PolicyCheck::Fail(errors) => {
+            drop(errors);
+            Ok(TypedAt {
+                impossible: false,
+                faults,
+            })
         }
     }
-    Ok(conditions)
+}
+
+fn with_condition(
+    alloc: Global,
+    faults: LevelFaults,
+    env: &RequestEnv<'_>,
+    level: u32,
+    condition: Expr<Option<Type>>,
+) -> Result<LevelFaults, AllocError>
+    ensures { IfOk result (λ more. more ≡ fold (with_new fault_cmp) faults (level_faults (action_in (env_data_of env.now)) level condition)) }
+{
+    let more = faults.with(alloc, env, level, &condition);
+    drop(condition);
+    more
+}
+
+// Adds what is found on the levels of a template or a static policy in which typing finds no error, and warns where it is
+// false everywhere.
+fn add_levels(
+    alloc: Global,
+    id: &Text,
+    level: u32,
+    typed: &TypedAt,
+    errors: &mut Vec<ValidationError>,
+    warnings: &mut Vec<ValidationWarning>,
+) -> Result<(), AllocError>
+    ensures errors { OnOk result (errors.new.items ≡ errors.old.items ++ map (level_error id.now level) typed.now.faults) }
+    ensures warnings { OnOk result (warnings.new.items ≡ warnings.old.items ++ (if typed.now.impossible then impossible id.now ∷ [] else [])) }
+{
+    let mut found = typed.faults.errors(alloc, id, level)?;
+    errors.append(&mut found)?;
+    if typed.impossible {
+        warnings.push(ValidationWarning::ImpossiblePolicy(ImpossiblePolicy {
+            source_loc: None,
+            policy_id: id.try_clone()?,
+        }))?;
+    }
+    Ok(())
 }

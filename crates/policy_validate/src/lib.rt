@@ -3,13 +3,11 @@
 
 pub mod acceptance_laws;
 pub mod condition_laws;
-mod conditions;
 pub mod laws;
 mod levels;
 mod rules;
 mod validator;
 
-pub use conditions::conditions_in;
 pub use core_schema::{
     ConformanceError, ContextSchema, CoreSchema, EntityDoesNotConform, EntityTypeDescription,
     RequestSchema, RequestValidationError, StoreRule, conforms, context_schema_for_action, traits,

@@ -8,6 +8,7 @@ ghost use Rattle.link_spec.specs.Accepted.{IsTypedIn};
 ghost use Rattle.link_spec.specs.Linked.{linked_envs};
 ghost use Rattle.policy_set.specs.PolicySet.{IsTaken, written, links};
 ghost use Rattle.policy_validate.specs.Accepted.{typing_errors, errors_of_written, errors_of_link, warnings_of, findings_of, IsAccepted};
+ghost use Rattle.policy_validate.specs.AtLevel.{untyped_errors};
 ghost use Rattle.policy_validate.specs.Entries.{findings_of_entry, findings_of_policy, findings_of_written, steps_of_entry, steps_of_policy};
 
 use crate::laws::{accepted_are_typed, no_errors_where_accepted};
@@ -239,7 +240,7 @@ fn add_all_written(
 }
 
 // Adds the findings on a template or a static policy.
-pub(crate) fn add_written(
+fn add_written(
     alloc: Global,
     schema: &ValidatorSchema,
     typechecker: &Typechecker<'_, '_>,
@@ -251,19 +252,31 @@ pub(crate) fn add_written(
     ensures errors { OnOk result (errors.new.items ≡ errors.old.items ++ errors_of_written schema.now template.now) }
     ensures warnings { OnOk result (warnings.new.items ≡ warnings.old.items ++ warnings_of schema.now template.now) }
 {
+    add_untyped(alloc, schema, template, errors)?;
+    add_typing(alloc, typechecker, template, errors, warnings)
+}
+
+// Adds what is found of a template or a static policy before its condition is typed: of names and of the scope.
+pub(crate) fn add_untyped(
+    alloc: Global,
+    schema: &ValidatorSchema,
+    template: &Template,
+    errors: &mut Vec<ValidationError>,
+) -> Result<(), AllocError>
+    ensures { OnOk result (errors.new.items ≡ errors.old.items ++ untyped_errors schema.now template.now) }
+{
     add_types(validate_entity_types(alloc, schema, template)?, errors)?;
     add_unlisted(validate_enum_entity(alloc, schema, template)?, errors)?;
     add_actions(validate_action_ids(alloc, schema, template)?, errors)?;
     add_applications(
         validate_template_action_application(alloc, schema, template)?,
         errors,
-    )?;
-    add_typing(alloc, typechecker, template, errors, warnings)
+    )
 }
 
 // Adds what typing the condition of a template or a static policy finds. It goes into lists of its own first, since the
 // typechecker looks through the errors that it is handed for each that it adds.
-fn add_typing(
+pub(crate) fn add_typing(
     alloc: Global,
     typechecker: &Typechecker<'_, '_>,
     template: &Template,

@@ -11,15 +11,15 @@ returns-clause-none c =
     let id = c.args.policy_id.now in
     let n = c.args.max_level in
     let conditions = map condition_in c.args.conditions.now.items in
-    IfOk-weaker c.errors_of.result _ _
+    IfOk-weaker c.errors.result _ _
     (λ errors is. subst (λ (es : List ValidationError). (es ≡ []) ↔ AllByRecursion (PassesIn n) conditions) (sym (is ∙ ap (map (level_error id n)) c.in_ok-faults.ensures)) (c.level_errors_are_exact.ensures id n conditions).0)
-    c.errors_of.ensures
+    c.errors.ensures
 
 pub returns-clause-told : goal.returns-clause-told
 returns-clause-told c =
     let id = c.args.policy_id.now in
     let n = c.args.max_level in
     let conditions = map condition_in c.args.conditions.now.items in
-    IfOk-weaker c.errors_of.result _ _
+    IfOk-weaker c.errors.result _ _
     (λ errors is. subst (AllByRecursion (IsToldOf id n (flat_map dereferences_in conditions))) (sym (is ∙ ap (map (level_error id n)) c.in_ok-faults.ensures)) (c.level_errors_are_exact.ensures id n conditions).1)
-    c.errors_of.ensures
+    c.errors.ensures
