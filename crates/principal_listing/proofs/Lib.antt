@@ -4,3 +4,4 @@ mod Loaded
 mod Pages
 mod Ready
 mod Refusals
+pub mod Unmet

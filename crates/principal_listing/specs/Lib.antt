@@ -4,3 +4,4 @@ pub mod Laws
 pub mod Pages
 pub mod Ready
 pub mod Refused
+pub mod Scopes

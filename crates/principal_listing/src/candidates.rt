@@ -13,6 +13,7 @@ ghost use Rattle.principal_listing.specs.Pages.{comes_after};
 ghost use Rattle.principal_listing.specs.Ready.{IsReady, takes, is_candidate};
 
 use crate::laws::candidates_keep_rules;
+use crate::scopes::some_lets_in;
 use entity_loader::EntitySlicer;
 use entity_manifest::EntityManifest;
 use entity_manifest::loading_laws::{loaded_is_enough, refusals_are_faults};
@@ -40,7 +41,7 @@ pub(crate) struct Listing<'a> {
 }
 
 /// Whether a principal of the store is one of those that come after this id, if there is one, and may do what is asked. The
-/// request becomes the principal's where the policies are asked.
+/// request becomes the principal's where the policies are asked; whom no permit's scope lets in is denied without that.
 pub(crate) fn is_listed<L: Ledger>(
     alloc: Global,
     listing: &Listing<'_>,
@@ -58,6 +59,9 @@ pub(crate) fn is_listed<L: Ledger>(
     candidates_keep_rules();
     let uid = entity.uid();
     if !is_candidate(listing.action, after, uid) {
+        return Ok(false);
+    }
+    if !some_lets_in(listing.policies, asked, entity) {
         return Ok(false);
     }
     let principal = uid.try_clone()?;

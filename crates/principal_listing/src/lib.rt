@@ -8,6 +8,7 @@ pub mod laws;
 mod listing;
 mod page;
 mod request;
+mod scopes;
 
 pub use error::ListError;
 pub use listing::list_principals;

@@ -32,8 +32,8 @@ use store_order::{entities_are_ordered, request_is_ordered};
 /// Errs with the first of these that does not hold: the request's action, resource and context are known; they break no rule
 /// of requests; the store conforms; the policies are accepted. Where all hold, it errs for want of memory alone.
 ///
-/// The manifest is computed once, and each principal is decided on what it reads, by look-ups; none is decided behind the
-/// first allowed one for which the page has no room.
+/// The manifest is computed once, and each principal is decided on what it reads, by look-ups; whom no permit's scope lets in
+/// is denied without that. None is decided behind the first allowed one for which the page has no room.
 pub fn list_principals(
     alloc: Global,
     schema: &ValidatorSchema,

@@ -6,6 +6,7 @@ use Rattle.entity_manifest.specs.Rules.{KeepRules}
 use Rattle.principal_listing.specs.Allowed.{asked_by, passed_over, is_allow}
 use Rattle.principal_listing.specs.Ready.{is_candidate}
 use Rattle.principal_listing.proofs.Ready.{listed, no_candidate, a_candidate, applies_there}
+use Rattle.principal_listing.proofs.Unmet.{denied}
 use Rattle.principal_listing.proofs.candidates.is_listed.Goals as goal
 
 pub is_allowed-requires-clause-rules : goal.is_allowed-requires-clause-rules
@@ -34,3 +35,14 @@ returns-clause-listed g c =
     (λ b h. h ∙ ap (λ u. is_allow (response l.policies.now.policies (asked_by q u) l.entities.now).decision) same
     ∙ a_candidate l q c.requires.ready (option_copied c.args.after) e.uid test)
     c.is_allowed.ensures
+
+pub returns-then-not-some_lets_in-clause-listed : goal.returns-then-not-some_lets_in-clause-listed
+returns-then-not-some_lets_in-clause-listed g c =
+    let l = c.args.listing.now in
+    let q = c.args.asked.now in
+    let e = c.args.entity.now in
+    let test : is_candidate (option_copied l.action) (option_copied c.args.after) e.uid ≡ true =
+    ap (is_candidate (option_copied l.action) (option_copied c.args.after)) (sym c.uid-uid.ensures) ∙ sym c.is_candidate.ensures ∙ c.if-not-is_candidate.false in
+    denied q l.entities.now e l.policies.now.policies c.requires.ready.store.ids c.requires.entity c.requires.ready.set.policies
+    (sym c.some_lets_in.ensures ∙ c.if-not-some_lets_in.true)
+    ∙ a_candidate l q c.requires.ready (option_copied c.args.after) e.uid test
