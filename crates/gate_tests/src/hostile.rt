@@ -8,7 +8,16 @@ use std::alloc::Global;
 use std::test::Fail;
 
 // Words of the table below, each with the text that it stands for.
-const WORDS: [(&str, &str); 12] = [
+const WORDS: [(&str, &str); 17] = [
+    // conditions 400 deep, and one deeper
+    ("$deepest", r#"{"all":[$items]}"#),
+    ("$deeper", r#"{"all":[true,$items]}"#),
+    (
+        "$items",
+        "$fifty$fifty$fifty$fifty$fifty$fifty$fifty$ten$ten$ten$tentrue,true,true,true,true,true,true,true,true",
+    ),
+    ("$fifty", "$ten$ten$ten$ten$ten"),
+    ("$ten", "true,true,true,true,true,true,true,true,true,true,"),
     ("$mark", "\u{feff}"),
     ("$tab", "\t"),
     ("$feed", "\u{c}"),
@@ -87,6 +96,40 @@ slice; {"schema":$photos,"policies":[{"id":"p0","effect":"permit","body":[{"when
 request; {"schema":$photos,"request":{"principal":["User","alice"],"action":["Action","view"],"resource":["Foo","x"],"context":{}}} => Request request: resource type `Foo` is not declared in the schema|
 decide; {"schema":$photos,"entities":[{"id":["Nope","x"]}],"request":$view} => Store entity: Nope::"x": type is not declared|
 slice; {"schema":$photos,"request":{"principal":null,"action":["Action","view"],"resource":["Photo","x"],"context":{}}} => PartialRequest request: entity slicing requires a fully concrete request. Got a partial request|
+# a condition may be 400 deep, though it is too deep to be typed; a deeper one is none, whatever the command
+check; $when$deepest}]}]} => Findings error TooDeep: for policy `p0`, condition nests deeper than 200|errors 1, warnings 0|
+check; $when$deeper}]}]} => Document document: policies[0]: nested deeper than 400|
+level 1; $when$deepest}]}]} => Findings error TooDeep: for policy `p0`, condition nests deeper than 200|errors 1, warnings 0|
+level 1; $when$deeper}]}]} => Document document: policies[0]: nested deeper than 400|
+level 200; $when$deepest}]}]} => Findings error TooDeep: for policy `p0`, condition nests deeper than 200|errors 1, warnings 0|
+level 200; $when$deeper}]}]} => Document document: policies[0]: nested deeper than 400|
+manifest; $when$deepest}]}]} => Findings error TooDeep: for policy `p0`, condition nests deeper than 200|errors 1, warnings 0|
+manifest; $when$deeper}]}]} => Document document: policies[0]: nested deeper than 400|
+review; $when$deepest}]}]} => Findings error TooDeep: for policy `p0`, condition nests deeper than 200|errors 1, warnings 0|
+review; $when$deeper}]}]} => Document document: policies[0]: nested deeper than 400|
+request; $when$deepest}]}],"request":$view} => Done conforms|
+request; $when$deeper}]}],"request":$view} => Document document: policies[0]: nested deeper than 400|
+slice; $when$deepest}]}],"request":$view} => Findings error TooDeep: for policy `p0`, condition nests deeper than 200|errors 1, warnings 0|
+slice; $when$deeper}]}],"request":$view} => Document document: policies[0]: nested deeper than 400|
+decide; $when$deepest}]}],"request":$view} => Findings error TooDeep: for policy `p0`, condition nests deeper than 200|errors 1, warnings 0|
+decide; $when$deeper}]}],"request":$view} => Document document: policies[0]: nested deeper than 400|
+list 5; $when$deepest}]}],"request":$view} => Findings error TooDeep: for policy `p0`, condition nests deeper than 200|errors 1, warnings 0|
+list 5; $when$deeper}]}],"request":$view} => Document document: policies[0]: nested deeper than 400|
+batch; $when$deepest}]}],"requests":[$view]} => Findings error TooDeep: for policy `p0`, condition nests deeper than 200|errors 1, warnings 0|
+batch; $when$deeper}]}],"requests":[$view]} => Document document: policies[0]: nested deeper than 400|
+live; {"schema":$photos,"edits":[{"id":"p0","effect":"permit","body":[{"when":$deepest}]}]} => Edit edit 0: findings|error TooDeep: for policy `p0`, condition nests deeper than 200|errors 1, warnings 0|
+live; {"schema":$photos,"edits":[{"id":"p0","effect":"permit","body":[{"when":$deeper}]}]} => Document document: edits[0]: nested deeper than 400|
+# what is no document to the other commands
+check; [] => Document document: form|
+level 1; $in,"more":1} => Document document: form|
+manifest; {"schema":$photos,"policies":[$friends,$friends]} => Document document: policies[1]: duplicate id|
+request; {"schema":[]} => Document document: schema|
+decide; {"schema":$photos,"entities":[7]} => Document document: entities[0]|
+review; $in,"edits":[]} => Document document: form|
+list 1; $in,$stored,"request":[]} => Document document: request|
+list 1; $in,"requests":[]} => Document document: form|
+batch; $in,"request":$view} => Document document: form|
+live; $in} => Document document: form|
 # an id twice, and two groups in each other
 slice; {"schema":$photos,"entities":[{"id":["User","a"]},{"id":["User","a"]}]} => Document document: entities[1]: duplicate|
 slice; {"schema":$groups,"entities":[{"id":["Group","g"],"parents":[["Group","h"]]},{"id":["Group","h"],"parents":[["Group","g"]]}]} => Document document: entities[0]: cycle|
@@ -128,10 +171,19 @@ check; $when{"<":[NaN,2]}}]}]} => Document document: json|
 check; $when{"<":[-Infinity,2]}}]}]} => Document document: json|
 check; $when{"<":[-1e999,2]}}]}]} => Document document: json|
 check; $when{"<":[1 2,2]}}]}]} => Document document: json|
+check; $when{"<":[18446744073709551616.,2]}}]}]} => Document document: json|
+check; $when{"<":[12345678901234567890123.,2]}}]}]} => Document document: json|
+check; $when{"<":[12345678901234567890123e,2]}}]}]} => Document document: json|
+check; $when{"<":[12345678901234567890123.e5,2]}}]}]} => Document document: json|
 # numbers that are no longs
 check; $when{"<":[18446744073709551615,2]}}]}]} => Document document: policies[0]|
 check; $when{"<":[18446744073709551616,2]}}]}]} => Document document: policies[0]|
 check; $when{"<":[99999999999999999999.5,2]}}]}]} => Document document: policies[0]|
+check; $when{"<":[18446744073709551616.5,2]}}]}]} => Document document: policies[0]|
+check; $when{"<":[12345678901234567890123.0e-3,2]}}]}]} => Document document: policies[0]|
+check; $when{"<":[-18446744073709551616,2]}}]}]} => Document document: policies[0]|
+check; $when{"<":[-9223372036854775808.0,2]}}]}]} => Document document: policies[0]|
+check; $when{"<":[1E+2,2]}}]}]} => Document document: policies[0]|
 check; $when{"<":[100000000000000000000000000000000000000000,2]}}]}]} => Document document: policies[0]|
 check; $when{"<":[1e-999,2]}}]}]} => Document document: policies[0]|
 check; $when{"<":[0.0,2]}}]}]} => Document document: policies[0]|
@@ -169,6 +221,11 @@ check; {"schema":{"entityTypes":{"__cedar":{}}}} => Document document: schema|
 check; {"schema":{"entityTypes":{"Action":{}}}} => Document document: schema: declared type has basename Action|
 # of a repeated member the last counts
 check; {"schema":1,"schema":{},"policies":[{"id":"p0","id":"p1","effect":"permit"}],"policies":[]} => Done errors 0, warnings 0|
+check; {"schema":{},"schema":1} => Document document: schema|
+check; {"schema":{},"\u0073chema":1} => Document document: schema|
+request; {"schema":$photos,"request":{"principal":["Nope","x"],"action":["Action","view"],"resource":["Photo","x"],"context":{},"principal":["User","alice"]}} => Done conforms|
+decide; $in,$stored,"entities":[],"request":$view} => Done {"decision":"Deny","errors":[],"reasons":[]}|
+request; {"schema":$photos,"entities":[{"id":["User","a"],"attrs":{"a":1},"attrs":{}}],"request":$view} => Done conforms|
 # words
 level 201; [] => Usage $usage
 level 01; [] => Usage $usage
@@ -198,6 +255,16 @@ list 1 9User a; [] => Usage $usage
 list 1 User a b; [] => Usage $usage
 review 1; [] => Usage $usage
 live 1; [] => Usage $usage
+check check; [] => Usage $usage
+request 1; [] => Usage $usage
+manifest 1; [] => Usage $usage
+decide 1; [] => Usage $usage
+batch 1; [] => Usage $usage
+sample; [] => Usage $usage
+sample 0 1 1; [] => Usage $usage
+level 1 ; [] => Usage $usage
+list -1; [] => Usage $usage
+list 1 User:: a; [] => Usage $usage
 ; [] => Usage $usage"#;
 
 // A document and what `slice` writes of it.
