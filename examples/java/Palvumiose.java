@@ -22,7 +22,7 @@ public class Palvumiose {
         call = Linker.nativeLinker().downcallHandle(function, FunctionDescriptor.of(ValueLayout.JAVA_BYTE, at, size, at, size, at, size, at));
     }
 
-    /** The answer to a command on a document. The thread has 2 MiB of stack, as main has not everywhere: see below. */
+    /** The answer to a command on a document. The thread has 1 MiB of stack left, as main has not everywhere: see below. */
     public Answer run(String[] words, byte[] document) throws Throwable {
         byte[] command = String.join("\0", words).getBytes(StandardCharsets.UTF_8);
         for (long room = 1 << 16; ; ) {

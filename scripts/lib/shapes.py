@@ -287,6 +287,15 @@ def type_chain(size):
     return document([{"id": "p", "effect": "permit"}], types=TYPES | chain)
 
 
+def action_chain(size):
+    """Each action in the next, the request's in the first."""
+    chain = [{"id": ["Action", f"a{i}"], "memberOf": [["Action", f"a{i + 1}"]] if i < size - 1 else []} for i in range(size)]
+    return document(
+        [{"id": "p", "effect": "permit", "action": {"in": [["Action", f"a{size - 1}"]]}}],
+        actions=[VIEW | {"memberOf": [["Action", "a0"]]}, *chain],
+    )
+
+
 def records_in_set(size):
     """records in a set that is compared with itself"""
     person = user(1)
