@@ -52,10 +52,18 @@ impl Step {
 }
 
 /// A path into a store: a root, and steps from there.
-#[derive(Debug, Drop)]
+#[derive(Debug)]
 pub struct AccessPath {
     root: EntityRoot,
     steps: Vec<Step>,
+}
+
+impl Drop for AccessPath {
+    fn drop(self) {
+        let AccessPath { root, steps } = self;
+        drop(root);
+        drop(steps);
+    }
 }
 
 impl Model for AccessPath {

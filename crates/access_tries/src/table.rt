@@ -21,10 +21,17 @@ pub struct Link {
 }
 
 /// A node: where it leads, by ascending edges, and whether it is marked.
-#[derive(Debug, Drop)]
+#[derive(Debug)]
 pub struct Node {
     links: Vec<Link>,
     mark: bool,
+}
+
+impl Drop for Node {
+    fn drop(self) {
+        let Node { links, mark: _ } = self;
+        drop(links);
+    }
 }
 
 impl Model for Node {

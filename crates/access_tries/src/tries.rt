@@ -13,10 +13,17 @@ use std::alloc::{AllocError, Global};
 use std::marker::Model;
 
 /// Each root with the trie of what is read from it.
-#[derive(Debug, Drop)]
+#[derive(Debug)]
 pub struct RootAccessTrie {
     // The first node leads to the roots; without nodes there are none.
     nodes: Vec<Node>,
+}
+
+impl Drop for RootAccessTrie {
+    fn drop(self) {
+        let RootAccessTrie { nodes } = self;
+        drop(nodes);
+    }
 }
 
 impl Model for RootAccessTrie {
@@ -99,10 +106,17 @@ impl RootAccessTrie {
 }
 
 /// What is read of a value: its fields and tags with what is read of these, and which ancestors are asked for.
-#[derive(Debug, Drop)]
+#[derive(Debug)]
 pub struct AccessTrie {
     // The first node is the value's own; without nodes nothing more than the value is read.
     nodes: Vec<Node>,
+}
+
+impl Drop for AccessTrie {
+    fn drop(self) {
+        let AccessTrie { nodes } = self;
+        drop(nodes);
+    }
 }
 
 impl Model for AccessTrie {

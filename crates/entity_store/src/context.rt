@@ -10,9 +10,16 @@ use std::collections::BTreeMap;
 use std::marker::Model;
 
 /// The named values that come with a request.
-#[derive(Debug, Drop)]
+#[derive(Debug)]
 pub struct Context {
     fields: BTreeMap<Text, Value>,
+}
+
+impl Drop for Context {
+    fn drop(self) {
+        let Context { fields } = self;
+        drop(fields);
+    }
 }
 
 impl Model for Context {

@@ -21,9 +21,16 @@ use std::collections::btree_map::Values;
 use std::marker::Model;
 
 /// A store: entities under their ids, in the order of the ids.
-#[derive(Debug, Drop)]
+#[derive(Debug)]
 pub struct Entities {
     pub(crate) entities: BTreeMap<EntityUID, Entity>,
+}
+
+impl Drop for Entities {
+    fn drop(self) {
+        let Entities { entities } = self;
+        drop(entities);
+    }
 }
 
 impl Model for Entities {

@@ -13,7 +13,7 @@ use std::marker::Model;
 
 /// An entity: its id, its attributes and tags under their keys, and the ids of its ancestors. Until
 /// [`crate::Entities::from_parents`] has taken it, the ancestors are its direct parents.
-#[derive(Debug, Drop)]
+#[derive(Debug)]
 pub struct Entity {
     uid: EntityUID,
     attrs: BTreeMap<Text, Value>,
@@ -21,6 +21,23 @@ pub struct Entity {
     own: BTreeSet<EntityUID>,
     shared: Option<SharedSet<EntityUID>>,
     tags: BTreeMap<Text, Value>,
+}
+
+impl Drop for Entity {
+    fn drop(self) {
+        let Entity {
+            uid,
+            attrs,
+            own,
+            shared,
+            tags,
+        } = self;
+        drop(uid);
+        drop(attrs);
+        drop(own);
+        drop(shared);
+        drop(tags);
+    }
 }
 
 impl Model for Entity {
@@ -68,9 +85,20 @@ impl Entity {
         ensures ascending { IsStrictlySortedBy uid_cmp result.ancestors }
     {
         let _count = ancestors.as_set().len();
+        let Entity {
+            uid,
+            attrs,
+            own,
+            shared,
+            tags,
+        } = self;
+        drop(shared);
         Entity {
+            uid,
+            attrs,
+            own,
             shared: Some(ancestors),
-            ..self
+            tags,
         }
     }
 

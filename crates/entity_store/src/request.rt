@@ -9,7 +9,7 @@ use std::alloc::AllocError;
 
 /// A question: may this principal do this action on this resource, in this context? An entry that is none is not
 /// known.
-#[derive(Debug, Drop)]
+#[derive(Debug)]
 pub struct Request {
     /// Who asks.
     pub principal: Option<EntityUID>,
@@ -19,6 +19,21 @@ pub struct Request {
     pub resource: Option<EntityUID>,
     /// What else is said.
     pub context: Option<Context>,
+}
+
+impl Drop for Request {
+    fn drop(self) {
+        let Request {
+            principal,
+            action,
+            resource,
+            context,
+        } = self;
+        drop(principal);
+        drop(action);
+        drop(resource);
+        drop(context);
+    }
 }
 
 /// What a request is about, without its eids: the principal's type, the action and the resource's type.

@@ -12,7 +12,7 @@ use crate::{
 };
 
 /// A finding for which a policy is refused.
-#[derive(Debug, Drop, PartialEq, Eq, Hash)]
+#[derive(Debug, PartialEq, Eq, Hash)]
 pub enum ValidationError {
     /// A type of a literal or a test is neither declared nor a type of actions.
     UnrecognizedEntityType(UnrecognizedEntityType),
@@ -48,6 +48,30 @@ pub enum ValidationError {
     NonLitExtConstructor(NonLitExtConstructor),
     /// A condition is nested deeper than 200.
     TooDeep(TooDeep),
+}
+
+impl Drop for ValidationError {
+    fn drop(self) {
+        match self {
+            ValidationError::UnrecognizedEntityType(inner) => drop(inner),
+            ValidationError::UnrecognizedActionId(inner) => drop(inner),
+            ValidationError::InvalidEnumEntity(inner) => drop(inner),
+            ValidationError::InvalidActionApplication(inner) => drop(inner),
+            ValidationError::UnexpectedType(inner) => drop(inner),
+            ValidationError::IncompatibleTypes(inner) => drop(inner),
+            ValidationError::UnsafeAttributeAccess(inner) => drop(inner),
+            ValidationError::UnsafeOptionalAttributeAccess(inner) => drop(inner),
+            ValidationError::UnsafeTagAccess(inner) => drop(inner),
+            ValidationError::NoTagsAllowed(inner) => drop(inner),
+            ValidationError::UndefinedFunction(inner) => drop(inner),
+            ValidationError::WrongNumberArguments(inner) => drop(inner),
+            ValidationError::FunctionArgumentValidation(inner) => drop(inner),
+            ValidationError::EntityDerefLevelViolation(inner) => drop(inner),
+            ValidationError::EmptySetForbidden(inner) => drop(inner),
+            ValidationError::NonLitExtConstructor(inner) => drop(inner),
+            ValidationError::TooDeep(inner) => drop(inner),
+        }
+    }
 }
 
 /// A finding for which no policy is refused.

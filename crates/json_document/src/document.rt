@@ -18,7 +18,6 @@ use serde_json::Value;
 use std::alloc::Global;
 
 /// A schema, policies or edits to them, entities, and a request or several.
-#[derive(Drop)]
 pub struct Document {
     /// The schema.
     pub schema: ValidatorSchema,
@@ -34,6 +33,25 @@ pub struct Document {
     pub requests: Requests,
 }
 
+impl Drop for Document {
+    fn drop(self) {
+        let Document {
+            schema,
+            policies,
+            edits,
+            entities,
+            request,
+            requests,
+        } = self;
+        drop(schema);
+        drop(policies);
+        drop(edits);
+        drop(entities);
+        drop(request);
+        drop(requests);
+    }
+}
+
 fn with_requests(
     alloc: Global,
     parts: &Parts<'_>,
@@ -43,7 +61,8 @@ fn with_requests(
     entities: Entities,
     request: Request,
 ) -> Result<Document, DocumentFault>
-    ensures { MayComeTo result (IsReadBehindRequest (parts_view parts.now) schema policies edits entities request) }
+    ensures { MayComeTo result
+        (IsReadBehindRequest (parts_view parts.now) schema policies edits entities request) }
 {
     let requests = or_drop!(
         read_requests(alloc, parts.requests),
@@ -71,7 +90,8 @@ fn with_request(
     edits: Edits,
     entities: Entities,
 ) -> Result<Document, DocumentFault>
-    ensures { MayComeTo result (IsReadBehindStore (parts_view parts.now) schema policies edits entities) }
+    ensures { MayComeTo result
+        (IsReadBehindStore (parts_view parts.now) schema policies edits entities) }
 {
     let request = read_request(alloc, parts.request);
     let Some(request) = or_drop!(request, schema, policies, edits, entities) else {

@@ -18,7 +18,7 @@ use std::rc::Rc;
 /// An expression, with a note of type T at each node and the place where it stands in its source. It is at most 400
 /// deep: a literal, a variable or a slot has depth 1, any other expression one more than its deepest operand. Each
 /// record in it has each of its keys once. Copies share its operands.
-#[derive(Debug, Drop)]
+#[derive(Debug)]
 #[cycle(expr)]
 pub struct Expr<T> {
     kind: ExprKind<T>,
@@ -27,6 +27,22 @@ pub struct Expr<T> {
     slotted: bool,
     note: T,
     loc: Option<Loc>,
+}
+
+impl<T: Drop> Drop for Expr<T> {
+    #[cycle(expr_drops)]
+    fn drop(self) {
+        let Expr {
+            kind,
+            depth: _,
+            slotted: _,
+            note,
+            loc,
+        } = self;
+        drop(kind);
+        drop(note);
+        drop(loc);
+    }
 }
 
 /// The kind of an expression, with its operands.

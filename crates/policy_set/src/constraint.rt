@@ -52,7 +52,7 @@ impl EntityReference {
 }
 
 /// What a scope asks of the principal, or of the resource.
-#[derive(Debug, Drop)]
+#[derive(Debug)]
 pub enum PrincipalOrResourceConstraint {
     /// Nothing.
     Any,
@@ -64,6 +64,21 @@ pub enum PrincipalOrResourceConstraint {
     Is(EntityType),
     /// That it is of this type, and is this entity or has it as an ancestor.
     IsIn(EntityType, EntityReference),
+}
+
+impl Drop for PrincipalOrResourceConstraint {
+    fn drop(self) {
+        match self {
+            PrincipalOrResourceConstraint::Eq(inner) => drop(inner),
+            PrincipalOrResourceConstraint::In(inner) => drop(inner),
+            PrincipalOrResourceConstraint::Is(inner) => drop(inner),
+            PrincipalOrResourceConstraint::IsIn(first, second) => {
+                drop(first);
+                drop(second);
+            }
+            PrincipalOrResourceConstraint::Any => {}
+        }
+    }
 }
 
 impl PrincipalOrResourceConstraint {
@@ -107,7 +122,7 @@ impl PrincipalOrResourceConstraint {
 }
 
 /// What a scope asks of the action.
-#[derive(Debug, Drop)]
+#[derive(Debug)]
 pub enum ActionConstraint {
     /// Nothing.
     Any,
@@ -115,6 +130,16 @@ pub enum ActionConstraint {
     Eq(EntityUID),
     /// That it is one of these actions, or has one as an ancestor.
     In(ActionList),
+}
+
+impl Drop for ActionConstraint {
+    fn drop(self) {
+        match self {
+            ActionConstraint::Eq(inner) => drop(inner),
+            ActionConstraint::In(inner) => drop(inner),
+            ActionConstraint::Any => {}
+        }
+    }
 }
 
 /// Actions, in the order in which a scope lists them.

@@ -9,10 +9,17 @@ use policy_values::{EntityUID, Text};
 use std::marker::Model;
 
 // The id of the template that is linked, and the ids that the link gives for its slots.
-#[derive(Drop)]
 pub(crate) struct Link {
     pub(crate) template: Text,
     pub(crate) values: SlotValues,
+}
+
+impl Drop for Link {
+    fn drop(self) {
+        let Link { template, values } = self;
+        drop(template);
+        drop(values);
+    }
 }
 
 impl Model for Link {

@@ -14,11 +14,18 @@ use std::alloc::{AllocError, Global};
 use std::marker::Model;
 
 /// A policy of a set: static, or a link of a template. Its condition has no slot.
-#[derive(Drop)]
 pub struct Policy {
     // The policy as it would be written by itself: a link has its ids in the places of slots.
     template: Template,
     link: Option<Link>,
+}
+
+impl Drop for Policy {
+    fn drop(self) {
+        let Policy { template, link } = self;
+        drop(template);
+        drop(link);
+    }
 }
 
 impl Model for Policy {

@@ -12,10 +12,20 @@ use std::collections::btree_map::Values;
 use std::marker::Model;
 
 /// Templates and policies under their ids, in the order of the ids. An id stands once among all of them.
-#[derive(Drop)]
 pub struct PolicySet {
     templates: BTreeMap<Text, Template>,
     policies: BTreeMap<Text, Policy>,
+}
+
+impl Drop for PolicySet {
+    fn drop(self) {
+        let PolicySet {
+            templates,
+            policies,
+        } = self;
+        drop(templates);
+        drop(policies);
+    }
 }
 
 impl Model for PolicySet {

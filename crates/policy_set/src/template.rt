@@ -17,7 +17,6 @@ use std::marker::Model;
 const MOST_BODY_DEPTH: u32 = 400;
 
 /// A policy as it is written. Where slots stand in its scope, it is to be linked.
-#[derive(Drop)]
 pub struct Template {
     id: Text,
     effect: Effect,
@@ -26,6 +25,25 @@ pub struct Template {
     resource_constraint: PrincipalOrResourceConstraint,
     // Scope and body: the body is its right side.
     condition: Expr<()>,
+}
+
+impl Drop for Template {
+    fn drop(self) {
+        let Template {
+            id,
+            effect,
+            principal_constraint,
+            action_constraint,
+            resource_constraint,
+            condition,
+        } = self;
+        drop(id);
+        drop(effect);
+        drop(principal_constraint);
+        drop(action_constraint);
+        drop(resource_constraint);
+        drop(condition);
+    }
 }
 
 impl Model for Template {

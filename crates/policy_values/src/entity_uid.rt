@@ -9,9 +9,16 @@ use std::alloc::AllocError;
 use std::marker::Model;
 
 /// The type of an entity: a name.
-#[derive(Debug, Drop, PartialEq, Eq, PartialOrd, Ord, Hash)]
+#[derive(Debug, PartialEq, Eq, PartialOrd, Ord, Hash)]
 pub struct EntityType {
     name: Name,
+}
+
+impl Drop for EntityType {
+    fn drop(self) {
+        let EntityType { name } = self;
+        drop(name);
+    }
 }
 
 impl Model for EntityType {
@@ -66,9 +73,16 @@ impl Clone for EntityType {
 }
 
 /// What tells an entity from the others of its type: any text.
-#[derive(Debug, Drop, PartialEq, Eq, PartialOrd, Ord, Hash)]
+#[derive(Debug, PartialEq, Eq, PartialOrd, Ord, Hash)]
 pub struct Eid {
     text: Text,
+}
+
+impl Drop for Eid {
+    fn drop(self) {
+        let Eid { text } = self;
+        drop(text);
+    }
 }
 
 impl Model for Eid {
@@ -121,12 +135,20 @@ impl Clone for Eid {
 }
 
 /// The id of an entity: its type and its eid. Ids are ordered by type and then by eid; one prints as `Type::"eid"`.
-#[derive(Clone, Debug, Drop, PartialEq, Eq, PartialOrd, Ord, Hash)]
+#[derive(Clone, Debug, PartialEq, Eq, PartialOrd, Ord, Hash)]
 pub struct EntityUID {
     /// The type of the entity.
     pub entity_type: EntityType,
     /// Which entity of that type it is.
     pub eid: Eid,
+}
+
+impl Drop for EntityUID {
+    fn drop(self) {
+        let EntityUID { entity_type, eid } = self;
+        drop(entity_type);
+        drop(eid);
+    }
 }
 
 impl EntityUID {

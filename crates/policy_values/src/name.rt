@@ -10,9 +10,16 @@ use std::marker::Model;
 
 /// One or more components joined by `::`, as in `Photos::Album`. A component is a letter or `_` and then letters,
 /// digits and `_`, all ASCII, and is not `__cedar`.
-#[derive(Debug, Drop, PartialEq, Eq, PartialOrd, Ord, Hash)]
+#[derive(Debug, PartialEq, Eq, PartialOrd, Ord, Hash)]
 pub struct Name {
     text: Text,
+}
+
+impl Drop for Name {
+    fn drop(self) {
+        let Name { text } = self;
+        drop(text);
+    }
 }
 
 impl Model for Name {

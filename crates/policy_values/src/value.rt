@@ -21,10 +21,18 @@ use std::marker::Model;
 /// Values are ordered by kind (booleans, longs, strings, ids, sets, records, decimals, ranges of IP addresses, datetimes,
 /// durations), and inside a kind by content: texts by their bytes, ids by type and then by eid, sets and records as the
 /// lists of their elements and of their fields, ranges by family, address and prefix.
-#[derive(Debug, Drop)]
+#[derive(Debug)]
 #[cycle(value)]
 pub struct Value {
     kind: ValueKind,
+}
+
+impl Drop for Value {
+    #[cycle(value_drops)]
+    fn drop(self) {
+        let Value { kind } = self;
+        drop(kind);
+    }
 }
 
 /// What a value is.

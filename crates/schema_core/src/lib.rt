@@ -28,8 +28,9 @@ pub use entity_type::ValidatorEntityType;
 pub use fault::SchemaFault;
 pub use kind::ValidatorEntityTypeKind;
 pub use listed_ids::ListedIds;
+pub use listing::SchemaParts;
 pub use literal::euid_literal;
-pub use parts::{SchemaParts, declared_parts, schema_parts};
+pub use parts::{declared_parts, schema_parts};
 pub use request_env::RequestEnv;
 pub use schema_types::{
     AttributeType, Attributes, DeclaredAttributes, EntityLUB, EntityRecordKind, LubHelp, OpenTag,

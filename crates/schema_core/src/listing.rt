@@ -1,12 +1,13 @@
 // Types and actions under their names, each with what is listed at it: descendants, or what it is a member of.
 ghost use Rattle.std.specs.Prelude.{◌≡◌, [], map, IfOk, OnOk};
-ghost use Rattle.schema_core.specs.Schema.{SchemaData};
-ghost use Rattle.schema_core.specs.Outline.{outline_of};
+ghost use Rattle.schema_core.specs.Schema.{SchemaData, made_of};
+ghost use Rattle.schema_core.specs.Outline.{outline_of, HasSoundNames, HasSoundTypes, IsClosed};
 ghost use Rattle.schema_core.specs.Entries.{Declarations};
 ghost use Rattle.schema_core.specs.Declarations.{declared_outline};
-ghost use Rattle.schema_core.specs.Faults.{IsOnce};
+ghost use Rattle.schema_core.specs.Faults.{IsOnce, IsSchema};
 ghost use Rattle.schema_core.specs.Listing.{listed_outline, IsListing, ListsTypes, AddsType, AddsAction};
 
+use crate::arrange::{arranged_actions, arranged_types};
 use crate::sets::set_of;
 use crate::{
     ActionDeclaration, SchemaDeclarations, TypeDeclaration, ValidatorActionId, ValidatorEntityType,
@@ -23,8 +24,10 @@ pub type Kinds = BTreeMap<EntityType, ValidatorEntityTypeKind>;
 /// Types that are listed at actions.
 pub type TypesOf = BTreeMap<EntityUID, SharedSet<EntityType>>;
 
+/// The types and the actions of a schema, each in the order of their names.
+pub type SchemaParts = (Vec<ValidatorEntityType>, Vec<ValidatorActionId>);
+
 /// Types and actions under their names, with what is listed at each, and what each is.
-#[derive(Drop)]
 pub struct Listing {
     pub types: SharedSteps<EntityType>,
     pub kinds: Kinds,
@@ -32,6 +35,48 @@ pub struct Listing {
     pub principals: TypesOf,
     pub resources: TypesOf,
     pub contexts: BTreeMap<EntityUID, Attributes>,
+}
+
+impl Drop for Listing {
+    fn drop(self) {
+        let Listing {
+            types,
+            kinds,
+            actions,
+            principals,
+            resources,
+            contexts,
+        } = self;
+        drop(types);
+        drop(kinds);
+        drop(actions);
+        drop(principals);
+        drop(resources);
+        drop(contexts);
+    }
+}
+
+impl Listing {
+    /// Its types and actions, where it keeps its rules.
+    pub fn arranged(self, alloc: Global) -> Result<SchemaParts, AllocError>
+        requires names { HasSoundNames (listed_outline self) }
+        requires closed { IsClosed (listed_outline self) }
+        requires types { HasSoundTypes (listed_outline self) }
+        requires listing { IsListing self }
+        ensures { IfOk result (λ parts. IsSchema (made_of parts.0.items parts.1.items) × (outline_of (made_of parts.0.items parts.1.items) ≡ listed_outline self)) }
+    {
+        let Listing {
+            types,
+            kinds,
+            actions,
+            principals,
+            resources,
+            contexts,
+        } = self;
+        let entity_types = arranged_types(alloc, kinds, &types)?;
+        let action_ids = arranged_actions(alloc, contexts, &actions, &principals, &resources)?;
+        Ok((entity_types, action_ids))
+    }
 }
 
 /// What a schema's types and actions list: their descendants.

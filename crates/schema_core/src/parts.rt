@@ -2,20 +2,16 @@
 
 ghost use Rattle.std.specs.Prelude.{◌≡◌, map, IfOk, MatchResult};
 ghost use Rattle.schema_core.specs.Schema.{made_of};
-ghost use Rattle.schema_core.specs.Outline.{outline_of, HasSoundNames, HasSoundTypes, IsClosed, HasDescendants};
+ghost use Rattle.schema_core.specs.Outline.{outline_of, HasSoundNames, HasDescendants};
 ghost use Rattle.schema_core.specs.Faults.{IsOnce, IsSchema, IsRefusedData};
 ghost use Rattle.schema_core.specs.Declarations.{IsSchemaOf, IsRefused};
 ghost use Rattle.schema_core.specs.Listing.{listed_outline, IsListing};
 
-use crate::arrange::{arranged_actions, arranged_types};
 use crate::checks::{check_names, check_types, least_listed_enum};
-use crate::listing::{Listing, declared, listed};
+use crate::listing::{Listing, SchemaParts, declared, listed};
 use crate::{SchemaDeclarations, SchemaFault, ValidatorActionId, ValidatorEntityType};
 use policy_values::{EntityUID, descendants_of, first_not_closed, first_own, least_repeated};
 use std::alloc::{AllocError, Global};
-
-/// The types and the actions of a schema, each in the order of their names.
-pub type SchemaParts = (Vec<ValidatorEntityType>, Vec<ValidatorActionId>);
 
 /// These types and actions, given in any order, where they keep the rules of a schema.
 pub fn schema_parts(
@@ -46,7 +42,7 @@ pub fn schema_parts(
         return Err(SchemaFault::ActionNotClosed(uid.clone()?));
     }
     check_types(&listing)?;
-    Ok(arranged(alloc, listing)?)
+    Ok(listing.arranged(alloc)?)
 }
 
 /// The types and actions that a document declares, where they keep the rules: descendants are all members, by one or more
@@ -72,7 +68,7 @@ pub fn declared_parts(
         return Err(SchemaFault::EnumHasAncestor(name.clone()?));
     }
     check_types(&members)?;
-    Ok(arranged(alloc, members)?)
+    Ok(members.arranged(alloc)?)
 }
 
 // The ids of the actions.
@@ -113,25 +109,4 @@ fn with_descendants(alloc: Global, listing: Listing) -> Result<Listing, AllocErr
     members.types = types;
     members.actions = actions;
     Ok(members)
-}
-
-// The types and actions of a listing that keeps its rules.
-fn arranged(alloc: Global, listing: Listing) -> Result<SchemaParts, AllocError>
-    requires names { HasSoundNames (listed_outline listing) }
-    requires closed { IsClosed (listed_outline listing) }
-    requires types { HasSoundTypes (listed_outline listing) }
-    requires listing { IsListing listing }
-    ensures { IfOk result (λ parts. IsSchema (made_of parts.0.items parts.1.items) × (outline_of (made_of parts.0.items parts.1.items) ≡ listed_outline listing)) }
-{
-    let Listing {
-        types,
-        kinds,
-        actions,
-        principals,
-        resources,
-        contexts,
-    } = listing;
-    let entity_types = arranged_types(alloc, kinds, &types)?;
-    let action_ids = arranged_actions(alloc, contexts, &actions, &principals, &resources)?;
-    Ok((entity_types, action_ids))
 }

@@ -12,10 +12,21 @@ use std::collections::BTreeSet;
 use std::marker::Model;
 
 /// A schema: the entity types and the actions that are declared, in the order of their names.
-#[derive(Debug, Drop)]
+#[derive(Debug)]
 pub struct ValidatorSchema {
     entity_types: Vec<ValidatorEntityType>,
     action_ids: Vec<ValidatorActionId>,
+}
+
+impl Drop for ValidatorSchema {
+    fn drop(self) {
+        let ValidatorSchema {
+            entity_types,
+            action_ids,
+        } = self;
+        drop(entity_types);
+        drop(action_ids);
+    }
 }
 
 impl Model for ValidatorSchema {

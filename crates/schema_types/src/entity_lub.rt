@@ -15,9 +15,16 @@ use std::rc::Rc;
 
 /// One or more entity types: the type of the entities of any of them. They are kept ascending, each once.
 /// A copy shares them.
-#[derive(Debug, Drop)]
+#[derive(Debug)]
 pub struct EntityLUB {
     lub_elements: Rc<BTreeSet<EntityType>>,
+}
+
+impl Drop for EntityLUB {
+    fn drop(self) {
+        let EntityLUB { lub_elements } = self;
+        drop(lub_elements);
+    }
 }
 
 impl Model for EntityLUB {

@@ -14,10 +14,18 @@ use std::collections::BTreeMap;
 use std::marker::Model;
 
 /// A type that a value may be told to have.
-#[derive(Debug, Drop)]
+#[derive(Debug)]
 #[cycle(schema_type)]
 pub struct SchemaType {
     kind: SchemaTypeKind,
+}
+
+impl Drop for SchemaType {
+    #[cycle(schema_type_drops)]
+    fn drop(self) {
+        let SchemaType { kind } = self;
+        drop(kind);
+    }
 }
 
 /// What such a type is.

@@ -17,10 +17,18 @@ use std::marker::Model;
 use std::rc::Rc;
 
 /// A type.
-#[derive(Debug, Drop)]
+#[derive(Debug)]
 #[cycle(ty)]
 pub struct Type {
     kind: TypeKind,
+}
+
+impl Drop for Type {
+    #[cycle(ty_drops)]
+    fn drop(self) {
+        let Type { kind } = self;
+        drop(kind);
+    }
 }
 
 /// What a type is.

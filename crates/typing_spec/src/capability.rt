@@ -14,12 +14,23 @@ use std::marker::Model;
 
 /// That an expression has an attribute, or the tag that another expression names. Capabilities are equal where their
 /// expressions have one shape: notes and places do not matter.
-#[derive(Debug, Drop)]
+#[derive(Debug)]
 pub struct Capability<'a> {
     on: &'a Expr<()>,
     what: Known<'a>,
     // A hash: most capabilities are told apart by it.
     print: u64,
+}
+
+impl Drop for Capability<'_> {
+    fn drop(self) {
+        let Capability {
+            on: _,
+            what,
+            print: _,
+        } = self;
+        drop(what);
+    }
 }
 
 // What the expression has.

@@ -11,9 +11,16 @@ use std::marker::Model;
 
 /// The capabilities that are known at a place of a condition. They are kept in parts that a union shares with the sets
 /// that it was made of.
-#[derive(Debug, Drop)]
+#[derive(Debug)]
 pub struct CapabilitySet<'a> {
     parts: Vec<Part<'a>>,
+}
+
+impl Drop for CapabilitySet<'_> {
+    fn drop(self) {
+        let CapabilitySet { parts } = self;
+        drop(parts);
+    }
 }
 
 impl<'a> Model for CapabilitySet<'a> {
