@@ -16,30 +16,37 @@ use std::marker::Brand;
 use std::sync::ledger::{Blank, Ledger};
 use std::test::Fail;
 
-// A loader over a store that notes what it is asked.
+/// A loader that notes what it is asked, and asks another for it.
 #[derive(Drop)]
-struct Noter<'a> {
-    inner: EntitySlicer<'a>,
-    text: String,
-    strays: u64,
-    rounds: u64,
+pub(crate) struct Noter<D> {
+    /// Who is asked.
+    pub(crate) inner: D,
+    /// The ids of each round with the fields that are read of each, a bar behind the round; those whose ancestors are asked
+    /// for with the ancestors, and a hat.
+    pub(crate) text: String,
 }
 
-// It tells nothing of what it has.
-impl EntityLoader for Noter<'_> {
-    ghost use Rattle.std.specs.Prelude.{false, None};
+impl<D> Noter<D> {
+    /// The loader that has not been asked yet.
+    pub(crate) fn new(alloc: Global, inner: D) -> Noter<D> {
+        Noter {
+            inner,
+            text: String::new(alloc),
+        }
+    }
+}
 
-    ghost state = { λ l. record { store = None; exact = false; faults = 0; strays = l.strays; rounds = l.rounds } };
+impl<D: EntityLoader> EntityLoader for Noter<D> {
+    ghost state = { λ l. D.state l.inner };
 
     fn load_entities(
         &mut self,
         alloc: Global,
         requests: &Vec<EntityRequest<'_>>,
     ) -> Result<Vec<EntityAnswer>, LoadError> {
-        self.rounds = self.rounds.saturating_add(1);
-        self.strays = self.strays.saturating_add(1);
+        let found = self.inner.load_entities(alloc, requests);
         match note_entities(alloc, &mut self.text, requests) {
-            Ok(()) => self.inner.load_entities(alloc, requests),
+            Ok(()) => found,
             Err(_) => Err(LoadError::OutOfMemory),
         }
     }
@@ -49,15 +56,15 @@ impl EntityLoader for Noter<'_> {
         alloc: Global,
         requests: &Vec<AncestorsRequest>,
     ) -> Result<Vec<Vec<EntityUID>>, LoadError> {
-        self.strays = self.strays.saturating_add(1);
+        let found = self.inner.load_ancestors(alloc, requests);
         match note_ancestors(alloc, &mut self.text, requests) {
-            Ok(()) => self.inner.load_ancestors(alloc, requests),
+            Ok(()) => found,
             Err(_) => Err(LoadError::OutOfMemory),
         }
     }
 }
 
-// The id of each entity, with `.name` for each field; at the end a bar.
+// The id of each entity, with `.name` for each field and `.?` for the tags; at the end a bar.
 fn note_entities(
     alloc: Global,
     text: &mut String,
@@ -68,6 +75,9 @@ fn note_entities(
         for (name, _below) in request.access_trie.children() {
             text.push_str(".")?;
             text.push_str(name.as_str())?;
+        }
+        if request.access_trie.tags().is_some() {
+            text.push_str(".?")?;
         }
     }
     text.push_str(" |")
@@ -108,18 +118,13 @@ fn asked_on<L: Ledger>(alloc: Global, document: &Document, blank: Blank) -> Resu
     requires one { blank.parts ≡ 1 }
 {
     let mut steps = Steps::<L>::new(blank);
-    let mut noter = Noter {
-        inner: EntitySlicer::new(&document.entities),
-        text: String::new(alloc),
-        strays: 0,
-        rounds: 0,
-    };
+    let mut noter = Noter::new(alloc, EntitySlicer::new(&document.entities));
     match compute_entity_manifest(alloc, &document.schema, &document.policies) {
         Ok(manifest) => {
             let loaded = load_entities(alloc, &manifest, &document.request, &mut noter, &mut steps);
             drop(loaded);
             drop(manifest);
-            Ok(format!(in alloc; "{}{}", noter.rounds, noter.text.as_str())?)
+            Ok(format!(in alloc; "{}{}", noter.inner.rounds, noter.text.as_str())?)
         }
         Err(error) => {
             drop(error);

@@ -8,8 +8,10 @@ use std::alloc::{AllocError, Global};
 /// How a loader answers.
 #[derive(Clone, Copy, PartialEq)]
 pub(crate) enum Way {
-    /// With whole entities, and no ancestors.
+    /// With whole entities, and no lists of ancestors that say anything.
     Whole,
+    /// So, and with lists of all ancestors, whichever are asked for.
+    AllListed,
     /// So, but that the last answer is left out.
     OneFewer,
     /// So, and with an answer more.
@@ -89,7 +91,7 @@ impl EntityLoader for Liar<'_> {
             return Err(LoadError::Failed);
         }
         self.strays = self.strays.saturating_add(1);
-        match lists(alloc, self.way, requests) {
+        match lists(alloc, self.entities, self.way, requests) {
             Ok(found) => Ok(found),
             Err(_) => Err(LoadError::OutOfMemory),
         }
@@ -148,20 +150,39 @@ fn under(alloc: Global, uid: &EntityUID, entity: &Entity) -> Result<Entity, Allo
     Ok(Entity::new(uid.try_clone()?, attrs, ancestors, tags))
 }
 
-// An empty list for each request, but for a loader that answers with no list or with one more.
+// A list for each request, but for a loader that answers with no list or with one more.
 fn lists(
     alloc: Global,
+    entities: &Entities,
     way: Way,
     requests: &Vec<AncestorsRequest>,
 ) -> Result<Vec<Vec<EntityUID>>, AllocError> {
     let mut found = Vec::new(alloc);
     if way != Way::NoLists {
-        for _request in requests {
-            found.push(Vec::new(alloc))?;
+        for request in requests {
+            found.push(list(alloc, entities, way, &request.entity_id)?)?;
         }
     }
     if way == Way::OneListMore {
         found.push(Vec::new(alloc))?;
+    }
+    Ok(found)
+}
+
+// Nothing, or all ancestors of the entity.
+fn list(
+    alloc: Global,
+    entities: &Entities,
+    way: Way,
+    uid: &EntityUID,
+) -> Result<Vec<EntityUID>, AllocError> {
+    let mut found = Vec::new(alloc);
+    if way == Way::AllListed {
+        if let Some(entity) = entities.entity(uid) {
+            for ancestor in entity.ancestors().iter() {
+                found.push(ancestor.try_clone()?)?;
+            }
+        }
     }
     Ok(found)
 }
