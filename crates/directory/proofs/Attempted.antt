@@ -9,9 +9,9 @@ use Rattle.policy_set.specs.PolicySet.{PolicySetData}
 use Rattle.schema_core.specs.Schema.{SchemaData}
 use Rattle.typing_spec.specs.Conforms.{StoreConforms}
 use Rattle.entity_loader.specs.State.{LoaderState}
-use Rattle.entity_manifest.specs.declared.EntitySliceError.{EntitySliceError}
-use Rattle.entity_manifest.specs.declared.EntitySliceError.TheVariants as error
-use Rattle.entity_manifest.specs.Loaded.{AreDecidedAlike, OfToldStores, WhyNotLoaded, IsTold}
+use Rattle.batch_decisions.specs.declared.EntitySliceError.{EntitySliceError}
+use Rattle.batch_decisions.specs.declared.EntitySliceError.TheVariants as error
+use Rattle.batch_decisions.specs.LoadedByManifest.{AreDecidedAlike, OfToldStores, WhyNotLoaded, IsTold}
 use Rattle.directory.specs.declared.attempt.Attempt.{Attempt}
 use Rattle.directory.specs.declared.attempt.Attempt.TheVariants.{Decided, Missing, Refused}
 use Rattle.directory.specs.Attempts.{IsAttempt, Becomes}

@@ -1,1 +1,3 @@
 mod Attempted
+mod Served
+mod Written

@@ -10,8 +10,8 @@ use Rattle.policy_set.specs.Response.{response}
 use Rattle.schema_core.specs.Schema.{SchemaData}
 use Rattle.typing_spec.specs.Conforms.{StoreConforms}
 use Rattle.row_loader.specs.Laws.{IsStoreOrdered}
-use Rattle.entity_manifest.specs.declared.EntitySliceError.{EntitySliceError}
-use Rattle.entity_manifest.specs.declared.EntitySliceError.TheVariants as error
+use Rattle.batch_decisions.specs.declared.EntitySliceError.{EntitySliceError}
+use Rattle.batch_decisions.specs.declared.EntitySliceError.TheVariants as error
 use Rattle.directory.specs.declared.attempt.Attempt.{Attempt}
 use Rattle.directory.specs.declared.attempt.Attempt.TheVariants.{Decided, Missing, Refused}
 

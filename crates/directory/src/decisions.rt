@@ -5,22 +5,21 @@ ghost use Rattle.byte_streams.specs.Steps.{Rose};
 ghost use Rattle.sqlite.specs.Held.{state};
 ghost use Rattle.entity_store.specs.Request.{IsWhole};
 ghost use Rattle.typing_spec.specs.Conforms.{RequestConforms};
-ghost use Rattle.entity_manifest.specs.Accepted.{IsAccepted};
-ghost use Rattle.entity_manifest.specs.OfPolicies.{IsManifestOf};
-ghost use Rattle.entity_manifest.specs.declared.EntitySliceError.TheVariants.{LoaderFault};
+ghost use Rattle.batch_decisions.specs.Accepted.{IsAccepted};
+ghost use Rattle.batch_decisions.specs.OfPolicies.{IsManifestOf};
+ghost use Rattle.batch_decisions.specs.declared.EntitySliceError.TheVariants.{LoaderFault};
 ghost use Rattle.batch_decisions.specs.Answers.{IsAnswerOrFault};
-ghost use Rattle.entity_rows.specs.Table.{IsReady};
+ghost use Rattle.entity_rows.specs.Table.{IsReady, Continues};
 ghost use Rattle.entity_rows.specs.Fetched.{AreFetched};
 ghost use Rattle.entity_rows.specs.Rows.{told_store};
 ghost use Rattle.directory.specs.Attempts.{OfStore};
 
 use crate::attempt::{Attempt, try_decide};
-use batch_decisions::BatchAnswer;
+use batch_decisions::{
+    BatchAnswer, EntityManifest, EntitySliceError, SliceForRequestError, Steps, check_request,
+};
 use conformance::laws::request_rules_are_exact;
 use entity_loader::LoadError;
-use entity_manifest::{
-    EntityManifest, EntitySliceError, SliceForRequestError, Steps, check_request,
-};
 use entity_rows::{Fetched, FindError};
 use entity_store::Request;
 use policy_set::PolicySet;
@@ -50,6 +49,8 @@ fn fetch<S: Alter>(
     requires ready { IsReady (state S.Store conn.old) }
     requires fetched { AreFetched (told_store (state S.Store conn.old)) fetched.old }
     ensures ready { IsReady (state S.Store conn.new) }
+    ensures goes_on { Continues (told_store (state S.Store conn.old))
+        (told_store (state S.Store conn.new)) }
     ensures fetched { OnOk result (AreFetched (told_store (state S.Store conn.new)) fetched.new) }
 {
     match fetched.fetch(alloc, conn, uid) {
@@ -69,6 +70,8 @@ fn fetch_all<S: Alter>(
     requires ready { IsReady (state S.Store conn.old) }
     requires fetched { AreFetched (told_store (state S.Store conn.old)) fetched.old }
     ensures ready { IsReady (state S.Store conn.new) }
+    ensures goes_on { Continues (told_store (state S.Store conn.old))
+        (told_store (state S.Store conn.new)) }
     ensures fetched { OnOk result (AreFetched (told_store (state S.Store conn.new)) fetched.new) }
 {
     for uid in ids {
@@ -93,6 +96,8 @@ fn decided<S: Alter, L: Ledger>(
     requires conforms { RequestConforms schema.now request.now }
     requires ready { IsReady (state S.Store conn.old) }
     ensures ready { IsReady (state S.Store conn.new) }
+    ensures goes_on { Continues (told_store (state S.Store conn.old))
+        (told_store (state S.Store conn.new)) }
     ensures answer { OfStore schema.now (told_store (state S.Store conn.new)) (λ w.
         IfOk result (IsAnswerOrFault schema.now policies.now.policies w request.now)) }
     ensures no_fault { IfOk result (λ a. a ≢ BatchAnswer.Loading LoaderFault) }
@@ -134,9 +139,12 @@ pub fn decide_on<S: Alter + Drop, L: Ledger>(
     requires manifest { IsManifestOf schema.now policies.now.policies manifest.now }
     requires ready { IsReady (state S.Store directory.old.conn) }
     ensures ready { IsReady (state S.Store directory.new.conn) }
+    ensures goes_on { Continues (told_store (state S.Store directory.old.conn))
+        (told_store (state S.Store directory.new.conn)) }
     ensures answer { OfStore schema.now (told_store (state S.Store directory.new.conn)) (λ w.
         IfOk result (IsAnswerOrFault schema.now policies.now.policies w request.now)) }
-    ensures counted { result ≡ Ok (BatchAnswer.Loading LoaderFault) → Rose directory.old.faults directory.new.faults }
+    ensures counted { result ≡ Ok (BatchAnswer.Loading LoaderFault) →
+        Rose directory.old.faults directory.new.faults }
 {
     request_rules_are_exact();
     // for the proof: the names of a schema's actions ascend

@@ -1,11 +1,14 @@
 //! Decisions by the rows of a database, where each policy has the outcome that it has on the store of all rows.
 #![tactic(auto)]
 
+mod answers;
 mod attempt;
 mod decisions;
-mod opening;
-mod writing;
+mod lines;
+mod requests;
 
+pub use answers::answer_line;
+pub use batch_decisions::{EntityManifest, EntityManifestError, Steps, compute_entity_manifest};
+pub use bounded_lines::{Ended, Line, Lines};
 pub use decisions::{Directory, decide_on};
-pub use opening::{OpenError, create, open, over};
-pub use writing::{ImportError, import};
+pub use lines::{LineDecider, answer_lines};

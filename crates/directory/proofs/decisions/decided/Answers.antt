@@ -5,5 +5,6 @@ use Rattle.directory.proofs.decisions.decided.Goals as goal
 pub loop-round-init : goal.loop-round-init
 loop-round-init g c = record {
   ready = c.requires.ready;
+  goes_on = λ w told. told;
   fetched = c.new-fetched.ensures (told_store (state g.S.Store c.args.conn.now));
 }

@@ -1,0 +1,82 @@
+//! The answer to a line.
+ghost use Rattle.std.specs.Prelude.{◌≡◌, IfOk, string_bytes};
+ghost use Rattle.sqlite.specs.Held.{state};
+ghost use Rattle.batch_decisions.specs.Accepted.{IsAccepted};
+ghost use Rattle.batch_decisions.specs.OfPolicies.{IsManifestOf};
+ghost use Rattle.entity_rows.specs.Table.{IsReady, Continues};
+ghost use Rattle.entity_rows.specs.Rows.{told_store};
+ghost use Rattle.directory.specs.Attempts.{OfStore};
+ghost use Rattle.batch_decisions.specs.Answers.{IsAnswerOrFault};
+ghost use Rattle.batch_decisions.specs.Lines.{line_on};
+ghost use Rattle.batch_decisions.specs.declared.answer.BatchAnswer.{BatchAnswer};
+ghost use Rattle.directory.specs.Lines.{IsRequestLine, line_request};
+
+use crate::requests::{LineRequest, line_request};
+use crate::{Directory, decide_on};
+use batch_decisions::{EntityManifest, Steps, line_on, refused_line};
+use entity_store::Request;
+use policy_set::PolicySet;
+use schema_core::ValidatorSchema;
+use sqlite::Alter;
+use std::alloc::{AllocError, Global};
+use std::sync::ledger::Ledger;
+
+const NO_REQUEST: &str = "line: no request";
+
+const NO_JSON: &str = "line: no JSON";
+
+// The line on the answer to a request.
+fn answer_request<S: Alter + Drop, L: Ledger>(
+    alloc: Global,
+    schema: &ValidatorSchema,
+    policies: &PolicySet,
+    manifest: &EntityManifest,
+    request: &Request,
+    directory: &mut Directory<S>,
+    steps: &mut Steps<L>,
+) -> Result<String, AllocError>
+    requires accepted { IsAccepted schema.now policies.now }
+    requires manifest { IsManifestOf schema.now policies.now.policies manifest.now }
+    requires ready { IsReady (state S.Store directory.old.conn) }
+    ensures ready { IsReady (state S.Store directory.new.conn) }
+    ensures goes_on { Continues (told_store (state S.Store directory.old.conn))
+        (told_store (state S.Store directory.new.conn)) }
+    ensures answer { OfStore schema.now (told_store (state S.Store directory.new.conn)) (λ w.
+        IfOk result (λ text. (a : BatchAnswer) × IsAnswerOrFault schema.now policies.now.policies w request.now a × (string_bytes text ≡ line_on a))) }
+{
+    let answer = decide_on(alloc, schema, policies, manifest, request, directory, steps)?;
+    line_on(alloc, &answer)
+}
+
+/// The line that answers a line of the input, by the manifest of accepted policies: the response on the rows to the request that
+/// the line is, or why there is none.
+///
+/// Where after the call the database is open and its disk has returned what was written, and the store of its rows is in order
+/// and conforms, the line is that on the response on this whole store, or on a fault, which is counted.
+pub fn answer_line<S: Alter + Drop, L: Ledger>(
+    alloc: Global,
+    schema: &ValidatorSchema,
+    policies: &PolicySet,
+    manifest: &EntityManifest,
+    line: &[u8],
+    directory: &mut Directory<S>,
+    steps: &mut Steps<L>,
+) -> Result<String, AllocError>
+    requires accepted { IsAccepted schema.now policies.now }
+    requires manifest { IsManifestOf schema.now policies.now.policies manifest.now }
+    requires ready { IsReady (state S.Store directory.old.conn) }
+    ensures ready { IsReady (state S.Store directory.new.conn) }
+    ensures goes_on { Continues (told_store (state S.Store directory.old.conn))
+        (told_store (state S.Store directory.new.conn)) }
+    ensures answer { OfStore schema.now (told_store (state S.Store directory.new.conn)) (λ w.
+        IfOk result (λ text. IsRequestLine schema.now policies.now.policies w (line_request line.now) (string_bytes text))) }
+{
+    let asked = line_request(alloc, line)?;
+    match asked {
+        LineRequest::Request(request) => answer_request(
+            alloc, schema, policies, manifest, &request, directory, steps,
+        ),
+        LineRequest::NoRequest => refused_line(alloc, NO_REQUEST),
+        LineRequest::NoJson => refused_line(alloc, NO_JSON),
+    }
+}

@@ -1,0 +1,31 @@
+//! Requests, each a line.
+ghost use Rattle.std.specs.Prelude.{◌≡◌, IfOk};
+ghost use Rattle.directory.specs.Lines.{line_request};
+
+use entity_store::Request;
+use json_document::{parse_json, read_request};
+use std::alloc::{AllocError, Global};
+
+/// What the bytes of a line are.
+#[derive(Drop)]
+pub enum LineRequest {
+    /// A request.
+    Request(Request),
+    /// JSON, and no request.
+    NoRequest,
+    /// No JSON.
+    NoJson,
+}
+
+/// What the bytes of a line are.
+pub(crate) fn line_request(alloc: Global, line: &[u8]) -> Result<LineRequest, AllocError>
+    ensures { IfOk result (λ r. r ≡ line_request line.now) }
+{
+    let Some(value) = parse_json(alloc, line)? else {
+        return Ok(LineRequest::NoJson);
+    };
+    match read_request(alloc, Some(&value))? {
+        Some(request) => Ok(LineRequest::Request(request)),
+        None => Ok(LineRequest::NoRequest),
+    }
+}

@@ -1,0 +1,12 @@
+-- What the first word of a call asks for.
+use Rattle.std.specs.Prelude.{ℕ, List, if◌then◌else◌, Option, Some, None, codes}
+use Rattle.std.specs.Str.{bytes_eq}
+use Rattle.directory_service.specs.declared.words.Command.{Command}
+use Rattle.directory_service.specs.declared.words.Command.TheVariants.{Import, Decide, Check}
+
+-- the command that a word is
+abbrev pub command_of : List ℕ → Option Command
+command_of word =
+    if bytes_eq word (codes "import") then Some Import else
+    (if bytes_eq word (codes "decide") then Some Decide else
+    (if bytes_eq word (codes "check") then Some Check else None))

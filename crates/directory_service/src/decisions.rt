@@ -1,0 +1,113 @@
+//! Decisions on the lines that follow the policies.
+ghost use Rattle.directory.specs.Accepted.{IsAccepted};
+ghost use Rattle.directory.specs.OfPolicies.{IsManifestOf};
+
+use crate::document::{READ_FAULT, TOO_LONG, read_bytes};
+use crate::reply::{Reply, file_reply, finish, finish_with, reply_with};
+use crate::status::Status;
+use byte_streams::{Sink, Source};
+use directory::{
+    Directory, Ended, EntityManifest, EntityManifestError, Line, Lines, answer_lines,
+    compute_entity_manifest,
+};
+use json_document::Document;
+use policy_scope::findings_text;
+use sqlite::Start;
+use std::alloc::{AllocError, Global};
+
+// The document on the first line, or the reply on its first fault.
+fn first_document<I: Source + Drop>(
+    alloc: Global,
+    lines: &mut Lines<I>,
+) -> Result<Result<Document, Reply>, AllocError> {
+    match lines.next_line(alloc) {
+        Line::Text(line) => read_bytes(alloc, line.as_slice()),
+        Line::End => read_bytes(alloc, &[]),
+        Line::TooLong => Ok(Err(reply_with(alloc, Status::TooLong, TOO_LONG)?)),
+        Line::Failed => Ok(Err(reply_with(alloc, Status::ReadFault, READ_FAULT)?)),
+        Line::OutOfMemory => Err(AllocError),
+    }
+}
+
+// How the run ends where answering lines ended so.
+fn ended_with<K: Sink>(sink: &mut K, ended: Ended) -> Status {
+    match ended {
+        Ended::Done => Status::Done,
+        Ended::ReadFault => finish(sink, Status::ReadFault, READ_FAULT),
+        Ended::WriteFault => Status::WriteFault,
+        Ended::OutOfMemory => Status::OutOfMemory,
+    }
+}
+
+// Answers each line by the rows of the file.
+fn by_file<S: Start, I: Source + Drop, K: Sink>(
+    rt: &HostRuntime,
+    path: &str,
+    start: S,
+    document: &Document,
+    manifest: &EntityManifest,
+    lines: &mut Lines<I>,
+    sink: &mut K,
+) -> Status
+    requires accepted { IsAccepted document.now.schema document.now.policies }
+    requires manifest { IsManifestOf document.now.schema document.now.policies.policies manifest.now }
+{
+    let conn = match entity_files::open(rt, path, start) {
+        Ok(conn) => conn,
+        Err(error) => return finish_with(sink, file_reply(rt.alloc(), &error)),
+    };
+    let (ended, _) = answer_lines(
+        rt.alloc(),
+        &document.schema,
+        &document.policies,
+        manifest,
+        Directory { conn, faults: 0 },
+        lines,
+        sink,
+    );
+    ended_with(sink, ended)
+}
+
+// The reply that the policies are not accepted.
+fn refusal(alloc: Global, error: EntityManifestError) -> Result<Reply, AllocError> {
+    match &error {
+        EntityManifestError::Validation(found) => {
+            let text = findings_text(alloc, found)?;
+            reply_with(alloc, Status::Findings, text.as_str())
+        }
+        EntityManifestError::OutOfMemory => Err(AllocError),
+    }
+}
+
+// The same, where the document's policies are accepted.
+fn by_policies<S: Start, I: Source + Drop, K: Sink>(
+    rt: &HostRuntime,
+    path: &str,
+    start: S,
+    document: &Document,
+    lines: &mut Lines<I>,
+    sink: &mut K,
+) -> Status {
+    let alloc = rt.alloc();
+    match compute_entity_manifest(alloc, &document.schema, &document.policies) {
+        Ok(manifest) => by_file(rt, path, start, document, &manifest, lines, sink),
+        Err(error) => finish_with(sink, refusal(alloc, error)),
+    }
+}
+
+/// Reads schema and policies from the first line of the source, and answers each further line by the rows of the file.
+pub(crate) fn decide<S: Start, I: Source + Drop, K: Sink>(
+    rt: &HostRuntime,
+    path: &str,
+    start: S,
+    source: I,
+    sink: &mut K,
+) -> Status {
+    let alloc = rt.alloc();
+    let mut lines = Lines::new(alloc, source);
+    match first_document(alloc, &mut lines) {
+        Ok(Ok(document)) => by_policies(rt, path, start, &document, &mut lines, sink),
+        Ok(Err(reply)) => finish(sink, reply.status, reply.text.as_str()),
+        Err(_) => Status::OutOfMemory,
+    }
+}

@@ -1,0 +1,82 @@
+//! Documents and files of entities: written, and checked.
+
+use crate::document::read_source;
+use crate::reply::{Reply, file_reply, reply_with};
+use crate::status::Status;
+use byte_streams::Source;
+use entity_files::{FileError, check_store, import_into_file, read_file};
+use json_document::Document;
+use sqlite::Start;
+use std::alloc::{AllocError, Global};
+
+const CONFORMS: &str = "conforms\n";
+
+// The reply that so many entities were written.
+fn imported(alloc: Global, count: usize) -> Result<Reply, AllocError> {
+    Ok(Reply {
+        status: Status::Done,
+        text: format!(in alloc; "imported {count}\n")?,
+    })
+}
+
+fn import_document<S: Start>(
+    rt: &HostRuntime,
+    path: &str,
+    start: S,
+    document: &Document,
+) -> Result<Reply, AllocError> {
+    let entities = &document.entities;
+    match import_into_file(rt, path, start, &document.schema, entities) {
+        Ok(()) => imported(rt.alloc(), entities.len()),
+        Err(error) => file_reply(rt.alloc(), &error),
+    }
+}
+
+/// Reads a document up to the end of the source, and writes its entities into the file.
+pub(crate) fn import_source<S: Start, I: Source>(
+    rt: &HostRuntime,
+    path: &str,
+    start: S,
+    source: &mut I,
+) -> Result<Reply, AllocError> {
+    match read_source(rt.alloc(), source)? {
+        Ok(document) => import_document(rt, path, start, &document),
+        Err(reply) => Ok(reply),
+    }
+}
+
+// Whether the store of all rows of the file conforms.
+fn check_rows<S: Start>(
+    rt: &HostRuntime,
+    path: &str,
+    start: S,
+    document: &Document,
+) -> Result<(), FileError> {
+    let entities = read_file(rt, path, start)?;
+    check_store(rt.alloc(), &document.schema, &entities)
+}
+
+fn check_file<S: Start>(
+    rt: &HostRuntime,
+    path: &str,
+    start: S,
+    document: &Document,
+) -> Result<Reply, AllocError> {
+    match check_rows(rt, path, start, document) {
+        Ok(()) => reply_with(rt.alloc(), Status::Done, CONFORMS),
+        Err(error) => file_reply(rt.alloc(), &error),
+    }
+}
+
+/// Reads a document up to the end of the source, and says whether the rows of the file conform to its schema.
+pub(crate) fn check_source<S: Start, I: Source>(
+    rt: &HostRuntime,
+    path: &str,
+    start: S,
+    source: &mut I,
+) -> Result<Reply, AllocError> {
+    match read_source(rt.alloc(), source)? {
+        Ok(document) => check_file(rt, path, start, &document),
+        Err(reply) => Ok(reply),
+    }
+}

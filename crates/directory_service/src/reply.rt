@@ -1,0 +1,65 @@
+//! What is answered.
+ghost use Rattle.std.specs.Prelude.{◌≡◌, IfOk, string_bytes};
+
+use crate::status::Status;
+use byte_streams::{Sink, write_text};
+use entity_files::FileError;
+use std::alloc::{AllocError, Global};
+
+/// A status, and the text that goes with it.
+#[derive(Debug, Drop)]
+pub struct Reply {
+    /// The status that is due.
+    pub status: Status,
+    /// All that is to be written, its last newline included.
+    pub text: String,
+}
+
+/// A reply of this status with a copy of the text.
+pub(crate) fn reply_with(alloc: Global, status: Status, text: &str) -> Result<Reply, AllocError>
+    ensures status { IfOk result (λ r. r.status ≡ status) }
+    ensures text { IfOk result (λ r. string_bytes r.text ≡ text.now) }
+{
+    Ok(Reply {
+        status,
+        text: String::from_str(alloc, text)?,
+    })
+}
+
+const OTHER_SCHEMA: &str = "database: it has another schema than the table of entities\n";
+
+const IN_TRANSACTION: &str = "database: a transaction is open\n";
+
+fn database_reply(alloc: Global, why: &str) -> Result<Reply, AllocError> {
+    Ok(Reply {
+        status: Status::Database,
+        text: format!(in alloc; "database: {why}\n")?,
+    })
+}
+
+/// The reply that a file is not written or read.
+pub(crate) fn file_reply(alloc: Global, error: &FileError) -> Result<Reply, AllocError> {
+    match error {
+        FileError::Database(why) | FileError::Row(why) => database_reply(alloc, why.as_str()),
+        FileError::OtherSchema => reply_with(alloc, Status::Database, OTHER_SCHEMA),
+        FileError::InTransaction => reply_with(alloc, Status::Database, IN_TRANSACTION),
+        FileError::Refused(text) => reply_with(alloc, Status::Store, text.as_str()),
+        FileError::OutOfMemory => Err(AllocError),
+    }
+}
+
+/// Writes the text, and says how the run ends.
+pub(crate) fn finish<K: Sink>(sink: &mut K, status: Status, text: &str) -> Status {
+    match write_text(sink, text.as_bytes()) {
+        Ok(()) => status,
+        Err(_) => status.after_fault(),
+    }
+}
+
+/// Writes the reply, where there was memory for it, and says how the run ends.
+pub(crate) fn finish_with<K: Sink>(sink: &mut K, reply: Result<Reply, AllocError>) -> Status {
+    match reply {
+        Ok(reply) => finish(sink, reply.status, reply.text.as_str()),
+        Err(_) => Status::OutOfMemory,
+    }
+}

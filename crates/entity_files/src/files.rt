@@ -1,0 +1,80 @@
+//! Files with the table of entities.
+ghost use Rattle.std.specs.Prelude.{◌≡◌, None, IfOk};
+ghost use Rattle.sqlite.specs.Files.{file_state, IsOpened};
+ghost use Rattle.sqlite.specs.State.{HasCleanDisk};
+ghost use Rattle.conformance.specs.StoreRules.{first_store_fault};
+ghost use Rattle.entity_rows.specs.Table.{IsReady};
+
+use crate::fault::database_error;
+use crate::writing::write_entities;
+use crate::{FileError, all_entities, blank_or_made, check_store, over};
+use entity_store::Entities;
+use schema_core::ValidatorSchema;
+use sqlite::{Connection, Error, ErrorCode, FileFrom, FileStore, Start};
+use std::fs;
+
+// Opens the file, which has no sums where it is new.
+fn connect<S: Start>(
+    rt: &HostRuntime,
+    path: &str,
+    start: S,
+) -> Result<Connection<FileStore<FileFrom<S>>>, FileError>
+    ensures { IfOk result (λ c. HasCleanDisk (file_state c) → IsOpened c) }
+{
+    match Connection::open_from(rt, path, false, start) {
+        Ok(conn) => Ok(conn),
+        Err((error, _)) => Err(database_error(rt.alloc(), error)),
+    }
+}
+
+/// The database in a file that is there, where it has the table of entities and nothing else.
+pub fn open<S: Start>(
+    rt: &HostRuntime,
+    path: &str,
+    start: S,
+) -> Result<Connection<FileStore<FileFrom<S>>>, FileError>
+    ensures { IfOk result (λ c. IsReady (file_state c)) }
+{
+    // An open would make a file that is not there.
+    if fs::open(rt, path).is_err() {
+        let error = Error::SqliteFailure(ErrorCode::CannotOpen);
+        return Err(database_error(rt.alloc(), error));
+    }
+    over(connect(rt, path, start)?)
+}
+
+// Writes the entities into the file, which is made where there is none.
+fn write_into_file<S: Start>(
+    rt: &HostRuntime,
+    path: &str,
+    start: S,
+    entities: &Entities,
+) -> Result<(), FileError> {
+    let alloc = rt.alloc();
+    let mut conn = blank_or_made(alloc, connect(rt, path, start)?)?;
+    let written = write_entities(alloc, entities, &mut conn);
+    // What was committed is found by the next open, whether or not the log is copied into the file.
+    let _ = conn.close();
+    written
+}
+
+/// Writes the entities of a store that conforms, with all their ancestors, into a file: all of them or none. The file is
+/// made where there is none; that of a store that does not conform is left alone.
+pub fn import_into_file<S: Start>(
+    rt: &HostRuntime,
+    path: &str,
+    start: S,
+    schema: &ValidatorSchema,
+    entities: &Entities,
+) -> Result<(), FileError>
+    ensures { IfOk result (λ _. first_store_fault schema.now entities.now ≡ None) }
+{
+    check_store(rt.alloc(), schema, entities)?;
+    write_into_file(rt, path, start, entities)
+}
+
+/// The store of all rows of a file that is there.
+pub fn read_file<S: Start>(rt: &HostRuntime, path: &str, start: S) -> Result<Entities, FileError> {
+    let mut conn = open(rt, path, start)?;
+    all_entities(rt.alloc(), &mut conn)
+}

@@ -1,0 +1,34 @@
+//! The program: entities and decisions of a file, by standard input and output.
+#![tactic(auto)]
+
+use byte_streams::{StdSink, StdSource};
+use directory_service::{Status, run};
+use sqlite::Unknown;
+use std::process::ExitCode;
+use std::{env, io};
+
+// The words after the program's name.
+fn words(rt: &HostRuntime) -> io::Result<Vec<String>> {
+    let mut words = Vec::new(rt.alloc());
+    for word in env::args(rt)?.skip(1) {
+        words.push(word)?;
+    }
+    Ok(words)
+}
+
+fn main(rt: HostRuntime) -> ExitCode {
+    let source = StdSource::new(rt.reader());
+    let mut sink = StdSink::new(io::writer(&rt));
+    let status = match words(&rt) {
+        Ok(words) => run(&rt, &words, Unknown, source, &mut sink),
+        Err(e) => {
+            if e.kind() == io::ErrorKind::OutOfMemory {
+                Status::OutOfMemory
+            } else {
+                // A word that is no text: it is in no command, as no words are.
+                run(&rt, &Vec::new(rt.alloc()), Unknown, source, &mut sink)
+            }
+        }
+    };
+    ExitCode::from(status.code())
+}
