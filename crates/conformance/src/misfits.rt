@@ -178,7 +178,8 @@ pub(crate) fn record_misfit(
     tag: OpenTag,
     fields: &BTreeMap<Text, Value>,
 ) -> Option<Misfit>
-    ensures { result ≡ misfit (knows extensions.now) (record_of attrs.now tag) (rec (fields_of fields.now.entries)) }
+    ensures { result ≡ misfit (knows extensions.now) (record_of attrs.now tag)
+        (rec (fields_of fields.now.entries)) }
 {
     earlier(
         misfit_in_fields(extensions, attrs, tag, fields),
@@ -214,7 +215,8 @@ fn misfit_in_fields<'a>(
     tag: OpenTag,
     fields: &'a BTreeMap<Text, Value>,
 ) -> Option<(&'a Text, Misfit)>
-    ensures { option_map at_key result ≡ misfit_fields (knows extensions.now) tag attrs.now (fields_of fields.now.entries) }
+    ensures { option_map at_key result ≡
+        misfit_fields (knows extensions.now) tag attrs.now (fields_of fields.now.entries) }
 {
     for (key, v) in fields.iter() {
         if let Some(found) = field_misfit(extensions, tag, attrs.get_attr(key), v) {
@@ -231,7 +233,8 @@ fn field_misfit(
     declared: Option<&AttributeType>,
     v: &Value,
 ) -> Option<Misfit>
-    ensures { result ≡ misfit_field tag (option_copied declared.entry) (misfit (knows extensions.now) (type_of (option_copied declared.entry)) v.now) }
+    ensures { result ≡ misfit_field tag (option_copied declared.entry)
+        (misfit (knows extensions.now) (type_of (option_copied declared.entry)) v.now) }
 {
     match declared {
         None => fits_if(is_open(tag)),

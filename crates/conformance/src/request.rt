@@ -38,7 +38,8 @@ pub fn validate_request(
     request: &Request,
     extensions: &ExtensionSchemas<'_>,
 ) -> Result<(), RequestValidationError>
-    ensures { IsRequestAnswer (first_request_fault schema.now (knows extensions.now) request.now) result }
+    ensures { IsRequestAnswer
+        (first_request_fault schema.now (knows extensions.now) request.now) result }
 {
     if let Some(principal) = &request.principal {
         check_principal(alloc, schema, principal)?;
@@ -109,7 +110,8 @@ fn check_action(
     action: &EntityUID,
     extensions: &ExtensionSchemas<'_>,
 ) -> Result<(), RequestValidationError>
-    ensures { IsRequestAnswer (action_fault schema.now (knows extensions.now) request.now action.now) result }
+    ensures { IsRequestAnswer
+        (action_fault schema.now (knows extensions.now) request.now action.now) result }
 {
     let Some(declared) = schema.get_action_id(action) else {
         let action = action.try_clone()?;
@@ -194,7 +196,8 @@ fn check_context(
     context: &Context,
     extensions: &ExtensionSchemas<'_>,
 ) -> Result<(), RequestValidationError>
-    ensures { IsRequestAnswer (context_fault schema.now (knows extensions.now) action.now context.now) result }
+    ensures { IsRequestAnswer
+        (context_fault schema.now (knows extensions.now) action.now context.now) result }
 {
     check_ids(alloc, schema, context)?;
     check_type(alloc, action, context, extensions)
@@ -205,7 +208,9 @@ fn check_ids(
     schema: &ValidatorSchema,
     context: &Context,
 ) -> Result<(), RequestValidationError>
-    ensures { IsRequestAnswer (option_and_then (listed_fault schema.now) (unlisted_in_fields schema.now context.now)) result }
+    ensures { IsRequestAnswer
+        (option_and_then (listed_fault schema.now)
+        (unlisted_in_fields schema.now context.now)) result }
 {
     match unlisted_in_fields(schema, context.fields()) {
         Some(uid) => check_listed(alloc, schema, uid),
@@ -219,7 +224,10 @@ fn check_type(
     context: &Context,
     extensions: &ExtensionSchemas<'_>,
 ) -> Result<(), RequestValidationError>
-    ensures { IsRequestAnswer (option_map (context_error action.now context.now) (misfit (knows extensions.now) (record_of action.now.context ClosedAttributes) (rec context.now))) result }
+    ensures { IsRequestAnswer
+        (option_map (context_error action.now context.now)
+        (misfit (knows extensions.now) (record_of action.now.context ClosedAttributes)
+        (rec context.now))) result }
 {
     let tag = OpenTag::ClosedAttributes;
     match record_misfit(extensions, action.context(), tag, context.fields()) {

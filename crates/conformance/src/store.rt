@@ -32,7 +32,8 @@ use type_relations::has_value;
 ///
 /// Errs with the first entity that breaks a rule, in the order of the ids, and the first rule that it breaks.
 pub fn conforms(schema: &ValidatorSchema, entities: &Entities) -> Result<(), ConformanceError>
-    ensures { MatchResult result (λ _. first_store_fault schema.now entities.now ≡ None) (IsStoreFault (first_store_fault schema.now entities.now)) }
+    ensures { MatchResult result (λ _. first_store_fault schema.now entities.now ≡ None)
+        (IsStoreFault (first_store_fault schema.now entities.now)) }
 {
     let lacking = least_lacking(schema, entities);
     for entity in entities.iter() {
@@ -67,7 +68,8 @@ fn broken_rule(
     entity: &Entity,
     lacks: bool,
 ) -> Result<Option<StoreRule>, AllocError>
-    requires { IsTrue (is_action_type entity.now.uid.entity_type) → lacks ≡ not (has_all_ancestors schema.now entity.now) }
+    requires { IsTrue (is_action_type entity.now.uid.entity_type) → lacks ≡
+        not (has_all_ancestors schema.now entity.now) }
     ensures rule { IfOk result (λ rule. rule ≡ entity_fault schema.now entity.now) }
     ensures memory { OnErr result (IsSome (entity_fault schema.now entity.now)) }
 {
@@ -122,7 +124,8 @@ fn is_action_in(schema: &ValidatorSchema, uid: &EntityUID, above: &EntityUID) ->
 
 // The least id of an entity in which an ancestor of its action is missing.
 fn least_lacking<'a>(schema: &'a ValidatorSchema, entities: &Entities) -> Option<&'a EntityUID>
-    ensures { IsLeastIfAny uid_cmp (λ uid. lacks schema.now.action_ids entities.now uid ≡ true) (option_copied result) }
+    ensures { IsLeastIfAny uid_cmp (λ uid. lacks schema.now.action_ids entities.now uid ≡ true)
+        (option_copied result) }
 {
     let mut least = None;
     for action in schema.action_ids() {
@@ -133,7 +136,8 @@ fn least_lacking<'a>(schema: &'a ValidatorSchema, entities: &Entities) -> Option
 
 // The first descendant of the action whose entity lacks it as an ancestor.
 fn first_without<'a>(entities: &Entities, action: &'a ValidatorActionId) -> Option<&'a EntityUID>
-    ensures found { option_copied result ≡ find (lacks_it entities.now action.now) action.now.descendants }
+    ensures found { option_copied result ≡
+        find (lacks_it entities.now action.now) action.now.descendants }
     ensures ascending { IsStrictlySortedBy uid_cmp action.now.descendants }
 {
     for uid in action.descendants() {
@@ -210,8 +214,11 @@ fn broken_attribute_rule(
     attrs: &Attributes,
     fields: &BTreeMap<Text, Value>,
 ) -> Result<Option<StoreRule>, AllocError>
-    ensures rule { IfOk result (λ rule. rule ≡ first_broken (attribute_fault schema.now attrs.now) (fields_of fields.now.entries)) }
-    ensures memory { OnErr result (IsSome (first_broken (attribute_fault schema.now attrs.now) (fields_of fields.now.entries))) }
+    ensures rule { IfOk result (λ rule. rule ≡
+        first_broken (attribute_fault schema.now attrs.now) (fields_of fields.now.entries)) }
+    ensures memory { OnErr result
+        (IsSome (first_broken (attribute_fault schema.now attrs.now)
+        (fields_of fields.now.entries))) }
 {
     for (key, v) in fields.iter() {
         if let Some(rule) = attribute_fault(schema, attrs, key, v)? {
@@ -260,8 +267,10 @@ fn broken_tag_rule(
     ty: Option<&Type>,
     tags: &BTreeMap<Text, Value>,
 ) -> Result<Option<StoreRule>, AllocError>
-    ensures rule { IfOk result (λ rule. rule ≡ tags_fault schema.now (option_copied ty.entry) (fields_of tags.now.entries)) }
-    ensures memory { OnErr result (IsSome (tags_fault schema.now (option_copied ty.entry) (fields_of tags.now.entries))) }
+    ensures rule { IfOk result (λ rule. rule ≡
+        tags_fault schema.now (option_copied ty.entry) (fields_of tags.now.entries)) }
+    ensures memory { OnErr result
+        (IsSome (tags_fault schema.now (option_copied ty.entry) (fields_of tags.now.entries))) }
 {
     match ty {
         Some(ty) => broken_tag_of(schema, ty, tags),
@@ -283,8 +292,10 @@ fn broken_tag_of(
     ty: &Type,
     tags: &BTreeMap<Text, Value>,
 ) -> Result<Option<StoreRule>, AllocError>
-    ensures rule { IfOk result (λ rule. rule ≡ first_broken (tag_fault schema.now ty.now) (fields_of tags.now.entries)) }
-    ensures memory { OnErr result (IsSome (first_broken (tag_fault schema.now ty.now) (fields_of tags.now.entries))) }
+    ensures rule { IfOk result (λ rule. rule ≡
+        first_broken (tag_fault schema.now ty.now) (fields_of tags.now.entries)) }
+    ensures memory { OnErr result
+        (IsSome (first_broken (tag_fault schema.now ty.now) (fields_of tags.now.entries))) }
 {
     for (key, v) in tags.iter() {
         if let Some(rule) = tag_fault(schema, ty, key, v)? {

@@ -73,7 +73,8 @@ fn write_string(text: &mut String, s: &Text) -> Result<(), AllocError>
 }
 
 fn write_decimal(alloc: Global, text: &mut String, d: &Decimal) -> Result<(), AllocError>
-    ensures { OnOk result (string_bytes text.new ≡ string_bytes text.old ++ (codes "decimal(\"" ++ (decimal_text d.now ++ codes "\")"))) }
+    ensures { OnOk result (string_bytes text.new ≡ string_bytes text.old ++
+        (codes "decimal(\"" ++ (decimal_text d.now ++ codes "\")"))) }
 {
     let written = d.text(alloc)?;
     write!(text, "decimal(\"{written}\")")?;
@@ -81,7 +82,8 @@ fn write_decimal(alloc: Global, text: &mut String, d: &Decimal) -> Result<(), Al
 }
 
 fn write_range(alloc: Global, text: &mut String, range: &IpAddr) -> Result<(), AllocError>
-    ensures { OnOk result (string_bytes text.new ≡ string_bytes text.old ++ (codes "ip(\"" ++ (range_text range.now ++ codes "\")"))) }
+    ensures { OnOk result (string_bytes text.new ≡ string_bytes text.old ++
+        (codes "ip(\"" ++ (range_text range.now ++ codes "\")"))) }
 {
     let written = range.text(alloc)?;
     write!(text, "ip(\"{written}\")")?;
@@ -90,7 +92,8 @@ fn write_range(alloc: Global, text: &mut String, range: &IpAddr) -> Result<(), A
 
 #[cycle(write)]
 fn write_set(alloc: Global, text: &mut String, items: &Vec<Value>) -> Result<(), AllocError>
-    ensures { OnOk result (string_bytes text.new ≡ string_bytes text.old ++ value_text (set (vals_of items.now.items))) }
+    ensures { OnOk result (string_bytes text.new ≡ string_bytes text.old ++
+        value_text (set (vals_of items.now.items))) }
 {
     text.push_str("[")?;
     write_elements(alloc, text, items)?;
@@ -100,7 +103,8 @@ fn write_set(alloc: Global, text: &mut String, items: &Vec<Value>) -> Result<(),
 #[cycle(write)]
 #[tactic(auto, using(crate::proofs::Sizes::size_in))]
 fn write_elements(alloc: Global, text: &mut String, items: &Vec<Value>) -> Result<(), AllocError>
-    ensures { OnOk result (string_bytes text.new ≡ string_bytes text.old ++ elements_text 4 (vals_of items.now.items)) }
+    ensures { OnOk result (string_bytes text.new ≡ string_bytes text.old ++
+        elements_text 4 (vals_of items.now.items)) }
 {
     let mut is_first = true;
     let mut left = FURTHER_PARTS;
@@ -127,7 +131,8 @@ pub(crate) fn write_record(
     text: &mut String,
     fields: &BTreeMap<Text, Value>,
 ) -> Result<(), AllocError>
-    ensures { OnOk result (string_bytes text.new ≡ string_bytes text.old ++ value_text (rec (fields_of fields.now.entries))) }
+    ensures { OnOk result (string_bytes text.new ≡ string_bytes text.old ++
+        value_text (rec (fields_of fields.now.entries))) }
 {
     text.push_str("{")?;
     write_fields(alloc, text, fields)?;
@@ -140,7 +145,8 @@ fn write_fields(
     text: &mut String,
     fields: &BTreeMap<Text, Value>,
 ) -> Result<(), AllocError>
-    ensures { OnOk result (string_bytes text.new ≡ string_bytes text.old ++ fields_text 4 (fields_of fields.now.entries)) }
+    ensures { OnOk result (string_bytes text.new ≡ string_bytes text.old ++
+        fields_text 4 (fields_of fields.now.entries)) }
 {
     let mut is_first = true;
     let mut left = FURTHER_PARTS;
@@ -162,7 +168,8 @@ fn write_fields(
 
 #[cycle(write)]
 fn write_field(alloc: Global, text: &mut String, key: &Text, v: &Value) -> Result<(), AllocError>
-    ensures { OnOk result (string_bytes text.new ≡ string_bytes text.old ++ field_text key.now (value_text v.now)) }
+    ensures { OnOk result (string_bytes text.new ≡ string_bytes text.old ++
+        field_text key.now (value_text v.now)) }
 {
     write_key(text, key)?;
     text.push_str(": ")?;

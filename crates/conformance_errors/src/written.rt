@@ -87,7 +87,9 @@ impl Diagnostic for RequestValidationError {
 
 // The context, which is not valid for the action.
 fn context_message(alloc: Global, error: &InvalidContextError) -> Result<Text, AllocError>
-    ensures { IfOk result (λ text. text ≡ codes "context `" ++ (value_text (rec error.now.context) ++ (codes "` is not valid for `" ++ (id_text error.now.action ++ codes "`")))) }
+    ensures { IfOk result (λ text. text ≡ codes "context `" ++
+        (value_text (rec error.now.context) ++
+        (codes "` is not valid for `" ++ (id_text error.now.action ++ codes "`")))) }
 {
     let mut text = String::from_str(alloc, "context `")?;
     write_record(alloc, &mut text, error.context.fields())?;

@@ -17,7 +17,8 @@ pub(crate) fn action_entity(
     uid: &EntityUID,
 ) -> Result<Entity, AllocError>
     requires { IsSchema schema.now }
-    ensures { IfOk result (λ e. action_of e ≡ record { uid = uid.now; ancestors = ancestors_of schema.now uid.now }) }
+    ensures { IfOk result (λ e. action_of e ≡
+        record { uid = uid.now; ancestors = ancestors_of schema.now uid.now }) }
 {
     let ancestors = schema.action_ancestors(alloc, uid)?;
     let uid = uid.try_clone()?;

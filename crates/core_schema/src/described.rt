@@ -42,7 +42,8 @@ impl EntityTypeDescription {
         schema: &ValidatorSchema,
         type_name: &EntityType,
     ) -> Result<Option<EntityTypeDescription>, AllocError>
-        ensures { IfOk result (λ o. o ≡ option_map (described_type schema.now) (type_at schema.now type_name.now)) }
+        ensures { IfOk result (λ o. o ≡
+            option_map (described_type schema.now) (type_at schema.now type_name.now)) }
     {
         schema_types_are_plain();
         let types = schema.entity_types();
@@ -62,9 +63,17 @@ fn describe(
     declared: &ValidatorEntityType,
     parents: BTreeSet<EntityType>,
 ) -> Result<EntityTypeDescription, AllocError>
-    requires attributes { plain_attrs (attributes_in declared.now.kind) ≡ Some (attributes_in declared.now.kind) }
+    requires attributes { plain_attrs (attributes_in declared.now.kind) ≡
+        Some (attributes_in declared.now.kind) }
     requires tags { IfSome (tags_in declared.now.kind) (λ t. plain t ≡ Some t) }
-    ensures { IfOk result (λ d. d ≡ record { name = declared.now.name; eids = listed_in declared.now.kind; attrs = attributes_in declared.now.kind; tags = tags_in declared.now.kind; parents = parents.keys }) }
+    ensures { IfOk result (λ d. d ≡
+        record {
+          name = declared.now.name;
+          eids = listed_in declared.now.kind;
+          attrs = attributes_in declared.now.kind;
+          tags = tags_in declared.now.kind;
+          parents = parents.keys;
+        }) }
 {
     let name = declared.name().try_clone()?;
     let eids = listed(alloc, declared)?;

@@ -24,7 +24,8 @@ pub fn cut_entity(
     ancestors: BTreeSet<EntityUID>,
 ) -> Result<Entity, AllocError>
     requires { IsTable nodes.now }
-    ensures { IfOk result (λ e. e ≡ record (cut_entity (asked_by nodes.now numbers.now) entity.now) { ancestors = ancestors.keys }) }
+    ensures { IfOk result (λ e. e ≡
+        record (cut_entity (asked_by nodes.now numbers.now) entity.now) { ancestors = ancestors.keys }) }
 {
     let uid = entity.uid().try_clone()?;
     let attrs = cut_fields(alloc, entity.attrs(), nodes, numbers)?;
@@ -48,7 +49,9 @@ fn cut_tags(
     numbers: &[usize],
 ) -> Result<BTreeMap<Text, Value>, AllocError>
     requires { IsTable nodes.now }
-    ensures { IfOk result (λ kept. fields_of kept.entries ≡ cut_fields (fields_of tags.now.entries) (by_tag (λ c. some_asks nodes.now numbers.now (any_tag ∷ steps_of c)))) }
+    ensures { IfOk result (λ kept. fields_of kept.entries ≡
+        cut_fields (fields_of tags.now.entries)
+        (by_tag (λ c. some_asks nodes.now numbers.now (any_tag ∷ steps_of c)))) }
 {
     let below = behind_tags(alloc, nodes, numbers)?;
     if below.is_empty() {
@@ -66,7 +69,8 @@ fn cut_all(
 ) -> Result<BTreeMap<Text, Value>, AllocError>
     requires table { IsTable nodes.now }
     requires there { some_leads nodes.now numbers.now [] ≡ true }
-    ensures { IfOk result (λ kept. fields_of kept.entries ≡ cut_fields (fields_of values.now.entries) (by_tag (some_along nodes.now numbers.now))) }
+    ensures { IfOk result (λ kept. fields_of kept.entries ≡
+        cut_fields (fields_of values.now.entries) (by_tag (some_along nodes.now numbers.now))) }
 {
     let mut kept = BTreeMap::new(alloc);
     for (key, value) in values.iter() {
@@ -85,7 +89,8 @@ fn cut_fields(
     numbers: &[usize],
 ) -> Result<BTreeMap<Text, Value>, AllocError>
     requires { IsTable nodes.now }
-    ensures { IfOk result (λ kept. fields_of kept.entries ≡ cut_fields (fields_of fields.now.entries) (some_along nodes.now numbers.now)) }
+    ensures { IfOk result (λ kept. fields_of kept.entries ≡
+        cut_fields (fields_of fields.now.entries) (some_along nodes.now numbers.now)) }
 {
     let mut kept = BTreeMap::new(alloc);
     for (key, value) in fields.iter() {

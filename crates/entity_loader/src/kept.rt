@@ -44,7 +44,9 @@ pub fn keep(
     kept: &mut BTreeMap<EntityUID, Entity>,
     entity: Entity,
 ) -> Result<(), KeepError>
-    ensures ok { OnOk result ((x : EntityUID) → get uid_cmp kept.new x ≡ cond (uid_eq entity.uid x) (kept_with (get uid_cmp kept.old entity.uid) entity) (get uid_cmp kept.old x)) }
+    ensures ok { OnOk result ((x : EntityUID) → get uid_cmp kept.new x ≡
+        cond (uid_eq entity.uid x) (kept_with (get uid_cmp kept.old entity.uid) entity)
+        (get uid_cmp kept.old x)) }
     ensures err { IfErr result (WhyNotKept (get uid_cmp kept.old entity.uid) entity) }
 {
     let uid = entity.uid().try_clone()?;
@@ -62,7 +64,8 @@ fn put(
     uid: EntityUID,
     entity: Entity,
 ) -> Result<(), AllocError>
-    ensures { OnOk result ((x : EntityUID) → get uid_cmp kept.new x ≡ cond (uid_eq uid x) (Some entity) (get uid_cmp kept.old x)) }
+    ensures { OnOk result ((x : EntityUID) → get uid_cmp kept.new x ≡
+        cond (uid_eq uid x) (Some entity) (get uid_cmp kept.old x)) }
 {
     kept.insert(uid, entity)?;
     Ok(())

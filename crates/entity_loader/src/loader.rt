@@ -88,8 +88,10 @@ pub trait EntityLoader {
         requires { IsStrictlySortedBy uid_cmp (map (λ r. r.entity_id) requests.now.items) }
         ensures goes_on { Continues (state self.old) (state self.new) }
         ensures rounds { Ticks (state self.old).rounds (state self.new).rounds }
-        ensures cause { result ≡ Err LoadError.Failed → Rose (state self.old).faults (state self.new).faults }
-        ensures fit { IfOk result (λ found. AllZip Fits requests.now.items found.items ⊎ Rose (state self.old).strays (state self.new).strays) }
+        ensures cause { result ≡ Err LoadError.Failed →
+            Rose (state self.old).faults (state self.new).faults }
+        ensures fit { IfOk result (λ found. AllZip Fits requests.now.items found.items ⊎
+            Rose (state self.old).strays (state self.new).strays) }
         ensures honest { (s : Store) → (state self.old).store ≡ Some s → IfOk result (λ found. AllZip (IsHonest (state self.old).exact s) requests.now.items found.items) };
 
     /// For each request, in their order, those of its ids that are ancestors of its entity, its parents and all that are
@@ -104,7 +106,9 @@ pub trait EntityLoader {
         requires { IsStrictlySortedBy uid_cmp (map (λ r. r.entity_id) requests.now.items) }
         ensures goes_on { Continues (state self.old) (state self.new) }
         ensures rounds { (state self.new).rounds ≡ (state self.old).rounds }
-        ensures cause { result ≡ Err LoadError.Failed → Rose (state self.old).faults (state self.new).faults }
-        ensures fit { IfOk result (λ found. (length requests.now.items ≡ length found.items) ⊎ Rose (state self.old).strays (state self.new).strays) }
+        ensures cause { result ≡ Err LoadError.Failed →
+            Rose (state self.old).faults (state self.new).faults }
+        ensures fit { IfOk result (λ found. (length requests.now.items ≡ length found.items) ⊎
+            Rose (state self.old).strays (state self.new).strays) }
         ensures honest { (s : Store) → (state self.old).store ≡ Some s → IfOk result (λ found. AllZip (IsHonestList (state self.old).exact s) requests.now.items found.items) };
 }

@@ -94,7 +94,8 @@ fn ancestor_lists(
     entities: &Entities,
     requests: &Vec<AncestorsRequest>,
 ) -> Result<Vec<Vec<EntityUID>>, AllocError>
-    ensures { IfOk result (λ found. AllZip (IsHonestList true entities.now) requests.now.items found.items) }
+    ensures { IfOk result
+        (λ found. AllZip (IsHonestList true entities.now) requests.now.items found.items) }
 {
     let mut found = Vec::new(alloc);
     for request in requests {

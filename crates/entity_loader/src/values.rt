@@ -42,7 +42,8 @@ pub(crate) fn merge_fields(
     fields: &BTreeMap<Text, Value>,
     others: &BTreeMap<Text, Value>,
 ) -> Result<Option<BTreeMap<Text, Value>>, AllocError>
-    ensures { IfOk result (λ m. option_map (λ fs. fields_of fs.entries) m ≡ merge_fields (fields_of fields.now.entries) (fields_of others.now.entries)) }
+    ensures { IfOk result (λ m. option_map (λ fs. fields_of fs.entries) m ≡
+        merge_fields (fields_of fields.now.entries) (fields_of others.now.entries)) }
 {
     let _count = fields.len();
     let mut merged = try_clone_fields(alloc, fields)?;
@@ -58,7 +59,8 @@ pub(crate) fn merge_fields(
 }
 
 fn put(fields: &mut BTreeMap<Text, Value>, key: Text, value: Value) -> Result<(), AllocError>
-    ensures entries { OnOk result (fields.new.entries ≡ insert_entry text_cmp fields.old.entries key value) }
+    ensures entries { OnOk result (fields.new.entries ≡
+        insert_entry text_cmp fields.old.entries key value) }
     ensures ordered { IsOrdered text_cmp fields.new }
 {
     fields.insert(key, value)?;

@@ -83,7 +83,8 @@ pub fn load_slice<L: Ledger>(
     requires whole { IsWhole request.now }
     requires conforms { RequestConforms schema.now request.now }
     requires store { StoreConforms schema.now entities.now }
-    ensures slice { IfOk result (λ s. s ≡ slice schema.now policies.now.policies request.now entities.now) }
+    ensures slice { IfOk result (λ s. s ≡
+        slice schema.now policies.now.policies request.now entities.now) }
     ensures memory { IfErr result (λ e. e ≡ OutOfMemory) }
 {
     entities_are_ordered(entities);

@@ -44,8 +44,10 @@ impl Fetched {
 
     // Adds an id, and the entity that was found for it.
     fn add(&mut self, uid: EntityUID, entity: Option<Entity>) -> Result<(), AllocError>
-        ensures seen { OnOk result ((u : EntityUID) → contains uid_cmp self.new.seen u ≡ cond (is_at (uid_cmp uid) u) true (contains uid_cmp self.old.seen u)) }
-        ensures found { OnOk result (self.new.found.items ≡ self.old.found.items ++ option_to_list entity) }
+        ensures seen { OnOk result ((u : EntityUID) → contains uid_cmp self.new.seen u ≡
+            cond (is_at (uid_cmp uid) u) true (contains uid_cmp self.old.seen u)) }
+        ensures found { OnOk result (self.new.found.items ≡ self.old.found.items ++
+            option_to_list entity) }
     {
         self.seen.insert(uid)?;
         if let Some(entity) = entity {
@@ -64,7 +66,8 @@ impl Fetched {
         requires ready { IsReady (state S.Store conn.old) }
         requires fetched { AreFetched (told_store (state S.Store conn.old)) self.old }
         ensures ready { IsReady (state S.Store conn.new) }
-        ensures goes_on { Continues (told_store (state S.Store conn.old)) (told_store (state S.Store conn.new)) }
+        ensures goes_on { Continues (told_store (state S.Store conn.old))
+            (told_store (state S.Store conn.new)) }
         ensures fetched { OnOk result (AreFetched (told_store (state S.Store conn.new)) self.new) }
     {
         if self.seen.contains(uid) {

@@ -54,9 +54,15 @@ fn ask<S: Alter>(
     kind: &str,
     eid: &str,
 ) -> Result<Vec<Row>, Error>
-    ensures ok { HasCleanDisk (state S.Store conn.new) → IfOk result (λ rows. Shown sql.now (Text kind.now ∷ Text eid.now ∷ []) (state S.Store conn.old) (state S.Store conn.new) rows.items) }
-    ensures err { HasCleanDisk (state S.Store conn.new) → IfErr result (FailsToQuery sql.now (Text kind.now ∷ Text eid.now ∷ []) (state S.Store conn.old) (state S.Store conn.new)) }
-    ensures survives { Survives (state S.Store conn.old) (state S.Store conn.new) (CommitsShowing sql.now (Text kind.now ∷ Text eid.now ∷ []) (state S.Store conn.old)) }
+    ensures ok { HasCleanDisk (state S.Store conn.new) →
+        IfOk result (λ rows.
+        Shown sql.now (Text kind.now ∷ Text eid.now ∷ []) (state S.Store conn.old)
+        (state S.Store conn.new) rows.items) }
+    ensures err { HasCleanDisk (state S.Store conn.new) →
+        IfErr result (FailsToQuery sql.now (Text kind.now ∷ Text eid.now ∷ [])
+        (state S.Store conn.old) (state S.Store conn.new)) }
+    ensures survives { Survives (state S.Store conn.old) (state S.Store conn.new)
+        (CommitsShowing sql.now (Text kind.now ∷ Text eid.now ∷ []) (state S.Store conn.old)) }
 {
     conn.query_all(sql, params![kind, eid])
 }
@@ -66,7 +72,9 @@ fn look_up<S: Alter>(conn: &mut Connection<S>, kind: &str, eid: &str) -> Result<
     requires { IsReady (state S.Store conn.old) }
     ensures ready { IsReady (state S.Store conn.new) }
     ensures goes_on { GoesOn (state S.Store conn.old) (state S.Store conn.new) }
-    ensures honest { IsSound (state S.Store conn.new) → IfOk result (λ rows. AreCells ((state S.Store conn.new).now.trees 0) kind.now eid.now rows.items) }
+    ensures honest { IsSound (state S.Store conn.new) →
+        IfOk result (λ rows.
+        AreCells ((state S.Store conn.new).now.trees 0) kind.now eid.now rows.items) }
 {
     ask(
         conn,
@@ -87,9 +95,11 @@ pub fn find_entity<S: Alter>(
 ) -> Result<Option<Entity>, FindError>
     requires { IsReady (state S.Store conn.old) }
     ensures ready { IsReady (state S.Store conn.new) }
-    ensures goes_on { Continues (told_store (state S.Store conn.old)) (told_store (state S.Store conn.new)) }
+    ensures goes_on { Continues (told_store (state S.Store conn.old))
+        (told_store (state S.Store conn.new)) }
     ensures id { IfOk result (λ o. IfSome o (λ e. e.uid ≡ uid.now)) }
-    ensures honest { (w : Store) → told_store (state S.Store conn.new) ≡ Some w → IfOk result (λ o. o ≡ entity_at w uid.now) }
+    ensures honest { (w : Store) → told_store (state S.Store conn.new) ≡ Some w →
+        IfOk result (λ o. o ≡ entity_at w uid.now) }
 {
     let rows = look_up(conn, uid.entity_type().as_str(), uid.eid().as_str())?;
     read_found(alloc, &rows, uid)

@@ -37,7 +37,8 @@ fn read_given_fields(
     alloc: Global,
     value: Option<&Json>,
 ) -> Result<Option<BTreeMap<Text, Value>>, AllocError>
-    ensures { IfOk result (λ o. option_map (λ fs. fs.entries) o ≡ fields_in (option_map (λ v. view v.now) value.entry)) }
+    ensures { IfOk result (λ o. option_map (λ fs. fs.entries) o ≡
+        fields_in (option_map (λ v. view v.now) value.entry)) }
 {
     let Some(value) = value else {
         return Ok(Some(BTreeMap::new(alloc)));

@@ -16,7 +16,8 @@ fn read_given_fields(
     alloc: Global,
     value: Option<&Json>,
 ) -> Result<Option<BTreeMap<Text, Value>>, AllocError>
-    ensures { IfOk result (λ o. option_map (λ fs. fs.entries) o ≡ fields_in (option_map (λ v. view v.now) value.entry)) }
+    ensures { IfOk result (λ o. option_map (λ fs. fs.entries) o ≡
+        fields_in (option_map (λ v. view v.now) value.entry)) }
 {
     let Some(value) = value else {
         return Ok(Some(BTreeMap::new(alloc)));
@@ -32,7 +33,9 @@ pub(crate) fn read_attrs_and_tags(
     alloc: Global,
     value: &Json,
 ) -> Result<Option<(BTreeMap<Text, Value>, BTreeMap<Text, Value>)>, AllocError>
-    ensures { IfOk result (λ o. option_map (λ p. (p.0.entries, p.1.entries)) o ≡ both_of (fields_in (get (codes "attrs") (view value.now))) (fields_in (get (codes "tags") (view value.now)))) }
+    ensures { IfOk result (λ o. option_map (λ p. (p.0.entries, p.1.entries)) o ≡
+        both_of (fields_in (get (codes "attrs") (view value.now)))
+        (fields_in (get (codes "tags") (view value.now)))) }
 {
     let Some(attrs) = read_given_fields(alloc, value.get("attrs"))? else {
         return Ok(None);

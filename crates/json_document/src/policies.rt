@@ -17,7 +17,8 @@ use std::alloc::{AllocError, Global};
 
 // The fault for which the policy at the index is not added.
 fn fault_at(index: usize, error: PolicySetError) -> DocumentFault
-    ensures { (fault : Option PolicySetError) (set : PolicySetData) → IsNotAdded fault error → Fails result (unless_fault index fault set) }
+    ensures { (fault : Option PolicySetError) (set : PolicySetData) → IsNotAdded fault error →
+        Fails result (unless_fault index fault set) }
 {
     match error {
         PolicySetError::DuplicateId(_) => DocumentFault::Place(Place::PolicyDuplicate(index)),
@@ -30,7 +31,9 @@ fn fault_at(index: usize, error: PolicySetError) -> DocumentFault
 
 // Adds a template, or a static policy where no slot stands in its scope.
 fn add_written(policies: &mut PolicySet, template: Template) -> Result<(), PolicySetError>
-    ensures { MatchResult result (λ _. (id_fault policies.old template.id ≡ None) × (policies.new ≡ with_written template policies.old)) (IsNotAdded (id_fault policies.old template.id)) }
+    ensures { MatchResult result (λ _. (id_fault policies.old template.id ≡ None) ×
+        (policies.new ≡ with_written template policies.old))
+        (IsNotAdded (id_fault policies.old template.id)) }
 {
     if template.has_slot() {
         policies.add_template(template)

@@ -17,7 +17,8 @@ use std::alloc::{AllocError, Global};
 use std::collections::BTreeMap;
 
 fn read_choices(alloc: Global, items: &Vec<Value>) -> Result<Option<Vec<Eid>>, AllocError>
-    ensures { IfOk result (λ o. option_map (λ v. v.items) o ≡ texts_of_items (items_view items.now.items)) }
+    ensures { IfOk result (λ o. option_map (λ v. v.items) o ≡
+        texts_of_items (items_view items.now.items)) }
 {
     let mut all = Vec::new(alloc);
     for item in items {
@@ -128,7 +129,8 @@ fn read_entity_type_members(
     alloc: Global,
     members: &Map<String, Value>,
 ) -> Result<Option<Vec<TypeDeclaration>>, AllocError>
-    ensures types { IfOk result (λ o. option_map (λ v. v.items) o ≡ entity_types_of_members (members_view members.now.entries)) }
+    ensures types { IfOk result (λ o. option_map (λ v. v.items) o ≡
+        entity_types_of_members (members_view members.now.entries)) }
     ensures once { IfOk result (λ o. IfSome o (λ v. IsOnce (map (λ t. t.name) v.items))) }
 {
     let mut types = Vec::new(alloc);
@@ -150,7 +152,8 @@ fn read_entity_types(
     alloc: Global,
     value: Option<&Value>,
 ) -> Result<Option<Vec<TypeDeclaration>>, AllocError>
-    ensures types { IfOk result (λ o. option_map (λ v. v.items) o ≡ entity_types_of (option_map (λ v. view v.now) value.entry)) }
+    ensures types { IfOk result (λ o. option_map (λ v. v.items) o ≡
+        entity_types_of (option_map (λ v. view v.now) value.entry)) }
     ensures once { IfOk result (λ o. IfSome o (λ v. IsOnce (map (λ t. t.name) v.items))) }
 {
     let Some(value) = value else {

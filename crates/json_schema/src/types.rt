@@ -79,7 +79,9 @@ fn read_type_members(
 
 #[cycle(types)]
 fn read_type_form(alloc: Global, value: &Value, key: &str) -> Result<Option<Type>, AllocError>
-    ensures { IfOk result (λ o. o ≡ type_form key.now (view value.now) (type_of (view value.now)) (attributes_of (view value.now))) }
+    ensures { IfOk result (λ o. o ≡
+        type_form key.now (view value.now) (type_of (view value.now))
+        (attributes_of (view value.now))) }
 {
     match key {
         "set" => read_set(alloc, value),
@@ -101,7 +103,9 @@ fn read_set(alloc: Global, value: &Value) -> Result<Option<Type>, AllocError>
 
 #[cycle(types)]
 fn read_record(alloc: Global, value: &Value) -> Result<Option<Type>, AllocError>
-    ensures { IfOk result (λ o. o ≡ option_map (λ es. record_of (attrs_of es) ClosedAttributes) (attributes_of (view value.now))) }
+    ensures { IfOk result (λ o. o ≡
+        option_map (λ es. record_of (attrs_of es) ClosedAttributes)
+        (attributes_of (view value.now))) }
 {
     match read_attributes(alloc, value)? {
         Some(attrs) => Ok(Some(Type::record(attrs, OpenTag::ClosedAttributes))),
@@ -129,7 +133,8 @@ fn read_entries(
     alloc: Global,
     members: &Map<String, Value>,
 ) -> Result<Option<BTreeMap<Text, AttributeType>>, AllocError>
-    ensures { IfOk result (λ o. option_map (λ es. es.entries) o ≡ attributes_of_members (members_view members.now.entries)) }
+    ensures { IfOk result (λ o. option_map (λ es. es.entries) o ≡
+        attributes_of_members (members_view members.now.entries)) }
 {
     let mut entries = BTreeMap::new(alloc);
     for (key, member) in members.iter() {
@@ -201,7 +206,10 @@ fn read_attribute_form(
     value: &Value,
     key: &str,
 ) -> Result<Option<AttributeType>, AllocError>
-    ensures { IfOk result (λ o. o ≡ attribute_form key.now (type_of (view value.now)) (type_form key.now (view value.now) (type_of (view value.now)) (attributes_of (view value.now)))) }
+    ensures { IfOk result (λ o. o ≡
+        attribute_form key.now (type_of (view value.now))
+        (type_form key.now (view value.now) (type_of (view value.now))
+        (attributes_of (view value.now)))) }
 {
     if key == "optional" {
         let attr_type = read_type(alloc, value)?;

@@ -32,9 +32,14 @@ pub fn level_errors(
     max_level: u32,
     conditions: &Vec<(RequestEnv<'_>, Expr<Option<Type>>)>,
 ) -> Result<Vec<ValidationError>, AllocError>
-    ensures found { IfOk result (λ errors. errors.items ≡ level_errors_in policy_id.now max_level (map condition_in conditions.now.items)) }
-    ensures none { IfOk result (λ errors. (errors.items ≡ []) ↔ AllByRecursion (PassesIn max_level) (map condition_in conditions.now.items)) }
-    ensures told { IfOk result (λ errors. AllByRecursion (IsToldOf policy_id.now max_level (flat_map dereferences_in (map condition_in conditions.now.items))) errors.items) }
+    ensures found { IfOk result (λ errors. errors.items ≡
+        level_errors_in policy_id.now max_level (map condition_in conditions.now.items)) }
+    ensures none { IfOk result (λ errors. (errors.items ≡ []) ↔
+        AllByRecursion (PassesIn max_level) (map condition_in conditions.now.items)) }
+    ensures told { IfOk result
+        (λ errors. AllByRecursion
+        (IsToldOf policy_id.now max_level
+        (flat_map dereferences_in (map condition_in conditions.now.items))) errors.items) }
 {
     level_errors_are_exact();
     let faults = faults_in_all(alloc, max_level, conditions)?;
@@ -47,7 +52,9 @@ fn faults_in_all(
     max_level: u32,
     conditions: &Vec<(RequestEnv<'_>, Expr<Option<Type>>)>,
 ) -> Result<LevelFaults, AllocError>
-    ensures { IfOk result (λ faults. faults ≡ distinct fault_cmp (flat_map (faults_in max_level) (map condition_in conditions.now.items))) }
+    ensures { IfOk result (λ faults. faults ≡
+        distinct fault_cmp (flat_map (faults_in max_level)
+        (map condition_in conditions.now.items))) }
 {
     let mut faults = LevelFaults::new(alloc);
     for (env, condition) in conditions {
@@ -97,7 +104,9 @@ impl LevelFaults {
         max_level: u32,
         condition: &Expr<Option<Type>>,
     ) -> Result<LevelFaults, AllocError>
-        ensures { IfOk result (λ faults. faults ≡ fold (with_new fault_cmp) self (level_faults (action_in (env_data_of env.now)) max_level condition.now)) }
+        ensures { IfOk result (λ faults. faults ≡
+            fold (with_new fault_cmp) self
+            (level_faults (action_in (env_data_of env.now)) max_level condition.now)) }
     {
         let LevelFaults {
             mut seen,
@@ -115,7 +124,8 @@ impl LevelFaults {
         policy_id: &Text,
         max_level: u32,
     ) -> Result<Vec<ValidationError>, AllocError>
-        ensures { IfOk result (λ errors. errors.items ≡ map (level_error policy_id.now max_level) self.now) }
+        ensures { IfOk result (λ errors. errors.items ≡
+            map (level_error policy_id.now max_level) self.now) }
     {
         errors_of(alloc, policy_id, max_level, &self.distinct)
     }
@@ -128,7 +138,8 @@ fn faults_of(
     max_level: u32,
     condition: &Expr<Option<Type>>,
 ) -> Result<Vec<Fault>, AllocError>
-    ensures { IfOk result (λ faults. map fault_of faults.items ≡ level_faults (action_in (env_data_of env.now)) max_level condition.now) }
+    ensures { IfOk result (λ faults. map fault_of faults.items ≡
+        level_faults (action_in (env_data_of env.now)) max_level condition.now) }
 {
     let at = Checked {
         action: env.action_entity_uid(),
@@ -147,7 +158,8 @@ fn add_new(
 ) -> Result<(), AllocError>
     requires { HasSeen seen.old (map fault_of distinct.old.items) }
     ensures seen { OnOk result (HasSeen seen.new (map fault_of distinct.new.items)) }
-    ensures added { OnOk result (map fault_of distinct.new.items ≡ fold (with_new fault_cmp) (map fault_of distinct.old.items) (map fault_of faults.items)) }
+    ensures added { OnOk result (map fault_of distinct.new.items ≡
+        fold (with_new fault_cmp) (map fault_of distinct.old.items) (map fault_of faults.items)) }
 {
     for fault in faults {
         if seen.insert((fault.needed, fault.source_loc))? {
@@ -164,7 +176,8 @@ fn errors_of(
     max_level: u32,
     faults: &Vec<Fault>,
 ) -> Result<Vec<ValidationError>, AllocError>
-    ensures { IfOk result (λ errors. errors.items ≡ map (level_error policy_id.now max_level) (map fault_of faults.now.items)) }
+    ensures { IfOk result (λ errors. errors.items ≡
+        map (level_error policy_id.now max_level) (map fault_of faults.now.items)) }
 {
     let mut errors = Vec::new(alloc);
     for fault in faults {

@@ -35,7 +35,8 @@ pub(crate) fn held_by<'a>(
     entities: &'a Entities,
     ids: Vec<&EntityUID>,
 ) -> Result<Vec<&'a EntityUID>, AllocError>
-    ensures { IfOk result (λ held. map (deref {X = EntityUID}) held.items ≡ held_by entities.now (map (deref {X = EntityUID}) ids.entry.items)) }
+    ensures { IfOk result (λ held. map (deref {X = EntityUID}) held.items ≡
+        held_by entities.now (map (deref {X = EntityUID}) ids.entry.items)) }
 {
     let mut held = Vec::new(alloc);
     for uid in ids {
@@ -48,7 +49,8 @@ pub(crate) fn held_by<'a>(
 
 // Adds the ids in the attributes and the tags of an entity.
 fn add_held<'a>(entity: &'a Entity, ids: &mut Vec<&'a EntityUID>) -> Result<(), AllocError>
-    ensures { OnOk result (map (deref {X = EntityUID}) ids.new.items ≡ map (deref {X = EntityUID}) ids.old.items ++ ids_held entity.now) }
+    ensures { OnOk result (map (deref {X = EntityUID}) ids.new.items ≡
+        map (deref {X = EntityUID}) ids.old.items ++ ids_held entity.now) }
 {
     add_ids_of_fields(entity.attrs(), ids)?;
     add_ids_of_fields(entity.tags(), ids)
@@ -57,7 +59,8 @@ fn add_held<'a>(entity: &'a Entity, ids: &mut Vec<&'a EntityUID>) -> Result<(), 
 // Adds the ids anywhere in a value.
 #[cycle(ids)]
 fn add_ids<'a>(value: &'a Value, ids: &mut Vec<&'a EntityUID>) -> Result<(), AllocError>
-    ensures { OnOk result (map (deref {X = EntityUID}) ids.new.items ≡ map (deref {X = EntityUID}) ids.old.items ++ ids_in value.now) }
+    ensures { OnOk result (map (deref {X = EntityUID}) ids.new.items ≡
+        map (deref {X = EntityUID}) ids.old.items ++ ids_in value.now) }
 {
     match value.kind() {
         ValueKind::EntityUID(uid) => Ok(ids.push(uid)?),
@@ -75,7 +78,8 @@ fn add_ids<'a>(value: &'a Value, ids: &mut Vec<&'a EntityUID>) -> Result<(), All
 
 #[cycle(ids)]
 fn add_ids_of_all<'a>(items: &'a Vec<Value>, ids: &mut Vec<&'a EntityUID>) -> Result<(), AllocError>
-    ensures { OnOk result (map (deref {X = EntityUID}) ids.new.items ≡ map (deref {X = EntityUID}) ids.old.items ++ ids_in_all (vals_of items.now.items)) }
+    ensures { OnOk result (map (deref {X = EntityUID}) ids.new.items ≡
+        map (deref {X = EntityUID}) ids.old.items ++ ids_in_all (vals_of items.now.items)) }
 {
     for item in items {
         add_ids(item, ids)?;
@@ -88,7 +92,8 @@ fn add_ids_of_fields<'a>(
     fields: &'a BTreeMap<Text, Value>,
     ids: &mut Vec<&'a EntityUID>,
 ) -> Result<(), AllocError>
-    ensures { OnOk result (map (deref {X = EntityUID}) ids.new.items ≡ map (deref {X = EntityUID}) ids.old.items ++ ids_in_fields (fields_of fields.now.entries)) }
+    ensures { OnOk result (map (deref {X = EntityUID}) ids.new.items ≡
+        map (deref {X = EntityUID}) ids.old.items ++ ids_in_fields (fields_of fields.now.entries)) }
 {
     for (_, item) in fields.iter() {
         add_ids(item, ids)?;

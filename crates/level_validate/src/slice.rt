@@ -42,7 +42,8 @@ fn reached_in(
     steps: u32,
 ) -> Result<BTreeSet<EntityUID>, AllocError>
     requires { IsWhole request.now }
-    ensures { IfOk result (λ ids. entities_among ids.keys entities.now ≡ cut (suc steps) request.now entities.now) }
+    ensures { IfOk result (λ ids. entities_among ids.keys entities.now ≡
+        cut (suc steps) request.now entities.now) }
 {
     hops_reach();
     let _ascending = entities.iter();
@@ -63,7 +64,10 @@ fn add_fresh<'a>(
     ids: Vec<&'a EntityUID>,
     reached: &mut BTreeSet<EntityUID>,
 ) -> Result<Vec<&'a EntityUID>, AllocError>
-    ensures { IfOk result (λ fresh. AreFresh (map (deref {X = EntityUID}) ids.entry.items) reached.old.keys reached.new.keys (map (deref {X = EntityUID}) fresh.items)) }
+    ensures { IfOk result
+        (λ fresh. AreFresh (map
+        (deref {X = EntityUID}) ids.entry.items) reached.old.keys reached.new.keys
+        (map (deref {X = EntityUID}) fresh.items)) }
 {
     let mut fresh = Vec::new(alloc);
     for uid in ids {

@@ -35,7 +35,8 @@ pub(crate) fn check(
     e: &Expr<Option<Type>>,
     found: &mut Vec<Fault>,
 ) -> Result<(), AllocError>
-    ensures { OnOk result (map fault_of found.new.items ≡ map fault_of found.old.items ++ level_faults (option_copied at.now.action) at.now.max_level e.now) }
+    ensures { OnOk result (map fault_of found.new.items ≡ map fault_of found.old.items ++
+        level_faults (option_copied at.now.action) at.now.max_level e.now) }
 {
     match e.kind() {
         ExprKind::Lit(_) | ExprKind::Var(_) | ExprKind::Slot(_) => Ok(()),
@@ -67,7 +68,8 @@ fn check_all(
     xs: &Vec<Expr<Option<Type>>>,
     found: &mut Vec<Fault>,
 ) -> Result<(), AllocError>
-    ensures { OnOk result (map fault_of found.new.items ≡ map fault_of found.old.items ++ faults_all (option_copied at.now.action) at.now.max_level (trees_of xs.now.items)) }
+    ensures { OnOk result (map fault_of found.new.items ≡ map fault_of found.old.items ++
+        faults_all (option_copied at.now.action) at.now.max_level (trees_of xs.now.items)) }
 {
     for x in xs {
         check(at, x, found)?;
@@ -81,7 +83,8 @@ fn check_named(
     fields: &BTreeMap<Text, Expr<Option<Type>>>,
     found: &mut Vec<Fault>,
 ) -> Result<(), AllocError>
-    ensures { OnOk result (map fault_of found.new.items ≡ map fault_of found.old.items ++ faults_named (option_copied at.now.action) at.now.max_level (named_of fields.now.entries)) }
+    ensures { OnOk result (map fault_of found.new.items ≡ map fault_of found.old.items ++
+        faults_named (option_copied at.now.action) at.now.max_level (named_of fields.now.entries)) }
 {
     for (_, x) in fields.iter() {
         check(at, x, found)?;
@@ -99,7 +102,9 @@ fn check_binary(
     loc: Option<Loc>,
     found: &mut Vec<Fault>,
 ) -> Result<(), AllocError>
-    ensures { OnOk result (map fault_of found.new.items ≡ map fault_of found.old.items ++ level_faults (option_copied at.now.action) at.now.max_level (binary op x.now y.now (at_place loc))) }
+    ensures { OnOk result (map fault_of found.new.items ≡ map fault_of found.old.items ++
+        level_faults (option_copied at.now.action) at.now.max_level
+        (binary op x.now y.now (at_place loc))) }
 {
     match op {
         BinaryOp::In | BinaryOp::HasTag | BinaryOp::GetTag => {
@@ -122,7 +127,9 @@ fn check_access(
     loc: Option<Loc>,
     found: &mut Vec<Fault>,
 ) -> Result<(), AllocError>
-    ensures { OnOk result (map fault_of found.new.items ≡ map fault_of found.old.items ++ level_faults (option_copied at.now.action) at.now.max_level (attr x.now [] (at_place loc))) }
+    ensures { OnOk result (map fault_of found.new.items ≡ map fault_of found.old.items ++
+        level_faults (option_copied at.now.action) at.now.max_level
+        (attr x.now [] (at_place loc))) }
 {
     if gives_entity(x) {
         let level = target(at, x, &Pending::End, found)?;
@@ -141,7 +148,8 @@ fn add_own(
     found: &mut Vec<Fault>,
 ) -> Result<(), AllocError>
     requires { operand ≡ level (option_copied at.now.action) x.now [] }
-    ensures { OnOk result (map fault_of found.new.items ≡ map fault_of found.old.items ++ own_fault at.now.max_level operand loc) }
+    ensures { OnOk result (map fault_of found.new.items ≡ map fault_of found.old.items ++
+        own_fault at.now.max_level operand loc) }
 {
     match operand {
         Some(k) if k >= at.max_level => {
@@ -157,7 +165,8 @@ fn add_own(
 
 // Adds a target that has no level.
 fn add_literal(loc: Option<Loc>, found: &mut Vec<Fault>) -> Result<(), AllocError>
-    ensures { OnOk result (map fault_of found.new.items ≡ map fault_of found.old.items ++ target_fault None loc) }
+    ensures { OnOk result (map fault_of found.new.items ≡ map fault_of found.old.items ++
+        target_fault None loc) }
 {
     let fault = Fault {
         needed: None,
@@ -175,8 +184,11 @@ fn target(
     pending: &Pending<'_>,
     found: &mut Vec<Fault>,
 ) -> Result<Option<u32>, AllocError>
-    ensures level { IfOk result (λ l. l ≡ level (option_copied at.now.action) e.now (fields_in pending.now)) }
-    ensures found { OnOk result (map fault_of found.new.items ≡ map fault_of found.old.items ++ target_faults (option_copied at.now.action) at.now.max_level e.now (fields_in pending.now)) }
+    ensures level { IfOk result (λ l. l ≡
+        level (option_copied at.now.action) e.now (fields_in pending.now)) }
+    ensures found { OnOk result (map fault_of found.new.items ≡ map fault_of found.old.items ++
+        target_faults (option_copied at.now.action) at.now.max_level e.now
+        (fields_in pending.now)) }
 {
     match e.kind() {
         ExprKind::Lit(literal) => target_literal(at, literal, e.source_loc(), found),
@@ -205,7 +217,8 @@ fn target(
 // A target that has no level.
 fn target_none(loc: Option<Loc>, found: &mut Vec<Fault>) -> Result<Option<u32>, AllocError>
     ensures level { IfOk result (λ l. l ≡ None) }
-    ensures found { OnOk result (map fault_of found.new.items ≡ map fault_of found.old.items ++ target_fault None loc) }
+    ensures found { OnOk result (map fault_of found.new.items ≡ map fault_of found.old.items ++
+        target_fault None loc) }
 {
     add_literal(loc, found)?;
     Ok(None)
@@ -218,7 +231,8 @@ fn target_literal(
     found: &mut Vec<Fault>,
 ) -> Result<Option<u32>, AllocError>
     ensures level { IfOk result (λ l. l ≡ literal_level (option_copied at.now.action) literal.now) }
-    ensures found { OnOk result (map fault_of found.new.items ≡ map fault_of found.old.items ++ target_fault (literal_level (option_copied at.now.action) literal.now) loc) }
+    ensures found { OnOk result (map fault_of found.new.items ≡ map fault_of found.old.items ++
+        target_fault (literal_level (option_copied at.now.action) literal.now) loc) }
 {
     match literal_level(at.action, literal) {
         Some(level) => Ok(Some(level)),
@@ -235,8 +249,12 @@ fn target_if(
     pending: &Pending<'_>,
     found: &mut Vec<Fault>,
 ) -> Result<Option<u32>, AllocError>
-    ensures level { IfOk result (λ l. l ≡ level (option_copied at.now.action) (ite x.now y.now z.now (at_place None)) (fields_in pending.now)) }
-    ensures found { OnOk result (map fault_of found.new.items ≡ map fault_of found.old.items ++ target_faults (option_copied at.now.action) at.now.max_level (ite x.now y.now z.now (at_place None)) (fields_in pending.now)) }
+    ensures level { IfOk result (λ l. l ≡
+        level (option_copied at.now.action) (ite x.now y.now z.now (at_place None))
+        (fields_in pending.now)) }
+    ensures found { OnOk result (map fault_of found.new.items ≡ map fault_of found.old.items ++
+        target_faults (option_copied at.now.action) at.now.max_level
+        (ite x.now y.now z.now (at_place None)) (fields_in pending.now)) }
 {
     check(at, x, found)?;
     let first = target_branch(at, y, pending, found)?;
@@ -252,8 +270,14 @@ fn target_branch(
     pending: &Pending<'_>,
     found: &mut Vec<Fault>,
 ) -> Result<Option<u32>, AllocError>
-    ensures level { IfOk result (λ l. l ≡ (if is_reached y.now then level (option_copied at.now.action) y.now (fields_in pending.now) else Some 0)) }
-    ensures found { OnOk result (map fault_of found.new.items ≡ map fault_of found.old.items ++ (if is_reached y.now then target_faults (option_copied at.now.action) at.now.max_level y.now (fields_in pending.now) else level_faults (option_copied at.now.action) at.now.max_level y.now)) }
+    ensures level { IfOk result (λ l. l ≡
+        (if is_reached y.now then
+        level (option_copied at.now.action) y.now (fields_in pending.now) else Some 0)) }
+    ensures found { OnOk result (map fault_of found.new.items ≡ map fault_of found.old.items ++
+        (if is_reached y.now then
+        target_faults (option_copied at.now.action) at.now.max_level y.now
+        (fields_in pending.now) else
+        level_faults (option_copied at.now.action) at.now.max_level y.now)) }
 {
     if is_reached(y) {
         target(at, y, pending, found)
@@ -272,8 +296,11 @@ fn target_binary(
     loc: Option<Loc>,
     found: &mut Vec<Fault>,
 ) -> Result<Option<u32>, AllocError>
-    ensures level { IfOk result (λ l. l ≡ level (option_copied at.now.action) (binary op x.now y.now (at_place loc)) []) }
-    ensures found { OnOk result (map fault_of found.new.items ≡ map fault_of found.old.items ++ target_faults (option_copied at.now.action) at.now.max_level (binary op x.now y.now (at_place loc)) []) }
+    ensures level { IfOk result (λ l. l ≡
+        level (option_copied at.now.action) (binary op x.now y.now (at_place loc)) []) }
+    ensures found { OnOk result (map fault_of found.new.items ≡ map fault_of found.old.items ++
+        target_faults (option_copied at.now.action) at.now.max_level
+        (binary op x.now y.now (at_place loc)) []) }
 {
     match op {
         BinaryOp::GetTag => {
@@ -293,8 +320,12 @@ fn target_attr(
     pending: &Pending<'_>,
     found: &mut Vec<Fault>,
 ) -> Result<Option<u32>, AllocError>
-    ensures level { IfOk result (λ l. l ≡ level (option_copied at.now.action) (attr x.now name.now (at_place None)) (fields_in pending.now)) }
-    ensures found { OnOk result (map fault_of found.new.items ≡ map fault_of found.old.items ++ target_faults (option_copied at.now.action) at.now.max_level (attr x.now name.now (at_place None)) (fields_in pending.now)) }
+    ensures level { IfOk result (λ l. l ≡
+        level (option_copied at.now.action) (attr x.now name.now (at_place None))
+        (fields_in pending.now)) }
+    ensures found { OnOk result (map fault_of found.new.items ≡ map fault_of found.old.items ++
+        target_faults (option_copied at.now.action) at.now.max_level
+        (attr x.now name.now (at_place None)) (fields_in pending.now)) }
 {
     if gives_entity(x) {
         let level = target(at, x, &Pending::End, found)?;
@@ -314,8 +345,12 @@ fn target_field(
     loc: Option<Loc>,
     found: &mut Vec<Fault>,
 ) -> Result<Option<u32>, AllocError>
-    ensures level { IfOk result (λ l. l ≡ level (option_copied at.now.action) (rec (named_of fields.now.entries) (at_place loc)) (name.now ∷ fields_in rest.now)) }
-    ensures found { OnOk result (map fault_of found.new.items ≡ map fault_of found.old.items ++ named_targets (option_copied at.now.action) at.now.max_level loc (named_of fields.now.entries) (name.now ∷ fields_in rest.now)) }
+    ensures level { IfOk result (λ l. l ≡
+        level (option_copied at.now.action) (rec (named_of fields.now.entries) (at_place loc))
+        (name.now ∷ fields_in rest.now)) }
+    ensures found { OnOk result (map fault_of found.new.items ≡ map fault_of found.old.items ++
+        named_targets (option_copied at.now.action) at.now.max_level loc
+        (named_of fields.now.entries) (name.now ∷ fields_in rest.now)) }
 {
     let mut reached = None;
     for (key, field) in fields.iter() {

@@ -17,7 +17,8 @@ pub(crate) fn manifest_of(
     schema: &ValidatorSchema,
     tries: Vec<RootAccessTrie>,
 ) -> Result<EntityManifest, AllocError>
-    ensures { length tries.items ≡ length (unlinked_envs schema.now) → IfOk result (IsBuiltOf schema.now tries.items) }
+    ensures { length tries.items ≡ length (unlinked_envs schema.now) →
+        IfOk result (IsBuiltOf schema.now tries.items) }
 {
     let _actions = schema.action_ids();
     let envs = schema.unlinked_request_envs(alloc)?;

@@ -54,7 +54,8 @@ pub(crate) fn tries_of_entry<L: Ledger>(
     id: &Text,
     steps: &mut Steps<L>,
 ) -> Result<Vec<RootAccessTrie>, AllocError>
-    ensures tries { IfOk result (λ ts. IfSome (policy_at policies.now id.now) (λ p. AreFoundTries schema.now p ts.items)) }
+    ensures tries { IfOk result
+        (λ ts. IfSome (policy_at policies.now id.now) (λ p. AreFoundTries schema.now p ts.items)) }
     ensures steps { steps.new ≤ steps.old + length (unlinked_envs schema.now) }
 {
     match policies.policy(id) {

@@ -168,7 +168,8 @@ impl<'a> LiveManifest<'a> {
         values: Vec<(SlotId, EntityUID)>,
         steps: &mut Steps<L>,
     ) -> Result<(), LiveManifestError>
-        ensures made { OnOk result (IsMade (link template_id.now new_id values.items) self.old self.new) }
+        ensures made { OnOk result
+            (IsMade (link template_id.now new_id values.items) self.old self.new) }
         ensures refused { IfErr result (IsRefused (link template_id.now new_id values.items) self.old) }
         ensures unchanged { OnErr result (self.new ≡ self.old) }
         ensures steps { steps.new ≤ steps.old + 2 * length (unlinked_envs self.old.schema) }
@@ -278,8 +279,10 @@ fn settle<L: Ledger>(
     ensures added { IfOk result (AddsTo schema.now policies.old id tries.old tries.new manifest.now) }
     ensures kept { OnOk result (policies.new ≡ policies.old) }
     ensures refused { IfErr result (IsFaulty (findings_of_entry schema.now policies.old id)) }
-    ensures taken_back { OnErr result ((policies.new ≡ without id policies.old) × (tries.new.entries ≡ tries.old.entries)) }
-    ensures steps { steps.new ≤ steps.old + (steps_of_entry schema.now policies.old id + length (unlinked_envs schema.now)) }
+    ensures taken_back { OnErr result ((policies.new ≡ without id policies.old) ×
+        (tries.new.entries ≡ tries.old.entries)) }
+    ensures steps { steps.new ≤ steps.old +
+        (steps_of_entry schema.now policies.old id + length (unlinked_envs schema.now)) }
 {
     is_policy_set(policies);
     match with_policy(alloc, schema, policies, &id, tries, manifest, steps) {
@@ -345,10 +348,12 @@ fn with_policy<L: Ledger>(
 ) -> Result<EntityManifest, LiveManifestError>
     requires { IsSome (policy_at policies.now id.now) }
     ensures found { OnOk result ((findings_of_entry schema.now policies.now id.now).errors ≡ []) }
-    ensures added { IfOk result (AddsTo schema.now policies.now id.now tries.old tries.new manifest.now) }
+    ensures added { IfOk result
+        (AddsTo schema.now policies.now id.now tries.old tries.new manifest.now) }
     ensures refused { IfErr result (IsFaulty (findings_of_entry schema.now policies.now id.now)) }
     ensures unchanged { OnErr result (tries.new.entries ≡ tries.old.entries) }
-    ensures steps { steps.new ≤ steps.old + (steps_of_entry schema.now policies.now id.now + length (unlinked_envs schema.now)) }
+    ensures steps { steps.new ≤ steps.old +
+        (steps_of_entry schema.now policies.now id.now + length (unlinked_envs schema.now)) }
 {
     tries_where_accepted(schema, policies);
     check_entry(alloc, schema, policies, id, steps)?;

@@ -24,7 +24,9 @@ pub(crate) fn all_united(
     schema: &ValidatorSchema,
     tries: &[&Vec<RootAccessTrie>],
 ) -> Result<Vec<RootAccessTrie>, AllocError>
-    ensures { (ps : List PolicyData) → AllZip (HasTriesOf schema.now) ps (map (deref {X = Vec Table Global}) tries.now) → IfOk result (λ ts. AreTriesOf schema.now ps ts.items) }
+    ensures { (ps : List PolicyData) →
+        AllZip (HasTriesOf schema.now) ps (map (deref {X = Vec Table Global}) tries.now) →
+        IfOk result (λ ts. AreTriesOf schema.now ps ts.items) }
 {
     let envs = schema.unlinked_request_envs(alloc)?;
     let mut united = Vec::new(alloc);
@@ -43,7 +45,10 @@ pub(crate) fn others<'a>(
     tries: &'a BTreeMap<Text, Vec<RootAccessTrie>>,
 ) -> Result<Vec<&'a Vec<RootAccessTrie>>, AllocError>
     requires { HaveTries schema.now tries.now policies.now.policies }
-    ensures { IfOk result (λ os. AllZip (HasTriesOf schema.now) (filter (is_another_policy id.now) policies.now.policies) (map (deref {X = Vec Table Global}) os.items)) }
+    ensures { IfOk result
+        (λ os. AllZip (HasTriesOf schema.now)
+        (filter (is_another_policy id.now) policies.now.policies)
+        (map (deref {X = Vec Table Global}) os.items)) }
 {
     let _schema = schema;
     let mut others = Vec::new(alloc);

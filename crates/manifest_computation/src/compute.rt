@@ -55,7 +55,9 @@ fn tries_where_accepted(
     schema: &ValidatorSchema,
     policies: &PolicySet,
 ) -> Result<Option<BTreeMap<RequestType, RootAccessTrie>>, AllocError>
-    ensures tries { IfOk result (λ o. IfSome o (λ m. IsAccepted schema.now policies.now × IsManifestOf schema.now policies.now.policies m.entries)) }
+    ensures tries { IfOk result
+        (λ o. IfSome o (λ m. IsAccepted schema.now policies.now ×
+        IsManifestOf schema.now policies.now.policies m.entries)) }
     ensures refused { IfOk result (λ o. o ≡ None → ¬ IsAccepted schema.now policies.now) }
 {
     accepted_exactly(schema, policies);
@@ -78,7 +80,9 @@ fn tries_where_left(
 ) -> Result<Option<BTreeMap<RequestType, RootAccessTrie>>, AllocError>
     requires typechecker { typechecker.now ≡ schema.now }
     requires rules { IsTrue (keep_rules schema.now policies.now) }
-    ensures tries { IfOk result (λ o. IfSome o (λ m. IsAccepted schema.now policies.now × IsManifestOf schema.now policies.now.policies m.entries)) }
+    ensures tries { IfOk result
+        (λ o. IfSome o (λ m. IsAccepted schema.now policies.now ×
+        IsManifestOf schema.now policies.now.policies m.entries)) }
     ensures refused { IfOk result (λ o. o ≡ None → ¬ IsAccepted schema.now policies.now) }
 {
     accepted_exactly(schema, policies);
@@ -91,7 +95,9 @@ fn tries_where_left(
 
 // The policies are accepted exactly where they keep the rules and checks leave each condition.
 fn accepted_exactly(schema: &ValidatorSchema, policies: &PolicySet)
-    ensures { (IsTrue (keep_rules schema.now policies.now) × AllByRecursion (LeavesAll schema.now policies.now.policies) (unlinked_envs schema.now)) ↔ IsAccepted schema.now policies.now }
+    ensures { (IsTrue (keep_rules schema.now policies.now) ×
+        AllByRecursion (LeavesAll schema.now policies.now.policies) (unlinked_envs schema.now)) ↔
+        IsAccepted schema.now policies.now }
 {
     accepted_by_rules();
     let _actions = schema.action_ids();
@@ -100,7 +106,10 @@ fn accepted_exactly(schema: &ValidatorSchema, policies: &PolicySet)
 
 // Of accepted policies the conditions that checks leave are those that typing gives.
 fn entries_where_accepted(schema: &ValidatorSchema, policies: &PolicySet)
-    ensures { IsAccepted schema.now policies.now → (m : Manifest) → AreEntries schema.now policies.now.policies (unlinked_envs schema.now) m → AllZip (λ env e. IsEntryOf schema.now env (typed_conditions schema.now env policies.now.policies) e) (unlinked_envs schema.now) m }
+    ensures { IsAccepted schema.now policies.now → (m : Manifest) →
+        AreEntries schema.now policies.now.policies (unlinked_envs schema.now) m →
+        AllZip (λ env e. IsEntryOf schema.now env
+        (typed_conditions schema.now env policies.now.policies) e) (unlinked_envs schema.now) m }
 {
     found_are_typed();
     accepted_are_typed();

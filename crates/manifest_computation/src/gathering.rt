@@ -30,8 +30,10 @@ pub(crate) fn trie_of_policies<'a>(
     policies: &'a PolicySet,
 ) -> Result<Option<RootAccessTrie>, AllocError>
     requires { typechecker.now ≡ schema.now }
-    ensures trie { IfOk result (λ o. IfSome o (IsTrieLeft schema.now (env_data_of env.now) policies.now.policies)) }
-    ensures missing { IfOk result (λ o. o ≡ None → ¬ LeavesAll schema.now policies.now.policies (env_data_of env.now)) }
+    ensures trie { IfOk result
+        (λ o. IfSome o (IsTrieLeft schema.now (env_data_of env.now) policies.now.policies)) }
+    ensures missing { IfOk result (λ o. o ≡ None →
+        ¬ LeavesAll schema.now policies.now.policies (env_data_of env.now)) }
 {
     let mut trie = RootAccessTrie::new(alloc);
     let mut conditions = Vec::new(alloc);
@@ -69,7 +71,9 @@ fn take<'a>(
     conditions: &mut Vec<Expr<Option<Type>>>,
     trie: &mut RootAccessTrie,
 ) -> Result<(), AllocError>
-    ensures { OnOk result ((ts : List Typed) → HoldSame schema.now (env_data_of env.now) trie.new (conditions.new.items ++ ts) trie.old (conditions.old.items ++ condition ∷ ts)) }
+    ensures { OnOk result ((ts : List Typed) →
+        HoldSame schema.now (env_data_of env.now) trie.new (conditions.new.items ++ ts) trie.old
+        (conditions.old.items ++ condition ∷ ts)) }
 {
     conditions.push(condition)?;
     if is_enough(conditions.len(), trie.nodes().len()) {
@@ -92,7 +96,9 @@ fn add_all<'a>(
     trie: &mut RootAccessTrie,
 ) -> Result<(), AllocError>
     ensures none { OnOk result (conditions.new.items ≡ []) }
-    ensures same { OnOk result ((ts : List Typed) → HoldSame schema.now (env_data_of env.now) trie.new ts trie.old (conditions.old.items ++ ts)) }
+    ensures same { OnOk result ((ts : List Typed) →
+        HoldSame schema.now (env_data_of env.now) trie.new ts trie.old (conditions.old.items ++
+        ts)) }
 {
     let more = conditions_trie(alloc, schema, env, conditions.as_slice())?;
     trie.union_mut(alloc, &more)?;

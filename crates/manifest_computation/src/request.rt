@@ -32,11 +32,13 @@ pub fn slice_for_request(
     request: &Request,
     entities: &Entities,
 ) -> Result<Entities, SliceForRequestError>
-    ensures slice { IfOk result (λ s. s ≡ slice schema.now policies.now.policies request.now entities.now) }
+    ensures slice { IfOk result (λ s. s ≡
+        slice schema.now policies.now.policies request.now entities.now) }
     ensures rules { IfOk result (λ _. KeepRules schema.now policies.now request.now entities.now) }
     ensures enough { IfOk result (λ s. IsEnough policies.now.policies request.now s entities.now) }
     ensures refused { IfErr result (WhyNoSlice schema.now policies.now request.now entities.now) }
-    ensures complete { KeepRules schema.now policies.now request.now entities.now → IfErr result (λ e. e ≡ OutOfMemory) }
+    ensures complete { KeepRules schema.now policies.now request.now entities.now →
+        IfErr result (λ e. e ≡ OutOfMemory) }
 {
     wants_memory_alone(schema, policies, request, entities);
     if let Err(error) = check_rules(alloc, schema, policies, request, entities) {
@@ -75,7 +77,8 @@ fn slice_is_enough(
     entities: &Entities,
 )
     requires { KeepRules schema.now policies.now request.now entities.now }
-    ensures { IsEnough policies.now.policies request.now (slice schema.now policies.now.policies request.now entities.now) entities.now }
+    ensures { IsEnough policies.now.policies request.now
+        (slice schema.now policies.now.policies request.now entities.now) entities.now }
 {
     slices_are_enough();
     let _actions = schema.action_ids();

@@ -74,7 +74,10 @@ fn restricted_in<'a>(
 ) -> Result<Entities, AllocError>
     requires rules { KeepRules schema.now policies.now request.now entities.now }
     requires environment { env_of schema.now request.now ≡ Some (env_data_of env.now) }
-    ensures { IfOk result (λ s. s ≡ restricted schema.now (env_data_of env.now) (typed_conditions schema.now (env_data_of env.now) policies.now.policies) request.now entities.now) }
+    ensures { IfOk result (λ s. s ≡
+        restricted schema.now (env_data_of env.now)
+        (typed_conditions schema.now
+        (env_data_of env.now) policies.now.policies) request.now entities.now) }
 {
     found_in_environment(schema, policies, request, env);
     match trie_of(alloc, schema, policies, env)? {
@@ -91,8 +94,10 @@ fn trie_of<'a>(
     policies: &'a PolicySet,
     env: &'a RequestEnv<'a>,
 ) -> Result<Option<RootAccessTrie>, AllocError>
-    ensures trie { IfOk result (λ o. IfSome o (IsTrieLeft schema.now (env_data_of env.now) policies.now.policies)) }
-    ensures missing { IfOk result (λ o. o ≡ None → ¬ LeavesAll schema.now policies.now.policies (env_data_of env.now)) }
+    ensures trie { IfOk result
+        (λ o. IfSome o (IsTrieLeft schema.now (env_data_of env.now) policies.now.policies)) }
+    ensures missing { IfOk result (λ o. o ≡ None →
+        ¬ LeavesAll schema.now policies.now.policies (env_data_of env.now)) }
 {
     let objects = all_objects(alloc)?;
     let extensions = ExtensionSchemas::all_available(alloc, &objects)?;
@@ -110,7 +115,8 @@ fn found_in_environment(
     requires accepted { IsAccepted schema.now policies.now }
     requires conforms { RequestConforms schema.now request.now }
     requires environment { env_of schema.now request.now ≡ Some (env_data_of env.now) }
-    ensures same { found_conditions schema.now (env_data_of env.now) policies.now.policies ≡ typed_conditions schema.now (env_data_of env.now) policies.now.policies }
+    ensures same { found_conditions schema.now (env_data_of env.now) policies.now.policies ≡
+        typed_conditions schema.now (env_data_of env.now) policies.now.policies }
     ensures left { LeavesAll schema.now policies.now.policies (env_data_of env.now) }
 {
     found_are_typed();

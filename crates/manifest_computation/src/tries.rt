@@ -27,8 +27,11 @@ pub(crate) fn tries_of(
     policies: &PolicySet,
 ) -> Result<Option<BTreeMap<RequestType, RootAccessTrie>>, AllocError>
     requires { typechecker.now ≡ schema.now }
-    ensures entries { IfOk result (λ o. IfSome o (λ m. AreEntries schema.now policies.now.policies (unlinked_envs schema.now) m.entries)) }
-    ensures missing { IfOk result (λ o. o ≡ None → ¬ AllByRecursion (LeavesAll schema.now policies.now.policies) (unlinked_envs schema.now)) }
+    ensures entries { IfOk result
+        (λ o. IfSome o (λ m.
+        AreEntries schema.now policies.now.policies (unlinked_envs schema.now) m.entries)) }
+    ensures missing { IfOk result (λ o. o ≡ None →
+        ¬ AllByRecursion (LeavesAll schema.now policies.now.policies) (unlinked_envs schema.now)) }
 {
     let _actions = schema.action_ids();
     let envs = schema.unlinked_request_envs(alloc)?;
@@ -53,7 +56,9 @@ pub fn add_trie_of(
 ) -> Result<(), AllocError>
     requires declared { IsSome (request_type_in (env_data_of env.now)) }
     requires next { IfSome (request_type_in (env_data_of env.now)) (λ q. IsNext q (keys tries.old)) }
-    ensures { OnOk result ((q : RequestType) × ((tries.new.entries ≡ tries.old.entries ++ (q, trie) ∷ []) × (request_type_in (env_data_of env.now) ≡ Some q))) }
+    ensures { OnOk result ((q : RequestType) ×
+        ((tries.new.entries ≡ tries.old.entries ++ (q, trie) ∷ []) ×
+        (request_type_in (env_data_of env.now) ≡ Some q))) }
 {
     match env.to_request_type()? {
         Some(request_type) => push_trie(tries, request_type, trie),

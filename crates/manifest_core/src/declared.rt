@@ -98,8 +98,10 @@ fn declared_node(
     ensures kept { OnOk result (Keeps (length nodes.old.items) nodes.old.items nodes.new.items) }
     ensures closed { OnOk result (IsClosed (length nodes.old.items) nodes.new.items) }
     ensures ordered { OnOk result (IsOrdered (length nodes.old.items) nodes.new.items) }
-    ensures present { IfOk result (λ n. (a : Address) → at_path is_some nodes.new.items n a ≡ (at_path is_some x.now i a && is_declared_address schema.now request_type.now t.now a)) }
-    ensures marked { IfOk result (λ n. (a : Address) → at_path has_mark nodes.new.items n a ≡ (at_path has_mark x.now i a && is_declared_address schema.now request_type.now t.now a)) }
+    ensures present { IfOk result (λ n. (a : Address) → at_path is_some nodes.new.items n a ≡
+        (at_path is_some x.now i a && is_declared_address schema.now request_type.now t.now a)) }
+    ensures marked { IfOk result (λ n. (a : Address) → at_path has_mark nodes.new.items n a ≡
+        (at_path has_mark x.now i a && is_declared_address schema.now request_type.now t.now a)) }
 {
     let at = nodes.len();
     let mark = mark_of(x, i);

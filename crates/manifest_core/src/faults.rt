@@ -58,7 +58,9 @@ pub(crate) fn first_below(
     number: usize,
 ) -> Result<Option<MismatchedEntityManifestError>, AllocError>
     requires { IsClosed 0 nodes.now }
-    ensures { IfOk result (λ o. o ≡ first_among schema.now request_type.now t.now (branches_by (branch_at nodes.now) (links_at nodes.now number))) }
+    ensures { IfOk result (λ o. o ≡
+        first_among schema.now request_type.now t.now
+        (branches_by (branch_at nodes.now) (links_at nodes.now number))) }
 {
     for link in links_of(nodes, number) {
         if let Some(fault) = edge_fault(schema, request_type, t, &link.edge)? {
@@ -83,7 +85,10 @@ fn first_behind(
 ) -> Result<Option<MismatchedEntityManifestError>, AllocError>
     requires closed { IsClosed 0 nodes.now }
     requires within { link.now.number < length nodes.now }
-    ensures { IfOk result (λ o. o ≡ option_and_then (λ u. first_fault schema.now request_type.now u (branch_at nodes.now link.now.number)) (type_behind schema.now request_type.now t.now link.now.edge)) }
+    ensures { IfOk result (λ o. o ≡
+        option_and_then (λ u.
+        first_fault schema.now request_type.now u (branch_at nodes.now link.now.number))
+        (type_behind schema.now request_type.now t.now link.now.edge)) }
 {
     match type_behind(alloc, schema, request_type, t, &link.edge)? {
         Some(behind) => {

@@ -82,7 +82,9 @@ fn read_request_type_parts(
     principal: &Value,
     resource: &Value,
 ) -> Result<Option<RequestType>, AllocError>
-    ensures { IfOk result (λ o. o ≡ request_type_form true (uid_of (view action.now)) (name_of (view principal.now)) (name_of (view resource.now))) }
+    ensures { IfOk result (λ o. o ≡
+        request_type_form true (uid_of (view action.now)) (name_of (view principal.now))
+        (name_of (view resource.now))) }
 {
     let Some(action) = read_uid(alloc, action)? else {
         return Ok(None);
@@ -110,7 +112,9 @@ fn read_request_type(alloc: Global, value: &Value) -> Result<Option<RequestType>
 }
 
 fn read_pair(alloc: Global, request_type: &Value, trie: &Value) -> Result<Option<Entry>, AllocError>
-    ensures { IfOk result (λ o. o ≡ entry_form (request_type_of (view request_type.now)) (option_map places_in (trie_of (view trie.now)))) }
+    ensures { IfOk result (λ o. o ≡
+        entry_form (request_type_of (view request_type.now))
+        (option_map places_in (trie_of (view trie.now)))) }
 {
     let Some(request_type) = read_request_type(alloc, request_type)? else {
         return Ok(None);

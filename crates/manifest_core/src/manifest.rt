@@ -69,7 +69,8 @@ impl EntityManifest {
         value: &Value,
         schema: &ValidatorSchema,
     ) -> Result<EntityManifest, EntityManifestFromJsonError>
-        ensures { MatchResult result (IsSaid schema.now (entries_of (view value.now))) (IsRefused schema.now (entries_of (view value.now))) }
+        ensures { MatchResult result (IsSaid schema.now (entries_of (view value.now)))
+            (IsRefused schema.now (entries_of (view value.now))) }
     {
         let Some(entries) = read_entries(alloc, value)? else {
             return Err(EntityManifestFromJsonError::SerdeJsonParseError);
@@ -89,7 +90,9 @@ impl EntityManifest {
         text: &str,
         schema: &ValidatorSchema,
     ) -> Result<EntityManifest, EntityManifestFromJsonError>
-        ensures { MatchResult result (IsSaid schema.now (option_and_then entries_of (json_of text.now))) (IsRefused schema.now (option_and_then entries_of (json_of text.now))) }
+        ensures { MatchResult result
+            (IsSaid schema.now (option_and_then entries_of (json_of text.now)))
+            (IsRefused schema.now (option_and_then entries_of (json_of text.now))) }
     {
         let Some(value) = parse_json(alloc, text.as_bytes())? else {
             return Err(EntityManifestFromJsonError::SerdeJsonParseError);
@@ -103,7 +106,9 @@ impl EntityManifest {
         schema: &ValidatorSchema,
         entries: Vec<Entry>,
     ) -> Result<EntityManifest, EntityManifestFromJsonError>
-        ensures { MatchResult result (λ m. (entries_fault schema.now entries.items ≡ None) × AreTypedOf schema.now entries.items m) (IsMismatch (entries_fault schema.now entries.items)) }
+        ensures { MatchResult result (λ m. (entries_fault schema.now entries.items ≡ None) ×
+            AreTypedOf schema.now entries.items m)
+            (IsMismatch (entries_fault schema.now entries.items)) }
     {
         if let Some(mismatch) = entries_fault(alloc, schema, entries.as_slice())? {
             return Err(EntityManifestFromJsonError::MismatchedEntityManifest(mismatch));
@@ -119,7 +124,8 @@ impl EntityManifest {
         alloc: Global,
         schema: &ValidatorSchema,
     ) -> Result<EntityManifest, EntityManifestFromJsonError>
-        ensures { MatchResult result (λ m. (first_mismatch schema.now self.now ≡ None) × AreTyped schema.now self.now m) (IsMismatch (first_mismatch schema.now self.now)) }
+        ensures { MatchResult result (λ m. (first_mismatch schema.now self.now ≡ None) ×
+            AreTyped schema.now self.now m) (IsMismatch (first_mismatch schema.now self.now)) }
     {
         if let Some(mismatch) = first_mismatch(alloc, schema, self.per_action())? {
             return Err(EntityManifestFromJsonError::MismatchedEntityManifest(mismatch));

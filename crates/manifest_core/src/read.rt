@@ -28,7 +28,8 @@ fn request_types(alloc: Global, entries: &[Entry]) -> Result<Vec<RequestType>, A
 
 /// The index of the first entry whose request type stands earlier.
 pub(crate) fn repeated_type(alloc: Global, entries: &[Entry]) -> Result<Option<usize>, AllocError>
-    ensures { IfOk result (λ found. IsSome found ↔ ((t : RequestTypeData) × IsRepeated (types_of entries.now) t)) }
+    ensures { IfOk result (λ found. IsSome found ↔
+        ((t : RequestTypeData) × IsRepeated (types_of entries.now) t)) }
 {
     let types = request_types(alloc, entries)?;
     first_repeated(alloc, types.as_slice())

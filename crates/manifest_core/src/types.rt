@@ -39,7 +39,8 @@ fn literal_fault(
     schema: &ValidatorSchema,
     uid: &EntityUID,
 ) -> Result<Option<MismatchedEntityManifestError>, AllocError>
-    ensures { IfOk result (λ o. o ≡ is.unless_there (literal_type schema.now uid.now) (is.missing uid.now)) }
+    ensures { IfOk result (λ o. o ≡
+        is.unless_there (literal_type schema.now uid.now) (is.missing uid.now)) }
 {
     match (
         schema.get_action_id(uid),
@@ -55,7 +56,8 @@ fn action_fault(
     schema: &ValidatorSchema,
     uid: &EntityUID,
 ) -> Result<Option<MismatchedEntityManifestError>, AllocError>
-    ensures { IfOk result (λ o. o ≡ is.unless_there (action_at schema.now uid.now) (is.missing uid.now)) }
+    ensures { IfOk result (λ o. o ≡
+        is.unless_there (action_at schema.now uid.now) (is.missing uid.now)) }
 {
     match schema.get_action_id(uid) {
         Some(_) => Ok(None),
@@ -185,7 +187,9 @@ fn context_of(
     schema: &ValidatorSchema,
     action: &EntityUID,
 ) -> Result<Option<Type>, AllocError>
-    ensures { IfOk result (λ o. o ≡ Some (record_of (option_map_or (λ a. a.context) (action_at schema.now action.now) no_attrs) ClosedAttributes)) }
+    ensures { IfOk result (λ o. o ≡
+        Some (record_of (option_map_or (λ a. a.context)
+        (action_at schema.now action.now) no_attrs) ClosedAttributes)) }
 {
     let attrs = match schema.context_type(action) {
         Some(attrs) => attrs.try_clone()?,
@@ -200,7 +204,8 @@ fn root_type(
     request_type: &RequestType,
     root: &EntityRoot,
 ) -> Result<Option<Type>, AllocError>
-    ensures { IfOk result (λ o. o ≡ paths.root_type schema.now (is.environment_of schema.now request_type.now) root.now) }
+    ensures { IfOk result (λ o. o ≡
+        paths.root_type schema.now (is.environment_of schema.now request_type.now) root.now) }
 {
     match root {
         EntityRoot::Literal(uid) => euid_literal(alloc, uid, schema),

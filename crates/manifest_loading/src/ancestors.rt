@@ -45,10 +45,16 @@ pub(crate) fn with_ancestors<D: EntityLoader>(
     ensures rounds { (D.state loader.new).rounds ≡ (D.state loader.old).rounds }
     ensures ids { IfOk result AreUnderIds }
     ensures alike { IfOk result (λ found. AreAlike (get uid_cmp found) (get uid_cmp loaded.kept)) }
-    ensures ascending { IfOk result (λ found. AreAscending (get uid_cmp loaded.kept) → AreAscending (get uid_cmp found)) }
-    ensures honest { (s : Store) → (D.state loader.old).store ≡ Some s → (t : Store) → IsKept loaded.kept t → IfOk result (λ found. IsJoined (D.state loader.old).exact s (IsAskedFor nodes.now request.now loaded.asked.keys t) (get uid_cmp loaded.kept) (get uid_cmp found)) }
+    ensures ascending { IfOk result (λ found. AreAscending (get uid_cmp loaded.kept) →
+        AreAscending (get uid_cmp found)) }
+    ensures honest { (s : Store) → (D.state loader.old).store ≡ Some s → (t : Store) →
+        IsKept loaded.kept t →
+        IfOk result (λ found.
+        IsJoined (D.state loader.old).exact s (IsAskedFor nodes.now request.now loaded.asked.keys t)
+        (get uid_cmp loaded.kept) (get uid_cmp found)) }
     ensures cause { IfErr result (CauseOf (λ v. ⊥) (D.state loader.old) (D.state loader.new)) }
-    ensures right { (s : Store) → (D.state loader.old).store ≡ Some s → IfErr result (IsRight (λ v. ⊥) (D.state loader.old) (D.state loader.new)) }
+    ensures right { (s : Store) → (D.state loader.old).store ≡ Some s →
+        IfErr result (IsRight (λ v. ⊥) (D.state loader.old) (D.state loader.new)) }
 {
     let Loaded { asked, mut kept } = loaded;
     let requests = ancestors_requests(alloc, nodes, request, &asked, &kept)?;
@@ -70,8 +76,10 @@ fn ancestors_requests(
 ) -> Result<Vec<AncestorsRequest>, AllocError>
     requires table { IsTable nodes.now }
     requires whole { IsWhole request.now }
-    ensures ascending { IfOk result (λ requests. IsStrictlySortedBy uid_cmp (map (λ r. r.entity_id) requests.items)) }
-    ensures asked { IfOk result (λ requests. (t : Store) → IsKept kept.now t → (x y : EntityUID) → (asks requests.items x y ≡ true) ↔ IsAskedFor nodes.now request.now asked.now.keys t x y) }
+    ensures ascending { IfOk result
+        (λ requests. IsStrictlySortedBy uid_cmp (map (λ r. r.entity_id) requests.items)) }
+    ensures asked { IfOk result (λ requests. (t : Store) → IsKept kept.now t → (x y : EntityUID) →
+        (asks requests.items x y ≡ true) ↔ IsAskedFor nodes.now request.now asked.now.keys t x y) }
 {
     let lent = lent_tries(alloc, nodes, asked)?;
     let mut requests = Vec::new(alloc);
@@ -109,8 +117,11 @@ fn lists_for<D: EntityLoader>(
     ensures rounds { (D.state loader.new).rounds ≡ (D.state loader.old).rounds }
     ensures fit { IfOk result (λ lists. length requests.now.items ≡ length lists.items) }
     ensures cause { IfErr result (CauseOf (λ v. ⊥) (D.state loader.old) (D.state loader.new)) }
-    ensures honest { (s : Store) → (D.state loader.old).store ≡ Some s → IfOk result (λ lists. AllZip (IsHonestList (D.state loader.old).exact s) requests.now.items lists.items) }
-    ensures right { (s : Store) → (D.state loader.old).store ≡ Some s → IfErr result (IsRight (λ v. ⊥) (D.state loader.old) (D.state loader.new)) }
+    ensures honest { (s : Store) → (D.state loader.old).store ≡ Some s →
+        IfOk result (λ lists.
+        AllZip (IsHonestList (D.state loader.old).exact s) requests.now.items lists.items) }
+    ensures right { (s : Store) → (D.state loader.old).store ≡ Some s →
+        IfErr result (IsRight (λ v. ⊥) (D.state loader.old) (D.state loader.new)) }
 {
     let lists = match loader.load_ancestors(alloc, requests) {
         Ok(lists) => lists,
@@ -136,7 +147,9 @@ fn add_all(
     requires fit { length requests.now.items ≡ length lists.items }
     ensures ids { OnOk result (AreUnderIds kept.new) }
     ensures alike { OnOk result (AreAlike (get uid_cmp kept.new) (get uid_cmp kept.old)) }
-    ensures more { OnOk result (HasMore (brings requests.now.items lists.items) (get uid_cmp kept.old) (get uid_cmp kept.new)) }
+    ensures more { OnOk result
+        (HasMore (brings requests.now.items lists.items) (get uid_cmp kept.old)
+        (get uid_cmp kept.new)) }
 {
     let mut lists = lists.into_iter();
     for request in requests {
@@ -156,7 +169,9 @@ fn add_ancestors(
     requires { AreUnderIds kept.old }
     ensures ids { OnOk result (AreUnderIds kept.new) }
     ensures alike { OnOk result (AreAlike (get uid_cmp kept.new) (get uid_cmp kept.old)) }
-    ensures more { OnOk result (HasMore (λ x y. uid_eq uid.now x && lists ids.items y) (get uid_cmp kept.old) (get uid_cmp kept.new)) }
+    ensures more { OnOk result
+        (HasMore (λ x y. uid_eq uid.now x && lists ids.items y) (get uid_cmp kept.old)
+        (get uid_cmp kept.new)) }
 {
     let Some(entity) = kept.get(uid) else {
         return Ok(());
@@ -168,7 +183,8 @@ fn add_ancestors(
 
 fn with_more(alloc: Global, entity: &Entity, ids: Vec<EntityUID>) -> Result<Entity, AllocError>
     ensures alike { IfOk result (λ e. without_links e ≡ without_links entity.now) }
-    ensures more { IfOk result (λ e. (y : EntityUID) → above (Some e) y ≡ (above (Some entity.now) y || lists ids.items y)) }
+    ensures more { IfOk result (λ e. (y : EntityUID) → above (Some e) y ≡
+        (above (Some entity.now) y || lists ids.items y)) }
     ensures ascending { IfOk result (λ e. IsStrictlySortedBy uid_cmp e.ancestors) }
 {
     let mut ancestors = entity.ancestors().clone()?;

@@ -28,8 +28,11 @@ pub(crate) fn answers_for<D: EntityLoader>(
     ensures rounds { (D.state loader.new).rounds ≤ (D.state loader.old).rounds + 1 }
     ensures ids { IfOk result AreUnderIds }
     ensures cause { IfErr result (CauseOf (λ v. ⊥) (D.state loader.old) (D.state loader.new)) }
-    ensures honest { (s : Store) → (D.state loader.old).store ≡ Some s → IfOk result (λ found. AreHonest (D.state loader.old).exact s requests.now.items (get uid_cmp found)) }
-    ensures right { (s : Store) → (D.state loader.old).store ≡ Some s → IfErr result (IsRight (λ v. ⊥) (D.state loader.old) (D.state loader.new)) }
+    ensures honest { (s : Store) → (D.state loader.old).store ≡ Some s →
+        IfOk result (λ found.
+        AreHonest (D.state loader.old).exact s requests.now.items (get uid_cmp found)) }
+    ensures right { (s : Store) → (D.state loader.old).store ≡ Some s →
+        IfErr result (IsRight (λ v. ⊥) (D.state loader.old) (D.state loader.new)) }
 {
     let answers = match loader.load_entities(alloc, requests) {
         Ok(answers) => answers,
@@ -53,7 +56,8 @@ fn under_ids(
 ) -> Result<BTreeMap<EntityUID, Entity>, EntitySliceError>
     requires { length requests.now.items ≡ length answers.items }
     ensures ids { IfOk result AreUnderIds }
-    ensures found { IfOk result (λ found. (x : EntityUID) → get uid_cmp found x ≡ answered None requests.now.items answers.items x) }
+    ensures found { IfOk result (λ found. (x : EntityUID) → get uid_cmp found x ≡
+        answered None requests.now.items answers.items x) }
     ensures why { IfErr result (AreStray requests.now.items answers.items) }
 {
     let mut found = BTreeMap::new(alloc);
@@ -88,7 +92,8 @@ fn put(
     uid: &EntityUID,
     entity: Entity,
 ) -> Result<(), EntitySliceError>
-    ensures put { OnOk result ((x : EntityUID) → get uid_cmp found.new x ≡ cond (uid_eq uid.now x) (Some entity) (get uid_cmp found.old x)) }
+    ensures put { OnOk result ((x : EntityUID) → get uid_cmp found.new x ≡
+        cond (uid_eq uid.now x) (Some entity) (get uid_cmp found.old x)) }
     ensures id { OnOk result (entity.uid ≡ uid.now) }
     ensures why { IfErr result (IsStray uid.now entity) }
 {
@@ -109,7 +114,8 @@ fn insert(
     uid: EntityUID,
     entity: Entity,
 ) -> Result<(), AllocError>
-    ensures { OnOk result ((x : EntityUID) → get uid_cmp found.new x ≡ cond (uid_eq uid x) (Some entity) (get uid_cmp found.old x)) }
+    ensures { OnOk result ((x : EntityUID) → get uid_cmp found.new x ≡
+        cond (uid_eq uid x) (Some entity) (get uid_cmp found.old x)) }
 {
     found.insert(uid, entity)?;
     Ok(())

@@ -48,10 +48,15 @@ pub(crate) fn take_answers(
     requires found_ids { AreUnderIds found }
     requires kept_ids { AreUnderIds kept.old }
     ensures ids { OnOk result (AreUnderIds kept.new) }
-    ensures kept { OnOk result ((x : EntityUID) → get uid_cmp kept.new x ≡ kept_and (get uid_cmp kept.old x) (get uid_cmp found x)) }
-    ensures asked { IfOk result (λ next. Adds nodes.now (answers_point nodes.now (get uid_cmp found) pending.now.keys) [] next.keys) }
-    ensures below { IfOk result (λ next. (q : Place) → IsIn q next.keys → IsBelowSome nodes.now pending.now.keys q) }
-    ensures why { IfErr result (AreNotTaken nodes.now pending.now.keys (get uid_cmp kept.old) (get uid_cmp found)) }
+    ensures kept { OnOk result ((x : EntityUID) → get uid_cmp kept.new x ≡
+        kept_and (get uid_cmp kept.old x) (get uid_cmp found x)) }
+    ensures asked { IfOk result
+        (λ next. Adds nodes.now
+        (answers_point nodes.now (get uid_cmp found) pending.now.keys) [] next.keys) }
+    ensures below { IfOk result (λ next. (q : Place) → IsIn q next.keys →
+        IsBelowSome nodes.now pending.now.keys q) }
+    ensures why { IfErr result
+        (AreNotTaken nodes.now pending.now.keys (get uid_cmp kept.old) (get uid_cmp found)) }
 {
     let next = match next_places(alloc, nodes, pending, &found) {
         Ok(next) => next,
@@ -70,7 +75,8 @@ fn keep_all(
     requires found_ids { AreUnderIds found }
     requires kept_ids { AreUnderIds kept.old }
     ensures ids { OnOk result (AreUnderIds kept.new) }
-    ensures kept { OnOk result ((x : EntityUID) → get uid_cmp kept.new x ≡ kept_and (get uid_cmp kept.old x) (get uid_cmp found x)) }
+    ensures kept { OnOk result ((x : EntityUID) → get uid_cmp kept.new x ≡
+        kept_and (get uid_cmp kept.old x) (get uid_cmp found x)) }
     ensures why { IfErr result (AreNotKept (get uid_cmp kept.old) (get uid_cmp found)) }
 {
     while let Some((uid, entity)) = found.pop_first() {

@@ -101,8 +101,10 @@ pub(crate) fn requests_of<'a>(
     lent: &'a BTreeMap<EntityUID, Lent>,
 ) -> Result<Vec<EntityRequest<'a>>, AllocError>
     requires { IsTable nodes.now }
-    ensures requests { IfOk result (λ requests. requests.items ≡ map (request_of nodes.now) lent.entry.now.entries) }
-    ensures ascending { IfOk result (λ requests. IsStrictlySortedBy uid_cmp (map (λ r. r.entity_id) requests.items)) }
+    ensures requests { IfOk result (λ requests. requests.items ≡
+        map (request_of nodes.now) lent.entry.now.entries) }
+    ensures ascending { IfOk result
+        (λ requests. IsStrictlySortedBy uid_cmp (map (λ r. r.entity_id) requests.items)) }
 {
     let mut requests = Vec::new(alloc);
     for (uid, lent) in lent.iter() {

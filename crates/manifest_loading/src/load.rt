@@ -52,13 +52,25 @@ pub fn load_trie<D: EntityLoader, L: Ledger>(
     steps: &mut Steps<L>,
 ) -> Result<Entities, EntitySliceError>
     ensures goes_on { Continues (D.state loader.old) (D.state loader.new) }
-    ensures rounds { (n : ℕ) → PathsWithin trie.now n → (D.state loader.new).rounds ≤ (D.state loader.old).rounds + (n + 1) }
+    ensures rounds { (n : ℕ) → PathsWithin trie.now n →
+        (D.state loader.new).rounds ≤ (D.state loader.old).rounds + (n + 1) }
     ensures steps { (n : ℕ) → PathsWithin trie.now n → steps.new ≤ steps.old + (n + 1) }
     ensures partial { IsPartial result ↔ (IsWhole request.now → ⊥) }
-    ensures honest { (s : Store) → (D.state loader.old).store ≡ Some s → HasOrder s → ((r : EntityRoot) → IsOrdered (root_value request.now r)) → IfOk result (IsLoaded (D.state loader.old).exact trie.now request.now s) }
-    ensures between { (s : Store) → (D.state loader.old).store ≡ Some s → HasOrder s → IsStrictlySortedBy uid_cmp (map (λ e. e.uid) s) → ((r : EntityRoot) → IsOrdered (root_value request.now r)) → (reads : List AccessPath) (demands : List Demand) → IsTrieOf reads demands trie.now → IfOk result (IsBetween (D.state loader.old).exact reads demands request.now s) }
-    ensures cause { IsWhole request.now → IfErr result (CauseOf (λ v. SomeRootSticks trie.now request.now v ⊎ Sticks trie.now v) (D.state loader.old) (D.state loader.new)) }
-    ensures right { IsWhole request.now → (s : Store) → (D.state loader.old).store ≡ Some s → HasOrder s → ((r : EntityRoot) → IsOrdered (root_value request.now r)) → IfErr result (IsRight (SticksAt trie.now request.now s) (D.state loader.old) (D.state loader.new)) }
+    ensures honest { (s : Store) → (D.state loader.old).store ≡ Some s → HasOrder s →
+        ((r : EntityRoot) → IsOrdered (root_value request.now r)) →
+        IfOk result (IsLoaded (D.state loader.old).exact trie.now request.now s) }
+    ensures between { (s : Store) → (D.state loader.old).store ≡ Some s → HasOrder s →
+        IsStrictlySortedBy uid_cmp (map (λ e. e.uid) s) →
+        ((r : EntityRoot) → IsOrdered (root_value request.now r)) →
+        (reads : List AccessPath) (demands : List Demand) → IsTrieOf reads demands trie.now →
+        IfOk result (IsBetween (D.state loader.old).exact reads demands request.now s) }
+    ensures cause { IsWhole request.now →
+        IfErr result (CauseOf (λ v. SomeRootSticks trie.now request.now v ⊎ Sticks trie.now v)
+        (D.state loader.old) (D.state loader.new)) }
+    ensures right { IsWhole request.now → (s : Store) → (D.state loader.old).store ≡ Some s →
+        HasOrder s → ((r : EntityRoot) → IsOrdered (root_value request.now r)) →
+        IfErr result (IsRight (SticksAt trie.now request.now s) (D.state loader.old)
+        (D.state loader.new)) }
 {
     if !request.is_whole() {
         return Err(EntitySliceError::PartialRequest(PartialRequestError {}));
@@ -76,12 +88,24 @@ fn load_whole<D: EntityLoader, L: Ledger>(
     requires { IsWhole request.now }
     ensures partial { IsPartial result → ⊥ }
     ensures goes_on { Continues (D.state loader.old) (D.state loader.new) }
-    ensures rounds { (n : ℕ) → PathsWithin trie.now n → (D.state loader.new).rounds ≤ (D.state loader.old).rounds + (n + 1) }
+    ensures rounds { (n : ℕ) → PathsWithin trie.now n →
+        (D.state loader.new).rounds ≤ (D.state loader.old).rounds + (n + 1) }
     ensures steps { (n : ℕ) → PathsWithin trie.now n → steps.new ≤ steps.old + (n + 1) }
-    ensures honest { (s : Store) → (D.state loader.old).store ≡ Some s → HasOrder s → ((r : EntityRoot) → IsOrdered (root_value request.now r)) → IfOk result (IsLoaded (D.state loader.old).exact trie.now request.now s) }
-    ensures between { (s : Store) → (D.state loader.old).store ≡ Some s → HasOrder s → IsStrictlySortedBy uid_cmp (map (λ e. e.uid) s) → ((r : EntityRoot) → IsOrdered (root_value request.now r)) → (reads : List AccessPath) (demands : List Demand) → IsTrieOf reads demands trie.now → IfOk result (IsBetween (D.state loader.old).exact reads demands request.now s) }
-    ensures cause { IfErr result (CauseOf (λ v. SomeRootSticks trie.now request.now v ⊎ Sticks trie.now v) (D.state loader.old) (D.state loader.new)) }
-    ensures right { (s : Store) → (D.state loader.old).store ≡ Some s → HasOrder s → ((r : EntityRoot) → IsOrdered (root_value request.now r)) → IfErr result (IsRight (SticksAt trie.now request.now s) (D.state loader.old) (D.state loader.new)) }
+    ensures honest { (s : Store) → (D.state loader.old).store ≡ Some s → HasOrder s →
+        ((r : EntityRoot) → IsOrdered (root_value request.now r)) →
+        IfOk result (IsLoaded (D.state loader.old).exact trie.now request.now s) }
+    ensures between { (s : Store) → (D.state loader.old).store ≡ Some s → HasOrder s →
+        IsStrictlySortedBy uid_cmp (map (λ e. e.uid) s) →
+        ((r : EntityRoot) → IsOrdered (root_value request.now r)) →
+        (reads : List AccessPath) (demands : List Demand) → IsTrieOf reads demands trie.now →
+        IfOk result (IsBetween (D.state loader.old).exact reads demands request.now s) }
+    ensures cause { IfErr result
+        (CauseOf (λ v. SomeRootSticks trie.now request.now v ⊎ Sticks trie.now v)
+        (D.state loader.old) (D.state loader.new)) }
+    ensures right { (s : Store) → (D.state loader.old).store ≡ Some s → HasOrder s →
+        ((r : EntityRoot) → IsOrdered (root_value request.now r)) →
+        IfErr result (IsRight (SticksAt trie.now request.now s) (D.state loader.old)
+        (D.state loader.new)) }
 {
     let start = match first_places(alloc, request, trie) {
         Ok(start) => start,

@@ -42,16 +42,33 @@ pub fn load_entities<D: EntityLoader, L: Ledger>(
     steps: &mut Steps<L>,
 ) -> Result<Entities, EntitySliceError>
     ensures partial { IsPartial result ↔ (IsWhole request.now → ⊥) }
-    ensures first { (IsWhole request.now → ⊥) → ((D.state loader.new).rounds ≡ (D.state loader.old).rounds) × (steps.new ≡ steps.old) }
-    ensures none { IsWhole request.now → trie_for manifest.now request.now ≡ None → IfOk result (λ s. s ≡ []) }
-    ensures no_round { trie_for manifest.now request.now ≡ None → ((D.state loader.new).rounds ≡ (D.state loader.old).rounds) × (steps.new ≡ steps.old) }
+    ensures first { (IsWhole request.now → ⊥) →
+        ((D.state loader.new).rounds ≡ (D.state loader.old).rounds) × (steps.new ≡ steps.old) }
+    ensures none { IsWhole request.now → trie_for manifest.now request.now ≡ None →
+        IfOk result (λ s. s ≡ []) }
+    ensures no_round { trie_for manifest.now request.now ≡ None →
+        ((D.state loader.new).rounds ≡ (D.state loader.old).rounds) × (steps.new ≡ steps.old) }
     ensures goes_on { Continues (D.state loader.old) (D.state loader.new) }
-    ensures rounds { (t : Table) → trie_for manifest.now request.now ≡ Some t → (n : ℕ) → PathsWithin t n → (D.state loader.new).rounds ≤ (D.state loader.old).rounds + (n + 1) }
-    ensures steps { (t : Table) → trie_for manifest.now request.now ≡ Some t → (n : ℕ) → PathsWithin t n → steps.new ≤ steps.old + (n + 1) }
-    ensures between { (t : Table) → trie_for manifest.now request.now ≡ Some t → (s : Store) → (D.state loader.old).store ≡ Some s → HasOrder s → IsStrictlySortedBy uid_cmp (map (λ e. e.uid) s) → ((r : EntityRoot) → IsOrdered (root_value request.now r)) → (reads : List AccessPath) (demands : List Demand) → IsTrieOf reads demands t → IfOk result (IsBetween (D.state loader.old).exact reads demands request.now s) }
-    ensures cause { IsWhole request.now → (t : Table) → trie_for manifest.now request.now ≡ Some t → IfErr result (CauseOf (λ v. SomeRootSticks t request.now v ⊎ Sticks t v) (D.state loader.old) (D.state loader.new)) }
-    ensures cause_without { IsWhole request.now → trie_for manifest.now request.now ≡ None → IfErr result (λ e. e ≡ OutOfMemory) }
-    ensures right { IsWhole request.now → (t : Table) → trie_for manifest.now request.now ≡ Some t → (s : Store) → (D.state loader.old).store ≡ Some s → HasOrder s → ((r : EntityRoot) → IsOrdered (root_value request.now r)) → IfErr result (IsRight (SticksAt t request.now s) (D.state loader.old) (D.state loader.new)) }
+    ensures rounds { (t : Table) → trie_for manifest.now request.now ≡ Some t → (n : ℕ) →
+        PathsWithin t n → (D.state loader.new).rounds ≤ (D.state loader.old).rounds + (n + 1) }
+    ensures steps { (t : Table) → trie_for manifest.now request.now ≡ Some t → (n : ℕ) →
+        PathsWithin t n → steps.new ≤ steps.old + (n + 1) }
+    ensures between { (t : Table) → trie_for manifest.now request.now ≡ Some t → (s : Store) →
+        (D.state loader.old).store ≡ Some s → HasOrder s →
+        IsStrictlySortedBy uid_cmp (map (λ e. e.uid) s) →
+        ((r : EntityRoot) → IsOrdered (root_value request.now r)) →
+        (reads : List AccessPath) (demands : List Demand) → IsTrieOf reads demands t →
+        IfOk result (IsBetween (D.state loader.old).exact reads demands request.now s) }
+    ensures cause { IsWhole request.now → (t : Table) → trie_for manifest.now request.now ≡ Some t →
+        IfErr result (CauseOf (λ v. SomeRootSticks t request.now v ⊎ Sticks t v)
+        (D.state loader.old) (D.state loader.new)) }
+    ensures cause_without { IsWhole request.now → trie_for manifest.now request.now ≡ None →
+        IfErr result (λ e. e ≡ OutOfMemory) }
+    ensures right { IsWhole request.now → (t : Table) → trie_for manifest.now request.now ≡ Some t →
+        (s : Store) → (D.state loader.old).store ≡ Some s → HasOrder s →
+        ((r : EntityRoot) → IsOrdered (root_value request.now r)) →
+        IfErr result (IsRight (SticksAt t request.now s) (D.state loader.old)
+        (D.state loader.new)) }
 {
     if !request.is_whole() {
         return Err(EntitySliceError::PartialRequest(PartialRequestError {}));

@@ -53,8 +53,11 @@ fn answers_at<D: EntityLoader>(
     ensures rounds { (D.state loader.new).rounds ≤ (D.state loader.old).rounds + 1 }
     ensures ids { IfOk result AreUnderIds }
     ensures cause { IfErr result (CauseOf (λ v. ⊥) (D.state loader.old) (D.state loader.new)) }
-    ensures honest { (s : Store) → (D.state loader.old).store ≡ Some s → IfOk result (λ found. AreAnswers (D.state loader.old).exact s nodes.now pending.now.keys (get uid_cmp found)) }
-    ensures right { (s : Store) → (D.state loader.old).store ≡ Some s → IfErr result (IsRight (λ v. ⊥) (D.state loader.old) (D.state loader.new)) }
+    ensures honest { (s : Store) → (D.state loader.old).store ≡ Some s →
+        IfOk result (λ found.
+        AreAnswers (D.state loader.old).exact s nodes.now pending.now.keys (get uid_cmp found)) }
+    ensures right { (s : Store) → (D.state loader.old).store ≡ Some s →
+        IfErr result (IsRight (λ v. ⊥) (D.state loader.old) (D.state loader.new)) }
 {
     let lent = lent_tries(alloc, nodes, pending)?;
     let requests = requests_of(alloc, nodes, &lent)?;
@@ -76,10 +79,16 @@ fn one_round<D: EntityLoader, L: Ledger>(
     ensures rounds { (D.state loader.new).rounds ≤ (D.state loader.old).rounds + 1 }
     ensures steps { steps.new ≡ steps.old + 1 }
     ensures ids { OnOk result (AreUnderIds kept.new) }
-    ensures below { IfOk result (λ next. (q : Place) → IsIn q next.keys → IsBelowSome nodes.now pending.now.keys q) }
+    ensures below { IfOk result (λ next. (q : Place) → IsIn q next.keys →
+        IsBelowSome nodes.now pending.now.keys q) }
     ensures cause { IfErr result (CauseOf (Sticks nodes.now) (D.state loader.old) (D.state loader.new)) }
-    ensures honest { (s : Store) → (D.state loader.old).store ≡ Some s → IfOk result (λ next. IsRound (D.state loader.old).exact s nodes.now pending.now.keys (get uid_cmp kept.old) (get uid_cmp kept.new) next.keys) }
-    ensures right { (s : Store) → (D.state loader.old).store ≡ Some s → IfErr result (IsRefused (D.state loader.old).exact s nodes.now pending.now.keys (get uid_cmp kept.old) (D.state loader.old) (D.state loader.new)) }
+    ensures honest { (s : Store) → (D.state loader.old).store ≡ Some s →
+        IfOk result (λ next.
+        IsRound (D.state loader.old).exact s nodes.now pending.now.keys (get uid_cmp kept.old)
+        (get uid_cmp kept.new) next.keys) }
+    ensures right { (s : Store) → (D.state loader.old).store ≡ Some s →
+        IfErr result (IsRefused (D.state loader.old).exact s nodes.now pending.now.keys
+        (get uid_cmp kept.old) (D.state loader.old) (D.state loader.new)) }
 {
     steps.tick();
     let found = answers_at(alloc, nodes, pending, loader)?;
@@ -107,12 +116,20 @@ pub(crate) fn load_rounds<D: EntityLoader, L: Ledger>(
     requires table { IsTable nodes.now }
     requires start { (q : Place) → IsIn q start.keys → IsFirst nodes.now q }
     ensures goes_on { Continues (D.state loader.old) (D.state loader.new) }
-    ensures rounds { (n : ℕ) → PathsWithin nodes.now n → (D.state loader.new).rounds ≤ (D.state loader.old).rounds + (n + 1) }
+    ensures rounds { (n : ℕ) → PathsWithin nodes.now n →
+        (D.state loader.new).rounds ≤ (D.state loader.old).rounds + (n + 1) }
     ensures steps { (n : ℕ) → PathsWithin nodes.now n → steps.new ≤ steps.old + (n + 1) }
-    ensures none { start.keys ≡ [] → ((D.state loader.new).rounds ≡ (D.state loader.old).rounds) × (steps.new ≡ steps.old) }
+    ensures none { start.keys ≡ [] → ((D.state loader.new).rounds ≡ (D.state loader.old).rounds) ×
+        (steps.new ≡ steps.old) }
     ensures ids { IfOk result (λ loaded. AreUnderIds loaded.kept) }
-    ensures honest { (s : Store) → (D.state loader.old).store ≡ Some s → (q : Request) → IsBegun nodes.now q s start.keys → IfOk result (λ loaded. IsState (D.state loader.old).exact nodes.now q s loaded.asked.keys [] (get uid_cmp loaded.kept)) }
-    ensures right { (s : Store) → (D.state loader.old).store ≡ Some s → (q : Request) → IsBegun nodes.now q s start.keys → IfErr result (IsRight (IsStuck nodes.now q s) (D.state loader.old) (D.state loader.new)) }
+    ensures honest { (s : Store) → (D.state loader.old).store ≡ Some s → (q : Request) →
+        IsBegun nodes.now q s start.keys →
+        IfOk result (λ loaded.
+        IsState (D.state loader.old).exact nodes.now q s loaded.asked.keys []
+        (get uid_cmp loaded.kept)) }
+    ensures right { (s : Store) → (D.state loader.old).store ≡ Some s → (q : Request) →
+        IsBegun nodes.now q s start.keys →
+        IfErr result (IsRight (IsStuck nodes.now q s) (D.state loader.old) (D.state loader.new)) }
     ensures cause { IfErr result (CauseOf (Sticks nodes.now) (D.state loader.old) (D.state loader.new)) }
 {
     let mut asked = BTreeSet::new(alloc);

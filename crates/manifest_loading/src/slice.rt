@@ -22,7 +22,9 @@ pub fn slice_entities(
     entities: &Entities,
     request: &Request,
 ) -> Result<Entities, EntitySliceError>
-    ensures { MatchResult result (IsSlice (trie_or_none (trie_for manifest.now request.now)) request.now entities.now) (IsRefused (trie_or_none (trie_for manifest.now request.now)) request.now entities.now) }
+    ensures { MatchResult result
+        (IsSlice (trie_or_none (trie_for manifest.now request.now)) request.now entities.now)
+        (IsRefused (trie_or_none (trie_for manifest.now request.now)) request.now entities.now) }
 {
     if !request.is_whole() {
         return Err(EntitySliceError::PartialRequest(PartialRequestError {}));
@@ -41,7 +43,10 @@ fn slice_typed(
     request: &Request,
 ) -> Result<Entities, EntitySliceError>
     requires { IsWhole request.now }
-    ensures { MatchResult result (IsSlice (trie_or_none (trie_at manifest.now request_type.now)) request.now entities.now) (IsRefused (trie_or_none (trie_at manifest.now request_type.now)) request.now entities.now) }
+    ensures { MatchResult result
+        (IsSlice (trie_or_none (trie_at manifest.now request_type.now)) request.now entities.now)
+        (IsRefused (trie_or_none
+        (trie_at manifest.now request_type.now)) request.now entities.now) }
 {
     match manifest.per_action().get(request_type) {
         Some(trie) => slice_along(alloc, trie, entities, request),
@@ -56,7 +61,8 @@ fn slice_along(
     request: &Request,
 ) -> Result<Entities, EntitySliceError>
     requires { IsWhole request.now }
-    ensures { MatchResult result (IsSlice trie.now request.now entities.now) (IsRefused trie.now request.now entities.now) }
+    ensures { MatchResult result (IsSlice trie.now request.now entities.now)
+        (IsRefused trie.now request.now entities.now) }
 {
     if let Some(value) = blocked_value(alloc, trie, request, entities)? {
         let error = IncompatibleEntityManifestError { value };

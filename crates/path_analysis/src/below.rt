@@ -22,7 +22,8 @@ pub(crate) fn add_all_below(
     paths: &[AccessPath],
     found: &mut Vec<AccessPath>,
 ) -> Result<(), AllocError>
-    ensures { OnOk result (found.new.items ≡ found.old.items ++ flat_map (all_below at.now.schema.now (env_data_of at.now.env.now)) paths.now) }
+    ensures { OnOk result (found.new.items ≡ found.old.items ++
+        flat_map (all_below at.now.schema.now (env_data_of at.now.env.now)) paths.now) }
 {
     for path in paths {
         add_below(at, path, found)?;
@@ -35,7 +36,8 @@ fn add_below(
     path: &AccessPath,
     found: &mut Vec<AccessPath>,
 ) -> Result<(), AllocError>
-    ensures { OnOk result (found.new.items ≡ found.old.items ++ all_below at.now.schema.now (env_data_of at.now.env.now) path.now) }
+    ensures { OnOk result (found.new.items ≡ found.old.items ++
+        all_below at.now.schema.now (env_data_of at.now.env.now) path.now) }
 {
     match path_type(at, path)? {
         Some(t) => add_below_type(at.alloc, path, t, found),
@@ -49,7 +51,8 @@ fn add_below_type(
     t: PathType<'_>,
     found: &mut Vec<AccessPath>,
 ) -> Result<(), AllocError>
-    ensures { OnOk result (found.new.items ≡ found.old.items ++ map (λ c. beyond path.now (steps_of c)) (chains (type_in t.entry))) }
+    ensures { OnOk result (found.new.items ≡ found.old.items ++
+        map (λ c. beyond path.now (steps_of c)) (chains (type_in t.entry))) }
 {
     match t {
         PathType::Held(t) => add_chains(alloc, path, t, found),
@@ -66,7 +69,8 @@ fn add_chains(
     t: &Type,
     found: &mut Vec<AccessPath>,
 ) -> Result<(), AllocError>
-    ensures { OnOk result (found.new.items ≡ found.old.items ++ map (λ c. beyond path.now (steps_of c)) (chains t.now)) }
+    ensures { OnOk result (found.new.items ≡ found.old.items ++
+        map (λ c. beyond path.now (steps_of c)) (chains t.now)) }
 {
     match t.kind() {
         TypeKind::EntityOrRecord(EntityRecordKind::Record { attrs, .. }) => {
@@ -83,7 +87,8 @@ fn add_chains_in(
     attributes: &Attributes,
     found: &mut Vec<AccessPath>,
 ) -> Result<(), AllocError>
-    ensures { OnOk result (found.new.items ≡ found.old.items ++ map (λ c. beyond path.now (steps_of c)) (chains_in attributes.now)) }
+    ensures { OnOk result (found.new.items ≡ found.old.items ++
+        map (λ c. beyond path.now (steps_of c)) (chains_in attributes.now)) }
 {
     for (name, attribute) in attributes.entries().iter() {
         add_field(alloc, path, name, &attribute.attr_type, found)?;
@@ -100,7 +105,9 @@ fn add_field(
     t: &Type,
     found: &mut Vec<AccessPath>,
 ) -> Result<(), AllocError>
-    ensures { OnOk result (found.new.items ≡ found.old.items ++ beyond path.now (along name.now ∷ []) ∷ map (λ c. beyond (beyond path.now (along name.now ∷ [])) (steps_of c)) (chains t.now)) }
+    ensures { OnOk result (found.new.items ≡ found.old.items ++
+        beyond path.now (along name.now ∷ []) ∷ map
+        (λ c. beyond (beyond path.now (along name.now ∷ [])) (steps_of c)) (chains t.now)) }
 {
     let further = further(alloc, path, name)?;
     add_with_chains(alloc, &further, t, found)
@@ -113,7 +120,8 @@ fn add_with_chains(
     t: &Type,
     found: &mut Vec<AccessPath>,
 ) -> Result<(), AllocError>
-    ensures { OnOk result (found.new.items ≡ found.old.items ++ path.now ∷ map (λ c. beyond path.now (steps_of c)) (chains t.now)) }
+    ensures { OnOk result (found.new.items ≡ found.old.items ++
+        path.now ∷ map (λ c. beyond path.now (steps_of c)) (chains t.now)) }
 {
     found.push(path.try_clone(alloc)?)?;
     add_chains(alloc, path, t, found)

@@ -26,7 +26,9 @@ pub fn conditions_trie<'a>(
     env: &'a RequestEnv<'a>,
     conditions: &[Expr<Option<Type>>],
 ) -> Result<RootAccessTrie, AllocError>
-    ensures { IfOk result (IsLeast (declared_reads schema.now (env_data_of env.now) conditions.now) (declared_demands schema.now (env_data_of env.now) conditions.now)) }
+    ensures { IfOk result
+        (IsLeast (declared_reads schema.now (env_data_of env.now) conditions.now)
+        (declared_demands schema.now (env_data_of env.now) conditions.now)) }
 {
     let at = Setting { alloc, schema, env };
     let mut reads = BTreeSet::new(alloc);
@@ -44,8 +46,11 @@ fn add_condition(
     reads: &mut BTreeSet<AccessPath>,
     demands: &mut BTreeSet<(AccessPath, AccessPath)>,
 ) -> Result<(), AllocError>
-    ensures reads { OnOk result (reads.new.keys ≡ with_paths reads.old.keys (read.reads at.now.schema.now (env_data_of at.now.env.now) condition.now)) }
-    ensures demands { OnOk result (demands.new.keys ≡ with_demands demands.old.keys (read.demands condition.now)) }
+    ensures reads { OnOk result (reads.new.keys ≡
+        with_paths reads.old.keys
+        (read.reads at.now.schema.now (env_data_of at.now.env.now) condition.now)) }
+    ensures demands { OnOk result (demands.new.keys ≡
+        with_demands demands.old.keys (read.demands condition.now)) }
 {
     let shape = analyze(at, condition, reads, demands)?;
     drop(shape);
@@ -58,7 +63,9 @@ fn declared_trie(
     reads: BTreeSet<AccessPath>,
     demands: BTreeSet<(AccessPath, AccessPath)>,
 ) -> Result<RootAccessTrie, AllocError>
-    ensures { IfOk result (IsLeast (map (declared_part at.now.schema.now (env_data_of at.now.env.now)) reads.keys) (filter (are_declared at.now.schema.now (env_data_of at.now.env.now)) demands.keys)) }
+    ensures { IfOk result
+        (IsLeast (map (declared_part at.now.schema.now (env_data_of at.now.env.now)) reads.keys)
+        (filter (are_declared at.now.schema.now (env_data_of at.now.env.now)) demands.keys)) }
 {
     let reads = declared_parts(at, reads)?;
     let demands = declared_demands(at, demands)?;
@@ -69,7 +76,8 @@ fn declared_parts(
     at: &Setting<'_>,
     paths: BTreeSet<AccessPath>,
 ) -> Result<Vec<AccessPath>, AllocError>
-    ensures { IfOk result (λ r. r.items ≡ map (declared_part at.now.schema.now (env_data_of at.now.env.now)) paths.keys) }
+    ensures { IfOk result (λ r. r.items ≡
+        map (declared_part at.now.schema.now (env_data_of at.now.env.now)) paths.keys) }
 {
     let mut parts = Vec::new(at.alloc);
     for path in paths {
@@ -82,7 +90,8 @@ fn declared_demands(
     at: &Setting<'_>,
     demands: BTreeSet<(AccessPath, AccessPath)>,
 ) -> Result<Vec<(AccessPath, AccessPath)>, AllocError>
-    ensures { IfOk result (λ r. r.items ≡ filter (are_declared at.now.schema.now (env_data_of at.now.env.now)) demands.keys) }
+    ensures { IfOk result (λ r. r.items ≡
+        filter (are_declared at.now.schema.now (env_data_of at.now.env.now)) demands.keys) }
 {
     let mut declared = Vec::new(at.alloc);
     for demand in demands {
@@ -96,7 +105,8 @@ fn add_if_declared(
     demand: (AccessPath, AccessPath),
     demands: &mut Vec<(AccessPath, AccessPath)>,
 ) -> Result<(), AllocError>
-    ensures { OnOk result (demands.new.items ≡ demands.old.items ++ filter (are_declared at.now.schema.now (env_data_of at.now.env.now)) (demand ∷ [])) }
+    ensures { OnOk result (demands.new.items ≡ demands.old.items ++
+        filter (are_declared at.now.schema.now (env_data_of at.now.env.now)) (demand ∷ [])) }
 {
     if are_declared(at, &demand)? {
         demands.push(demand)?;
@@ -105,7 +115,8 @@ fn add_if_declared(
 }
 
 fn are_declared(at: &Setting<'_>, demand: &(AccessPath, AccessPath)) -> Result<bool, AllocError>
-    ensures { IfOk result (λ b. b ≡ are_declared at.now.schema.now (env_data_of at.now.env.now) demand.now) }
+    ensures { IfOk result (λ b. b ≡
+        are_declared at.now.schema.now (env_data_of at.now.env.now) demand.now) }
 {
     if is_declared_path(at, &demand.0)? {
         is_declared_path(at, &demand.1)

@@ -23,7 +23,9 @@ pub(crate) fn add_unary(
     operand: &Shape,
     reads: &mut BTreeSet<AccessPath>,
 ) -> Result<(), AllocError>
-    ensures { OnOk result (reads.new.keys ≡ with_paths reads.old.keys (unary_reads at.now.schema.now (env_data_of at.now.env.now) op operand.now)) }
+    ensures { OnOk result (reads.new.keys ≡
+        with_paths reads.old.keys
+        (unary_reads at.now.schema.now (env_data_of at.now.env.now) op operand.now)) }
 {
     match op {
         UnaryOp::IsEmpty => add_wholly(at, operand, reads),
@@ -40,8 +42,11 @@ pub(crate) fn add_binary(
     reads: &mut BTreeSet<AccessPath>,
     demands: &mut BTreeSet<(AccessPath, AccessPath)>,
 ) -> Result<Shape, AllocError>
-    ensures reads { OnOk result (reads.new.keys ≡ with_paths reads.old.keys (binary_reads at.now.schema.now (env_data_of at.now.env.now) op left right.now)) }
-    ensures demands { OnOk result (demands.new.keys ≡ with_demands demands.old.keys (binary_demands op left right.now)) }
+    ensures reads { OnOk result (reads.new.keys ≡
+        with_paths reads.old.keys
+        (binary_reads at.now.schema.now (env_data_of at.now.env.now) op left right.now)) }
+    ensures demands { OnOk result (demands.new.keys ≡
+        with_demands demands.old.keys (binary_demands op left right.now)) }
     ensures shape { IfOk result (λ a. a ≡ binary_shape op left) }
 {
     match op {
@@ -75,7 +80,8 @@ pub(crate) fn add_one_step_on(
     step: &Step,
     reads: &mut BTreeSet<AccessPath>,
 ) -> Result<Shape, AllocError>
-    ensures reads { OnOk result (reads.new.keys ≡ with_paths reads.old.keys (with_step (paths (extended shape step.now)))) }
+    ensures reads { OnOk result (reads.new.keys ≡
+        with_paths reads.old.keys (with_step (paths (extended shape step.now)))) }
     ensures shape { IfOk result (λ a. a ≡ extended shape step.now) }
 {
     let further = shape.extended(alloc, step)?;
@@ -91,7 +97,9 @@ fn add_compared(
     right: &Shape,
     reads: &mut BTreeSet<AccessPath>,
 ) -> Result<(), AllocError>
-    ensures { OnOk result (reads.new.keys ≡ with_paths reads.old.keys (wholly at.now.schema.now (env_data_of at.now.env.now) left.now ++ wholly at.now.schema.now (env_data_of at.now.env.now) right.now)) }
+    ensures { OnOk result (reads.new.keys ≡
+        with_paths reads.old.keys (wholly at.now.schema.now (env_data_of at.now.env.now) left.now ++
+        wholly at.now.schema.now (env_data_of at.now.env.now) right.now)) }
 {
     add_wholly(at, left, reads)?;
     add_wholly(at, right, reads)
@@ -106,8 +114,11 @@ fn add_within(
     reads: &mut BTreeSet<AccessPath>,
     demands: &mut BTreeSet<(AccessPath, AccessPath)>,
 ) -> Result<(), AllocError>
-    ensures reads { OnOk result (reads.new.keys ≡ with_paths reads.old.keys (binary_reads at.now.schema.now (env_data_of at.now.env.now) In left.now right.now)) }
-    ensures demands { OnOk result (demands.new.keys ≡ with_demands demands.old.keys (pairs (paths left.now) (paths right.now))) }
+    ensures reads { OnOk result (reads.new.keys ≡
+        with_paths reads.old.keys
+        (binary_reads at.now.schema.now (env_data_of at.now.env.now) In left.now right.now)) }
+    ensures demands { OnOk result (demands.new.keys ≡
+        with_demands demands.old.keys (pairs (paths left.now) (paths right.now))) }
 {
     add_compared(at, left, right, reads)?;
     let from = left.paths(at.alloc)?;
@@ -123,7 +134,9 @@ fn add_wholly(
     shape: &Shape,
     reads: &mut BTreeSet<AccessPath>,
 ) -> Result<(), AllocError>
-    ensures { OnOk result (reads.new.keys ≡ with_paths reads.old.keys (wholly at.now.schema.now (env_data_of at.now.env.now) shape.now)) }
+    ensures { OnOk result (reads.new.keys ≡
+        with_paths reads.old.keys
+        (wholly at.now.schema.now (env_data_of at.now.env.now) shape.now)) }
 {
     add_longer(at.alloc, shape, reads)?;
     let paths = shape.paths(at.alloc)?;
@@ -153,7 +166,8 @@ fn add_pairs_of(
     to: &[AccessPath],
     demands: &mut BTreeSet<(AccessPath, AccessPath)>,
 ) -> Result<(), AllocError>
-    ensures { OnOk result (demands.new.keys ≡ with_demands demands.old.keys (map (λ r. (from.now, r)) to.now)) }
+    ensures { OnOk result (demands.new.keys ≡
+        with_demands demands.old.keys (map (λ r. (from.now, r)) to.now)) }
 {
     for path in to {
         add_demand(from.try_clone(alloc)?, path.try_clone(alloc)?, demands)?;

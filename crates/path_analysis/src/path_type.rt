@@ -37,7 +37,8 @@ pub(crate) fn path_type<'a>(
     at: &Setting<'a>,
     path: &AccessPath,
 ) -> Result<Option<PathType<'a>>, AllocError>
-    ensures { IfOk result (λ o. option_map type_in o ≡ path_type at.now.schema.now (env_data_of at.now.env.now) path.now) }
+    ensures { IfOk result (λ o. option_map type_in o ≡
+        path_type at.now.schema.now (env_data_of at.now.env.now) path.now) }
 {
     let root = root_type(at, path.root())?;
     type_behind(at, root, path.steps())
@@ -55,15 +56,19 @@ pub(crate) fn declared_part(at: &Setting<'_>, path: AccessPath) -> Result<Access
 
 /// Whether each step of the path is declared.
 pub(crate) fn is_declared_path(at: &Setting<'_>, path: &AccessPath) -> Result<bool, AllocError>
-    ensures { IfOk result (λ b. b ≡ is_declared_path at.now.schema.now (env_data_of at.now.env.now) path.now) }
+    ensures { IfOk result (λ b. b ≡
+        is_declared_path at.now.schema.now (env_data_of at.now.env.now) path.now) }
 {
     Ok(declared_count(at, path)? == path.steps().len())
 }
 
 // How many steps are declared, from the root on.
 fn declared_count(at: &Setting<'_>, path: &AccessPath) -> Result<usize, AllocError>
-    ensures part { IfOk result (λ n. take n path.now.steps ≡ declared_steps at.now.schema.now (root_type at.now.schema.now (env_data_of at.now.env.now) path.now.root) path.now.steps) }
-    ensures whole { IfOk result (λ n. nat_eq n (length path.now.steps) ≡ is_declared_path at.now.schema.now (env_data_of at.now.env.now) path.now) }
+    ensures part { IfOk result (λ n. take n path.now.steps ≡
+        declared_steps at.now.schema.now
+        (root_type at.now.schema.now (env_data_of at.now.env.now) path.now.root) path.now.steps) }
+    ensures whole { IfOk result (λ n. nat_eq n (length path.now.steps) ≡
+        is_declared_path at.now.schema.now (env_data_of at.now.env.now) path.now) }
     ensures bound { IfOk result (λ n. n ≤ length path.now.steps) }
 {
     let root = root_type(at, path.root())?;
@@ -75,8 +80,10 @@ fn count_declared<'a>(
     t: Option<PathType<'a>>,
     steps: &[Step],
 ) -> Result<usize, AllocError>
-    ensures part { IfOk result (λ n. take n steps.now ≡ declared_steps at.now.schema.now (option_map type_in t.entry) steps.now) }
-    ensures whole { IfOk result (λ n. nat_eq n (length steps.now) ≡ is_declared at.now.schema.now (option_map type_in t.entry) steps.now) }
+    ensures part { IfOk result (λ n. take n steps.now ≡
+        declared_steps at.now.schema.now (option_map type_in t.entry) steps.now) }
+    ensures whole { IfOk result (λ n. nat_eq n (length steps.now) ≡
+        is_declared at.now.schema.now (option_map type_in t.entry) steps.now) }
     ensures bound { IfOk result (λ n. n ≤ length steps.now) }
 {
     match steps {
@@ -94,7 +101,8 @@ fn type_behind<'a>(
     t: Option<PathType<'a>>,
     steps: &[Step],
 ) -> Result<Option<PathType<'a>>, AllocError>
-    ensures { IfOk result (λ o. option_map type_in o ≡ types_along at.now.schema.now (option_map type_in t.entry) steps.now) }
+    ensures { IfOk result (λ o. option_map type_in o ≡
+        types_along at.now.schema.now (option_map type_in t.entry) steps.now) }
 {
     match steps {
         [] => Ok(t),
@@ -110,7 +118,8 @@ fn step_on<'a>(
     t: Option<PathType<'a>>,
     step: &Step,
 ) -> Result<Option<PathType<'a>>, AllocError>
-    ensures { IfOk result (λ o. option_map type_in o ≡ step_on at.now.schema.now (option_map type_in t.entry) step.now) }
+    ensures { IfOk result (λ o. option_map type_in o ≡
+        step_on at.now.schema.now (option_map type_in t.entry) step.now) }
 {
     match t {
         Some(t) => type_along(at, t, step),
@@ -124,7 +133,8 @@ fn type_along<'a>(
     t: PathType<'a>,
     step: &Step,
 ) -> Result<Option<PathType<'a>>, AllocError>
-    ensures { IfOk result (λ o. option_map type_in o ≡ type_along at.now.schema.now (type_in t.entry) step.now) }
+    ensures { IfOk result (λ o. option_map type_in o ≡
+        type_along at.now.schema.now (type_in t.entry) step.now) }
 {
     match step {
         Step::Field(name) => field_type(at, t, name),
@@ -137,7 +147,8 @@ fn field_type<'a>(
     t: PathType<'a>,
     name: &Text,
 ) -> Result<Option<PathType<'a>>, AllocError>
-    ensures { IfOk result (λ o. option_map type_in o ≡ option_map (λ a. a.attr_type) (attribute_of at.now.schema.now (type_in t.entry) name.now)) }
+    ensures { IfOk result (λ o. option_map type_in o ≡
+        option_map (λ a. a.attr_type) (attribute_of at.now.schema.now (type_in t.entry) name.now)) }
 {
     match t {
         PathType::Held(t) => field_of(at, own_attributes(at.schema, t), t, name),
@@ -153,8 +164,10 @@ fn field_of<'a>(
     t: &Type,
     name: &Text,
 ) -> Result<Option<PathType<'a>>, AllocError>
-    requires { IfSome attributes (λ xs. xs.now ≡ attrs_in (declared_attributes at.now.schema.now) t.now) }
-    ensures { IfOk result (λ o. option_map type_in o ≡ option_map (λ a. a.attr_type) (attribute_of at.now.schema.now t.now name.now)) }
+    requires { IfSome attributes (λ xs. xs.now ≡
+        attrs_in (declared_attributes at.now.schema.now) t.now) }
+    ensures { IfOk result (λ o. option_map type_in o ≡
+        option_map (λ a. a.attr_type) (attribute_of at.now.schema.now t.now name.now)) }
 {
     match attributes {
         Some(attributes) => Ok(held(attributes.get_attr(name))),
@@ -259,7 +272,8 @@ fn declared_tags<'a>(schema: &'a ValidatorSchema, name: &EntityType) -> Option<&
 
 // The type of a root.
 fn root_type<'a>(at: &Setting<'a>, root: &EntityRoot) -> Result<Option<PathType<'a>>, AllocError>
-    ensures { IfOk result (λ o. option_map type_in o ≡ root_type at.now.schema.now (env_data_of at.now.env.now) root.now) }
+    ensures { IfOk result (λ o. option_map type_in o ≡
+        root_type at.now.schema.now (env_data_of at.now.env.now) root.now) }
 {
     match root {
         EntityRoot::Literal(uid) => Ok(made_type(euid_literal(at.alloc, uid, at.schema)?)),
@@ -268,7 +282,8 @@ fn root_type<'a>(at: &Setting<'a>, root: &EntityRoot) -> Result<Option<PathType<
 }
 
 fn variable_type<'a>(at: &Setting<'a>, var: Var) -> Result<Option<PathType<'a>>, AllocError>
-    ensures { IfOk result (λ o. option_map type_in o ≡ type_of_variable at.now.schema.now (env_data_of at.now.env.now) var) }
+    ensures { IfOk result (λ o. option_map type_in o ≡
+        type_of_variable at.now.schema.now (env_data_of at.now.env.now) var) }
 {
     match var {
         Var::Principal => Ok(Some(PathType::Made(at.env.principal_type(at.alloc)?))),

@@ -178,7 +178,8 @@ fn add_paths_of_fields(
     fields: &BTreeMap<Text, Shape>,
     found: &mut Vec<AccessPath>,
 ) -> Result<(), AllocError>
-    ensures { OnOk result (found.new.items ≡ found.old.items ++ field_paths (field_shapes fields.now.entries)) }
+    ensures { OnOk result (found.new.items ≡ found.old.items ++
+        field_paths (field_shapes fields.now.entries)) }
 {
     for (_, value) in fields.iter() {
         add_paths(alloc, value, found)?;
@@ -215,7 +216,8 @@ fn add_longer_of_all(
     items: &Vec<Shape>,
     reads: &mut BTreeSet<AccessPath>,
 ) -> Result<(), AllocError>
-    ensures { OnOk result (reads.new.keys ≡ with_paths reads.old.keys (with_step (paths (one_of_all items.now.items)))) }
+    ensures { OnOk result (reads.new.keys ≡
+        with_paths reads.old.keys (with_step (paths (one_of_all items.now.items)))) }
 {
     for item in items {
         add_longer(alloc, item, reads)?;
@@ -230,7 +232,8 @@ fn add_longer_of_fields(
     fields: &BTreeMap<Text, Shape>,
     reads: &mut BTreeSet<AccessPath>,
 ) -> Result<(), AllocError>
-    ensures { OnOk result (reads.new.keys ≡ with_paths reads.old.keys (with_step (field_paths (field_shapes fields.now.entries)))) }
+    ensures { OnOk result (reads.new.keys ≡
+        with_paths reads.old.keys (with_step (field_paths (field_shapes fields.now.entries)))) }
 {
     for (_, value) in fields.iter() {
         add_longer(alloc, value, reads)?;

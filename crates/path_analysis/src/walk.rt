@@ -28,8 +28,11 @@ pub(crate) fn analyze(
     reads: &mut BTreeSet<AccessPath>,
     demands: &mut BTreeSet<(AccessPath, AccessPath)>,
 ) -> Result<Shape, AllocError>
-    ensures reads { OnOk result (reads.new.keys ≡ with_paths reads.old.keys (read.reads at.now.schema.now (env_data_of at.now.env.now) e.now)) }
-    ensures demands { OnOk result (demands.new.keys ≡ with_demands demands.old.keys (read.demands e.now)) }
+    ensures reads { OnOk result (reads.new.keys ≡
+        with_paths reads.old.keys
+        (read.reads at.now.schema.now (env_data_of at.now.env.now) e.now)) }
+    ensures demands { OnOk result (demands.new.keys ≡
+        with_demands demands.old.keys (read.demands e.now)) }
     ensures shape { IfOk result (λ a. a ≡ shape_of e.now) }
 {
     match e.kind() {
@@ -76,8 +79,12 @@ fn analyze_if(
     reads: &mut BTreeSet<AccessPath>,
     demands: &mut BTreeSet<(AccessPath, AccessPath)>,
 ) -> Result<Shape, AllocError>
-    ensures reads { OnOk result (reads.new.keys ≡ with_paths reads.old.keys (read.reads at.now.schema.now (env_data_of at.now.env.now) (ite x.now y.now z.now unmarked))) }
-    ensures demands { OnOk result (demands.new.keys ≡ with_demands demands.old.keys (read.demands (ite x.now y.now z.now unmarked))) }
+    ensures reads { OnOk result (reads.new.keys ≡
+        with_paths reads.old.keys
+        (read.reads at.now.schema.now (env_data_of at.now.env.now)
+        (ite x.now y.now z.now unmarked))) }
+    ensures demands { OnOk result (demands.new.keys ≡
+        with_demands demands.old.keys (read.demands (ite x.now y.now z.now unmarked))) }
     ensures shape { IfOk result (λ a. a ≡ shape_of (ite x.now y.now z.now unmarked)) }
 {
     let test = analyze(at, x, reads, demands)?;
@@ -96,8 +103,11 @@ fn analyze_sides(
     reads: &mut BTreeSet<AccessPath>,
     demands: &mut BTreeSet<(AccessPath, AccessPath)>,
 ) -> Result<Shape, AllocError>
-    ensures reads { OnOk result (reads.new.keys ≡ with_paths reads.old.keys (read.reads at.now.schema.now (env_data_of at.now.env.now) (conj x.now y.now unmarked))) }
-    ensures demands { OnOk result (demands.new.keys ≡ with_demands demands.old.keys (read.demands (conj x.now y.now unmarked))) }
+    ensures reads { OnOk result (reads.new.keys ≡
+        with_paths reads.old.keys
+        (read.reads at.now.schema.now (env_data_of at.now.env.now) (conj x.now y.now unmarked))) }
+    ensures demands { OnOk result (demands.new.keys ≡
+        with_demands demands.old.keys (read.demands (conj x.now y.now unmarked))) }
     ensures shape { IfOk result (λ a. a ≡ shape_of (conj x.now y.now unmarked)) }
 {
     let left = analyze(at, x, reads, demands)?;
@@ -115,8 +125,11 @@ fn analyze_unary(
     reads: &mut BTreeSet<AccessPath>,
     demands: &mut BTreeSet<(AccessPath, AccessPath)>,
 ) -> Result<Shape, AllocError>
-    ensures reads { OnOk result (reads.new.keys ≡ with_paths reads.old.keys (read.reads at.now.schema.now (env_data_of at.now.env.now) (unary op x.now unmarked))) }
-    ensures demands { OnOk result (demands.new.keys ≡ with_demands demands.old.keys (read.demands (unary op x.now unmarked))) }
+    ensures reads { OnOk result (reads.new.keys ≡
+        with_paths reads.old.keys
+        (read.reads at.now.schema.now (env_data_of at.now.env.now) (unary op x.now unmarked))) }
+    ensures demands { OnOk result (demands.new.keys ≡
+        with_demands demands.old.keys (read.demands (unary op x.now unmarked))) }
     ensures shape { IfOk result (λ a. a ≡ shape_of (unary op x.now unmarked)) }
 {
     let operand = analyze(at, x, reads, demands)?;
@@ -134,8 +147,12 @@ fn analyze_binary(
     reads: &mut BTreeSet<AccessPath>,
     demands: &mut BTreeSet<(AccessPath, AccessPath)>,
 ) -> Result<Shape, AllocError>
-    ensures reads { OnOk result (reads.new.keys ≡ with_paths reads.old.keys (read.reads at.now.schema.now (env_data_of at.now.env.now) (binary op x.now y.now unmarked))) }
-    ensures demands { OnOk result (demands.new.keys ≡ with_demands demands.old.keys (read.demands (binary op x.now y.now unmarked))) }
+    ensures reads { OnOk result (reads.new.keys ≡
+        with_paths reads.old.keys
+        (read.reads at.now.schema.now (env_data_of at.now.env.now)
+        (binary op x.now y.now unmarked))) }
+    ensures demands { OnOk result (demands.new.keys ≡
+        with_demands demands.old.keys (read.demands (binary op x.now y.now unmarked))) }
     ensures shape { IfOk result (λ a. a ≡ shape_of (binary op x.now y.now unmarked)) }
 {
     let left = analyze(at, x, reads, demands)?;
@@ -154,8 +171,12 @@ fn analyze_attr(
     reads: &mut BTreeSet<AccessPath>,
     demands: &mut BTreeSet<(AccessPath, AccessPath)>,
 ) -> Result<Shape, AllocError>
-    ensures reads { OnOk result (reads.new.keys ≡ with_paths reads.old.keys (read.reads at.now.schema.now (env_data_of at.now.env.now) (attr x.now name.now unmarked))) }
-    ensures demands { OnOk result (demands.new.keys ≡ with_demands demands.old.keys (read.demands (attr x.now name.now unmarked))) }
+    ensures reads { OnOk result (reads.new.keys ≡
+        with_paths reads.old.keys
+        (read.reads at.now.schema.now (env_data_of at.now.env.now)
+        (attr x.now name.now unmarked))) }
+    ensures demands { OnOk result (demands.new.keys ≡
+        with_demands demands.old.keys (read.demands (attr x.now name.now unmarked))) }
     ensures shape { IfOk result (λ a. a ≡ shape_of (attr x.now name.now unmarked)) }
 {
     let shape = analyze(at, x, reads, demands)?;
@@ -170,8 +191,11 @@ fn analyze_call(
     reads: &mut BTreeSet<AccessPath>,
     demands: &mut BTreeSet<(AccessPath, AccessPath)>,
 ) -> Result<Shape, AllocError>
-    ensures reads { OnOk result (reads.new.keys ≡ with_paths reads.old.keys (reads_all at.now.schema.now (env_data_of at.now.env.now) (trees_of xs.now.items))) }
-    ensures demands { OnOk result (demands.new.keys ≡ with_demands demands.old.keys (demands_all (trees_of xs.now.items))) }
+    ensures reads { OnOk result (reads.new.keys ≡
+        with_paths reads.old.keys
+        (reads_all at.now.schema.now (env_data_of at.now.env.now) (trees_of xs.now.items))) }
+    ensures demands { OnOk result (demands.new.keys ≡
+        with_demands demands.old.keys (demands_all (trees_of xs.now.items))) }
     ensures shape { IfOk result (λ a. a ≡ no_shape) }
 {
     let shapes = analyze_all(at, xs, reads, demands)?;
@@ -187,8 +211,12 @@ fn analyze_set(
     reads: &mut BTreeSet<AccessPath>,
     demands: &mut BTreeSet<(AccessPath, AccessPath)>,
 ) -> Result<Shape, AllocError>
-    ensures reads { OnOk result (reads.new.keys ≡ with_paths reads.old.keys (read.reads at.now.schema.now (env_data_of at.now.env.now) (set (trees_of xs.now.items) unmarked))) }
-    ensures demands { OnOk result (demands.new.keys ≡ with_demands demands.old.keys (read.demands (set (trees_of xs.now.items) unmarked))) }
+    ensures reads { OnOk result (reads.new.keys ≡
+        with_paths reads.old.keys
+        (read.reads at.now.schema.now (env_data_of at.now.env.now)
+        (set (trees_of xs.now.items) unmarked))) }
+    ensures demands { OnOk result (demands.new.keys ≡
+        with_demands demands.old.keys (read.demands (set (trees_of xs.now.items) unmarked))) }
     ensures shape { IfOk result (λ a. a ≡ shape_of (set (trees_of xs.now.items) unmarked)) }
 {
     let shapes = analyze_all(at, xs, reads, demands)?;
@@ -203,8 +231,12 @@ fn analyze_record(
     reads: &mut BTreeSet<AccessPath>,
     demands: &mut BTreeSet<(AccessPath, AccessPath)>,
 ) -> Result<Shape, AllocError>
-    ensures reads { OnOk result (reads.new.keys ≡ with_paths reads.old.keys (read.reads at.now.schema.now (env_data_of at.now.env.now) (rec (named_of fields.now.entries) unmarked))) }
-    ensures demands { OnOk result (demands.new.keys ≡ with_demands demands.old.keys (read.demands (rec (named_of fields.now.entries) unmarked))) }
+    ensures reads { OnOk result (reads.new.keys ≡
+        with_paths reads.old.keys
+        (read.reads at.now.schema.now (env_data_of at.now.env.now)
+        (rec (named_of fields.now.entries) unmarked))) }
+    ensures demands { OnOk result (demands.new.keys ≡
+        with_demands demands.old.keys (read.demands (rec (named_of fields.now.entries) unmarked))) }
     ensures shape { IfOk result (λ a. a ≡ shape_of (rec (named_of fields.now.entries) unmarked)) }
 {
     let shapes = analyze_named(at, fields, reads, demands)?;
@@ -220,8 +252,11 @@ fn analyze_all(
     reads: &mut BTreeSet<AccessPath>,
     demands: &mut BTreeSet<(AccessPath, AccessPath)>,
 ) -> Result<Vec<Shape>, AllocError>
-    ensures reads { OnOk result (reads.new.keys ≡ with_paths reads.old.keys (reads_all at.now.schema.now (env_data_of at.now.env.now) (trees_of xs.now.items))) }
-    ensures demands { OnOk result (demands.new.keys ≡ with_demands demands.old.keys (demands_all (trees_of xs.now.items))) }
+    ensures reads { OnOk result (reads.new.keys ≡
+        with_paths reads.old.keys
+        (reads_all at.now.schema.now (env_data_of at.now.env.now) (trees_of xs.now.items))) }
+    ensures demands { OnOk result (demands.new.keys ≡
+        with_demands demands.old.keys (demands_all (trees_of xs.now.items))) }
     ensures shapes { IfOk result (λ r. r.items ≡ map shape_of xs.now.items) }
 {
     let mut shapes = Vec::new(at.alloc);
@@ -241,8 +276,12 @@ fn analyze_named(
     reads: &mut BTreeSet<AccessPath>,
     demands: &mut BTreeSet<(AccessPath, AccessPath)>,
 ) -> Result<BTreeMap<Text, Shape>, AllocError>
-    ensures reads { OnOk result (reads.new.keys ≡ with_paths reads.old.keys (reads_named at.now.schema.now (env_data_of at.now.env.now) (named_of fields.now.entries))) }
-    ensures demands { OnOk result (demands.new.keys ≡ with_demands demands.old.keys (demands_named (named_of fields.now.entries))) }
+    ensures reads { OnOk result (reads.new.keys ≡
+        with_paths reads.old.keys
+        (reads_named at.now.schema.now (env_data_of at.now.env.now)
+        (named_of fields.now.entries))) }
+    ensures demands { OnOk result (demands.new.keys ≡
+        with_demands demands.old.keys (demands_named (named_of fields.now.entries))) }
     ensures shapes { IfOk result (λ r. r.entries ≡ map shaped fields.now.entries) }
 {
     let mut shapes = BTreeMap::new(at.alloc);

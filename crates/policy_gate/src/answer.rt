@@ -172,7 +172,8 @@ pub(crate) fn written_manifest(
     alloc: Global,
     manifest: &EntityManifest,
 ) -> Result<Reply, AllocError>
-    ensures { IfOk result (λ r. (r.status ≡ Status.Done) × (string_bytes r.text ≡ manifest_text manifest.now)) }
+    ensures { IfOk result (λ r. (r.status ≡ Status.Done) ×
+        (string_bytes r.text ≡ manifest_text manifest.now)) }
 {
     let text = manifest_text(alloc, manifest)?;
     Ok(Reply {

@@ -54,7 +54,8 @@ fn over_store(alloc: Global, document: &Document) -> Result<Reply, AllocError>
 
 fn lines_reply(alloc: Global, answers: &Vec<BatchAnswer>) -> Result<Reply, AllocError>
     requires { All IsToldOfStore answers.now.items }
-    ensures { IfOk result (λ r. (r.status ≡ Status.Done) × (string_bytes r.text ≡ flat_map line_on answers.now.items)) }
+    ensures { IfOk result (λ r. (r.status ≡ Status.Done) ×
+        (string_bytes r.text ≡ flat_map line_on answers.now.items)) }
 {
     let text = lines(alloc, answers)?;
     Ok(Reply {

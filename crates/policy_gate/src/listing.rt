@@ -27,7 +27,8 @@ pub(crate) fn listed(
     limit: &PageLimit,
     after: &Option<EntityUID>,
 ) -> Result<Reply, AllocError>
-    ensures { IfOk result (λ r. IsAnswerTo (Command.List limit.now after.now) document.now (reply_view r)) }
+    ensures { IfOk result
+        (λ r. IsAnswerTo (Command.List limit.now after.now) document.now (reply_view r)) }
 {
     laws();
     is_well_made(document);
@@ -76,7 +77,8 @@ fn store_reply(alloc: Global, fault: &EntityDoesNotConform) -> Result<Reply, All
 }
 
 fn page_reply(alloc: Global, page: &Page) -> Result<Reply, AllocError>
-    ensures { IfOk result (λ r. (r.status ≡ Status.Done) × (string_bytes r.text ≡ page_text page.now.ids.items page.now.more)) }
+    ensures { IfOk result (λ r. (r.status ≡ Status.Done) ×
+        (string_bytes r.text ≡ page_text page.now.ids.items page.now.more)) }
 {
     let mut text = id_lines(alloc, &page.ids)?;
     text.push_str(end_line(page.more))?;

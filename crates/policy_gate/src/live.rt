@@ -103,7 +103,8 @@ fn add<L: Ledger>(
     template: Template,
     steps: &mut Steps<L>,
 ) -> Result<Option<String>, AllocError>
-    ensures made { IfOk result (λ o. o ≡ None → IsMade (edit_for (edit_of.Policy template)) live.old live.new) }
+    ensures made { IfOk result (λ o. o ≡ None →
+        IsMade (edit_for (edit_of.Policy template)) live.old live.new) }
     ensures refused { IfOk result (λ o. option_map string_bytes o
         ≡ option_map refusal_text (refusal live.old.schema live.old.policies (edit_for (edit_of.Policy template)))) }
 {
@@ -122,7 +123,8 @@ fn link<L: Ledger>(
     link: TemplateLink,
     steps: &mut Steps<L>,
 ) -> Result<Option<String>, AllocError>
-    ensures made { IfOk result (λ o. o ≡ None → IsMade (edit_for (edit_of.Link link)) live.old live.new) }
+    ensures made { IfOk result (λ o. o ≡ None →
+        IsMade (edit_for (edit_of.Link link)) live.old live.new) }
     ensures refused { IfOk result (λ o. option_map string_bytes o
         ≡ option_map refusal_text (refusal live.old.schema live.old.policies (edit_for (edit_of.Link link)))) }
 {
@@ -141,7 +143,8 @@ fn remove(
     live: &mut LiveManifest<'_>,
     id: Text,
 ) -> Result<Option<String>, AllocError>
-    ensures made { IfOk result (λ o. o ≡ None → IsMade (edit_for (edit_of.Remove id)) live.old live.new) }
+    ensures made { IfOk result (λ o. o ≡ None →
+        IsMade (edit_for (edit_of.Remove id)) live.old live.new) }
     ensures refused { IfOk result (λ o. option_map string_bytes o
         ≡ option_map refusal_text (refusal live.old.schema live.old.policies (edit_for (edit_of.Remove id)))) }
 {
@@ -187,7 +190,8 @@ fn fault_text(fault: &PolicySetError) -> &'static str
 }
 
 fn removal_text(fault: RemovalError<'_>) -> &'static str
-    ensures { (set : PolicySetData) (id : List ℕ) → IsNotRemoved set id fault.entry → Some result.now ≡ option_map removal_text (removal_fault set id) }
+    ensures { (set : PolicySetData) (id : List ℕ) → IsNotRemoved set id fault.entry →
+        Some result.now ≡ option_map removal_text (removal_fault set id) }
 {
     match fault {
         RemovalError::UnknownPolicy(_) => "unknown id\n",

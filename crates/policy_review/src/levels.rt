@@ -45,7 +45,8 @@ pub(crate) fn raised_by(
     env: &RequestEnv<'_>,
     check: PolicyCheck,
 ) -> Result<Option<u32>, AllocError>
-    ensures { IfOk result (λ l. l ≡ greater level (level_told (action_in (env_data_of env.now)) (condition_told check))) }
+    ensures { IfOk result (λ l. l ≡
+        greater level (level_told (action_in (env_data_of env.now)) (condition_told check))) }
 {
     match condition_of(check) {
         Some(condition) => raised_past(alloc, policy_id, level, env, condition),
@@ -60,7 +61,8 @@ fn raised_past(
     env: &RequestEnv<'_>,
     condition: Expr<Option<Type>>,
 ) -> Result<Option<u32>, AllocError>
-    ensures { IfOk result (λ l. l ≡ greater level (least_level (action_in (env_data_of env.now)) condition)) }
+    ensures { IfOk result (λ l. l ≡
+        greater level (least_level (action_in (env_data_of env.now)) condition)) }
 {
     match level {
         Some(level) => raised_to(alloc, policy_id, level, env, condition),
@@ -78,7 +80,8 @@ fn raised_to(
     env: &RequestEnv<'_>,
     condition: Expr<Option<Type>>,
 ) -> Result<Option<u32>, AllocError>
-    ensures { IfOk result (λ l. l ≡ greater (Some level) (least_level (action_in (env_data_of env.now)) condition)) }
+    ensures { IfOk result (λ l. l ≡
+        greater (Some level) (least_level (action_in (env_data_of env.now)) condition)) }
 {
     let mut conditions = Vec::new(alloc);
     conditions.push((*env, condition))?;
@@ -105,7 +108,9 @@ fn raised(
     mut level: u32,
     conditions: &Vec<(RequestEnv<'_>, Expr<Option<Type>>)>,
 ) -> Result<Option<u32>, AllocError>
-    ensures { IfOk result (λ l. l ≡ greater (Some level) (least (flat_map dereferences_in (map condition_in conditions.now.items)))) }
+    ensures { IfOk result (λ l. l ≡
+        greater (Some level)
+        (least (flat_map dereferences_in (map condition_in conditions.now.items)))) }
 {
     loop {
         let errors = level_errors(alloc, policy_id, level, conditions)?;

@@ -37,9 +37,14 @@ pub(crate) fn add_policies(
     levels: &mut BTreeMap<Text, Option<u32>>,
 ) -> Result<bool, AllocError>
     requires { typechecker.now ≡ schema.now }
-    ensures passes { IfOk result (λ b. b ≡ list_all (passes_everywhere schema.now) policies.now.policies) }
-    ensures rows { IfOk result (λ b. OnTrue b (matrix.new.items ≡ matrix.old.items ++ flat_map (rows_of schema.now) policies.now.policies)) }
-    ensures levels { IfOk result (λ b. OnTrue b (levels.new.entries ≡ fold (with_level schema.now) levels.old.entries (statics policies.now))) }
+    ensures passes { IfOk result (λ b. b ≡
+        list_all (passes_everywhere schema.now) policies.now.policies) }
+    ensures rows { IfOk result
+        (λ b. OnTrue b (matrix.new.items ≡ matrix.old.items ++
+        flat_map (rows_of schema.now) policies.now.policies)) }
+    ensures levels { IfOk result
+        (λ b. OnTrue b (levels.new.entries ≡
+        fold (with_level schema.now) levels.old.entries (statics policies.now))) }
 {
     for policy in policies.policies() {
         let passes = add_policy(alloc, schema, typechecker, policy, matrix, levels)?;
@@ -59,7 +64,8 @@ pub(crate) fn add_templates(
     levels: &mut BTreeMap<Text, Option<u32>>,
 ) -> Result<(), AllocError>
     requires { typechecker.now ≡ schema.now }
-    ensures { OnOk result (levels.new.entries ≡ fold (with_level schema.now) levels.old.entries policies.now.templates) }
+    ensures { OnOk result (levels.new.entries ≡
+        fold (with_level schema.now) levels.old.entries policies.now.templates) }
 {
     for template in policies.templates() {
         let level = level_of(alloc, schema, typechecker, template)?;
@@ -79,8 +85,11 @@ fn add_policy(
 ) -> Result<bool, AllocError>
     requires { typechecker.now ≡ schema.now }
     ensures passes { IfOk result (λ b. b ≡ passes_everywhere schema.now policy.now) }
-    ensures rows { IfOk result (λ b. OnTrue b (matrix.new.items ≡ matrix.old.items ++ rows_of schema.now policy.now)) }
-    ensures levels { IfOk result (λ b. OnTrue b (levels.new.entries ≡ with_static schema.now levels.old.entries policy.now)) }
+    ensures rows { IfOk result
+        (λ b. OnTrue b (matrix.new.items ≡ matrix.old.items ++ rows_of schema.now policy.now)) }
+    ensures levels { IfOk result
+        (λ b. OnTrue b (levels.new.entries ≡
+        with_static schema.now levels.old.entries policy.now)) }
 {
     if policy.is_static() {
         add_static(alloc, schema, typechecker, policy, matrix, levels)
@@ -100,8 +109,11 @@ fn add_static(
 ) -> Result<bool, AllocError>
     requires { typechecker.now ≡ schema.now }
     ensures passes { IfOk result (λ b. b ≡ passes_everywhere schema.now policy.now) }
-    ensures rows { IfOk result (λ b. OnTrue b (matrix.new.items ≡ matrix.old.items ++ rows_of schema.now policy.now)) }
-    ensures levels { IfOk result (λ b. OnTrue b (levels.new.entries ≡ with_level schema.now levels.old.entries (written_of policy.now))) }
+    ensures rows { IfOk result
+        (λ b. OnTrue b (matrix.new.items ≡ matrix.old.items ++ rows_of schema.now policy.now)) }
+    ensures levels { IfOk result
+        (λ b. OnTrue b (levels.new.entries ≡
+        with_level schema.now levels.old.entries (written_of policy.now))) }
 {
     statics_are_unlinked();
     let _condition = policy.condition();
@@ -125,8 +137,12 @@ fn add_rows(
 ) -> Result<bool, AllocError>
     requires { typechecker.now ≡ schema.now }
     ensures passes { IfOk result (λ b. b ≡ passes_everywhere schema.now policy.now) }
-    ensures rows { IfOk result (λ b. OnTrue b (matrix.new.items ≡ matrix.old.items ++ rows_of schema.now policy.now)) }
-    ensures level { IfOk result (λ b. OnTrue b (level.new ≡ greater level.old (greatest (map (level_found_in schema.now policy.now.condition) (unlinked_envs schema.now))))) }
+    ensures rows { IfOk result
+        (λ b. OnTrue b (matrix.new.items ≡ matrix.old.items ++ rows_of schema.now policy.now)) }
+    ensures level { IfOk result
+        (λ b. OnTrue b (level.new ≡
+        greater level.old (greatest
+        (map (level_found_in schema.now policy.now.condition) (unlinked_envs schema.now))))) }
 {
     check_is_exact();
     for env in schema.unlinked_request_envs(alloc)? {
@@ -159,7 +175,8 @@ fn add_row(
     verdict: Verdict,
     matrix: &mut Vec<ReviewRow>,
 ) -> Result<(), AllocError>
-    ensures { OnOk result (matrix.new.items ≡ matrix.old.items ++ option_to_list (row_at policy_id.now (env_data_of env.now) verdict)) }
+    ensures { OnOk result (matrix.new.items ≡ matrix.old.items ++
+        option_to_list (row_at policy_id.now (env_data_of env.now) verdict)) }
 {
     if let Some(request_type) = env.to_request_type()? {
         matrix.push(ReviewRow {

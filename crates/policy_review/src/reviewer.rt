@@ -79,7 +79,9 @@ fn review_where_accepted(
     schema: &ValidatorSchema,
     policies: &PolicySet,
 ) -> Result<Option<Review>, AllocError>
-    ensures { IfOk result (λ o. MatchOption o (¬ IsAccepted schema.now policies.now) (IsFound schema.now policies.now)) }
+    ensures { IfOk result
+        (λ o. MatchOption o (¬ IsAccepted schema.now policies.now)
+        (IsFound schema.now policies.now)) }
 {
     accepted_exactly(schema, policies);
     let objects = all_objects(alloc)?;
@@ -94,7 +96,9 @@ fn review_where_accepted(
 
 // Policies are accepted exactly where they keep the rules and each condition passes its check in every environment.
 fn accepted_exactly(schema: &ValidatorSchema, policies: &PolicySet)
-    ensures { (IsTrue (keep_rules schema.now policies.now) × IsTrue (list_all (passes_everywhere schema.now) policies.now.policies)) ↔ IsAccepted schema.now policies.now }
+    ensures { (IsTrue (keep_rules schema.now policies.now) ×
+        IsTrue (list_all (passes_everywhere schema.now) policies.now.policies)) ↔
+        IsAccepted schema.now policies.now }
 {
     accepted_by_rules();
     let _actions = schema.action_ids();
@@ -110,7 +114,9 @@ fn review_where_left(
 ) -> Result<Option<Review>, AllocError>
     requires typechecker { typechecker.now ≡ schema.now }
     requires rules { IsTrue (keep_rules schema.now policies.now) }
-    ensures { IfOk result (λ o. MatchOption o (¬ IsAccepted schema.now policies.now) (IsFound schema.now policies.now)) }
+    ensures { IfOk result
+        (λ o. MatchOption o (¬ IsAccepted schema.now policies.now)
+        (IsFound schema.now policies.now)) }
 {
     accepted_exactly(schema, policies);
     check_is_exact();

@@ -54,7 +54,8 @@ pub(crate) fn missing(
     errors: &[ValidationError],
     found: IndexSet<ValidationError>,
 ) -> Result<Vec<ValidationError>, AllocError>
-    ensures { IfOk result (λ more. errors.now ++ more.items ≡ all_added same_error errors.now found.keys) }
+    ensures { IfOk result (λ more. errors.now ++ more.items ≡
+        all_added same_error errors.now found.keys) }
 {
     let known = known_among(alloc, errors, &found)?;
     let more = unmarked(alloc, found, known)?;
@@ -67,7 +68,8 @@ fn known_among<'a>(
     errors: &'a [ValidationError],
     found: &'a IndexSet<ValidationError>,
 ) -> Result<Vec<bool>, AllocError>
-    ensures known { IfOk result (λ known. known.items ≡ map (holds same_error errors.now) found.now.keys) }
+    ensures known { IfOk result (λ known. known.items ≡
+        map (holds same_error errors.now) found.now.keys) }
     ensures unique { OnOk result (IsUnique same_error found.now) }
 {
     let held = set_of(alloc, errors)?;

@@ -28,7 +28,9 @@ pub(crate) fn check_bodies(
     found: &mut IndexSet<ValidationError>,
 ) -> Result<(), AllocError>
     ensures schema { IsSchema checker.now }
-    ensures told { OnOk result ((summary.new, found.new.keys) ≡ all_told t.now.id (body_check checker.now t.now) (summary.old, found.old.keys) (met_envs checker.now t.now)) }
+    ensures told { OnOk result ((summary.new, found.new.keys) ≡
+        all_told t.now.id (body_check checker.now t.now) (summary.old, found.old.keys)
+        (met_envs checker.now t.now)) }
 {
     for action in met_actions(alloc, checker.schema(), t.action_constraint())? {
         check_of_action(checker, alloc, t, action, summary, found)?;
@@ -45,7 +47,9 @@ fn check_of_action(
     summary: &mut Summary,
     found: &mut IndexSet<ValidationError>,
 ) -> Result<(), AllocError>
-    ensures { OnOk result ((summary.new, found.new.keys) ≡ all_told t.now.id (body_check checker.now t.now) (summary.old, found.old.keys) (met_with checker.now t.now action.now)) }
+    ensures { OnOk result ((summary.new, found.new.keys) ≡
+        all_told t.now.id (body_check checker.now t.now) (summary.old, found.old.keys)
+        (met_with checker.now t.now action.now)) }
 {
     let schema = checker.schema();
     for principal in action.applies_to_principals() {
@@ -66,7 +70,9 @@ fn check_of_principal(
     summary: &mut Summary,
     found: &mut IndexSet<ValidationError>,
 ) -> Result<(), AllocError>
-    ensures { OnOk result ((summary.new, found.new.keys) ≡ all_told t.now.id (body_check checker.now t.now) (summary.old, found.old.keys) (met_at checker.now t.now action.now principal.now)) }
+    ensures { OnOk result ((summary.new, found.new.keys) ≡
+        all_told t.now.id (body_check checker.now t.now) (summary.old, found.old.keys)
+        (met_at checker.now t.now action.now principal.now)) }
 {
     let schema = checker.schema();
     for resource in action.applies_to_resources() {
@@ -84,7 +90,8 @@ fn env_with<'a>(
     principal: &'a EntityType,
     resource: &'a EntityType,
 ) -> RequestEnv<'a>
-    ensures { env_data_of result ≡ unlinked action.now (environment principal.now action.now.name resource.now) }
+    ensures { env_data_of result ≡
+        unlinked action.now (environment principal.now action.now.name resource.now) }
 {
     RequestEnv::DeclaredAction {
         principal,

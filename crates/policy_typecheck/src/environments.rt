@@ -35,7 +35,8 @@ fn add_of_action<'a>(
     t: &Template,
     action: &'a ValidatorActionId,
 ) -> Result<(), AllocError>
-    ensures { OnOk result (map env_data_of envs.new.items ≡ map env_data_of envs.old.items ++ linked_envs_of schema.now t.now action.now) }
+    ensures { OnOk result (map env_data_of envs.new.items ≡ map env_data_of envs.old.items ++
+        linked_envs_of schema.now t.now action.now) }
 {
     for principal in action.applies_to_principals() {
         add_of_principal(envs, schema, t, action, principal)?;
@@ -51,7 +52,9 @@ fn add_of_principal<'a>(
     action: &'a ValidatorActionId,
     principal: &'a EntityType,
 ) -> Result<(), AllocError>
-    ensures { OnOk result (map env_data_of envs.new.items ≡ map env_data_of envs.old.items ++ flat_map (linked_envs_at schema.now t.now action.now) (environments_at action.now principal.now)) }
+    ensures { OnOk result (map env_data_of envs.new.items ≡ map env_data_of envs.old.items ++
+        flat_map (linked_envs_at schema.now t.now action.now)
+        (environments_at action.now principal.now)) }
 {
     for resource in action.applies_to_resources() {
         add_linked(envs, schema, t, action, principal, resource)?;
@@ -68,7 +71,9 @@ fn add_linked<'a>(
     principal: &'a EntityType,
     resource: &'a EntityType,
 ) -> Result<(), AllocError>
-    ensures { OnOk result (map env_data_of envs.new.items ≡ map env_data_of envs.old.items ++ linked_envs_at schema.now t.now action.now (environment principal.now action.now.name resource.now)) }
+    ensures { OnOk result (map env_data_of envs.new.items ≡ map env_data_of envs.old.items ++
+        linked_envs_at schema.now t.now action.now
+        (environment principal.now action.now.name resource.now)) }
 {
     let alloc = *envs.allocator();
     let principal_slots = slot_types(alloc, schema, t.principal_constraint(), principal)?;
@@ -88,7 +93,9 @@ fn add_with_slot<'a>(
     principal_slot: Option<&'a EntityType>,
     resource_slots: &Vec<Option<&'a EntityType>>,
 ) -> Result<(), AllocError>
-    ensures { OnOk result (map env_data_of envs.new.items ≡ map env_data_of envs.old.items ++ map (linked_env action.now (environment principal.now action.now.name resource.now) (option_copied principal_slot.entry)) (map option_copied resource_slots.now.items)) }
+    ensures { OnOk result (map env_data_of envs.new.items ≡ map env_data_of envs.old.items ++
+        map (linked_env action.now (environment principal.now action.now.name resource.now)
+        (option_copied principal_slot.entry)) (map option_copied resource_slots.now.items)) }
 {
     for slot in resource_slots {
         envs.push(RequestEnv::DeclaredAction {

@@ -25,7 +25,8 @@ pub(crate) fn met_actions<'a>(
     constraint: &ActionConstraint,
 ) -> Result<Vec<&'a ValidatorActionId>, AllocError>
     ensures schema { IsSchema schema.now }
-    ensures met { IfOk result (λ r. pointed r.items ≡ filter (action_meets schema.now constraint.now) schema.now.action_ids) }
+    ensures met { IfOk result (λ r. pointed r.items ≡
+        filter (action_meets schema.now constraint.now) schema.now.action_ids) }
 {
     let actions = schema.action_ids();
     match constraint {
@@ -54,7 +55,8 @@ fn named<'a>(
     uid: &EntityUID,
 ) -> Result<Vec<&'a ValidatorActionId>, AllocError>
     requires { IsSchema schema.now }
-    ensures { IfOk result (λ r. pointed r.items ≡ filter (λ a. uid_eq uid.now a.name) schema.now.action_ids) }
+    ensures { IfOk result (λ r. pointed r.items ≡
+        filter (λ a. uid_eq uid.now a.name) schema.now.action_ids) }
 {
     match schema.get_action_id(uid) {
         Some(action) => {
@@ -73,7 +75,8 @@ fn listed<'a>(
     uids: &[EntityUID],
 ) -> Result<Vec<&'a ValidatorActionId>, AllocError>
     requires { IsSchema schema.now }
-    ensures { IfOk result (λ r. pointed r.items ≡ filter (action_meets schema.now (ActionConstraint.In uids.now)) schema.now.action_ids) }
+    ensures { IfOk result (λ r. pointed r.items ≡
+        filter (action_meets schema.now (ActionConstraint.In uids.now)) schema.now.action_ids) }
 {
     if are_declared(schema, uids) {
         let ids = ids_within(alloc, schema, uids)?;
@@ -96,7 +99,8 @@ fn ids_within(
     uids: &[EntityUID],
 ) -> Result<BTreeSet<EntityUID>, AllocError>
     requires { IsSchema schema.now }
-    ensures { IfOk result (λ ids. (q : Uid) → has uid_cmp ids.keys q ≡ list_any (is_action_within schema.now q) uids.now) }
+    ensures { IfOk result (λ ids. (q : Uid) → has uid_cmp ids.keys q ≡
+        list_any (is_action_within schema.now q) uids.now) }
 {
     let mut ids = BTreeSet::new(alloc);
     for uid in uids {
@@ -113,7 +117,8 @@ fn add_within(
     schema: &ValidatorSchema,
     uid: &EntityUID,
 ) -> Result<(), AllocError>
-    ensures { OnOk result ((q : Uid) → has uid_cmp ids.new.keys q ≡ (has uid_cmp ids.old.keys q || is_action_within schema.now q uid.now)) }
+    ensures { OnOk result ((q : Uid) → has uid_cmp ids.new.keys q ≡
+        (has uid_cmp ids.old.keys q || is_action_within schema.now q uid.now)) }
 {
     ids.insert(uid.clone()?)?;
     match schema.get_action_id(uid) {
@@ -127,7 +132,8 @@ fn among<'a>(
     actions: &'a [ValidatorActionId],
     ids: &BTreeSet<EntityUID>,
 ) -> Result<Vec<&'a ValidatorActionId>, AllocError>
-    ensures { IfOk result (λ r. pointed r.items ≡ filter (λ a. has uid_cmp ids.now.keys a.name) actions.now) }
+    ensures { IfOk result (λ r. pointed r.items ≡
+        filter (λ a. has uid_cmp ids.now.keys a.name) actions.now) }
 {
     let mut met = Vec::new(alloc);
     for action in actions {

@@ -78,8 +78,11 @@ pub(crate) fn add_found(
     warnings: &mut Vec<ValidationWarning>,
 ) -> Result<(), AllocError>
     ensures errors { OnOk result (errors.new.items ≡ all_added same_error errors.old.items found.keys) }
-    ensures warnings { OnOk result (warnings.new.items ≡ (if false_in_each then added same_warning warnings.old.items (impossible id.now) else warnings.old.items)) }
-    ensures unchanged { OnErr result ((errors.new.items ≡ errors.old.items) × (warnings.new.items ≡ warnings.old.items)) }
+    ensures warnings { OnOk result (warnings.new.items ≡
+        (if false_in_each then added same_warning warnings.old.items (impossible id.now) else
+        warnings.old.items)) }
+    ensures unchanged { OnErr result ((errors.new.items ≡ errors.old.items) ×
+        (warnings.new.items ≡ warnings.old.items)) }
 {
     let mut more = missing(alloc, errors.as_slice(), found)?;
     errors.reserve(more.len())?;
@@ -95,7 +98,9 @@ fn warn_where(
     warnings: &mut Vec<ValidationWarning>,
     id: &Text,
 ) -> Result<(), AllocError>
-    ensures warned { OnOk result (warnings.new.items ≡ (if false_in_each then added same_warning warnings.old.items (impossible id.now) else warnings.old.items)) }
+    ensures warned { OnOk result (warnings.new.items ≡
+        (if false_in_each then added same_warning warnings.old.items (impossible id.now) else
+        warnings.old.items)) }
     ensures unchanged { OnErr result (warnings.new.items ≡ warnings.old.items) }
 {
     if false_in_each {
@@ -106,7 +111,8 @@ fn warn_where(
 }
 
 fn warn_impossible(warnings: &mut Vec<ValidationWarning>, id: &Text) -> Result<(), AllocError>
-    ensures warned { OnOk result (warnings.new.items ≡ added same_warning warnings.old.items (impossible id.now)) }
+    ensures warned { OnOk result (warnings.new.items ≡
+        added same_warning warnings.old.items (impossible id.now)) }
     ensures unchanged { OnErr result (warnings.new.items ≡ warnings.old.items) }
 {
     let warning = ValidationWarning::ImpossiblePolicy(ImpossiblePolicy {

@@ -20,7 +20,8 @@ pub(crate) fn slot_types<'a>(
     constraint: &PrincipalOrResourceConstraint,
     name: &'a EntityType,
 ) -> Result<Vec<Option<&'a EntityType>>, AllocError>
-    ensures { IfOk result (λ r. map option_copied r.items ≡ slot_types schema.now constraint.now name.now) }
+    ensures { IfOk result (λ r. map option_copied r.items ≡
+        slot_types schema.now constraint.now name.now) }
 {
     match constraint {
         PrincipalOrResourceConstraint::Any | PrincipalOrResourceConstraint::Is(_) => {

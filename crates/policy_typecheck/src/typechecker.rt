@@ -81,7 +81,8 @@ impl<'a, 'x> Typechecker<'a, 'x> {
         t: &'b Template,
         env: &'b RequestEnv<'b>,
     ) -> Result<PolicyCheck, AllocError>
-        ensures { IfOk result (λ r. Tells t.now.id (checked self.now (env_data_of env.now) (condition_of t.now)) r) }
+        ensures { IfOk result
+            (λ r. Tells t.now.id (checked self.now (env_data_of env.now) (condition_of t.now)) r) }
     {
         self.check_in(alloc, env, t.id(), t.condition())
     }
@@ -98,9 +99,11 @@ impl<'a, 'x> Typechecker<'a, 'x> {
         warnings: &mut Vec<ValidationWarning>,
     ) -> Result<bool, AllocError>
         ensures accepted { IfOk result (λ b. b ≡ is_accepted self.now t.now) }
-        ensures errors { OnOk result (errors.new.items ≡ all_added same_error errors.old.items (refusals self.now t.now)) }
+        ensures errors { OnOk result (errors.new.items ≡
+            all_added same_error errors.old.items (refusals self.now t.now)) }
         ensures warnings { OnOk result (warnings.new.items ≡ warned self.now t.now warnings.old.items) }
-        ensures unchanged { OnErr result ((errors.new.items ≡ errors.old.items) × (warnings.new.items ≡ warnings.old.items)) }
+        ensures unchanged { OnErr result ((errors.new.items ≡ errors.old.items) ×
+            (warnings.new.items ≡ warnings.old.items)) }
     {
         let mut found = IndexSet::new(alloc);
         let summary = self.find(alloc, t, &mut found)?;
@@ -117,7 +120,8 @@ impl<'a, 'x> Typechecker<'a, 'x> {
     ) -> Result<Summary, AllocError>
         ensures accepted { IfOk result (λ v. v.accepted ≡ is_accepted self.now t.now) }
         ensures impossible { IfOk result (λ v. v.impossible ≡ is_impossible self.now t.now) }
-        ensures errors { OnOk result (found.new.keys ≡ all_added same_error found.old.keys (refusals self.now t.now)) }
+        ensures errors { OnOk result (found.new.keys ≡
+            all_added same_error found.old.keys (refusals self.now t.now)) }
     {
         if is_too_deep(t.condition()) {
             add_errors(found, only_too_deep(alloc, t.id())?)?;
@@ -145,7 +149,9 @@ impl<'a, 'x> Typechecker<'a, 'x> {
     ) -> Result<(), AllocError>
         requires depth { is_too_deep self.now t.now ≡ false }
         requires body { has_slot t.now.body ≡ false }
-        ensures { OnOk result ((summary.new, found.new.keys) ≡ all_told t.now.id (condition_check self.now t.now) (summary.old, found.old.keys) (linked_envs self.now t.now)) }
+        ensures { OnOk result ((summary.new, found.new.keys) ≡
+            all_told t.now.id (condition_check self.now t.now) (summary.old, found.old.keys)
+            (linked_envs self.now t.now)) }
     {
         let principal = t.principal_constraint();
         let resource = t.resource_constraint();
@@ -163,7 +169,9 @@ impl<'a, 'x> Typechecker<'a, 'x> {
         summary: &mut Summary,
         found: &mut IndexSet<ValidationError>,
     ) -> Result<(), AllocError>
-        ensures { OnOk result ((summary.new, found.new.keys) ≡ all_told t.now.id (condition_check self.now t.now) (summary.old, found.old.keys) (linked_envs self.now t.now)) }
+        ensures { OnOk result ((summary.new, found.new.keys) ≡
+            all_told t.now.id (condition_check self.now t.now) (summary.old, found.old.keys)
+            (linked_envs self.now t.now)) }
     {
         for env in linked_request_envs(alloc, self.schema, t)? {
             let check = self.check_in(alloc, &env, t.id(), t.condition())?;
@@ -178,8 +186,10 @@ impl<'a, 'x> Typechecker<'a, 'x> {
         alloc: Global,
         t: &Template,
     ) -> Result<Vec<(RequestEnv<'a>, PolicyCheck)>, AllocError>
-        ensures environments { IfOk result (λ r. map (λ c. env_data_of c.0) r.items ≡ linked_envs self.now t.now) }
-        ensures checks { IfOk result (λ r. AllByRecursion (TellsIn self.now t.now.id (condition_of t.now)) r.items) }
+        ensures environments { IfOk result (λ r. map (λ c. env_data_of c.0) r.items ≡
+            linked_envs self.now t.now) }
+        ensures checks { IfOk result
+            (λ r. AllByRecursion (TellsIn self.now t.now.id (condition_of t.now)) r.items) }
     {
         let envs = linked_request_envs(alloc, self.schema, t)?;
         self.check_in_each(alloc, envs, t.id(), t.condition())
@@ -191,8 +201,10 @@ impl<'a, 'x> Typechecker<'a, 'x> {
         alloc: Global,
         p: &Policy,
     ) -> Result<Vec<(RequestEnv<'a>, PolicyCheck)>, AllocError>
-        ensures environments { IfOk result (λ r. map (λ c. env_data_of c.0) r.items ≡ unlinked_envs self.now) }
-        ensures checks { IfOk result (λ r. AllByRecursion (TellsIn self.now p.now.id p.now.condition) r.items) }
+        ensures environments { IfOk result (λ r. map (λ c. env_data_of c.0) r.items ≡
+            unlinked_envs self.now) }
+        ensures checks { IfOk result
+            (λ r. AllByRecursion (TellsIn self.now p.now.id p.now.condition) r.items) }
     {
         let envs = self.schema.unlinked_request_envs(alloc)?;
         self.check_in_each(alloc, envs, p.id(), p.condition())
@@ -205,7 +217,8 @@ impl<'a, 'x> Typechecker<'a, 'x> {
         p: &'b Policy,
         env: &'b RequestEnv<'b>,
     ) -> Result<PolicyCheck, AllocError>
-        ensures { IfOk result (λ r. Tells p.now.id (checked self.now (env_data_of env.now) p.now.condition) r) }
+        ensures { IfOk result
+            (λ r. Tells p.now.id (checked self.now (env_data_of env.now) p.now.condition) r) }
     {
         self.check_in(alloc, env, p.id(), p.condition())
     }
@@ -217,8 +230,10 @@ impl<'a, 'x> Typechecker<'a, 'x> {
         id: &Text,
         condition: &Expr<()>,
     ) -> Result<Vec<(RequestEnv<'a>, PolicyCheck)>, AllocError>
-        ensures environments { IfOk result (λ r. map (λ c. env_data_of c.0) r.items ≡ map env_data_of envs.entry.items) }
-        ensures checks { IfOk result (λ r. AllByRecursion (TellsIn self.now id.now condition.now) r.items) }
+        ensures environments { IfOk result (λ r. map (λ c. env_data_of c.0) r.items ≡
+            map env_data_of envs.entry.items) }
+        ensures checks { IfOk result
+            (λ r. AllByRecursion (TellsIn self.now id.now condition.now) r.items) }
     {
         let mut checks = Vec::new(alloc);
         for env in envs {
@@ -253,7 +268,8 @@ impl<'a, 'x> Typechecker<'a, 'x> {
         id: &Text,
         condition: &'b Expr<()>,
     ) -> Result<PolicyCheck, AllocError>
-        ensures { IfOk result (λ r. Tells id.now (checked self.now (env_data_of env.now) condition.now) r) }
+        ensures { IfOk result
+            (λ r. Tells id.now (checked self.now (env_data_of env.now) condition.now) r) }
     {
         check_condition(&self.setting(alloc, env), id, condition)
     }
@@ -267,7 +283,11 @@ impl<'a, 'x> Typechecker<'a, 'x> {
         summary: &mut Summary,
         found: &mut IndexSet<ValidationError>,
     ) -> Result<(), AllocError>
-        ensures { OnOk result ((summary.new, found.new.keys) ≡ told t.now.id (body_check self.now t.now (env_data_of env.now)) (summary.old, found.old.keys)) }
+        ensures { OnOk result ((summary.new, found.new.keys) ≡
+            told t.now.id (body_check self.now t.now (env_data_of env.now)) (
+              summary.old,
+              found.old.keys,
+            )) }
     {
         let check = self.check_walk_in(alloc, env, t.id(), t.non_scope_constraints())?;
         tell_check(summary, found, check)
@@ -281,7 +301,9 @@ impl<'a, 'x> Typechecker<'a, 'x> {
         id: &Text,
         e: &'b Expr<()>,
     ) -> Result<PolicyCheck, AllocError>
-        ensures { IfOk result (λ r. Tells id.now (check_walked (condition_walked self.now (env_data_of env.now) e.now)) r) }
+        ensures { IfOk result
+            (λ r. Tells id.now (check_walked
+            (condition_walked self.now (env_data_of env.now) e.now)) r) }
     {
         check_walk(&self.setting(alloc, env), id, e)
     }

@@ -43,8 +43,10 @@ impl<'a> Validator<'a> {
         level: u32,
     ) -> Result<ValidationResult, AllocError>
         ensures found { IfOk result (λ found. found ≡ level_findings_of self.now level policies.now) }
-        ensures accepted { IfOk result (λ found. (found.errors ≡ []) ↔ IsAcceptedAt self.now level policies.now) }
-        ensures sound { IfOk result (λ found. found.errors ≡ [] → CutIsEnough self.now level policies.now) }
+        ensures accepted { IfOk result (λ found. (found.errors ≡ []) ↔
+            IsAcceptedAt self.now level policies.now) }
+        ensures sound { IfOk result (λ found. found.errors ≡ [] →
+            CutIsEnough self.now level policies.now) }
     {
         let schema = self.schema();
         let objects = all_objects(alloc)?;
@@ -64,8 +66,10 @@ fn checked_at(
 ) -> Result<ValidationResult, AllocError>
     requires { typechecker.now ≡ schema.now }
     ensures found { IfOk result (λ found. found ≡ level_findings_of schema.now level policies.now) }
-    ensures accepted { IfOk result (λ found. (found.errors ≡ []) ↔ IsAcceptedAt schema.now level policies.now) }
-    ensures sound { IfOk result (λ found. found.errors ≡ [] → CutIsEnough schema.now level policies.now) }
+    ensures accepted { IfOk result (λ found. (found.errors ≡ []) ↔
+        IsAcceptedAt schema.now level policies.now) }
+    ensures sound { IfOk result (λ found. found.errors ≡ [] →
+        CutIsEnough schema.now level policies.now) }
 {
     no_errors_where_accepted_at();
     sound_where_accepted(schema, policies, level);
@@ -74,7 +78,8 @@ fn checked_at(
 
 // Where no error is found, the store cut at the level is enough.
 fn sound_where_accepted(schema: &ValidatorSchema, policies: &PolicySet, level: u32)
-    ensures { (level_findings_of schema.now level policies.now).errors ≡ [] → CutIsEnough schema.now level policies.now }
+    ensures { (level_findings_of schema.now level policies.now).errors ≡ [] →
+        CutIsEnough schema.now level policies.now }
 {
     no_errors_where_accepted_at();
     accepted_levels_are_sound();
@@ -120,8 +125,10 @@ fn add_all_at(
     warnings: &mut Vec<ValidationWarning>,
 ) -> Result<(), AllocError>
     requires { typechecker.now ≡ schema.now }
-    ensures errors { OnOk result (errors.new.items ≡ errors.old.items ++ flat_map (errors_at_level schema.now level) (written policies.now)) }
-    ensures warnings { OnOk result (warnings.new.items ≡ warnings.old.items ++ flat_map (warnings_of schema.now) (written policies.now)) }
+    ensures errors { OnOk result (errors.new.items ≡ errors.old.items ++
+        flat_map (errors_at_level schema.now level) (written policies.now)) }
+    ensures warnings { OnOk result (warnings.new.items ≡ warnings.old.items ++
+        flat_map (warnings_of schema.now) (written policies.now)) }
 {
     for template in policies.written(alloc)? {
         add_at(
@@ -148,8 +155,10 @@ fn add_at(
     warnings: &mut Vec<ValidationWarning>,
 ) -> Result<(), AllocError>
     requires { typechecker.now ≡ schema.now }
-    ensures errors { OnOk result (errors.new.items ≡ errors.old.items ++ errors_at_level schema.now level template.now) }
-    ensures warnings { OnOk result (warnings.new.items ≡ warnings.old.items ++ warnings_of schema.now template.now) }
+    ensures errors { OnOk result (errors.new.items ≡ errors.old.items ++
+        errors_at_level schema.now level template.now) }
+    ensures warnings { OnOk result (warnings.new.items ≡ warnings.old.items ++
+        warnings_of schema.now template.now) }
 {
     let mut found = Vec::new(alloc);
     add_untyped(alloc, schema, template, &mut found)?;
@@ -181,8 +190,11 @@ fn add_typed_at(
     warnings: &mut Vec<ValidationWarning>,
 ) -> Result<(), AllocError>
     requires { typechecker.now ≡ schema.now }
-    ensures errors { OnOk result (errors.new.items ≡ errors.old.items ++ or_else (typing_errors schema.now template.now) (level_errors_of schema.now level template.now)) }
-    ensures warnings { OnOk result (warnings.new.items ≡ warnings.old.items ++ warnings_of schema.now template.now) }
+    ensures errors { OnOk result (errors.new.items ≡ errors.old.items ++
+        or_else (typing_errors schema.now template.now)
+        (level_errors_of schema.now level template.now)) }
+    ensures warnings { OnOk result (warnings.new.items ≡ warnings.old.items ++
+        warnings_of schema.now template.now) }
 {
     match typed_at(alloc, schema, typechecker, template, level)? {
         Some(typed) => add_levels(alloc, template.id(), level, &typed, errors, warnings),
@@ -207,7 +219,9 @@ fn typed_at(
     level: u32,
 ) -> Result<Option<TypedAt>, AllocError>
     requires { typechecker.now ≡ schema.now }
-    ensures { IfOk result (λ o. MatchOption o (¬ (typing_errors schema.now template.now ≡ [])) (IsTypedAt schema.now level template.now)) }
+    ensures { IfOk result
+        (λ o. MatchOption o (¬ (typing_errors schema.now template.now ≡ []))
+        (IsTypedAt schema.now level template.now)) }
 {
     if is_too_deep(template.condition()) {
         return Ok(None);
@@ -249,7 +263,8 @@ fn with_check(
     check: PolicyCheck,
 ) -> Result<TypedAt, AllocError>
     ensures impossible { IfOk result (λ a. a.impossible ≡ (is_false check && typed.impossible)) }
-    ensures faults { IfOk result (λ a. a.faults ≡ fold (with_new fault_cmp) typed.faults (faults_told level (env_data_of env.now) check)) }
+    ensures faults { IfOk result (λ a. a.faults ≡
+        fold (with_new fault_cmp) typed.faults (faults_told level (env_data_of env.now) check)) }
 {
     let TypedAt { impossible, faults } = typed;
     match check {
@@ -281,7 +296,9 @@ fn with_condition(
     level: u32,
     condition: Expr<Option<Type>>,
 ) -> Result<LevelFaults, AllocError>
-    ensures { IfOk result (λ more. more ≡ fold (with_new fault_cmp) faults (level_faults (action_in (env_data_of env.now)) level condition)) }
+    ensures { IfOk result (λ more. more ≡
+        fold (with_new fault_cmp) faults
+        (level_faults (action_in (env_data_of env.now)) level condition)) }
 {
     let more = faults.with(alloc, env, level, &condition);
     drop(condition);
@@ -298,8 +315,10 @@ fn add_levels(
     errors: &mut Vec<ValidationError>,
     warnings: &mut Vec<ValidationWarning>,
 ) -> Result<(), AllocError>
-    ensures errors { OnOk result (errors.new.items ≡ errors.old.items ++ map (level_error id.now level) typed.now.faults) }
-    ensures warnings { OnOk result (warnings.new.items ≡ warnings.old.items ++ (if typed.now.impossible then impossible id.now ∷ [] else [])) }
+    ensures errors { OnOk result (errors.new.items ≡ errors.old.items ++
+        map (level_error id.now level) typed.now.faults) }
+    ensures warnings { OnOk result (warnings.new.items ≡ warnings.old.items ++
+        (if typed.now.impossible then impossible id.now ∷ [] else [])) }
 {
     let mut found = typed.faults.errors(alloc, id, level)?;
     errors.append(&mut found)?;

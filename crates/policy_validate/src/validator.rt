@@ -75,8 +75,11 @@ impl<'a> Validator<'a> {
         mode: ValidationMode,
     ) -> Result<ValidationResult, AllocError>
         ensures found { IfOk result (λ found. found ≡ findings_of self.now policies.now) }
-        ensures accepted { IfOk result (λ found. (found.errors ≡ []) ↔ IsAccepted self.now policies.now) }
-        ensures typed { IfOk result (λ found. found.errors ≡ [] → AllByRecursion (λ p. IsTypedIn self.now p.condition (unlinked_envs self.now)) policies.now.policies) }
+        ensures accepted { IfOk result (λ found. (found.errors ≡ []) ↔
+            IsAccepted self.now policies.now) }
+        ensures typed { IfOk result (λ found. found.errors ≡ [] →
+            AllByRecursion (λ p.
+            IsTypedIn self.now p.condition (unlinked_envs self.now)) policies.now.policies) }
     {
         let objects = all_objects(alloc)?;
         let extensions = ExtensionSchemas::all_available(alloc, &objects)?;
@@ -180,7 +183,9 @@ fn checked(
     requires { typechecker.now ≡ schema.now }
     ensures found { IfOk result (λ found. found ≡ findings_of schema.now policies.now) }
     ensures accepted { IfOk result (λ found. (found.errors ≡ []) ↔ IsAccepted schema.now policies.now) }
-    ensures typed { IfOk result (λ found. found.errors ≡ [] → AllByRecursion (λ p. IsTypedIn schema.now p.condition (unlinked_envs schema.now)) policies.now.policies) }
+    ensures typed { IfOk result (λ found. found.errors ≡ [] →
+        AllByRecursion (λ p.
+        IsTypedIn schema.now p.condition (unlinked_envs schema.now)) policies.now.policies) }
 {
     no_errors_where_accepted();
     typed_where_accepted(schema, policies);
@@ -189,7 +194,9 @@ fn checked(
 
 // Where no error is found, the condition of each policy has a type in every environment of the schema.
 fn typed_where_accepted(schema: &ValidatorSchema, policies: &PolicySet)
-    ensures { (findings_of schema.now policies.now).errors ≡ [] → AllByRecursion (λ p. IsTypedIn schema.now p.condition (unlinked_envs schema.now)) policies.now.policies }
+    ensures { (findings_of schema.now policies.now).errors ≡ [] →
+        AllByRecursion (λ p.
+        IsTypedIn schema.now p.condition (unlinked_envs schema.now)) policies.now.policies }
 {
     no_errors_where_accepted();
     accepted_are_typed();
@@ -230,8 +237,10 @@ fn add_all_written(
     warnings: &mut Vec<ValidationWarning>,
 ) -> Result<(), AllocError>
     requires { typechecker.now ≡ schema.now }
-    ensures errors { OnOk result (errors.new.items ≡ errors.old.items ++ flat_map (errors_of_written schema.now) (written policies.now)) }
-    ensures warnings { OnOk result (warnings.new.items ≡ warnings.old.items ++ flat_map (warnings_of schema.now) (written policies.now)) }
+    ensures errors { OnOk result (errors.new.items ≡ errors.old.items ++
+        flat_map (errors_of_written schema.now) (written policies.now)) }
+    ensures warnings { OnOk result (warnings.new.items ≡ warnings.old.items ++
+        flat_map (warnings_of schema.now) (written policies.now)) }
 {
     for template in policies.written(alloc)? {
         add_written(alloc, schema, typechecker, template, errors, warnings)?;
@@ -249,8 +258,10 @@ fn add_written(
     warnings: &mut Vec<ValidationWarning>,
 ) -> Result<(), AllocError>
     requires { typechecker.now ≡ schema.now }
-    ensures errors { OnOk result (errors.new.items ≡ errors.old.items ++ errors_of_written schema.now template.now) }
-    ensures warnings { OnOk result (warnings.new.items ≡ warnings.old.items ++ warnings_of schema.now template.now) }
+    ensures errors { OnOk result (errors.new.items ≡ errors.old.items ++
+        errors_of_written schema.now template.now) }
+    ensures warnings { OnOk result (warnings.new.items ≡ warnings.old.items ++
+        warnings_of schema.now template.now) }
 {
     add_untyped(alloc, schema, template, errors)?;
     add_typing(alloc, typechecker, template, errors, warnings)
@@ -263,7 +274,8 @@ pub(crate) fn add_untyped(
     template: &Template,
     errors: &mut Vec<ValidationError>,
 ) -> Result<(), AllocError>
-    ensures { OnOk result (errors.new.items ≡ errors.old.items ++ untyped_errors schema.now template.now) }
+    ensures { OnOk result (errors.new.items ≡ errors.old.items ++
+        untyped_errors schema.now template.now) }
 {
     add_types(validate_entity_types(alloc, schema, template)?, errors)?;
     add_unlisted(validate_enum_entity(alloc, schema, template)?, errors)?;
@@ -283,8 +295,10 @@ pub(crate) fn add_typing(
     errors: &mut Vec<ValidationError>,
     warnings: &mut Vec<ValidationWarning>,
 ) -> Result<(), AllocError>
-    ensures errors { OnOk result (errors.new.items ≡ errors.old.items ++ typing_errors typechecker.now template.now) }
-    ensures warnings { OnOk result (warnings.new.items ≡ warnings.old.items ++ warnings_of typechecker.now template.now) }
+    ensures errors { OnOk result (errors.new.items ≡ errors.old.items ++
+        typing_errors typechecker.now template.now) }
+    ensures warnings { OnOk result (warnings.new.items ≡ warnings.old.items ++
+        warnings_of typechecker.now template.now) }
 {
     let mut found = Vec::new(alloc);
     let mut warned = Vec::new(alloc);
@@ -301,7 +315,8 @@ pub(crate) fn add_all_links(
     policies: &PolicySet,
     errors: &mut Vec<ValidationError>,
 ) -> Result<(), AllocError>
-    ensures { OnOk result (errors.new.items ≡ errors.old.items ++ flat_map (errors_of_link schema.now) (links policies.now)) }
+    ensures { OnOk result (errors.new.items ≡ errors.old.items ++
+        flat_map (errors_of_link schema.now) (links policies.now)) }
 {
     for link in policies.links(alloc)? {
         add_link(alloc, schema, link, errors)?;
@@ -329,7 +344,8 @@ fn add_types(
     found: Vec<UnrecognizedEntityType>,
     errors: &mut Vec<ValidationError>,
 ) -> Result<(), AllocError>
-    ensures { OnOk result (errors.new.items ≡ errors.old.items ++ map error.UnrecognizedEntityType found.items) }
+    ensures { OnOk result (errors.new.items ≡ errors.old.items ++
+        map error.UnrecognizedEntityType found.items) }
 {
     for finding in found {
         errors.push(ValidationError::UnrecognizedEntityType(finding))?;
@@ -341,7 +357,8 @@ fn add_unlisted(
     found: Vec<InvalidEnumEntity>,
     errors: &mut Vec<ValidationError>,
 ) -> Result<(), AllocError>
-    ensures { OnOk result (errors.new.items ≡ errors.old.items ++ map error.InvalidEnumEntity found.items) }
+    ensures { OnOk result (errors.new.items ≡ errors.old.items ++
+        map error.InvalidEnumEntity found.items) }
 {
     for finding in found {
         errors.push(ValidationError::InvalidEnumEntity(finding))?;
@@ -353,7 +370,8 @@ fn add_actions(
     found: Vec<UnrecognizedActionId>,
     errors: &mut Vec<ValidationError>,
 ) -> Result<(), AllocError>
-    ensures { OnOk result (errors.new.items ≡ errors.old.items ++ map error.UnrecognizedActionId found.items) }
+    ensures { OnOk result (errors.new.items ≡ errors.old.items ++
+        map error.UnrecognizedActionId found.items) }
 {
     for finding in found {
         errors.push(ValidationError::UnrecognizedActionId(finding))?;
@@ -365,7 +383,8 @@ fn add_applications(
     found: Vec<InvalidActionApplication>,
     errors: &mut Vec<ValidationError>,
 ) -> Result<(), AllocError>
-    ensures { OnOk result (errors.new.items ≡ errors.old.items ++ map error.InvalidActionApplication found.items) }
+    ensures { OnOk result (errors.new.items ≡ errors.old.items ++
+        map error.InvalidActionApplication found.items) }
 {
     for finding in found {
         errors.push(ValidationError::InvalidActionApplication(finding))?;

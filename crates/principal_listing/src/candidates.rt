@@ -109,7 +109,8 @@ fn is_allowed<L: Ledger>(
 ) -> Result<bool, AllocError>
     requires ready { IsReady listing.now (passed_over asked.now) }
     requires rules { KeepRules listing.now.schema.now listing.now.policies.now asked.now listing.now.entities.now }
-    ensures { IfOk result (λ b. b ≡ is_allow (response listing.now.policies.now.policies asked.now listing.now.entities.now).decision) }
+    ensures { IfOk result (λ b. b ≡
+        is_allow (response listing.now.policies.now.policies asked.now listing.now.entities.now).decision) }
 {
     match load_candidate(alloc, listing, asked, steps) {
         Ok(slice) => allowed_on(alloc, listing.policies, asked, &slice),
@@ -125,7 +126,8 @@ fn allowed_on(
     entities: &Entities,
 ) -> Result<bool, AllocError>
     requires { IsWhole asked.now }
-    ensures { IfOk result (λ b. b ≡ is_allow (response policies.now.policies asked.now entities.now).decision) }
+    ensures { IfOk result (λ b. b ≡
+        is_allow (response policies.now.policies asked.now entities.now).decision) }
 {
     match decide(alloc, policies, asked, entities)?.decision() {
         Decision::Allow => Ok(true),
@@ -142,7 +144,8 @@ fn load_candidate<L: Ledger>(
 ) -> Result<Entities, EntitySliceError>
     requires ready { IsReady listing.now (passed_over asked.now) }
     requires rules { KeepRules listing.now.schema.now listing.now.policies.now asked.now listing.now.entities.now }
-    ensures decided { IfOk result (λ s. AreDecidedAlike listing.now.policies.now.policies asked.now s listing.now.entities.now) }
+    ensures decided { IfOk result
+        (λ s. AreDecidedAlike listing.now.policies.now.policies asked.now s listing.now.entities.now) }
     ensures memory { IfErr result (λ e. e ≡ OutOfMemory) }
 {
     loaded_is_enough();

@@ -58,8 +58,10 @@ fn checked_request(
     request: &Request,
 ) -> Result<Request, ListError>
     ensures request { IfOk result (λ q. q ≡ passed_over request.now) }
-    ensures rules { OnOk result (first_request_fault schema.now (λ _. true) (passed_over request.now) ≡ None) }
-    ensures refused { IfErr result (IsRequestRefusal (first_request_fault schema.now (λ _. true) (passed_over request.now))) }
+    ensures rules { OnOk result
+        (first_request_fault schema.now (λ _. true) (passed_over request.now) ≡ None) }
+    ensures refused { IfErr result
+        (IsRequestRefusal (first_request_fault schema.now (λ _. true) (passed_over request.now))) }
 {
     let asked = without_principal(alloc, request)?;
     match check_request(alloc, schema, &asked) {

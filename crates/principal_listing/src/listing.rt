@@ -78,7 +78,8 @@ fn declared_action<'a>(
 // Keys and ids are in order, in the policies, the store and the request.
 fn is_ready(listing: &Listing<'_>, asked: &Request)
     requires rules { KeepOtherRules listing.now.schema.now listing.now.policies.now asked.now listing.now.entities.now }
-    requires action { option_copied listing.now.action ≡ action_at listing.now.schema.now (action_of asked.now) }
+    requires action { option_copied listing.now.action ≡
+        action_at listing.now.schema.now (action_of asked.now) }
     requires manifest { IsManifestOf listing.now.schema.now listing.now.policies.now.policies listing.now.manifest.now }
     ensures { IsReady listing.now asked.now }
 {

@@ -146,7 +146,8 @@ fn map_of(
     alloc: Global,
     mut entries: Vec<(Text, Value)>,
 ) -> Result<BTreeMap<Text, Value>, AllocError>
-    ensures { KeysAscend (fields_of entries.items) → IfOk result (λ m. fields_of m.entries ≡ fields_of entries.items) }
+    ensures { KeysAscend (fields_of entries.items) →
+        IfOk result (λ m. fields_of m.entries ≡ fields_of entries.items) }
 {
     let mut map = BTreeMap::new(alloc);
     while let Some((key, value)) = entries.pop() {

@@ -44,7 +44,8 @@ pub(crate) fn ancestors_among(
     numbers: &[usize],
     named: &Named,
 ) -> Result<BTreeSet<EntityUID>, AllocError>
-    ensures { IfOk result (λ ids. ids.keys ≡ filter (some_names named.now numbers.now) entity.now.ancestors) }
+    ensures { IfOk result (λ ids. ids.keys ≡
+        filter (some_names named.now numbers.now) entity.now.ancestors) }
 {
     let mut ids = BTreeSet::new(alloc);
     for uid in entity.ancestors().iter() {

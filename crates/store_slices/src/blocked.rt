@@ -44,7 +44,8 @@ fn stuck_at_some(
     entities: &Entities,
 ) -> Result<Option<Value>, AllocError>
     requires { IsTable nodes.now }
-    ensures { IfOk result (IsStuck (SomeAnswerSticks nodes.now (entity_at entities.now) places.now.keys)) }
+    ensures { IfOk result
+        (IsStuck (SomeAnswerSticks nodes.now (entity_at entities.now) places.now.keys)) }
 {
     for place in places.iter() {
         if let Some(value) = stuck_at(nodes, place, entities) {
@@ -57,7 +58,8 @@ fn stuck_at_some(
 // In the entity of a place, where the store has it.
 fn stuck_at<'a>(nodes: &[Node], place: &Place, entities: &'a Entities) -> Option<&'a Value>
     requires { IsTable nodes.now }
-    ensures { IsStuck (AnswerSticks (entity_at entities.now place.now.uid) (tests_of (node_of nodes.now place.now))) (option_copied result) }
+    ensures { IsStuck (AnswerSticks (entity_at entities.now place.now.uid)
+        (tests_of (node_of nodes.now place.now))) (option_copied result) }
 {
     match entities.entity(&place.uid) {
         Some(entity) => stuck_in_entity(entity, &TrieRef::new(nodes, place.number)),

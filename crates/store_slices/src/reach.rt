@@ -48,9 +48,13 @@ fn follow_round(
     reached: &mut BTreeSet<Place>,
 ) -> Result<BTreeSet<Place>, AllocError>
     requires { IsTable nodes.now }
-    ensures explored { IfOk result (λ next. (q : Request) → IsExplored nodes.now q entities.now reached.old.keys pending.now.keys → IsExplored nodes.now q entities.now reached.new.keys next.keys) }
-    ensures below { IfOk result (λ next. (p : Place) → IsIn p next.keys → IsBelowSome nodes.now pending.now.keys p) }
-    ensures only { IfOk result (λ _. (p : Place) → IsIn p reached.new.keys → IsIn p reached.old.keys ⊎ IsIn p pending.now.keys) }
+    ensures explored { IfOk result (λ next. (q : Request) →
+        IsExplored nodes.now q entities.now reached.old.keys pending.now.keys →
+        IsExplored nodes.now q entities.now reached.new.keys next.keys) }
+    ensures below { IfOk result (λ next. (p : Place) → IsIn p next.keys →
+        IsBelowSome nodes.now pending.now.keys p) }
+    ensures only { IfOk result (λ _. (p : Place) → IsIn p reached.new.keys →
+        IsIn p reached.old.keys ⊎ IsIn p pending.now.keys) }
 {
     let mut next = BTreeSet::new(alloc);
     for place in pending.iter() {
@@ -70,9 +74,13 @@ fn follow_place(
     next: &mut BTreeSet<Place>,
 ) -> Result<(), AllocError>
     requires { IsTable nodes.now }
-    ensures asked { OnOk result (Adds nodes.now (answer_points (entity_at entities.now place.now.uid) (node_of nodes.now place.now)) next.old.keys next.new.keys) }
-    ensures below { OnOk result ((p : Place) → IsIn p next.new.keys → IsIn p next.old.keys ⊎ IsBelow (node_of nodes.now place.now) p) }
-    ensures leads { OnOk result (IsAnswerLed (node_of nodes.now place.now) (entity_at entities.now place.now.uid)) }
+    ensures asked { OnOk result
+        (Adds nodes.now (answer_points (entity_at entities.now place.now.uid)
+        (node_of nodes.now place.now)) next.old.keys next.new.keys) }
+    ensures below { OnOk result ((p : Place) → IsIn p next.new.keys → IsIn p next.old.keys ⊎
+        IsBelow (node_of nodes.now place.now) p) }
+    ensures leads { OnOk result
+        (IsAnswerLed (node_of nodes.now place.now) (entity_at entities.now place.now.uid)) }
 {
     match entities.entity(&place.uid) {
         Some(entity) => follow_entity(entity, &TrieRef::new(nodes, place.number), next),

@@ -23,7 +23,9 @@ pub fn restricted_store(
     entities: &Entities,
 ) -> Result<Entities, AllocError>
     requires { IsWhole request.now }
-    ensures restricted { (reads : List AccessPath) (demands : List Demand) → IsTrieOf reads demands trie.now → IfOk result (λ s. s ≡ restrict reads demands request.now entities.now) }
+    ensures restricted { (reads : List AccessPath) (demands : List Demand) →
+        IsTrieOf reads demands trie.now →
+        IfOk result (λ s. s ≡ restrict reads demands request.now entities.now) }
 {
     let nodes = trie.nodes();
     let places = reached_places(alloc, request, trie, entities)?;

@@ -33,7 +33,8 @@ pub fn first_places(
     trie: &RootAccessTrie,
 ) -> Result<BTreeSet<Place>, FollowError>
     requires { IsWhole request.now }
-    ensures asked { IfOk result (λ start. Adds trie.now (roots_point trie.now request.now) [] start.keys) }
+    ensures asked { IfOk result
+        (λ start. Adds trie.now (roots_point trie.now request.now) [] start.keys) }
     ensures first { IfOk result (λ start. (q : Place) → IsIn q start.keys → IsFirst trie.now q) }
     ensures why { IfErr result (RefusedBy (SomeRootSticks trie.now request.now)) }
 {
@@ -50,9 +51,11 @@ pub fn root_places(
     trie: &RootAccessTrie,
 ) -> Result<BTreeSet<Place>, AllocError>
     requires { IsWhole request.now }
-    ensures asked { IfOk result (λ start. Adds trie.now (roots_point trie.now request.now) [] start.keys) }
+    ensures asked { IfOk result
+        (λ start. Adds trie.now (roots_point trie.now request.now) [] start.keys) }
     ensures first { IfOk result (λ start. (q : Place) → IsIn q start.keys → IsFirst trie.now q) }
-    ensures leads { IfOk result (λ _. (b : Bool) (x : EntityUID) (a : Address) → roots_point trie.now request.now b x a ≡ true → RootLeads trie.now request.now b x a) }
+    ensures leads { IfOk result (λ _. (b : Bool) (x : EntityUID) (a : Address) →
+        roots_point trie.now request.now b x a ≡ true → RootLeads trie.now request.now b x a) }
 {
     let nodes = trie.nodes();
     let mut start = BTreeSet::new(alloc);
@@ -71,8 +74,11 @@ fn ask_edge(
 ) -> Result<(), AllocError>
     requires whole { IsWhole request.now }
     requires there { view_leads trie.now [] ≡ true }
-    ensures asked { OnOk result (Adds trie.now.nodes (λ b. root_points b trie.now request.now edge.now) next.old.keys next.new.keys) }
-    ensures below { OnOk result ((q : Place) → IsIn q next.new.keys → IsIn q next.old.keys ⊎ (IsRoot edge.now × IsAtOrBelow trie.now q)) }
+    ensures asked { OnOk result
+        (Adds trie.now.nodes
+        (λ b. root_points b trie.now request.now edge.now) next.old.keys next.new.keys) }
+    ensures below { OnOk result ((q : Place) → IsIn q next.new.keys → IsIn q next.old.keys ⊎
+        (IsRoot edge.now × IsAtOrBelow trie.now q)) }
     ensures leads { OnOk result (IsEdgeLed trie.now request.now edge.now) }
 {
     match edge {
@@ -89,9 +95,15 @@ fn ask_root(
 ) -> Result<(), AllocError>
     requires whole { IsWhole request.now }
     requires there { view_leads trie.now [] ≡ true }
-    ensures asked { OnOk result (Adds trie.now.nodes (λ b. points (root_value request.now root.now) (sees b trie.now)) next.old.keys next.new.keys) }
-    ensures below { OnOk result ((q : Place) → IsIn q next.new.keys → IsIn q next.old.keys ⊎ IsAtOrBelow trie.now q) }
-    ensures leads { OnOk result (IsLed trie.now (points (root_value request.now root.now)) (Leads (root_value request.now root.now))) }
+    ensures asked { OnOk result
+        (Adds trie.now.nodes
+        (λ b. points (root_value request.now root.now)
+        (sees b trie.now)) next.old.keys next.new.keys) }
+    ensures below { OnOk result ((q : Place) → IsIn q next.new.keys → IsIn q next.old.keys ⊎
+        IsAtOrBelow trie.now q) }
+    ensures leads { OnOk result
+        (IsLed trie.now (points (root_value request.now root.now))
+        (Leads (root_value request.now root.now))) }
 {
     match root {
         EntityRoot::Literal(uid) => ask_at(uid, trie, next),
@@ -112,9 +124,13 @@ fn ask_entry(
 ) -> Result<(), AllocError>
     requires known { IsSome entry.now }
     requires there { view_leads trie.now [] ≡ true }
-    ensures asked { OnOk result (Adds trie.now.nodes (λ b. points (entity (known entry.now)) (sees b trie.now)) next.old.keys next.new.keys) }
-    ensures below { OnOk result ((q : Place) → IsIn q next.new.keys → IsIn q next.old.keys ⊎ IsAtOrBelow trie.now q) }
-    ensures leads { OnOk result (IsLed trie.now (points (entity (known entry.now))) (Leads (entity (known entry.now)))) }
+    ensures asked { OnOk result
+        (Adds trie.now.nodes
+        (λ b. points (entity (known entry.now)) (sees b trie.now)) next.old.keys next.new.keys) }
+    ensures below { OnOk result ((q : Place) → IsIn q next.new.keys → IsIn q next.old.keys ⊎
+        IsAtOrBelow trie.now q) }
+    ensures leads { OnOk result
+        (IsLed trie.now (points (entity (known entry.now))) (Leads (entity (known entry.now)))) }
 {
     match entry {
         Some(uid) => ask_at(uid, trie, next),
@@ -124,8 +140,11 @@ fn ask_entry(
 
 fn ask_at(uid: &EntityUID, trie: &TrieRef<'_>, next: &mut BTreeSet<Place>) -> Result<(), AllocError>
     requires there { view_leads trie.now [] ≡ true }
-    ensures asked { OnOk result (Adds trie.now.nodes (λ b. points (entity uid.now) (sees b trie.now)) next.old.keys next.new.keys) }
-    ensures below { OnOk result ((q : Place) → IsIn q next.new.keys → IsIn q next.old.keys ⊎ IsAtOrBelow trie.now q) }
+    ensures asked { OnOk result
+        (Adds trie.now.nodes
+        (λ b. points (entity uid.now) (sees b trie.now)) next.old.keys next.new.keys) }
+    ensures below { OnOk result ((q : Place) → IsIn q next.new.keys → IsIn q next.old.keys ⊎
+        IsAtOrBelow trie.now q) }
     ensures leads { OnOk result (IsLed trie.now (points (entity uid.now)) (Leads (entity uid.now))) }
 {
     ask(next, uid, trie.number())
@@ -136,8 +155,11 @@ fn follow_context(
     trie: &TrieRef<'_>,
     next: &mut BTreeSet<Place>,
 ) -> Result<(), AllocError>
-    ensures asked { OnOk result (Adds trie.now.nodes (λ b. points (rec context.now) (sees b trie.now)) next.old.keys next.new.keys) }
-    ensures below { OnOk result ((q : Place) → IsIn q next.new.keys → IsIn q next.old.keys ⊎ IsAtOrBelow trie.now q) }
+    ensures asked { OnOk result
+        (Adds trie.now.nodes
+        (λ b. points (rec context.now) (sees b trie.now)) next.old.keys next.new.keys) }
+    ensures below { OnOk result ((q : Place) → IsIn q next.new.keys → IsIn q next.old.keys ⊎
+        IsAtOrBelow trie.now q) }
     ensures leads { OnOk result (IsLed trie.now (points (rec context.now)) (Leads (rec context.now))) }
 {
     follow_fields(context.fields(), trie, next)

@@ -44,8 +44,11 @@ pub fn follow_entity(
     trie: &TrieRef<'_>,
     next: &mut BTreeSet<Place>,
 ) -> Result<(), AllocError>
-    ensures asked { OnOk result (Adds trie.now.nodes (λ b. entity_points entity.now (sees b trie.now)) next.old.keys next.new.keys) }
-    ensures below { OnOk result ((q : Place) → IsIn q next.new.keys → IsIn q next.old.keys ⊎ IsBelow trie.now q) }
+    ensures asked { OnOk result
+        (Adds trie.now.nodes
+        (λ b. entity_points entity.now (sees b trie.now)) next.old.keys next.new.keys) }
+    ensures below { OnOk result ((q : Place) → IsIn q next.new.keys → IsIn q next.old.keys ⊎
+        IsBelow trie.now q) }
     ensures leads { OnOk result (IsLed trie.now (entity_points entity.now) (EntityLeads entity.now)) }
 {
     follow_fields(entity.attrs(), trie, next)?;
@@ -62,9 +65,16 @@ fn follow_each(
     next: &mut BTreeSet<Place>,
 ) -> Result<(), AllocError>
     requires { view_leads trie.now [] ≡ true }
-    ensures asked { OnOk result (Adds trie.now.nodes (λ b x a. list_any (λ v. points v (sees b trie.now) x a) (values_in (fields_of values.now.entries))) next.old.keys next.new.keys) }
-    ensures below { OnOk result ((q : Place) → IsIn q next.new.keys → IsIn q next.old.keys ⊎ IsAtOrBelow trie.now q) }
-    ensures leads { OnOk result (IsLed trie.now (λ t x a. list_any (λ v. points v t x a) (values_in (fields_of values.now.entries))) (SomeLeads (values_in (fields_of values.now.entries)))) }
+    ensures asked { OnOk result
+        (Adds trie.now.nodes
+        (λ b x a. list_any (λ v. points v (sees b trie.now) x a)
+        (values_in (fields_of values.now.entries))) next.old.keys next.new.keys) }
+    ensures below { OnOk result ((q : Place) → IsIn q next.new.keys → IsIn q next.old.keys ⊎
+        IsAtOrBelow trie.now q) }
+    ensures leads { OnOk result
+        (IsLed trie.now (λ t x a.
+        list_any (λ v. points v t x a) (values_in (fields_of values.now.entries)))
+        (SomeLeads (values_in (fields_of values.now.entries)))) }
 {
     for value in values.values() {
         follow(value, trie, next)?;
@@ -79,9 +89,15 @@ pub(crate) fn follow_fields(
     trie: &TrieRef<'_>,
     next: &mut BTreeSet<Place>,
 ) -> Result<(), AllocError>
-    ensures asked { OnOk result (Adds trie.now.nodes (λ b. fields_point (fields_of fields.now.entries) (sees b trie.now)) next.old.keys next.new.keys) }
-    ensures below { OnOk result ((q : Place) → IsIn q next.new.keys → IsIn q next.old.keys ⊎ IsBelow trie.now q) }
-    ensures leads { OnOk result (IsLed trie.now (fields_point (fields_of fields.now.entries)) (FieldsLead (fields_of fields.now.entries))) }
+    ensures asked { OnOk result
+        (Adds trie.now.nodes
+        (λ b. fields_point (fields_of fields.now.entries)
+        (sees b trie.now)) next.old.keys next.new.keys) }
+    ensures below { OnOk result ((q : Place) → IsIn q next.new.keys → IsIn q next.old.keys ⊎
+        IsBelow trie.now q) }
+    ensures leads { OnOk result
+        (IsLed trie.now (fields_point (fields_of fields.now.entries))
+        (FieldsLead (fields_of fields.now.entries))) }
 {
     for (key, value) in fields.iter() {
         if let Some(below) = trie.field(key) {
@@ -95,8 +111,11 @@ pub(crate) fn follow_fields(
 #[cycle(follow)]
 fn follow(value: &Value, trie: &TrieRef<'_>, next: &mut BTreeSet<Place>) -> Result<(), AllocError>
     requires { view_leads trie.now [] ≡ true }
-    ensures asked { OnOk result (Adds trie.now.nodes (λ b. points value.now (sees b trie.now)) next.old.keys next.new.keys) }
-    ensures below { OnOk result ((q : Place) → IsIn q next.new.keys → IsIn q next.old.keys ⊎ IsAtOrBelow trie.now q) }
+    ensures asked { OnOk result
+        (Adds trie.now.nodes
+        (λ b. points value.now (sees b trie.now)) next.old.keys next.new.keys) }
+    ensures below { OnOk result ((q : Place) → IsIn q next.new.keys → IsIn q next.old.keys ⊎
+        IsAtOrBelow trie.now q) }
     ensures leads { OnOk result (IsLed trie.now (points value.now) (Leads value.now)) }
 {
     match value.kind() {

@@ -28,8 +28,11 @@ pub(crate) fn name_each_entity(
     ids: &mut BTreeSet<EntityUID>,
     waiting: &mut Waiting,
 ) -> Result<(), AllocError>
-    ensures named { OnOk result ((s : Store) → IsKept kept.now s → Adds (SomeNames s (map entity uids.now.keys) trie.now) (Gives s trie.now ids.old waiting.old) (Gives s trie.now ids.new waiting.new)) }
-    ensures later { OnOk result ((k : ℕ) → k ≤ trie.now.number + 1 → WaitFrom k trie.now.nodes waiting.old → WaitFrom k trie.now.nodes waiting.new) }
+    ensures named { OnOk result ((s : Store) → IsKept kept.now s →
+        Adds (SomeNames s (map entity uids.now.keys) trie.now)
+        (Gives s trie.now ids.old waiting.old) (Gives s trie.now ids.new waiting.new)) }
+    ensures later { OnOk result ((k : ℕ) → k ≤ trie.now.number + 1 →
+        WaitFrom k trie.now.nodes waiting.old → WaitFrom k trie.now.nodes waiting.new) }
 {
     for uid in uids.iter() {
         name_entity(alloc, uid, kept, trie, ids, waiting)?;
@@ -46,8 +49,11 @@ fn name_entity(
     ids: &mut BTreeSet<EntityUID>,
     waiting: &mut Waiting,
 ) -> Result<(), AllocError>
-    ensures named { OnOk result ((s : Store) → IsKept kept.now s → Adds (Names s (entity uid.now) trie.now) (Gives s trie.now ids.old waiting.old) (Gives s trie.now ids.new waiting.new)) }
-    ensures later { OnOk result ((k : ℕ) → k ≤ trie.now.number + 1 → WaitFrom k trie.now.nodes waiting.old → WaitFrom k trie.now.nodes waiting.new) }
+    ensures named { OnOk result ((s : Store) → IsKept kept.now s →
+        Adds (Names s (entity uid.now) trie.now) (Gives s trie.now ids.old waiting.old)
+        (Gives s trie.now ids.new waiting.new)) }
+    ensures later { OnOk result ((k : ℕ) → k ≤ trie.now.number + 1 →
+        WaitFrom k trie.now.nodes waiting.old → WaitFrom k trie.now.nodes waiting.new) }
 {
     name_here(uid, trie, ids)?;
     let Some(entity) = kept.get(uid) else {
@@ -66,7 +72,9 @@ fn name_here(
     trie: &TrieRef<'_>,
     ids: &mut BTreeSet<EntityUID>,
 ) -> Result<(), AllocError>
-    ensures { OnOk result (Adds (λ y. (view_marks trie.now [] ≡ true) × (uid_eq y uid.now ≡ true)) (Has ids.old) (Has ids.new)) }
+    ensures { OnOk result
+        (Adds (λ y. (view_marks trie.now [] ≡ true) × (uid_eq y uid.now ≡ true)) (Has ids.old)
+        (Has ids.new)) }
 {
     if trie.is_ancestor() {
         ids.insert(uid.try_clone()?)?;
@@ -83,8 +91,11 @@ pub(crate) fn name_fields(
     ids: &mut BTreeSet<EntityUID>,
     waiting: &mut Waiting,
 ) -> Result<(), AllocError>
-    ensures named { OnOk result ((s : Store) → Adds (Names s (rec (fields_of fields.now.entries)) trie.now) (Gives s trie.now ids.old waiting.old) (Gives s trie.now ids.new waiting.new)) }
-    ensures later { OnOk result ((k : ℕ) → k ≤ trie.now.number + 1 → WaitFrom k trie.now.nodes waiting.old → WaitFrom k trie.now.nodes waiting.new) }
+    ensures named { OnOk result ((s : Store) →
+        Adds (Names s (rec (fields_of fields.now.entries)) trie.now)
+        (Gives s trie.now ids.old waiting.old) (Gives s trie.now ids.new waiting.new)) }
+    ensures later { OnOk result ((k : ℕ) → k ≤ trie.now.number + 1 →
+        WaitFrom k trie.now.nodes waiting.old → WaitFrom k trie.now.nodes waiting.new) }
 {
     for (name, below) in trie.children() {
         if let Some(value) = fields.get(name) {
@@ -103,8 +114,11 @@ fn name_each(
     waiting: &mut Waiting,
 ) -> Result<(), AllocError>
     requires { view_leads trie.now [] ≡ true }
-    ensures named { OnOk result ((s : Store) → Adds (SomeNames s (values_in (fields_of values.now.entries)) trie.now) (Gives s trie.now ids.old waiting.old) (Gives s trie.now ids.new waiting.new)) }
-    ensures later { OnOk result ((k : ℕ) → k ≤ trie.now.number → WaitFrom k trie.now.nodes waiting.old → WaitFrom k trie.now.nodes waiting.new) }
+    ensures named { OnOk result ((s : Store) →
+        Adds (SomeNames s (values_in (fields_of values.now.entries)) trie.now)
+        (Gives s trie.now ids.old waiting.old) (Gives s trie.now ids.new waiting.new)) }
+    ensures later { OnOk result ((k : ℕ) → k ≤ trie.now.number →
+        WaitFrom k trie.now.nodes waiting.old → WaitFrom k trie.now.nodes waiting.new) }
 {
     for value in values.values() {
         name_at(alloc, value, trie, ids, waiting)?;
@@ -122,8 +136,11 @@ fn name_at(
     waiting: &mut Waiting,
 ) -> Result<(), AllocError>
     requires { view_leads trie.now [] ≡ true }
-    ensures named { OnOk result ((s : Store) → Adds (Names s value.now trie.now) (Gives s trie.now ids.old waiting.old) (Gives s trie.now ids.new waiting.new)) }
-    ensures later { OnOk result ((k : ℕ) → k ≤ trie.now.number → WaitFrom k trie.now.nodes waiting.old → WaitFrom k trie.now.nodes waiting.new) }
+    ensures named { OnOk result ((s : Store) →
+        Adds (Names s value.now trie.now) (Gives s trie.now ids.old waiting.old)
+        (Gives s trie.now ids.new waiting.new)) }
+    ensures later { OnOk result ((k : ℕ) → k ≤ trie.now.number →
+        WaitFrom k trie.now.nodes waiting.old → WaitFrom k trie.now.nodes waiting.new) }
 {
     match value.kind() {
         ValueKind::EntityUID(uid) => name_later(alloc, uid, trie, waiting),
@@ -141,8 +158,11 @@ pub(crate) fn name_later(
     waiting: &mut Waiting,
 ) -> Result<(), AllocError>
     requires { view_leads trie.now [] ≡ true }
-    ensures named { OnOk result ((s : Store) → Adds (Names s (entity uid.now) trie.now) (WaitingNames s trie.now.nodes waiting.old) (WaitingNames s trie.now.nodes waiting.new)) }
-    ensures later { OnOk result ((k : ℕ) → k ≤ trie.now.number → WaitFrom k trie.now.nodes waiting.old → WaitFrom k trie.now.nodes waiting.new) }
+    ensures named { OnOk result ((s : Store) →
+        Adds (Names s (entity uid.now) trie.now) (WaitingNames s trie.now.nodes waiting.old)
+        (WaitingNames s trie.now.nodes waiting.new)) }
+    ensures later { OnOk result ((k : ℕ) → k ≤ trie.now.number →
+        WaitFrom k trie.now.nodes waiting.old → WaitFrom k trie.now.nodes waiting.new) }
 {
     wait(alloc, trie.number(), uid, waiting)
 }
@@ -170,7 +190,8 @@ fn name_set(
     trie: &TrieRef<'_>,
     ids: &mut BTreeSet<EntityUID>,
 ) -> Result<(), AllocError>
-    ensures { OnOk result ((s : Store) → Adds (Names s (set (vals_of values.now.items)) trie.now) (Has ids.old) (Has ids.new)) }
+    ensures { OnOk result ((s : Store) →
+        Adds (Names s (set (vals_of values.now.items)) trie.now) (Has ids.old) (Has ids.new)) }
 {
     if trie.is_ancestor() {
         add_ids(values, ids)?;
@@ -179,7 +200,8 @@ fn name_set(
 }
 
 fn add_ids(values: &Vec<Value>, ids: &mut BTreeSet<EntityUID>) -> Result<(), AllocError>
-    ensures { OnOk result (Adds (λ y. lists_id y (vals_of values.now.items) ≡ true) (Has ids.old) (Has ids.new)) }
+    ensures { OnOk result
+        (Adds (λ y. lists_id y (vals_of values.now.items) ≡ true) (Has ids.old) (Has ids.new)) }
 {
     for value in values {
         add_id(value, ids)?;

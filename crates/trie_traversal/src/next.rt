@@ -29,9 +29,13 @@ pub fn next_places(
     found: &BTreeMap<EntityUID, Entity>,
 ) -> Result<BTreeSet<Place>, FollowError>
     requires { IsTable nodes.now }
-    ensures asked { IfOk result (λ next. Adds nodes.now (answers_point nodes.now (get uid_cmp found.now) pending.now.keys) [] next.keys) }
-    ensures below { IfOk result (λ next. (q : Place) → IsIn q next.keys → IsBelowSome nodes.now pending.now.keys q) }
-    ensures why { IfErr result (RefusedBy (SomeAnswerSticks nodes.now (get uid_cmp found.now) pending.now.keys)) }
+    ensures asked { IfOk result
+        (λ next. Adds nodes.now
+        (answers_point nodes.now (get uid_cmp found.now) pending.now.keys) [] next.keys) }
+    ensures below { IfOk result (λ next. (q : Place) → IsIn q next.keys →
+        IsBelowSome nodes.now pending.now.keys q) }
+    ensures why { IfErr result
+        (RefusedBy (SomeAnswerSticks nodes.now (get uid_cmp found.now) pending.now.keys)) }
 {
     let mut next = BTreeSet::new(alloc);
     for place in pending.iter() {
@@ -49,9 +53,13 @@ fn follow_answer(
     trie: &TrieRef<'_>,
     next: &mut BTreeSet<Place>,
 ) -> Result<(), FollowError>
-    ensures asked { OnOk result (Adds trie.now.nodes (answer_points (option_copied answer.entry) trie.now) next.old.keys next.new.keys) }
-    ensures below { OnOk result ((q : Place) → IsIn q next.new.keys → IsIn q next.old.keys ⊎ IsBelow trie.now q) }
-    ensures why { IfErr result (RefusedBy (AnswerSticks (option_copied answer.entry) (tests_of trie.now))) }
+    ensures asked { OnOk result
+        (Adds trie.now.nodes
+        (answer_points (option_copied answer.entry) trie.now) next.old.keys next.new.keys) }
+    ensures below { OnOk result ((q : Place) → IsIn q next.new.keys → IsIn q next.old.keys ⊎
+        IsBelow trie.now q) }
+    ensures why { IfErr result
+        (RefusedBy (AnswerSticks (option_copied answer.entry) (tests_of trie.now))) }
 {
     match answer {
         Some(entity) => {

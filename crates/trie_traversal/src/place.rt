@@ -19,7 +19,8 @@ pub struct Place {
 
 /// Adds a place.
 pub fn ask(places: &mut BTreeSet<Place>, uid: &EntityUID, number: usize) -> Result<(), AllocError>
-    ensures { OnOk result (IsPlaced (record { uid = uid.now; number = number }) places.old.keys places.new.keys) }
+    ensures { OnOk result
+        (IsPlaced (record { uid = uid.now; number = number }) places.old.keys places.new.keys) }
 {
     let uid = uid.try_clone()?;
     places.insert(Place { uid, number })?;

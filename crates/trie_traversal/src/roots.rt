@@ -31,7 +31,8 @@ pub fn named_ids(
     trie: &TrieRef<'_>,
 ) -> Result<BTreeSet<EntityUID>, AllocError>
     requires { IsWhole request.now }
-    ensures { IfOk result (λ ids. (s : Store) → IsKept kept.now s → (y : EntityUID) → (contains uid_cmp ids y ≡ true) ↔ IsNamed trie.now request.now s y) }
+    ensures { IfOk result (λ ids. (s : Store) → IsKept kept.now s → (y : EntityUID) →
+        (contains uid_cmp ids y ≡ true) ↔ IsNamed trie.now request.now s y) }
 {
     let mut ids = BTreeSet::new(alloc);
     let mut waiting = BTreeMap::new(alloc);
@@ -52,7 +53,8 @@ fn name_waiting(
 ) -> Result<(), AllocError>
     requires table { IsTable nodes.now }
     requires there { WaitFrom 0 nodes.now waiting }
-    ensures { OnOk result ((s : Store) → IsKept kept.now s → (y : EntityUID) → Has ids.new y ↔ Gives s (whole nodes.now) ids.old waiting y) }
+    ensures { OnOk result ((s : Store) → IsKept kept.now s → (y : EntityUID) → Has ids.new y ↔
+        Gives s (whole nodes.now) ids.old waiting y) }
 {
     while let Some((number, uids)) = waiting.pop_first() {
         let trie = TrieRef::new(nodes, number);
@@ -71,8 +73,11 @@ fn name_root(
 ) -> Result<(), AllocError>
     requires whole { IsWhole request.now }
     requires there { view_leads trie.now [] ≡ true }
-    ensures named { OnOk result ((s : Store) → Adds (Names s (root_value request.now root.now) trie.now) (Gives s trie.now ids.old waiting.old) (Gives s trie.now ids.new waiting.new)) }
-    ensures later { OnOk result (WaitFrom 0 trie.now.nodes waiting.old → WaitFrom 0 trie.now.nodes waiting.new) }
+    ensures named { OnOk result ((s : Store) →
+        Adds (Names s (root_value request.now root.now) trie.now)
+        (Gives s trie.now ids.old waiting.old) (Gives s trie.now ids.new waiting.new)) }
+    ensures later { OnOk result (WaitFrom 0 trie.now.nodes waiting.old →
+        WaitFrom 0 trie.now.nodes waiting.new) }
 {
     match root {
         EntityRoot::Literal(uid) => name_later(alloc, uid, trie, waiting),
@@ -91,8 +96,11 @@ fn name_entry(
 ) -> Result<(), AllocError>
     requires known { IsSome entry.now }
     requires there { view_leads trie.now [] ≡ true }
-    ensures named { OnOk result ((s : Store) → Adds (Names s (entity (known entry.now)) trie.now) (WaitingNames s trie.now.nodes waiting.old) (WaitingNames s trie.now.nodes waiting.new)) }
-    ensures later { OnOk result (WaitFrom 0 trie.now.nodes waiting.old → WaitFrom 0 trie.now.nodes waiting.new) }
+    ensures named { OnOk result ((s : Store) →
+        Adds (Names s (entity (known entry.now)) trie.now)
+        (WaitingNames s trie.now.nodes waiting.old) (WaitingNames s trie.now.nodes waiting.new)) }
+    ensures later { OnOk result (WaitFrom 0 trie.now.nodes waiting.old →
+        WaitFrom 0 trie.now.nodes waiting.new) }
 {
     match entry {
         Some(uid) => name_later(alloc, uid, trie, waiting),
@@ -108,8 +116,11 @@ fn name_context(
     waiting: &mut Waiting,
 ) -> Result<(), AllocError>
     requires { IsSome context.now }
-    ensures named { OnOk result ((s : Store) → Adds (Names s (rec (known_fields context.now)) trie.now) (Gives s trie.now ids.old waiting.old) (Gives s trie.now ids.new waiting.new)) }
-    ensures later { OnOk result (WaitFrom 0 trie.now.nodes waiting.old → WaitFrom 0 trie.now.nodes waiting.new) }
+    ensures named { OnOk result ((s : Store) →
+        Adds (Names s (rec (known_fields context.now)) trie.now)
+        (Gives s trie.now ids.old waiting.old) (Gives s trie.now ids.new waiting.new)) }
+    ensures later { OnOk result (WaitFrom 0 trie.now.nodes waiting.old →
+        WaitFrom 0 trie.now.nodes waiting.new) }
 {
     match context {
         Some(context) => name_fields(alloc, context.fields(), trie, ids, waiting),

@@ -67,7 +67,8 @@ pub fn stuck_in_entity<'a>(entity: &'a Entity, trie: &TrieRef<'_>) -> Option<&'a
 
 // In some of the values.
 fn stuck_in_each<'a>(values: &'a BTreeMap<Text, Value>, trie: &TrieRef<'_>) -> Option<&'a Value>
-    ensures { IsStuck (SomeSticks (values_in (fields_of values.now.entries)) (tests_of trie.now)) (option_copied result) }
+    ensures { IsStuck (SomeSticks (values_in (fields_of values.now.entries)) (tests_of trie.now))
+        (option_copied result) }
 {
     for value in values.values() {
         if let Some(stuck) = stuck_in(value, trie) {
@@ -80,7 +81,8 @@ fn stuck_in_each<'a>(values: &'a BTreeMap<Text, Value>, trie: &TrieRef<'_>) -> O
 // In some of the fields along the trie.
 #[cycle(sticking)]
 fn stuck_in_fields<'a>(fields: &'a BTreeMap<Text, Value>, trie: &TrieRef<'_>) -> Option<&'a Value>
-    ensures { IsStuck (FieldsStick (fields_of fields.now.entries) (tests_of trie.now)) (option_copied result) }
+    ensures { IsStuck (FieldsStick (fields_of fields.now.entries) (tests_of trie.now))
+        (option_copied result) }
 {
     for (key, value) in fields.iter() {
         if let Some(below) = trie.field(key) {

@@ -19,7 +19,8 @@ impl<'a> TypecheckAnswer<'a> {
         requires { F.IsAlwaysCallable f }
         ensures expression { expr_of result ≡ expr_of self.entry }
         ensures success { is_success result ≡ is_success self.entry }
-        ensures known { IsTrue (is_success self.entry) → F.post f (known_of self.entry) (known_of result) }
+        ensures known { IsTrue (is_success self.entry) →
+            F.post f (known_of self.entry) (known_of result) }
     {
         match self {
             TypecheckAnswer::TypecheckSuccess {
@@ -40,7 +41,8 @@ impl<'a> TypecheckAnswer<'a> {
         f: F,
     ) -> TypecheckAnswer<'a>
         requires { F.IsAlwaysCallable f }
-        ensures { (a : _) × F.post f (expr_of self.entry) (known_of self.entry) a × (result ≡ after (is_success self.entry) a) }
+        ensures { (a : _) × F.post f (expr_of self.entry) (known_of self.entry) a ×
+            (result ≡ after (is_success self.entry) a) }
     {
         let ok = self.typechecked();
         let (expr, known) = self.into_parts(alloc);
@@ -56,7 +58,9 @@ impl<'a> TypecheckAnswer<'a> {
         f: F,
     ) -> Result<TypecheckAnswer<'a>, AllocError>
         requires { F.IsAlwaysCallable f }
-        ensures { IfOk result (λ r. (parts : _) × (a : _) × (parts.items ≡ map part_of answers.entry.items) × F.post f parts a × (r ≡ after (list_all is_success answers.entry.items) a)) }
+        ensures { IfOk result (λ r. (parts : _) × (a : _) ×
+            (parts.items ≡ map part_of answers.entry.items) × F.post f parts a ×
+            (r ≡ after (list_all is_success answers.entry.items) a)) }
     {
         let ok = have_all_types(&answers);
         let parts = parts_of(alloc, answers)?;

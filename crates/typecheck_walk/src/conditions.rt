@@ -36,7 +36,9 @@ pub fn check_condition<'a>(
     id: &Text,
     condition: &'a Expr<()>,
 ) -> Result<PolicyCheck, AllocError>
-    ensures { IfOk result (λ r. Tells id.now (checked at.now.schema.now (env_data_of at.now.env.now) condition.now) r) }
+    ensures { IfOk result
+        (λ r. Tells id.now (checked at.now.schema.now
+        (env_data_of at.now.env.now) condition.now) r) }
 {
     if is_too_deep(condition) {
         return Ok(PolicyCheck::Fail(only_too_deep(at.alloc, id)?));
@@ -50,7 +52,9 @@ pub fn check_walk<'a>(
     id: &Text,
     e: &'a Expr<()>,
 ) -> Result<PolicyCheck, AllocError>
-    ensures { IfOk result (λ r. Tells id.now (check_walked (condition_walked at.now.schema.now (env_data_of at.now.env.now) e.now)) r) }
+    ensures { IfOk result
+        (λ r. Tells id.now (check_walked
+        (condition_walked at.now.schema.now (env_data_of at.now.env.now) e.now)) r) }
 {
     match walk_condition(at, e) {
         Ok(told) => answer(at.alloc, id, told),
@@ -73,7 +77,8 @@ pub fn only_too_deep(alloc: Global, id: &Text) -> Result<Vec<ValidationError>, A
 }
 
 fn walk_condition<'a>(at: &Setting<'a, '_, '_, '_>, e: &'a Expr<()>) -> Result<Told<'a>, BuildError>
-    ensures { IfOk result (λ r. walked_of r ≡ condition_walked at.now.schema.now (env_data_of at.now.env.now) e.now) }
+    ensures { IfOk result (λ r. walked_of r ≡
+        condition_walked at.now.schema.now (env_data_of at.now.env.now) e.now) }
 {
     let caps = CapabilitySet::new(at.alloc);
     let told = walk(at, &caps, e)?;

@@ -33,7 +33,8 @@ pub(crate) fn walk<'a>(
     caps: &CapabilitySet<'a>,
     e: &'a Expr<()>,
 ) -> Result<Told<'a>, BuildError>
-    ensures { IfOk result (λ r. walked_of r ≡ walked at.now.schema.now (env_data_of at.now.env.now) caps.now e.now) }
+    ensures { IfOk result (λ r. walked_of r ≡
+        walked at.now.schema.now (env_data_of at.now.env.now) caps.now e.now) }
 {
     let loc = e.source_loc();
     match e.kind() {
@@ -64,7 +65,9 @@ fn walk_if<'a>(
     z: &'a Expr<()>,
     loc: Option<Loc>,
 ) -> Result<Told<'a>, BuildError>
-    ensures { IfOk result (λ r. walked_of r ≡ walked at.now.schema.now (env_data_of at.now.env.now) caps.now (ite x.now y.now z.now (mark loc))) }
+    ensures { IfOk result (λ r. walked_of r ≡
+        walked at.now.schema.now (env_data_of at.now.env.now) caps.now
+        (ite x.now y.now z.now (mark loc))) }
 {
     let u = walk_boolean(at, caps, x)?;
     match walk_after(at, caps, &u, y) {
@@ -91,7 +94,9 @@ fn walk_and<'a>(
     y: &'a Expr<()>,
     loc: Option<Loc>,
 ) -> Result<Told<'a>, BuildError>
-    ensures { IfOk result (λ r. walked_of r ≡ walked at.now.schema.now (env_data_of at.now.env.now) caps.now (conj x.now y.now (mark loc))) }
+    ensures { IfOk result (λ r. walked_of r ≡
+        walked at.now.schema.now (env_data_of at.now.env.now) caps.now
+        (conj x.now y.now (mark loc))) }
 {
     let v = walk_boolean(at, caps, x)?;
     match walk_right_of_and(at, caps, &v, y) {
@@ -111,7 +116,9 @@ fn walk_or<'a>(
     y: &'a Expr<()>,
     loc: Option<Loc>,
 ) -> Result<Told<'a>, BuildError>
-    ensures { IfOk result (λ r. walked_of r ≡ walked at.now.schema.now (env_data_of at.now.env.now) caps.now (disj x.now y.now (mark loc))) }
+    ensures { IfOk result (λ r. walked_of r ≡
+        walked at.now.schema.now (env_data_of at.now.env.now) caps.now
+        (disj x.now y.now (mark loc))) }
 {
     let v = walk_boolean(at, caps, x)?;
     match walk_right_of_or(at, caps, &v, y) {
@@ -130,7 +137,9 @@ fn walk_boolean<'a>(
     caps: &CapabilitySet<'a>,
     y: &'a Expr<()>,
 ) -> Result<Told<'a>, BuildError>
-    ensures { IfOk result (λ r. walked_of r ≡ expect a_boolean (place y.now) (walked at.now.schema.now (env_data_of at.now.env.now) caps.now y.now)) }
+    ensures { IfOk result (λ r. walked_of r ≡
+        expect a_boolean (place y.now)
+        (walked at.now.schema.now (env_data_of at.now.env.now) caps.now y.now)) }
 {
     let w = walk(at, caps, y)?;
     let w = expect(at.alloc, Expected::Boolean, y.source_loc(), w)?;
@@ -145,7 +154,10 @@ fn walk_after<'a>(
     v: &Told<'a>,
     y: &'a Expr<()>,
 ) -> Result<Told<'a>, BuildError>
-    ensures { IfOk result (λ r. walked_of r ≡ reached_after (walked_of v.now) (λ ds. walked at.now.schema.now (env_data_of at.now.env.now) (caps.now ++ ds) y.now) (walked at.now.schema.now (env_data_of at.now.env.now) caps.now y.now)) }
+    ensures { IfOk result (λ r. walked_of r ≡
+        reached_after (walked_of v.now)
+        (λ ds. walked at.now.schema.now (env_data_of at.now.env.now) (caps.now ++ ds) y.now)
+        (walked at.now.schema.now (env_data_of at.now.env.now) caps.now y.now)) }
 {
     match v {
         Told::Success(a) => match a.of.kind() {
@@ -167,7 +179,9 @@ fn walk_besides<'a>(
     v: &Told<'a>,
     z: &'a Expr<()>,
 ) -> Result<Told<'a>, BuildError>
-    ensures { IfOk result (λ r. walked_of r ≡ reached_besides (walked_of v.now) (walked at.now.schema.now (env_data_of at.now.env.now) caps.now z.now)) }
+    ensures { IfOk result (λ r. walked_of r ≡
+        reached_besides (walked_of v.now)
+        (walked at.now.schema.now (env_data_of at.now.env.now) caps.now z.now)) }
 {
     match v {
         Told::Success(a) => match a.of.kind() {
@@ -186,7 +200,12 @@ fn walk_right_of_and<'a>(
     v: &Told<'a>,
     y: &'a Expr<()>,
 ) -> Result<Told<'a>, BuildError>
-    ensures { IfOk result (λ r. walked_of r ≡ reached_after (walked_of v.now) (λ ds. expect a_boolean (place y.now) (walked at.now.schema.now (env_data_of at.now.env.now) (caps.now ++ ds) y.now)) (expect a_boolean (place y.now) (walked at.now.schema.now (env_data_of at.now.env.now) caps.now y.now))) }
+    ensures { IfOk result (λ r. walked_of r ≡
+        reached_after (walked_of v.now)
+        (λ ds. expect a_boolean (place y.now)
+        (walked at.now.schema.now (env_data_of at.now.env.now) (caps.now ++ ds) y.now))
+        (expect a_boolean (place y.now)
+        (walked at.now.schema.now (env_data_of at.now.env.now) caps.now y.now))) }
 {
     match v {
         Told::Success(a) => match a.of.kind() {
@@ -208,7 +227,10 @@ fn walk_right_of_or<'a>(
     v: &Told<'a>,
     y: &'a Expr<()>,
 ) -> Result<Told<'a>, BuildError>
-    ensures { IfOk result (λ r. walked_of r ≡ reached_besides (walked_of v.now) (expect a_boolean (place y.now) (walked at.now.schema.now (env_data_of at.now.env.now) caps.now y.now))) }
+    ensures { IfOk result (λ r. walked_of r ≡
+        reached_besides (walked_of v.now)
+        (expect a_boolean (place y.now)
+        (walked at.now.schema.now (env_data_of at.now.env.now) caps.now y.now))) }
 {
     match v {
         Told::Success(a) => match a.of.kind() {
@@ -227,7 +249,9 @@ fn walk_unary<'a>(
     x: &'a Expr<()>,
     loc: Option<Loc>,
 ) -> Result<Told<'a>, BuildError>
-    ensures { IfOk result (λ r. walked_of r ≡ walked at.now.schema.now (env_data_of at.now.env.now) caps.now (unary op x.now (mark loc))) }
+    ensures { IfOk result (λ r. walked_of r ≡
+        walked at.now.schema.now (env_data_of at.now.env.now) caps.now
+        (unary op x.now (mark loc))) }
 {
     let v = walk(at, caps, x)?;
     unary_told(at.alloc, op, loc, x.source_loc(), v)
@@ -242,7 +266,9 @@ fn walk_binary<'a>(
     y: &'a Expr<()>,
     loc: Option<Loc>,
 ) -> Result<Told<'a>, BuildError>
-    ensures { IfOk result (λ r. walked_of r ≡ walked at.now.schema.now (env_data_of at.now.env.now) caps.now (binary op x.now y.now (mark loc))) }
+    ensures { IfOk result (λ r. walked_of r ≡
+        walked at.now.schema.now (env_data_of at.now.env.now) caps.now
+        (binary op x.now y.now (mark loc))) }
 {
     let v = walk(at, caps, x)?;
     let known = knows_tag(caps, op, x, y);
@@ -272,7 +298,9 @@ fn walk_attr<'a>(
     n: &'a Text,
     loc: Option<Loc>,
 ) -> Result<Told<'a>, BuildError>
-    ensures { IfOk result (λ r. walked_of r ≡ walked at.now.schema.now (env_data_of at.now.env.now) caps.now (attr x.now n.now (mark loc))) }
+    ensures { IfOk result (λ r. walked_of r ≡
+        walked at.now.schema.now (env_data_of at.now.env.now) caps.now
+        (attr x.now n.now (mark loc))) }
 {
     let known = knows_attribute(caps, x, n)?;
     let v = walk(at, caps, x)?;
@@ -294,7 +322,9 @@ fn walk_has<'a>(
     n: &'a Text,
     loc: Option<Loc>,
 ) -> Result<Told<'a>, BuildError>
-    ensures { IfOk result (λ r. walked_of r ≡ walked at.now.schema.now (env_data_of at.now.env.now) caps.now (has x.now n.now (mark loc))) }
+    ensures { IfOk result (λ r. walked_of r ≡
+        walked at.now.schema.now (env_data_of at.now.env.now) caps.now
+        (has x.now n.now (mark loc))) }
 {
     let known = knows_attribute(caps, x, n)?;
     let v = walk(at, caps, x)?;
@@ -309,7 +339,9 @@ fn walk_like<'a>(
     p: &'a Pattern,
     loc: Option<Loc>,
 ) -> Result<Told<'a>, BuildError>
-    ensures { IfOk result (λ r. walked_of r ≡ walked at.now.schema.now (env_data_of at.now.env.now) caps.now (like x.now p.now (mark loc))) }
+    ensures { IfOk result (λ r. walked_of r ≡
+        walked at.now.schema.now (env_data_of at.now.env.now) caps.now
+        (like x.now p.now (mark loc))) }
 {
     let v = walk(at, caps, x)?;
     like_told(at.alloc, p, loc, x.source_loc(), v)
@@ -323,7 +355,9 @@ fn walk_is<'a>(
     n: &'a EntityType,
     loc: Option<Loc>,
 ) -> Result<Told<'a>, BuildError>
-    ensures { IfOk result (λ r. walked_of r ≡ walked at.now.schema.now (env_data_of at.now.env.now) caps.now (is_type x.now n.now (mark loc))) }
+    ensures { IfOk result (λ r. walked_of r ≡
+        walked at.now.schema.now (env_data_of at.now.env.now) caps.now
+        (is_type x.now n.now (mark loc))) }
 {
     let v = walk(at, caps, x)?;
     is_told(at.alloc, n, loc, x.source_loc(), v)
@@ -337,7 +371,9 @@ fn walk_call<'a>(
     xs: &'a Vec<Expr<()>>,
     loc: Option<Loc>,
 ) -> Result<Told<'a>, BuildError>
-    ensures { IfOk result (λ r. walked_of r ≡ walked at.now.schema.now (env_data_of at.now.env.now) caps.now (call f.now (trees_of xs.now.items) (mark loc))) }
+    ensures { IfOk result (λ r. walked_of r ≡
+        walked at.now.schema.now (env_data_of at.now.env.now) caps.now
+        (call f.now (trees_of xs.now.items) (mark loc))) }
 {
     match at.extensions.called(f) {
         Some(g) => {
@@ -355,7 +391,9 @@ fn walk_set<'a>(
     xs: &'a Vec<Expr<()>>,
     loc: Option<Loc>,
 ) -> Result<Told<'a>, BuildError>
-    ensures { IfOk result (λ r. walked_of r ≡ walked at.now.schema.now (env_data_of at.now.env.now) caps.now (set (trees_of xs.now.items) (mark loc))) }
+    ensures { IfOk result (λ r. walked_of r ≡
+        walked at.now.schema.now (env_data_of at.now.env.now) caps.now
+        (set (trees_of xs.now.items) (mark loc))) }
 {
     let ws = walk_all(at, caps, xs)?;
     set_told(at.alloc, loc, ws)
@@ -368,7 +406,9 @@ fn walk_record<'a>(
     fields: &'a BTreeMap<Text, Expr<()>>,
     loc: Option<Loc>,
 ) -> Result<Told<'a>, BuildError>
-    ensures { IfOk result (λ r. walked_of r ≡ walked at.now.schema.now (env_data_of at.now.env.now) caps.now (rec (named_of fields.now.entries) (mark loc))) }
+    ensures { IfOk result (λ r. walked_of r ≡
+        walked at.now.schema.now (env_data_of at.now.env.now) caps.now
+        (rec (named_of fields.now.entries) (mark loc))) }
 {
     let ws = walk_named(at, caps, fields)?;
     record_told(at.alloc, loc, ws)
@@ -382,7 +422,9 @@ fn walk_all<'a>(
     caps: &CapabilitySet<'a>,
     xs: &'a Vec<Expr<()>>,
 ) -> Result<Vec<Told<'a>>, BuildError>
-    ensures { IfOk result (λ r. all_of r.items ≡ walked_all at.now.schema.now (env_data_of at.now.env.now) caps.now (trees_of xs.now.items)) }
+    ensures { IfOk result (λ r. all_of r.items ≡
+        walked_all at.now.schema.now (env_data_of at.now.env.now) caps.now
+        (trees_of xs.now.items)) }
 {
     let mut all = Vec::new(at.alloc);
     for x in xs {
@@ -399,7 +441,9 @@ fn walk_named<'a>(
     caps: &CapabilitySet<'a>,
     fields: &'a BTreeMap<Text, Expr<()>>,
 ) -> Result<BTreeMap<Text, Told<'a>>, BuildError>
-    ensures { IfOk result (λ r. map field_of r.entries ≡ walked_named at.now.schema.now (env_data_of at.now.env.now) caps.now (named_of fields.now.entries)) }
+    ensures { IfOk result (λ r. map field_of r.entries ≡
+        walked_named at.now.schema.now (env_data_of at.now.env.now) caps.now
+        (named_of fields.now.entries)) }
 {
     let mut values = BTreeMap::new(at.alloc);
     for (name, item) in fields.iter() {
