@@ -14,6 +14,7 @@ use policy_values::Text;
 use schema_core::ValidatorSchema;
 use std::alloc::Global;
 use std::marker::Brand;
+use std::mem;
 use std::sync::ledger::{Blank, Ledger};
 use std::test::Fail;
 
@@ -212,14 +213,18 @@ fn told_edits<L: Ledger>(
 }
 
 // The same, and how many environments were typed.
-fn told<L: Ledger>(alloc: Global, document: Document, blank: Blank) -> Result<(String, u64), Fail>
+fn told<L: Ledger>(
+    alloc: Global,
+    mut document: Document,
+    blank: Blank,
+) -> Result<(String, u64), Fail>
     requires name { blank.name ≡ L.name }
     requires parts { blank.parts ≡ L.parts }
     requires one { blank.parts ≡ 1 }
 {
-    let Document { schema, edits, .. } = document;
+    let edits = mem::replace(&mut document.edits, Edits::new(Vec::new(alloc)));
     let mut steps = Steps::<L>::new(blank);
-    let text = told_edits(alloc, &schema, edits, &mut steps)?;
+    let text = told_edits(alloc, &document.schema, edits, &mut steps)?;
     Ok((text, steps.count()))
 }
 
