@@ -27,7 +27,7 @@ extern "C" {
  *   the four, or reads `out` and `size`.
  * - `malloc`, `realloc` and `free`, which the call uses, are those of one allocator, and may be called in the thread: not in
  *   a signal handler, and not in a child that was forked from a process with threads.
- * - The thread has 2 MiB of stack left. A document may be nested so deep that less is not enough, and then the process ends.
+ * - The thread has 1 MiB of stack left. A document may be nested so deep that less is not enough, and then the process ends.
  */
 uint8_t palvumiose_c_run(
     const uint8_t *command,
