@@ -49,7 +49,8 @@ class Library:
         self.give_back(0)
         with open("/proc/self/statm") as sizes:
             taken = int(sizes.read().split()[0]) * resource.getpagesize()
-        allow(resource.RLIMIT_CPU, int(time.process_time()) + seconds + 1)
+        # the limit counts ticks, which on a busy machine are more than the clock's seconds
+        allow(resource.RLIMIT_CPU, int(1.25 * time.process_time()) + seconds + 1)
         allow(resource.RLIMIT_AS, taken + (mebibytes << 20))
         status = self.call(command, len(command), data, len(data), out, room, size)
         allow(resource.RLIMIT_AS)

@@ -14,6 +14,7 @@ const DEPTHS: &str = r#"# a condition is one deeper than its body: at most 200 i
 # at most 400 is built
 [{"when":{"all":[ 398 true]}}] => too deep
 [{"when":{"all":[ 399 true]}}] => nested
+[{"when":{"all":[ 400 true]}}] => nested
 [{"when":{"any":[ 398 true]}}] => too deep
 [{"when":{"any":[ 399 true]}}] => nested
 [{"when":{"all":[ 99999 true]}}] => nested

@@ -58,6 +58,24 @@ manifest of {"schema":$managers,"policies":[$managed]} => Done {"perAction":[[{"
 level 0 of $friends_of_g => Findings error EntityDerefLevelViolation: for policy `p0`, this policy requires level 1, which exceeds the maximum allowed level (0)|errors 1, warnings 0|
 level 1 of $friends_of_g => Done errors 0, warnings 0|
 level 200 of {"schema":$names,"policies":[$alice_x]} => Findings error EntityDerefLevelViolation: for policy `p0`, entity literals cannot be dereferenced at any level|errors 1, warnings 0|
+# one level below the least of each
+level 0 of {"schema":$steps,"policies":[{"id":"p0","effect":"permit","body":[{"when":{"is":[{"get":[{"var":"principal"},"nested","user"]},"User"]}}]}]} => Findings error EntityDerefLevelViolation: for policy `p0`, this policy requires level 1, which exceeds the maximum allowed level (0)|errors 1, warnings 0|
+level 0 of {"schema":$steps,"policies":[{"id":"p0","effect":"permit","body":[{"when":{"in":[{"id":["Action","view"]},{"var":"action"}]}}]}]} => Findings error EntityDerefLevelViolation: for policy `p0`, this policy requires level 1, which exceeds the maximum allowed level (0)|errors 1, warnings 0|
+level 0 of {"schema":$steps,"policies":[{"id":"p0","effect":"permit","body":[{"when":{"get":[{"var":"context"},"user","bool"]}}]}]} => Findings error EntityDerefLevelViolation: for policy `p0`, this policy requires level 1, which exceeds the maximum allowed level (0)|errors 1, warnings 0|
+level 1 of {"schema":$steps,"policies":[{"id":"p0","effect":"permit","body":[{"when":{"all":[{"hasTag":[{"var":"principal"},"t"]},{"get":[{"getTag":[{"var":"principal"},"t"]},"bool"]}]}}]}]} => Findings error EntityDerefLevelViolation: for policy `p0`, this policy requires level 2, which exceeds the maximum allowed level (1)|errors 1, warnings 0|
+level 1 of {"schema":$steps,"policies":[{"id":"p0","effect":"permit","body":[{"when":{"get":[{"record":{"foo":{"get":[{"var":"principal"},"user"]}}},"foo","bool"]}}]}]} => Findings error EntityDerefLevelViolation: for policy `p0`, this policy requires level 2, which exceeds the maximum allowed level (1)|errors 1, warnings 0|
+level 1 of {"schema":$steps,"policies":[{"id":"p0","effect":"permit","body":[{"when":{"in":[{"var":"principal"},{"get":[{"var":"principal"},"user","user"]}]}}]}]} => Findings error EntityDerefLevelViolation: for policy `p0`, this policy requires level 2, which exceeds the maximum allowed level (1)|errors 1, warnings 0|
+level 2 of {"schema":$steps,"policies":[{"id":"p0","effect":"permit","body":[{"when":{"all":[{"hasTag":[{"get":[{"var":"principal"},"user"]},"t"]},{"in":[{"getTag":[{"get":[{"var":"principal"},"user"]},"t"]},{"get":[{"var":"resource"},"user"]}]}]}}]}]} => Findings error EntityDerefLevelViolation: for policy `p0`, this policy requires level 3, which exceeds the maximum allowed level (2)|errors 1, warnings 0|
+level 2 of {"schema":$steps,"policies":[{"id":"p0","effect":"permit","body":[{"when":{"get":[{"if":[{"get":[{"var":"principal"},"user","bool"]},{"get":[{"var":"principal"},"user","user"]},{"get":[{"var":"resource"},"user","user"]}]},"bool"]}}]}]} => Findings error EntityDerefLevelViolation: for policy `p0`, this policy requires level 3, which exceeds the maximum allowed level (2)|errors 1, warnings 0|
+level 3 of {"schema":$steps,"policies":[{"id":"p0","effect":"permit","body":[{"when":{"get":[{"record":{"bar":{"get":[{"var":"principal"},"user","user","user","user"]},"foo":{"var":"principal"}}},"foo","bool"]}}]}]} => Findings error EntityDerefLevelViolation: for policy `p0`, this policy requires level 4, which exceeds the maximum allowed level (3)|errors 1, warnings 0|
+# an attribute that a type has not, two faults of one policy, and one beside what is false
+check of {"schema":$enums,"policies":[{"id":"p0","effect":"permit","body":[{"when":{"==":[{"get":[{"var":"principal"},"foo"]},"foo"]}}]}]} => Findings error UnsafeAttributeAccess: for policy `p0`, attribute `foo` on entity type `Foo` not found|errors 1, warnings 0|
+check of {"schema":$photos,"policies":[{"id":"p0","effect":"permit","body":[{"when":{"all":[{"<":[1,"a"]},{"isEmpty":[]}]}}]}]} => Findings error UnexpectedType: for policy `p0`, unexpected type: expected Long but saw String|error EmptySetForbidden: for policy `p0`, empty set literals are forbidden in policies|errors 2, warnings 0|
+check of {"schema":$photos,"policies":[{"id":"p0","effect":"permit","body":[{"when":{"all":[{"isEmpty":[]},false]}}]}]} => Findings error EmptySetForbidden: for policy `p0`, empty set literals are forbidden in policies|errors 1, warnings 0|
+# an action whose id has the type in its text
+check of {"schema":{"entityTypes":{"Photo":{},"User":{}},"actions":[{"id":["Action","Action::view"],"principals":["User"],"resources":["Photo"]}]},"policies":[{"id":"p0","effect":"permit","action":{"==":["Action","view"]}}]} => Findings error UnrecognizedActionId: for policy `p0`, unrecognized action `Action::"view"`|  help: did you intend to include the type in action `Action::"Action::view"`?|error InvalidActionApplication: for policy `p0`, unable to find an applicable action given the policy scope constraints|errors 2, warnings 0|
+# an enumerated type without ids
+check of {"schema":{"entityTypes":{"F":{"enum":[]}}}} => Document document: schema: no listed id|
 review of {"schema":$names,"policies":[$alice_x]} => Done may p0: User, Action::"view", Photo|level p0: none|
 # tags
 check of {"schema":$tags,"policies":[$tagged]} => Done errors 0, warnings 0|
@@ -101,7 +119,7 @@ sample 0 0 of $friends_of_g => Usage $usage
 list 0 of $three => Usage $usage"#;
 
 // Words of the lines, each with the text that it stands for, in which later ones may stand.
-const TEXTS: [(&str, &str); 25] = [
+const TEXTS: [(&str, &str); 26] = [
     (
         "$friends_of_g",
         r#"{"schema":$photos,"policies":[$friends],"entities":[$alice],"request":$view}"#,
@@ -112,7 +130,7 @@ const TEXTS: [(&str, &str); 25] = [
     ),
     (
         "$impossible",
-        r#"{"schema":$enums,"policies":[{"id":"p0","effect":"permit","body":[{"when":{"in":[{"var":"principal"},{"id":["Bar","bar"]}]}}]}],"request":{"principal":["Foo","foo"],"action":["Action","a"],"resource":["Bar","b"],"context":{}}}"#,
+        r#"{"schema":$enums,"policies":[{"id":"p0","effect":"permit","action":{"==":["Action","a"]},"body":[{"when":{"in":[{"var":"principal"},{"id":["Bar","bar"]}]}}]}],"request":{"principal":["Foo","foo"],"action":["Action","a"],"resource":["Bar","b"],"context":{}}}"#,
     ),
     (
         "$overflow",
@@ -197,6 +215,10 @@ const TEXTS: [(&str, &str); 25] = [
     (
         "$viewing",
         r#"{"entityTypes":{"Album":{},"Group":{},"Photo":{},"User":{}},"actions":[{"id":["Action","view_photo"],"principals":["User","Group"],"resources":["Photo"]}]}"#,
+    ),
+    (
+        "$steps",
+        r#"{"entityTypes":{"Photo":{"attributes":{"user":{"entity":"User"}}},"User":{"attributes":{"bool":"Bool","nested":{"record":{"user":{"entity":"User"}}},"user":{"entity":"User"}},"memberOf":["User"],"tags":{"entity":"User"}}},"actions":[{"id":["Action","view"],"principals":["User"],"resources":["Photo"],"context":{"nested":{"record":{"user":{"entity":"User"}}},"user":{"entity":"User"}}}]}"#,
     ),
     ("$usage", USAGE_LINE),
 ];

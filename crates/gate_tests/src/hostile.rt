@@ -51,6 +51,8 @@ const WORDS: [(&str, &str); 17] = [
 // next ones show. Each run is tried again with each of its reads and writes failing, and with one byte a call.
 const CASES: &str = r#"# no document
 slice;  => Document document: json|
+# an id that is not listed
+check; {"schema":{"entityTypes":{"Bar":{},"Foo":{"enum":["foo"]}},"actions":[{"id":["Action","a"],"principals":["Foo"],"resources":["Bar"]}]},"policies":[{"id":"p0","effect":"permit","action":{"==":["Action","a"]},"body":[{"when":{"==":[{"var":"principal"},{"id":["Foo","fo"]}]}}]}]} => Findings error InvalidEnumEntity: for policy `p0`: entity `Foo::"fo"` is of an enumerated entity type, but `"fo"` is not declared as a valid eid|  help: valid entity eids: "foo"|errors 1, warnings 0|
 # a group that is kept
 slice; {"schema":$photos,"policies":[{"id":"p0","effect":"permit","principal":{"in":["Group","g"]}}],"entities":[{"id":["User","alice"],"parents":[["Group","g"],["Group","h"]]}],"request":$view} => Done {"decision":"Allow","errors":[],"reasons":["p0"],"slice":[{"ancestors":[["Group","g"]],"attrs":{},"id":["User","alice"],"tags":{}}]}|
 decide; {"schema":$photos,"policies":[{"id":"p0","effect":"permit","principal":{"in":["Group","g"]}}],"entities":[{"id":["User","alice"],"parents":[["Group","g"],["Group","h"]]}],"request":$view} => Done {"decision":"Allow","errors":[],"reasons":["p0"]}|
