@@ -1,4 +1,5 @@
 pub mod Arguments
 pub mod BinaryLaws
+mod Nothing
 pub mod PartLaws
 pub mod PartSteps

@@ -10,10 +10,10 @@ use Rattle.schema_core.specs.RequestEnvs.{env_data_of}
 use Rattle.schema_core.specs.Schema.{SchemaData}
 use Rattle.schema_types.specs.declared.ty.AttributeType.{AttributeType}
 use Rattle.schema_types.specs.Ty.{Ty}
-use Rattle.typing_spec.specs.Capability.{Capability}
+use Rattle.typing_spec.specs.Capability.{Capability, has_cap}
 use Rattle.typing_spec.specs.Rules.{safe_type}
 use Rattle.typing_spec.specs.Signatures.{bool_type}
-use Rattle.typing_spec.specs.Typing.{Typed, Typing, typing, at, binary_caps}
+use Rattle.typing_spec.specs.Typing.{Typed, Typing, typing, at, attribute_known, binary_caps}
 use Rattle.findings.specs.Access as access
 use Rattle.findings.specs.Finding as finding
 use Rattle.findings.specs.Finding.{Finding}
@@ -46,22 +46,25 @@ abbrev pub has_of : SchemaData → Bool → Plain → List ℕ → Mark (Unit {0
 has_of schema known x n m a =
     one_of (definition.has_typing_of schema known x n m) (has a.tree n (lends (Some bool_type) m)) [] a
 
--- `.`: the attribute of an operand, and what is declared of it
+-- `.`: whether the attribute of an operand is known to be there, and what is declared of it
+abbrev pub is_known : Access → Bool
+is_known o = has_cap o.caps.now (attribute_known o.on.now o.name.now)
+
 abbrev pub attr_walked : Access → Option Loc → Walked → Walked
 attr_walked o l v =
-    definition.attr_walked o.schema.now (env_data_of o.env.now) o.known o.name.now (mark o.loc) l v
+    definition.attr_walked o.schema.now (env_data_of o.env.now) (is_known o) o.name.now (mark o.loc) l v
 
 abbrev pub attr_fitting : Access → Walked → Walked
 attr_fitting o v =
-    definition.attr_fitting o.schema.now (env_data_of o.env.now) o.known o.name.now (mark o.loc) v
+    definition.attr_fitting o.schema.now (env_data_of o.env.now) (is_known o) o.name.now (mark o.loc) v
 
 abbrev pub attr_typing : Access → Typing → Option Typing
 attr_typing o a =
-    definition.attr_typing o.schema.now (env_data_of o.env.now) o.known o.name.now (mark o.loc) a
+    definition.attr_typing o.schema.now (env_data_of o.env.now) (is_known o) o.name.now (mark o.loc) a
 
 abbrev pub attr_found : Access → Typing → List Finding
 attr_found o a =
-    definition.attr_found o.schema.now (env_data_of o.env.now) o.known o.name.now (mark o.loc) a
+    definition.attr_found o.schema.now (env_data_of o.env.now) (is_known o) o.name.now (mark o.loc) a
 
 abbrev pub attr_lent : Access → Option Ty → Option Ty
 attr_lent o t = option_and_then (definition.attr_lent o.schema.now (env_data_of o.env.now) o.name.now) t
@@ -74,11 +77,11 @@ attr_of o a =
 -- of an attribute that is declared: its type, where it is safe to read, else that it may be absent
 abbrev pub declared_typing : Access → AttributeType → Typed → Option Typing
 declared_typing o d x =
-    option_map (λ t. typing t [] (attr x o.name.now (at t (mark o.loc)))) (safe_type o.known d)
+    option_map (λ t. typing t [] (attr x o.name.now (at t (mark o.loc)))) (safe_type (is_known o) d)
 
 abbrev pub absence_found : Access → AttributeType → Typed → List Finding
 absence_found o d x =
-    if_none (safe_type o.known d)
+    if_none (safe_type (is_known o) d)
     (one (finding.UnsafeOptionalAttributeAccess (access.attribute_access (env_data_of o.env.now) x o.name.now)) o.loc)
 
 abbrev pub declared_of : Access → AttributeType → Bool → Typed → List Finding → Walked

@@ -1,18 +1,19 @@
 //! `.`.
 
-ghost use Rattle.std.specs.Prelude.{◌≡◌, IfOk};
+ghost use Rattle.std.specs.Prelude.{◌≡◌, ◌||◌, IfOk};
 ghost use Rattle.policy_expressions.specs.Tree.{attr};
-ghost use Rattle.typecheck_rules.specs.Walked.{lends};
+ghost use Rattle.typecheck_rules.specs.Walked.{Fail, lends};
 ghost use Rattle.typecheck_rules.specs.Found.{findings_from};
 ghost use Rattle.typecheck_operators.specs.Operands as definition;
 ghost use Rattle.typecheck_operators.specs.Told.{mark, operand_of, walked_of};
 
+use crate::known::knows_attribute;
 use crate::told::{Part, Told, Typing, ended_typed, expect, failed, parted};
 use policy_expressions::{BuildError, Expr, Loc};
 use policy_values::Text;
 use schema_core::{RequestEnv, ValidatorSchema};
 use schema_types::{AttributeType, Type};
-use std::alloc::Global;
+use std::alloc::{AllocError, Global};
 use typecheck_rules::{Expected, Finding, attribute_of, joined, optional_found, undeclared_found};
 use typing_spec::CapabilitySet;
 
@@ -23,8 +24,10 @@ pub struct Access<'b, 'a> {
     pub schema: &'b ValidatorSchema,
     /// The environment.
     pub env: &'b RequestEnv<'a>,
-    /// Whether the attribute is known to be there.
-    pub known: bool,
+    /// What is known at its place.
+    pub caps: &'b CapabilitySet<'a>,
+    /// The operand.
+    pub on: &'b Expr<()>,
     /// The attribute.
     pub name: &'b Text,
     /// Where it stands.
@@ -78,14 +81,10 @@ fn attr_ended<'a>(alloc: Global, o: &Access<'_, '_>, v: Part<'a>) -> Result<Told
                 );
                 drop(t);
                 let found = or_drop!(joined(found, own), tree);
-                let tree = or_drop!(attr_lending(alloc, o, tree, None), found);
-                Ok(failed(alloc, tree, found)?)
+                attr_failed(alloc, o, None, tree, found)
             }
         },
-        None => {
-            let tree = or_drop!(attr_lending(alloc, o, tree, None), found);
-            Ok(failed(alloc, tree, found)?)
-        }
+        None => attr_failed(alloc, o, None, tree, found),
     }
 }
 
@@ -105,7 +104,7 @@ fn declared_ended<'a>(
         attr_type,
         is_required,
     } = a;
-    if is_required || o.known {
+    if or_drop!(is_safe(o, is_required), attr_type, tree, found) {
         let note = or_drop!(attr_type.try_clone(alloc), attr_type, tree, found);
         let tree = or_drop!(attr_lending(alloc, o, tree, Some(note)), attr_type, found);
         let caps = CapabilitySet::new(alloc);
@@ -119,9 +118,34 @@ fn declared_ended<'a>(
             found
         );
         let found = or_drop!(joined(found, own), attr_type, tree);
-        let tree = or_drop!(attr_lending(alloc, o, tree, Some(attr_type)), found);
-        Ok(failed(alloc, tree, found)?)
+        attr_failed(alloc, o, Some(attr_type), tree, found)
     }
+}
+
+// Whether it can be read. Only of one that may be absent is it looked up whether it is known: that
+// takes time where the path is long.
+fn is_safe(o: &Access<'_, '_>, is_required: bool) -> Result<bool, AllocError>
+    ensures { IfOk result (λ safe. safe ≡ is_required || definition.is_known o.now) }
+{
+    if is_required {
+        Ok(true)
+    } else {
+        knows_attribute(o.caps, o.on, o.name)
+    }
+}
+
+fn attr_failed<'a>(
+    alloc: Global,
+    o: &Access<'_, '_>,
+    note: Option<Type>,
+    tree: Expr<Option<Type>>,
+    found: Vec<Finding>,
+) -> Result<Told<'a>, BuildError>
+    ensures { IfOk result (λ r. walked_of r ≡
+        Fail (attr tree o.now.name.now (lends note (mark o.now.loc))) (findings_from found.items)) }
+{
+    let tree = or_drop!(attr_lending(alloc, o, tree, note), found);
+    Ok(failed(alloc, tree, found)?)
 }
 
 fn attr_lending(

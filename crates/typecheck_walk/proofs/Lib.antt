@@ -1,5 +1,4 @@
 mod BranchLaws
 mod SideLaws
 mod Asks
-mod Nothing
 mod WalkSteps

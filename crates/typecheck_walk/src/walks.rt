@@ -9,7 +9,7 @@ ghost use Rattle.typecheck_rules.specs.Walked.{expect};
 ghost use Rattle.typecheck_rules.specs.Operators.{place, reached_after, reached_besides};
 ghost use Rattle.typecheck_operators.specs.Told.{all_of, field_of, mark, walked_of};
 
-use crate::known::{knows_attribute, knows_tag};
+use crate::known::knows_tag;
 use crate::setting::Setting;
 use crate::{and_sides, if_parts, or_sides};
 use policy_expressions::{BinaryOp, BuildError, Expr, ExprKind, Loc, Pattern, UnaryOp};
@@ -19,8 +19,8 @@ use std::alloc::AllocError;
 use std::collections::BTreeMap;
 use typecheck_operators::{
     Access, Operator, Told, attr_told, binary_told, call_told, expect, has_told, is_told,
-    like_told, literal_told, record_told, set_told, skipped, slot_told, unary_told, undefined_told,
-    variable_told,
+    knows_attribute, like_told, literal_told, record_told, set_told, skipped, slot_told,
+    unary_told, undefined_told, variable_told,
 };
 use typecheck_rules::Expected;
 use typing_spec::CapabilitySet;
@@ -302,12 +302,12 @@ fn walk_attr<'a>(
         walked at.now.schema.now (env_data_of at.now.env.now) caps.now
         (attr x.now n.now (mark loc))) }
 {
-    let known = knows_attribute(caps, x, n)?;
     let v = walk(at, caps, x)?;
     let access = Access {
         schema: at.schema,
         env: at.env,
-        known,
+        caps,
+        on: x,
         name: n,
         loc,
     };

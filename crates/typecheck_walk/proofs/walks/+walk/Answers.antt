@@ -5,7 +5,7 @@ use Rattle.policy_values.specs.Uid.{text_cmp}
 use Rattle.policy_values.specs.Maps.{IsNext}
 use Rattle.policy_values.proofs.MapSteps.{next-seam}
 use Rattle.typing_spec.specs.Capability.{has_cap}
-use Rattle.typing_spec.specs.Typing.{tag_known}
+use Rattle.typing_spec.specs.Typing.{attribute_known, tag_known}
 use Rattle.schema_core.specs.RequestEnvs.{env_data_of}
 use Rattle.policy_expressions.specs.Tree.{mark_of, ite, conj, disj, unary, binary, attr, has, like, is_type, call, set, rec, trees_of, named_of}
 use Rattle.policy_expressions.specs.TreeView.{tree_of}
@@ -91,7 +91,7 @@ walk-returns-in-Record t c =
 pub walk_attr-returns : goal.walk_attr-returns
 walk_attr-returns t c =
     subst (λ w. IfOk c.attr_told.result (λ r. walked_of r ≡ w))
-    (λ i. attr_walked c.args.at.now.schema.now (env_data_of c.args.at.now.env.now) (c.in_ok-known.ensures i) c.args.n.now (mark c.args.loc) (c.source_loc.ensures i) (c.in_ok-v.ensures i)) c.attr_told.ensures
+    (λ i. attr_walked c.args.at.now.schema.now (env_data_of c.args.at.now.env.now) (has_cap c.args.caps.now (attribute_known c.args.x.now c.args.n.now)) c.args.n.now (mark c.args.loc) (c.source_loc.ensures i) (c.in_ok-v.ensures i)) c.attr_told.ensures
 
 pub walk_has-returns : goal.walk_has-returns
 walk_has-returns t c =
