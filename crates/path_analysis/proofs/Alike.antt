@@ -8,7 +8,8 @@ use Rattle.std.specs.BTreeSet.{insert_key}
 use Rattle.std.proofs.lemmas.Map.Lookups.{CmpEqualImpliesEq}
 use Rattle.access_tries.specs.Edges.{Address}
 use Rattle.access_tries.specs.Table.{Table}
-use Rattle.access_tries.specs.Paths.{IsLeastOf, is_front, is_same}
+use Rattle.access_tries.specs.Paths.{AccessPath, IsLeastOf, address_of, is_front, is_same}
+use Rattle.path_analysis.specs.Covers.{covers}
 use Rattle.plain_lemmas.proofs.Booleans.{or_again}
 
 abbrev pub Alike : {X : Type 0} → List X → List X → Type 0
@@ -43,7 +44,7 @@ module _ {K : Type 0} {cmp : K → K → Ordering} (exact : CmpEqualImpliesEq cm
   one_more f [] k = sym (with_none (f k))
   one_more f (x ∷ xs) k = one_turn f x k xs (insert_key cmp xs k) (cmp k x) refl (one_more f xs k)
 
-  more : (f : K → Bool) (ks xs : List K) → list_any f (fold (insert_key cmp) ks xs) ≡ (list_any f ks || list_any f xs)
+  pub more : (f : K → Bool) (ks xs : List K) → list_any f (fold (insert_key cmp) ks xs) ≡ (list_any f ks || list_any f xs)
   more f ks [] = with_none (list_any f ks)
   more f ks (x ∷ xs) = more f (insert_key cmp ks x) xs ∙ three (list_any f ks) (f x) (list_any f xs) (list_any f (insert_key cmp ks x)) (one_more f ks x)
 
@@ -71,9 +72,9 @@ module _ {X : Type 0} (p : X → Bool) where
   pub alike-filter : (xs ys : List X) → Alike xs ys → Alike (filter p xs) (filter p ys)
   alike-filter xs ys h f = kept f xs ∙ h (λ x. p x && f x) ∙ sym (kept f ys)
 
--- a least trie has no more to do with how often something is read or asked for
-pub least_alike : (ps qs ds es : List Address) (t : Table) → Alike ps qs → Alike ds es → IsLeastOf ps ds t → IsLeastOf qs es t
+-- a least trie has no more to do with how often something is read or asked for, nor with paths from which others go on
+pub least_alike : (ps qs : List AccessPath) (ds es : List Address) (t : Table) → ((a : Address) → covers ps a ≡ covers qs a) → Alike ds es → IsLeastOf (map address_of ps) ds t → IsLeastOf (map address_of qs) es t
 least_alike ps qs ds es t reads demands h = record {
-  paths = λ a. h.paths a ∙ (λ i. reads (is_front a) i || demands (is_front a) i);
+  paths = λ a. h.paths a ∙ (λ i. (mapped address_of (is_front a) ps ∙ reads a ∙ sym (mapped address_of (is_front a) qs)) i || demands (is_front a) i);
   marks = λ a. h.marks a ∙ demands (is_same a);
 }

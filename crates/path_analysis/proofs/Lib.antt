@@ -1,6 +1,8 @@
 mod Alike
 mod Chains
 mod ConditionSteps
+mod Covers
+mod Declared
 mod Fields
 mod OneType
 mod PairSteps

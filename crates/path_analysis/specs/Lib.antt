@@ -1,4 +1,5 @@
 pub mod Analysis
+pub mod Covers
 pub mod Parts
 pub mod PathOrder
 pub mod PathView

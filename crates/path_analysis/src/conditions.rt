@@ -6,7 +6,8 @@ ghost use Rattle.access_tries.specs.Paths.{IsLeast};
 ghost use Rattle.reads_spec.specs.PathTypes.{declared_part, is_declared_path};
 ghost use Rattle.reads_spec.specs.Reads as read;
 ghost use Rattle.reads_spec.specs.Reads.{are_declared, declared_reads, declared_demands};
-ghost use Rattle.path_analysis.specs.PathOrder.{with_paths, with_demands};
+ghost use Rattle.path_analysis.specs.Covers.{Adds};
+ghost use Rattle.path_analysis.specs.PathOrder.{with_demands};
 
 use crate::path_type::{declared_part, is_declared_path};
 use crate::setting::Setting;
@@ -46,9 +47,9 @@ fn add_condition(
     reads: &mut BTreeSet<AccessPath>,
     demands: &mut BTreeSet<(AccessPath, AccessPath)>,
 ) -> Result<(), AllocError>
-    ensures reads { OnOk result (reads.new.keys ≡
-        with_paths reads.old.keys
-        (read.reads at.now.schema.now (env_data_of at.now.env.now) condition.now)) }
+    ensures reads { OnOk result (Adds reads.old.keys
+        (read.reads at.now.schema.now (env_data_of at.now.env.now) condition.now)
+        reads.new.keys []) }
     ensures demands { OnOk result (demands.new.keys ≡
         with_demands demands.old.keys (read.demands condition.now)) }
 {

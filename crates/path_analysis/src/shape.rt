@@ -3,6 +3,7 @@
 ghost use Rattle.std.specs.Prelude.{◌≡◌, ◌++◌, ◌∷◌, [], IfOk, OnOk};
 ghost use Rattle.reads_spec.specs.Paths.{no_shape, at_path, at_root, set_shape, record_shape, one_of, beyond, paths, field_paths, shape_at, extended, shape_along};
 ghost use Rattle.reads_spec.specs.Reads.{with_step};
+ghost use Rattle.path_analysis.specs.Covers.{is_path};
 ghost use Rattle.path_analysis.specs.PathOrder.{with_paths};
 ghost use Rattle.path_analysis.specs.ShapeView.{shape_in, one_of_all, field_shapes};
 
@@ -14,10 +15,18 @@ use std::collections::{BTreeMap, BTreeSet};
 use std::marker::Model;
 
 /// Where the result of an expression comes from.
-#[derive(Debug, Drop)]
+#[derive(Debug)]
 #[cycle(shape)]
 pub(crate) struct Shape {
     kind: ShapeKind,
+}
+
+impl Drop for Shape {
+    #[cycle(shape_drops)]
+    fn drop(self) {
+        let Shape { kind } = self;
+        drop(kind);
+    }
 }
 
 #[derive(Debug, Drop)]
@@ -104,12 +113,20 @@ impl Shape {
         })
     }
 
+    /// Whether it is a path itself.
+    pub(crate) fn is_path(&self) -> bool
+        ensures { result ≡ is_path self.now }
+    {
+        matches!(&self.kind, ShapeKind::Path(_))
+    }
+
     /// One step on: a path gets longer, a record gives what it has there, one of two gives one of both, and nothing else
     /// gives anything.
     pub(crate) fn extended(self, alloc: Global, step: &Step) -> Result<Shape, AllocError>
         ensures { IfOk result (λ r. r ≡ extended self step.now) }
     {
-        match self.kind {
+        let Shape { kind } = self;
+        match kind {
             ShapeKind::Path(path) => {
                 let path = longer(path, step.try_clone()?)?;
                 Ok(Shape::path(path))

@@ -1,17 +1,18 @@
 //! The walk through a typed expression.
 
-ghost use Rattle.std.specs.Prelude.{◌≡◌, map, IfOk, OnOk};
+ghost use Rattle.std.specs.Prelude.{◌≡◌, [], map, IfOk, OnOk};
 ghost use Rattle.schema_core.specs.RequestEnvs.{env_data_of};
 ghost use Rattle.policy_expressions.specs.Tree.{attr, binary, conj, ite, named_of, rec, set, trees_of, unary};
 ghost use Rattle.reads_spec.specs.Paths.{no_shape};
 ghost use Rattle.reads_spec.specs.Reads as read;
 ghost use Rattle.reads_spec.specs.Reads.{reads_all, demands_all, reads_named, demands_named, shape_of, literal_shape};
-ghost use Rattle.path_analysis.specs.PathOrder.{with_paths, with_demands};
+ghost use Rattle.path_analysis.specs.Covers.{Adds, own_path};
+ghost use Rattle.path_analysis.specs.PathOrder.{with_demands};
 ghost use Rattle.path_analysis.specs.Parts.{shaped, unmarked};
 
 use crate::operators::{add_binary, add_one_step_on, add_unary};
 use crate::setting::Setting;
-use crate::shape::Shape;
+use crate::shape::{Shape, add_longer};
 use access_tries::{AccessPath, EntityRoot, Step};
 use policy_expressions::{BinaryOp, Expr, ExprKind, Literal, UnaryOp};
 use policy_values::{Text, push_entry};
@@ -22,15 +23,16 @@ use std::collections::{BTreeMap, BTreeSet};
 // Adds what an expression reads and demands, and says where its result comes from. Parts that are not reached stand as
 // literals in a typed expression, and read nothing.
 #[cycle(analyze)]
+#[tactic(auto, using(crate::proofs::Covers::adds_none))]
 pub(crate) fn analyze(
     at: &Setting<'_>,
     e: &Expr<Option<Type>>,
     reads: &mut BTreeSet<AccessPath>,
     demands: &mut BTreeSet<(AccessPath, AccessPath)>,
 ) -> Result<Shape, AllocError>
-    ensures reads { OnOk result (reads.new.keys ≡
-        with_paths reads.old.keys
-        (read.reads at.now.schema.now (env_data_of at.now.env.now) e.now)) }
+    ensures reads { OnOk result (Adds reads.old.keys
+        (read.reads at.now.schema.now (env_data_of at.now.env.now) e.now)
+        reads.new.keys []) }
     ensures demands { OnOk result (demands.new.keys ≡
         with_demands demands.old.keys (read.demands e.now)) }
     ensures shape { IfOk result (λ a. a ≡ shape_of e.now) }
@@ -70,7 +72,7 @@ fn emptied(shape: Shape) -> Shape
 }
 
 #[cycle(analyze)]
-#[tactic(auto, using(crate::proofs::SetSteps::paths_more, crate::proofs::SetSteps::demands_more))]
+#[tactic(auto, using(crate::proofs::Covers::adds_more, crate::proofs::SetSteps::demands_more))]
 fn analyze_if(
     at: &Setting<'_>,
     x: &Expr<Option<Type>>,
@@ -79,10 +81,10 @@ fn analyze_if(
     reads: &mut BTreeSet<AccessPath>,
     demands: &mut BTreeSet<(AccessPath, AccessPath)>,
 ) -> Result<Shape, AllocError>
-    ensures reads { OnOk result (reads.new.keys ≡
-        with_paths reads.old.keys
+    ensures reads { OnOk result (Adds reads.old.keys
         (read.reads at.now.schema.now (env_data_of at.now.env.now)
-        (ite x.now y.now z.now unmarked))) }
+        (ite x.now y.now z.now unmarked))
+        reads.new.keys []) }
     ensures demands { OnOk result (demands.new.keys ≡
         with_demands demands.old.keys (read.demands (ite x.now y.now z.now unmarked))) }
     ensures shape { IfOk result (λ a. a ≡ shape_of (ite x.now y.now z.now unmarked)) }
@@ -95,7 +97,7 @@ fn analyze_if(
 }
 
 #[cycle(analyze)]
-#[tactic(auto, using(crate::proofs::SetSteps::paths_more, crate::proofs::SetSteps::demands_more))]
+#[tactic(auto, using(crate::proofs::Covers::adds_more, crate::proofs::SetSteps::demands_more))]
 fn analyze_sides(
     at: &Setting<'_>,
     x: &Expr<Option<Type>>,
@@ -103,9 +105,9 @@ fn analyze_sides(
     reads: &mut BTreeSet<AccessPath>,
     demands: &mut BTreeSet<(AccessPath, AccessPath)>,
 ) -> Result<Shape, AllocError>
-    ensures reads { OnOk result (reads.new.keys ≡
-        with_paths reads.old.keys
-        (read.reads at.now.schema.now (env_data_of at.now.env.now) (conj x.now y.now unmarked))) }
+    ensures reads { OnOk result (Adds reads.old.keys
+        (read.reads at.now.schema.now (env_data_of at.now.env.now) (conj x.now y.now unmarked))
+        reads.new.keys []) }
     ensures demands { OnOk result (demands.new.keys ≡
         with_demands demands.old.keys (read.demands (conj x.now y.now unmarked))) }
     ensures shape { IfOk result (λ a. a ≡ shape_of (conj x.now y.now unmarked)) }
@@ -117,7 +119,7 @@ fn analyze_sides(
 }
 
 #[cycle(analyze)]
-#[tactic(auto, using(crate::proofs::SetSteps::paths_more))]
+#[tactic(auto, using(crate::proofs::Covers::adds_set_more))]
 fn analyze_unary(
     at: &Setting<'_>,
     op: UnaryOp,
@@ -125,9 +127,9 @@ fn analyze_unary(
     reads: &mut BTreeSet<AccessPath>,
     demands: &mut BTreeSet<(AccessPath, AccessPath)>,
 ) -> Result<Shape, AllocError>
-    ensures reads { OnOk result (reads.new.keys ≡
-        with_paths reads.old.keys
-        (read.reads at.now.schema.now (env_data_of at.now.env.now) (unary op x.now unmarked))) }
+    ensures reads { OnOk result (Adds reads.old.keys
+        (read.reads at.now.schema.now (env_data_of at.now.env.now) (unary op x.now unmarked))
+        reads.new.keys []) }
     ensures demands { OnOk result (demands.new.keys ≡
         with_demands demands.old.keys (read.demands (unary op x.now unmarked))) }
     ensures shape { IfOk result (λ a. a ≡ shape_of (unary op x.now unmarked)) }
@@ -138,7 +140,7 @@ fn analyze_unary(
 }
 
 #[cycle(analyze)]
-#[tactic(auto, using(crate::proofs::SetSteps::paths_more, crate::proofs::SetSteps::demands_more))]
+#[tactic(auto, using(crate::proofs::Covers::adds_more, crate::proofs::Covers::adds_set_more, crate::proofs::SetSteps::demands_more))]
 fn analyze_binary(
     at: &Setting<'_>,
     op: BinaryOp,
@@ -147,10 +149,10 @@ fn analyze_binary(
     reads: &mut BTreeSet<AccessPath>,
     demands: &mut BTreeSet<(AccessPath, AccessPath)>,
 ) -> Result<Shape, AllocError>
-    ensures reads { OnOk result (reads.new.keys ≡
-        with_paths reads.old.keys
+    ensures reads { OnOk result (Adds reads.old.keys
         (read.reads at.now.schema.now (env_data_of at.now.env.now)
-        (binary op x.now y.now unmarked))) }
+        (binary op x.now y.now unmarked))
+        reads.new.keys []) }
     ensures demands { OnOk result (demands.new.keys ≡
         with_demands demands.old.keys (read.demands (binary op x.now y.now unmarked))) }
     ensures shape { IfOk result (λ a. a ≡ shape_of (binary op x.now y.now unmarked)) }
@@ -163,7 +165,7 @@ fn analyze_binary(
 }
 
 #[cycle(analyze)]
-#[tactic(auto, using(crate::proofs::SetSteps::paths_more))]
+#[tactic(auto, using(crate::proofs::Covers::adds_own))]
 fn analyze_attr(
     at: &Setting<'_>,
     x: &Expr<Option<Type>>,
@@ -171,17 +173,66 @@ fn analyze_attr(
     reads: &mut BTreeSet<AccessPath>,
     demands: &mut BTreeSet<(AccessPath, AccessPath)>,
 ) -> Result<Shape, AllocError>
-    ensures reads { OnOk result (reads.new.keys ≡
-        with_paths reads.old.keys
+    ensures reads { OnOk result (Adds reads.old.keys
         (read.reads at.now.schema.now (env_data_of at.now.env.now)
-        (attr x.now name.now unmarked))) }
+        (attr x.now name.now unmarked))
+        reads.new.keys []) }
     ensures demands { OnOk result (demands.new.keys ≡
         with_demands demands.old.keys (read.demands (attr x.now name.now unmarked))) }
     ensures shape { IfOk result (λ a. a ≡ shape_of (attr x.now name.now unmarked)) }
 {
-    let shape = analyze(at, x, reads, demands)?;
+    let shape = reach_attr(at, x, name, reads, demands)?;
+    add_longer(at.alloc, &shape, reads)?;
+    Ok(shape)
+}
+
+// Adds what an expression reads and demands, but for the path that its result is itself.
+#[cycle(analyze)]
+#[tactic(auto, using(crate::proofs::Covers::own_stands))]
+fn reach(
+    at: &Setting<'_>,
+    e: &Expr<Option<Type>>,
+    reads: &mut BTreeSet<AccessPath>,
+    demands: &mut BTreeSet<(AccessPath, AccessPath)>,
+) -> Result<Shape, AllocError>
+    ensures reads { OnOk result (Adds reads.old.keys
+        (read.reads at.now.schema.now (env_data_of at.now.env.now) e.now)
+        reads.new.keys (own_path (shape_of e.now))) }
+    ensures demands { OnOk result (demands.new.keys ≡
+        with_demands demands.old.keys (read.demands e.now)) }
+    ensures shape { IfOk result (λ a. a ≡ shape_of e.now) }
+{
+    match e.kind() {
+        ExprKind::GetAttr(x, name) => reach_attr(at, x, name, reads, demands),
+        _ => analyze(at, e, reads, demands),
+    }
+}
+
+// A path is not added where it goes on: whoever reads the longer one reads it too.
+#[cycle(analyze)]
+#[tactic(auto, using(crate::proofs::Covers::path_goes_on, crate::proofs::Covers::paths_go_on))]
+fn reach_attr(
+    at: &Setting<'_>,
+    x: &Expr<Option<Type>>,
+    name: &Text,
+    reads: &mut BTreeSet<AccessPath>,
+    demands: &mut BTreeSet<(AccessPath, AccessPath)>,
+) -> Result<Shape, AllocError>
+    ensures reads { OnOk result (Adds reads.old.keys
+        (read.reads at.now.schema.now (env_data_of at.now.env.now)
+        (attr x.now name.now unmarked))
+        reads.new.keys (own_path (shape_of (attr x.now name.now unmarked)))) }
+    ensures demands { OnOk result (demands.new.keys ≡
+        with_demands demands.old.keys (read.demands (attr x.now name.now unmarked))) }
+    ensures shape { IfOk result (λ a. a ≡ shape_of (attr x.now name.now unmarked)) }
+{
+    let shape = reach(at, x, reads, demands)?;
     let step = Step::Field(name.try_clone()?);
-    add_one_step_on(at.alloc, shape, &step, reads)
+    if shape.is_path() {
+        shape.extended(at.alloc, &step)
+    } else {
+        add_one_step_on(at.alloc, shape, &step, reads)
+    }
 }
 
 #[cycle(analyze)]
@@ -191,9 +242,9 @@ fn analyze_call(
     reads: &mut BTreeSet<AccessPath>,
     demands: &mut BTreeSet<(AccessPath, AccessPath)>,
 ) -> Result<Shape, AllocError>
-    ensures reads { OnOk result (reads.new.keys ≡
-        with_paths reads.old.keys
-        (reads_all at.now.schema.now (env_data_of at.now.env.now) (trees_of xs.now.items))) }
+    ensures reads { OnOk result (Adds reads.old.keys
+        (reads_all at.now.schema.now (env_data_of at.now.env.now) (trees_of xs.now.items))
+        reads.new.keys []) }
     ensures demands { OnOk result (demands.new.keys ≡
         with_demands demands.old.keys (demands_all (trees_of xs.now.items))) }
     ensures shape { IfOk result (λ a. a ≡ no_shape) }
@@ -211,10 +262,10 @@ fn analyze_set(
     reads: &mut BTreeSet<AccessPath>,
     demands: &mut BTreeSet<(AccessPath, AccessPath)>,
 ) -> Result<Shape, AllocError>
-    ensures reads { OnOk result (reads.new.keys ≡
-        with_paths reads.old.keys
+    ensures reads { OnOk result (Adds reads.old.keys
         (read.reads at.now.schema.now (env_data_of at.now.env.now)
-        (set (trees_of xs.now.items) unmarked))) }
+        (set (trees_of xs.now.items) unmarked))
+        reads.new.keys []) }
     ensures demands { OnOk result (demands.new.keys ≡
         with_demands demands.old.keys (read.demands (set (trees_of xs.now.items) unmarked))) }
     ensures shape { IfOk result (λ a. a ≡ shape_of (set (trees_of xs.now.items) unmarked)) }
@@ -231,10 +282,10 @@ fn analyze_record(
     reads: &mut BTreeSet<AccessPath>,
     demands: &mut BTreeSet<(AccessPath, AccessPath)>,
 ) -> Result<Shape, AllocError>
-    ensures reads { OnOk result (reads.new.keys ≡
-        with_paths reads.old.keys
+    ensures reads { OnOk result (Adds reads.old.keys
         (read.reads at.now.schema.now (env_data_of at.now.env.now)
-        (rec (named_of fields.now.entries) unmarked))) }
+        (rec (named_of fields.now.entries) unmarked))
+        reads.new.keys []) }
     ensures demands { OnOk result (demands.new.keys ≡
         with_demands demands.old.keys (read.demands (rec (named_of fields.now.entries) unmarked))) }
     ensures shape { IfOk result (λ a. a ≡ shape_of (rec (named_of fields.now.entries) unmarked)) }
@@ -245,16 +296,16 @@ fn analyze_record(
 
 // Operands, one after another.
 #[cycle(analyze)]
-#[tactic(auto, using(policy_expressions::proofs::TreeSteps::depth_in, crate::proofs::SetSteps::paths_more, crate::proofs::SetSteps::demands_more))]
+#[tactic(auto, using(policy_expressions::proofs::TreeSteps::depth_in, crate::proofs::Covers::adds_start, crate::proofs::Covers::adds_next, crate::proofs::SetSteps::demands_more))]
 fn analyze_all(
     at: &Setting<'_>,
     xs: &Vec<Expr<Option<Type>>>,
     reads: &mut BTreeSet<AccessPath>,
     demands: &mut BTreeSet<(AccessPath, AccessPath)>,
 ) -> Result<Vec<Shape>, AllocError>
-    ensures reads { OnOk result (reads.new.keys ≡
-        with_paths reads.old.keys
-        (reads_all at.now.schema.now (env_data_of at.now.env.now) (trees_of xs.now.items))) }
+    ensures reads { OnOk result (Adds reads.old.keys
+        (reads_all at.now.schema.now (env_data_of at.now.env.now) (trees_of xs.now.items))
+        reads.new.keys []) }
     ensures demands { OnOk result (demands.new.keys ≡
         with_demands demands.old.keys (demands_all (trees_of xs.now.items))) }
     ensures shapes { IfOk result (λ r. r.items ≡ map shape_of xs.now.items) }
@@ -269,17 +320,17 @@ fn analyze_all(
 
 // Fields, by ascending keys.
 #[cycle(analyze)]
-#[tactic(auto, using(crate::proofs::SetSteps::paths_more, crate::proofs::SetSteps::demands_more))]
+#[tactic(auto, using(crate::proofs::Covers::adds_start, crate::proofs::Covers::adds_next, crate::proofs::SetSteps::demands_more))]
 fn analyze_named(
     at: &Setting<'_>,
     fields: &BTreeMap<Text, Expr<Option<Type>>>,
     reads: &mut BTreeSet<AccessPath>,
     demands: &mut BTreeSet<(AccessPath, AccessPath)>,
 ) -> Result<BTreeMap<Text, Shape>, AllocError>
-    ensures reads { OnOk result (reads.new.keys ≡
-        with_paths reads.old.keys
+    ensures reads { OnOk result (Adds reads.old.keys
         (reads_named at.now.schema.now (env_data_of at.now.env.now)
-        (named_of fields.now.entries))) }
+        (named_of fields.now.entries))
+        reads.new.keys []) }
     ensures demands { OnOk result (demands.new.keys ≡
         with_demands demands.old.keys (demands_named (named_of fields.now.entries))) }
     ensures shapes { IfOk result (λ r. r.entries ≡ map shaped fields.now.entries) }

@@ -13,7 +13,7 @@ loop-condition-preserved c =
     let e = env_data_of c.args.env.now in
     let found = c.in_ok-add_condition.ensures in
     record {
-      reads = reads_next s e c.args.conditions.now c.loop-condition.condition-index _ c.condition-item.is c.loop-condition-test.true c.loop-condition.reads.keys _ found.reads _ c.loop-condition.invariant.reads;
+      reads = reads_next s e c.args.conditions.now c.loop-condition.condition-index _ c.condition-item.is c.loop-condition-test.true _ c.loop-condition.reads.keys _ c.loop-condition.invariant.reads found.reads;
       demands = demands_next s e c.args.conditions.now c.loop-condition.condition-index _ c.condition-item.is c.loop-condition-test.true c.loop-condition.demands.keys _ found.demands _ c.loop-condition.invariant.demands;
     }
 
