@@ -1,5 +1,5 @@
 -- What is answered to many requests.
-use Rattle.std.specs.Prelude.{◌≡◌, ◌⊎◌, ◌≤◌, ◌+◌, ◌^◌, ⊤, ℕ, true, List, [], ◌∷◌, Option, Some, None, IfSome}
+use Rattle.std.specs.Prelude.{◌≡◌, ◌+◌, ⊤, ℕ, true, List, [], ◌∷◌, Option, Some, None, IfSome}
 use Rattle.entity_store.specs.declared.request.Request.{Request}
 use Rattle.entity_store.specs.Request.{IsWhole}
 use Rattle.entity_store.specs.Store.{Store}
@@ -8,6 +8,7 @@ use Rattle.policy_set.specs.Response.{response}
 use Rattle.schema_core.specs.Schema.{SchemaData}
 use Rattle.typing_spec.specs.Conforms.{RequestConforms, StoreConforms}
 use Rattle.conformance.specs.RequestRules.{first_request_fault}
+use Rattle.byte_streams.specs.Steps.{RoseBy}
 use Rattle.entity_loader.specs.State.{LoaderState, Continues}
 use Rattle.entity_manifest.specs.declared.EntitySliceError.{EntitySliceError}
 use Rattle.entity_manifest.specs.declared.EntitySliceError.TheVariants as error
@@ -71,4 +72,4 @@ faults_in (a ∷ answers) = is_fault a + faults_in answers
 
 -- at most as many as a count of faults rose by, which is below the last value of u64
 abbrev pub AreCounted : List BatchAnswer → ℕ → ℕ → Type 0
-AreCounted answers old new = (faults_in answers + old ≤ new) ⊎ (2 ^ 64 ≤ new + 1)
+AreCounted answers old new = RoseBy (faults_in answers) old new

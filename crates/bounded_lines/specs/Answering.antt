@@ -1,9 +1,10 @@
 -- What is written where the lines of a source are answered, one after another.
-use Rattle.std.specs.Prelude.{◌≡◌, ◌≤◌, ◌<◌, eqb, if◌then◌else◌, ℕ, List, [], ◌∷◌, ◌++◌, length, take, string_bytes, Option, Some, None, Result, Ok, Err, String}
+use Rattle.std.specs.Prelude.{◌≡◌, ◌≤◌, ◌<◌, ◌+◌, eqb, if◌then◌else◌, ℕ, List, [], ◌∷◌, ◌++◌, length, take, string_bytes, Option, Some, None, Result, Ok, Err, String}
 use Rattle.std.specs.declared.alloc.AllocError.{AllocError}
 use Rattle.std.specs.declared.alloc.Global.{Global}
-use Rattle.std.specs.List.{AllZip, concat}
+use Rattle.std.specs.List.{concat}
 use Rattle.std.specs.Io.KnownBytes.{Appends, Keeps, IsAtEnd}
+use Rattle.byte_streams.specs.Steps.{RoseBy}
 use Rattle.byte_streams.specs.declared.reading.TheConstants.{DOCUMENT_LIMIT}
 use Rattle.bounded_lines.specs.Lines.{TakesLine}
 use Rattle.bounded_lines.specs.declared.answering.Ended.{Ended}
@@ -23,6 +24,13 @@ lines_of (b ∷ bs) = if eqb b 10 then [] ∷ lines_of bs else with_byte b (line
 abbrev pub Answers : (Option (List ℕ) → List ℕ → Type 0) → List ℕ → List ℕ → Type 0
 Answers IsAnswer line text = (length line ≤ DOCUMENT_LIMIT → IsAnswer (Some line) text) × (DOCUMENT_LIMIT < length line → IsAnswer None text)
 
+-- each line has its text; with the answers so many faults in all are counted
+abbrev pub AreAnswers : (ℕ → Option (List ℕ) → List ℕ → Type 0) → ℕ → List (List ℕ) → List (List ℕ) → Type 0
+AreAnswers IsAnswer n [] [] = n ≡ 0
+AreAnswers IsAnswer n (line ∷ lines) (text ∷ texts) =
+    (k : ℕ) × (m : ℕ) × (n ≡ k + m) × Answers (IsAnswer k) line text × AreAnswers IsAnswer m lines texts
+AreAnswers IsAnswer n lines texts = ⊥
+
 -- what is left unanswered, and written behind the last answer: nothing; or, where a write failed, a front of the next answer
 abbrev pub Remains : (Option (List ℕ) → List ℕ → Type 0) → Ended → List (List ℕ) → List ℕ → Type 0
 Remains IsAnswer ended.Done rest part = (rest ≡ []) × (part ≡ [])
@@ -31,20 +39,26 @@ Remains IsAnswer ended.OutOfMemory rest part = part ≡ []
 Remains IsAnswer ended.WriteFault rest part =
     (line : List ℕ) × (others : List (List ℕ)) × (text : List ℕ) × (n : ℕ) × (rest ≡ line ∷ others) × Answers IsAnswer line text × (part ≡ take n text)
 
--- an answer to each of the first lines of what was left was written, in their order
-abbrev pub AreAnswered : (Option (List ℕ) → List ℕ → Type 0) → Option (List ℕ) → Option (List ℕ) → Option (List ℕ) → Ended → Type 0
-AreAnswered IsAnswer left old new e = (bytes : List ℕ) → left ≡ Some bytes →
-    (front : List (List ℕ)) × (rest : List (List ℕ)) × (texts : List (List ℕ)) × (part : List ℕ)
-    × (lines_of bytes ≡ front ++ rest) × AllZip (Answers IsAnswer) front texts × Appends old new (concat texts ++ part) × Remains IsAnswer e rest part
+-- an answer to each of the first lines of what was left was written, in their order; and a count rose by the faults of all of them at least
+abbrev pub AreAnswered :
+    (ℕ → Option (List ℕ) → List ℕ → Type 0) → ℕ → ℕ → Option (List ℕ) → Option (List ℕ) → Option (List ℕ) → Ended → Type 0
+AreAnswered IsAnswer from to left old new e = (bytes : List ℕ) → left ≡ Some bytes →
+    (front : List (List ℕ)) × (rest : List (List ℕ)) × (texts : List (List ℕ)) × (part : List ℕ) × (n : ℕ) × (k : ℕ)
+    × (lines_of bytes ≡ front ++ rest) × AreAnswers IsAnswer n front texts × Appends old new (concat texts ++ part) × Remains (IsAnswer k) e rest part
+    × RoseBy (n + k) from to
 
 -- one line was taken and answered, or how that ended
-abbrev pub IsStep : (Option (List ℕ) → List ℕ → Type 0) → Option (List ℕ) → Option (List ℕ) → Option (List ℕ) → Option (List ℕ) → Result (Unit {0}) Ended → Type 0
-IsStep IsAnswer left rest old new (Ok done) = (line : List ℕ) × (text : List ℕ) × TakesLine left rest line × Answers IsAnswer line text × Appends old new text
-IsStep IsAnswer left rest old new (Err ended.Done) = Keeps left rest × IsAtEnd rest × (old ≡ new)
-IsStep IsAnswer left rest old new (Err ended.ReadFault) = old ≡ new
-IsStep IsAnswer left rest old new (Err ended.OutOfMemory) = old ≡ new
-IsStep IsAnswer left rest old new (Err ended.WriteFault) =
-    (line : List ℕ) × (text : List ℕ) × (n : ℕ) × TakesLine left rest line × Answers IsAnswer line text × Appends old new (take n text)
+abbrev pub IsStep :
+    (ℕ → Option (List ℕ) → List ℕ → Type 0) → ℕ → ℕ → Option (List ℕ) → Option (List ℕ) → Option (List ℕ) → Option (List ℕ)
+    → Result (Unit {0}) Ended → Type 0
+IsStep IsAnswer from to left rest old new (Ok done) =
+    (line : List ℕ) × (text : List ℕ) × (n : ℕ) × TakesLine left rest line × Answers (IsAnswer n) line text × RoseBy n from to × Appends old new text
+IsStep IsAnswer from to left rest old new (Err ended.Done) = Keeps left rest × IsAtEnd rest × (old ≡ new) × RoseBy 0 from to
+IsStep IsAnswer from to left rest old new (Err ended.ReadFault) = (old ≡ new) × RoseBy 0 from to
+IsStep IsAnswer from to left rest old new (Err ended.OutOfMemory) = (old ≡ new) × RoseBy 0 from to
+IsStep IsAnswer from to left rest old new (Err ended.WriteFault) =
+    (line : List ℕ) × (text : List ℕ) × (n : ℕ) × (len : ℕ) × TakesLine left rest line × Answers (IsAnswer n) line text × RoseBy n from to
+    × Appends old new (take len text)
 
 -- the text was written, or how that ended
 abbrev pub IsWritten : Option (List ℕ) → Option (List ℕ) → Result (String Global) AllocError → Result (Unit {0}) Ended → Type 0

@@ -10,7 +10,11 @@ use Rattle.byte_streams.specs.declared.WriteAnswer.TheVariants as write
 abbrev pub Rose : ℕ → ℕ → Type 0
 Rose old new = (old < new) ⊎ (2 ^ 64 ≤ new + 1)
 
--- a count of faults did neither
+-- a count of faults went up by so many at least, or it stands at the last value of u64
+abbrev pub RoseBy : ℕ → ℕ → ℕ → Type 0
+RoseBy n old new = (n + old ≤ new) ⊎ (2 ^ 64 ≤ new + 1)
+
+-- a count of faults did not go up, and it is below the last value of u64
 abbrev pub IsQuiet : ℕ → ℕ → Type 0
 IsQuiet old new = (new ≤ old) × (new + 1 < 2 ^ 64)
 

@@ -10,11 +10,11 @@ use Rattle.directory.specs.Attempts.{OfStore}
 use Rattle.directory.specs.Lines.{IsLineOn}
 
 -- what is an answer where the store is in order and conforms is one by the store that is so
-pub by_store : (told : Option Store) (left old new : Option (List ℕ)) (e : Ended) (schema now : SchemaData) (policies held : PolicySetData) → now ≡ schema → held ≡ policies
-    → AreAnswered (λ asked text. OfStore now told (λ w. IsLineOn now held.policies w asked text)) left old new e
-    → OfStore schema told (λ w. AreAnswered (IsLineOn schema policies.policies w) left old new e)
-by_store told left old new e schema now policies held same alike h w is ordered conforms =
-    let P : SchemaData → PolicySetData → Option (List ℕ) → List ℕ → Type 0 = λ s p asked text. OfStore s told (λ w. IsLineOn s p.policies w asked text) in
-    let first = subst (λ s. AreAnswered (P s held) left old new e) same h in
-    let both = subst (λ p. AreAnswered (P schema p) left old new e) alike first in
-    answered_map (P schema policies) (IsLineOn schema policies.policies w) (λ asked text g. g w is ordered conforms) left old new e both
+pub by_store : (told : Option Store) (from to : ℕ) (left old new : Option (List ℕ)) (e : Ended) (schema now : SchemaData) (policies held : PolicySetData) → now ≡ schema → held ≡ policies
+    → AreAnswered (λ n asked text. OfStore now told (λ w. IsLineOn now held.policies w n asked text)) from to left old new e
+    → OfStore schema told (λ w. AreAnswered (IsLineOn schema policies.policies w) from to left old new e)
+by_store told from to left old new e schema now policies held same alike h w is ordered conforms =
+    let P : SchemaData → PolicySetData → ℕ → Option (List ℕ) → List ℕ → Type 0 = λ s p n asked text. OfStore s told (λ w. IsLineOn s p.policies w n asked text) in
+    let first = subst (λ s. AreAnswered (P s held) from to left old new e) same h in
+    let both = subst (λ p. AreAnswered (P schema p) from to left old new e) alike first in
+    answered_map (P schema policies) (IsLineOn schema policies.policies w) (λ n asked text g. g w is ordered conforms) from to left old new e both

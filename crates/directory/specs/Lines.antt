@@ -7,7 +7,7 @@ use Rattle.json_document.specs.Request.{request_of}
 use Rattle.policy_set.specs.Data.{PolicyData}
 use Rattle.schema_core.specs.Schema.{SchemaData}
 use Rattle.entity_store.specs.Store.{Store}
-use Rattle.batch_decisions.specs.Answers.{IsAnswerOrFault}
+use Rattle.batch_decisions.specs.Answers.{IsAnswerOrFault, is_fault}
 use Rattle.batch_decisions.specs.Lines.{line_on, refused_line}
 use Rattle.batch_decisions.specs.declared.answer.BatchAnswer.{BatchAnswer}
 use Rattle.directory.specs.declared.requests.LineRequest.{LineRequest}
@@ -21,13 +21,14 @@ request_in (Some v) = option_map_or line.Request (request_of (Some v)) line.NoRe
 abbrev pub line_request : List ℕ → LineRequest
 line_request bytes = request_in (json_of bytes)
 
--- by the store of all rows the text is the line on the response to the line's request, or on a fault; or it says that there is no request
-abbrev pub IsRequestLine : SchemaData → List PolicyData → Store → LineRequest → List ℕ → Type 0
-IsRequestLine schema ps w (line.Request q) text = (a : BatchAnswer) × IsAnswerOrFault schema ps w q a × (text ≡ line_on a)
-IsRequestLine schema ps w line.NoRequest text = text ≡ refused_line (codes "line: no request")
-IsRequestLine schema ps w line.NoJson text = text ≡ refused_line (codes "line: no JSON")
+-- by the store of all rows the text is the line on the response to the line's request; or the line on a fault, with which one is counted; or it
+-- says that there is no request
+abbrev pub IsRequestLine : SchemaData → List PolicyData → Store → ℕ → LineRequest → List ℕ → Type 0
+IsRequestLine schema ps w faults (line.Request q) text = (a : BatchAnswer) × IsAnswerOrFault schema ps w q a × (faults ≡ is_fault a) × (text ≡ line_on a)
+IsRequestLine schema ps w faults line.NoRequest text = (faults ≡ 0) × (text ≡ refused_line (codes "line: no request"))
+IsRequestLine schema ps w faults line.NoJson text = (faults ≡ 0) × (text ≡ refused_line (codes "line: no JSON"))
 
 -- the same of a line, or of one that is too long
-abbrev pub IsLineOn : SchemaData → List PolicyData → Store → Option (List ℕ) → List ℕ → Type 0
-IsLineOn schema ps w (Some bytes) text = IsRequestLine schema ps w (line_request bytes) text
-IsLineOn schema ps w None text = text ≡ refused_line (codes "line: more than 16777216 bytes")
+abbrev pub IsLineOn : SchemaData → List PolicyData → Store → ℕ → Option (List ℕ) → List ℕ → Type 0
+IsLineOn schema ps w faults (Some bytes) text = IsRequestLine schema ps w faults (line_request bytes) text
+IsLineOn schema ps w faults None text = (faults ≡ 0) × (text ≡ refused_line (codes "line: more than 16777216 bytes"))

@@ -1,12 +1,13 @@
 //! The answer to a line.
-ghost use Rattle.std.specs.Prelude.{◌≡◌, IfOk, string_bytes};
+ghost use Rattle.std.specs.Prelude.{◌≡◌, ℕ, IfOk, string_bytes};
+ghost use Rattle.byte_streams.specs.Steps.{RoseBy};
 ghost use Rattle.sqlite.specs.Held.{state};
 ghost use Rattle.batch_decisions.specs.Accepted.{IsAccepted};
 ghost use Rattle.batch_decisions.specs.OfPolicies.{IsManifestOf};
 ghost use Rattle.entity_rows.specs.Table.{IsReady, Continues};
 ghost use Rattle.entity_rows.specs.Rows.{told_store};
 ghost use Rattle.directory.specs.Attempts.{OfStore};
-ghost use Rattle.batch_decisions.specs.Answers.{IsAnswerOrFault};
+ghost use Rattle.batch_decisions.specs.Answers.{IsAnswerOrFault, is_fault};
 ghost use Rattle.batch_decisions.specs.Lines.{line_on};
 ghost use Rattle.batch_decisions.specs.declared.answer.BatchAnswer.{BatchAnswer};
 ghost use Rattle.directory.specs.Lines.{IsRequestLine, line_request};
@@ -41,8 +42,11 @@ fn answer_request<S: Alter + Drop, L: Ledger>(
     ensures ready { IsReady (state S.Store directory.new.conn) }
     ensures goes_on { Continues (told_store (state S.Store directory.old.conn))
         (told_store (state S.Store directory.new.conn)) }
-    ensures answer { OfStore schema.now (told_store (state S.Store directory.new.conn)) (λ w.
-        IfOk result (λ text. (a : BatchAnswer) × IsAnswerOrFault schema.now policies.now.policies w request.now a × (string_bytes text ≡ line_on a))) }
+    ensures answer { IfOk result (λ text. (a : BatchAnswer)
+        × OfStore schema.now (told_store (state S.Store directory.new.conn)) (λ w. IsAnswerOrFault schema.now policies.now.policies w request.now a)
+        × RoseBy (is_fault a) directory.old.faults directory.new.faults
+        × (string_bytes text ≡ line_on a)) }
+    ensures kept { RoseBy 0 directory.old.faults directory.new.faults }
 {
     let answer = decide_on(alloc, schema, policies, manifest, request, directory, steps)?;
     line_on(alloc, &answer)
@@ -52,7 +56,7 @@ fn answer_request<S: Alter + Drop, L: Ledger>(
 /// the line is, or why there is none.
 ///
 /// Where after the call the database is open and its disk has returned what was written, and the store of its rows is in order
-/// and conforms, the line is that on the response on this whole store, or on a fault, which is counted.
+/// and conforms, the line is that on the response on this whole store, or on a fault, by which the count of faults rose.
 pub fn answer_line<S: Alter + Drop, L: Ledger>(
     alloc: Global,
     schema: &ValidatorSchema,
@@ -68,8 +72,11 @@ pub fn answer_line<S: Alter + Drop, L: Ledger>(
     ensures ready { IsReady (state S.Store directory.new.conn) }
     ensures goes_on { Continues (told_store (state S.Store directory.old.conn))
         (told_store (state S.Store directory.new.conn)) }
-    ensures answer { OfStore schema.now (told_store (state S.Store directory.new.conn)) (λ w.
-        IfOk result (λ text. IsRequestLine schema.now policies.now.policies w (line_request line.now) (string_bytes text))) }
+    ensures answer { IfOk result (λ text. (faults : ℕ)
+        × OfStore schema.now (told_store (state S.Store directory.new.conn)) (λ w.
+        IsRequestLine schema.now policies.now.policies w faults (line_request line.now) (string_bytes text))
+        × RoseBy faults directory.old.faults directory.new.faults) }
+    ensures kept { RoseBy 0 directory.old.faults directory.new.faults }
 {
     let asked = line_request(alloc, line)?;
     match asked {

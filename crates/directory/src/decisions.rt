@@ -1,14 +1,14 @@
 //! Decisions by the rows of a database.
 
-ghost use Rattle.std.specs.Prelude.{◌≡◌, ◌≢◌, Ok, IfOk, OnOk};
-ghost use Rattle.byte_streams.specs.Steps.{Rose};
+ghost use Rattle.std.specs.Prelude.{◌≢◌, IfOk, OnOk};
+ghost use Rattle.byte_streams.specs.Steps.{RoseBy};
 ghost use Rattle.sqlite.specs.Held.{state};
 ghost use Rattle.entity_store.specs.Request.{IsWhole};
 ghost use Rattle.typing_spec.specs.Conforms.{RequestConforms};
 ghost use Rattle.batch_decisions.specs.Accepted.{IsAccepted};
 ghost use Rattle.batch_decisions.specs.OfPolicies.{IsManifestOf};
 ghost use Rattle.batch_decisions.specs.declared.EntitySliceError.TheVariants.{LoaderFault};
-ghost use Rattle.batch_decisions.specs.Answers.{IsAnswerOrFault};
+ghost use Rattle.batch_decisions.specs.Answers.{IsAnswerOrFault, is_fault};
 ghost use Rattle.entity_rows.specs.Table.{IsReady, Continues};
 ghost use Rattle.entity_rows.specs.Fetched.{AreFetched};
 ghost use Rattle.entity_rows.specs.Rows.{told_store};
@@ -143,8 +143,9 @@ pub fn decide_on<S: Alter + Drop, L: Ledger>(
         (told_store (state S.Store directory.new.conn)) }
     ensures answer { OfStore schema.now (told_store (state S.Store directory.new.conn)) (λ w.
         IfOk result (IsAnswerOrFault schema.now policies.now.policies w request.now)) }
-    ensures counted { result ≡ Ok (BatchAnswer.Loading LoaderFault) →
-        Rose directory.old.faults directory.new.faults }
+    ensures counted { IfOk result (λ answer.
+        RoseBy (is_fault answer) directory.old.faults directory.new.faults) }
+    ensures kept { RoseBy 0 directory.old.faults directory.new.faults }
 {
     request_rules_are_exact();
     // for the proof: the names of a schema's actions ascend

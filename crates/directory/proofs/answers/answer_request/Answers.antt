@@ -1,7 +1,14 @@
-use Rattle.batch_decisions.specs.Answers.{IsAnswerOrFault}
+use Rattle.byte_streams.specs.Steps.{RoseBy}
+use Rattle.sqlite.specs.Held.{state}
+use Rattle.batch_decisions.specs.Answers.{IsAnswerOrFault, is_fault}
+use Rattle.entity_rows.specs.Rows.{told_store}
+use Rattle.directory.specs.Attempts.{OfStore}
 use Rattle.directory.proofs.Written.{told_line}
 use Rattle.directory.proofs.answers.answer_request.Goals as goal
 
 pub returns-clause-answer : goal.returns-clause-answer
-returns-clause-answer g c w told ordered conforms =
-    told_line c.line_on.result (IsAnswerOrFault c.args.schema.now c.args.policies.now.policies w c.args.request.now) c.in_ok-answer.answer (c.in_ok-answer.ensures.answer w told ordered conforms) c.line_on.ensures
+returns-clause-answer g c =
+    told_line c.line_on.result
+    (λ a. OfStore c.args.schema.now (told_store (state g.S.Store c.decide_on.new.directory.conn)) (λ w. IsAnswerOrFault c.args.schema.now c.args.policies.now.policies w c.args.request.now a))
+    (λ a. RoseBy (is_fault a) c.args.directory.now.faults c.decide_on.new.directory.faults)
+    c.in_ok-answer.answer c.in_ok-answer.ensures.answer c.in_ok-answer.ensures.counted c.line_on.ensures
