@@ -13,6 +13,8 @@ pub record LoaderState : Type 0 where
   pub strays : ℕ
   -- how often entities were asked for
   pub rounds : ℕ
+  -- how often ancestors were asked for
+  pub lists : ℕ
 
 -- a store that is told stays told, and the same; no count falls, and a loader that tells its store does not stray
 pub record Continues (old new : LoaderState) : Type 0 where

@@ -88,6 +88,7 @@ pub trait EntityLoader {
         requires { IsStrictlySortedBy uid_cmp (map (λ r. r.entity_id) requests.now.items) }
         ensures goes_on { Continues (state self.old) (state self.new) }
         ensures rounds { Ticks (state self.old).rounds (state self.new).rounds }
+        ensures lists { (state self.new).lists ≡ (state self.old).lists }
         ensures cause { result ≡ Err LoadError.Failed →
             Rose (state self.old).faults (state self.new).faults }
         ensures fit { IfOk result (λ found. AllZip Fits requests.now.items found.items ⊎
@@ -98,6 +99,7 @@ pub trait EntityLoader {
     /// reached by parents of these. Each entity is asked for once, and their ids ascend.
     ///
     /// `Failed` comes only where the count of faults rises; another number of answers only where the count of strays does.
+    /// Each call counts one for lists, also one that fails.
     fn load_ancestors(
         &mut self,
         alloc: Global,
@@ -106,6 +108,7 @@ pub trait EntityLoader {
         requires { IsStrictlySortedBy uid_cmp (map (λ r. r.entity_id) requests.now.items) }
         ensures goes_on { Continues (state self.old) (state self.new) }
         ensures rounds { (state self.new).rounds ≡ (state self.old).rounds }
+        ensures lists { Ticks (state self.old).lists (state self.new).lists }
         ensures cause { result ≡ Err LoadError.Failed →
             Rose (state self.old).faults (state self.new).faults }
         ensures fit { IfOk result (λ found. (length requests.now.items ≡ length found.items) ⊎

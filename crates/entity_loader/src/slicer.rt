@@ -18,6 +18,8 @@ pub struct EntitySlicer<'a> {
     pub entities: &'a Entities,
     /// How often entities were asked for; at the last value of u64 it stays.
     pub rounds: u64,
+    /// How often ancestors were asked for; at the last value of u64 it stays.
+    pub lists: u64,
 }
 
 impl<'a> EntitySlicer<'a> {
@@ -25,10 +27,12 @@ impl<'a> EntitySlicer<'a> {
     pub fn new(entities: &'a Entities) -> EntitySlicer<'a>
         ensures entities { result.entities.now ≡ entities.now }
         ensures rounds { result.rounds ≡ 0 }
+        ensures lists { result.lists ≡ 0 }
     {
         EntitySlicer {
             entities,
             rounds: 0,
+            lists: 0,
         }
     }
 }
@@ -55,6 +59,7 @@ impl EntityLoader for EntitySlicer<'_> {
         alloc: Global,
         requests: &Vec<AncestorsRequest>,
     ) -> Result<Vec<Vec<EntityUID>>, LoadError> {
+        self.lists = self.lists.saturating_add(1);
         match ancestor_lists(alloc, self.entities, requests) {
             Ok(found) => Ok(found),
             Err(_) => Err(LoadError::OutOfMemory),

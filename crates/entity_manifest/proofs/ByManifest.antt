@@ -1,27 +1,22 @@
 -- What loading by a computed manifest promises.
-use Rattle.std.proofs.Common.{◌≡◌, Bool, true, List, [], ◌∷◌, Option, Some, None, Result, Ok, Err, IfSome, refl, sym, ap, ◌∙◌, subst, inl, inr}
+use Rattle.std.proofs.Common.{◌≡◌, Bool, true, List, [], ◌∷◌, Option, Some, None, Result, Ok, Err, refl, sym, ap, ◌∙◌, subst, inl, inr}
 use Rattle.std.specs.Prelude.{◌≢◌, IfErr, IfOk, map}
 use Rattle.std.specs.List.Sorted.{IsStrictlySortedBy}
 use Rattle.policy_values.specs.Uid.{uid_cmp}
-use Rattle.policy_values.specs.Value.{Val, Fields}
+use Rattle.policy_values.specs.Value.{Val}
 use Rattle.entity_store.specs.declared.request.Request.{Request}
 use Rattle.entity_store.specs.Request.{IsWhole}
-use Rattle.policy_core.specs.Eval.{known_fields}
 use Rattle.entity_store.specs.Store.{Store}
-use Rattle.policy_expressions.specs.declared.kinds.Var.TheVariants.{Principal, Action, Resource, Context}
-use Rattle.access_tries.specs.declared.edge.EntityRoot.{EntityRoot}
-use Rattle.access_tries.specs.declared.edge.EntityRoot.TheVariants.{Literal, Var}
 use Rattle.access_tries.specs.Table.{Table}
 use Rattle.policy_set.specs.PolicySet.{PolicySetData, IsPolicySet, AreKeyedOnce}
 use Rattle.schema_core.specs.Faults.{IsSchema}
 use Rattle.schema_core.specs.Schema.{SchemaData}
 use Rattle.typing_spec.specs.Conforms.{RequestConforms, StoreConforms}
 use Rattle.manifest_computation.specs.Accepted.{IsAccepted}
-use Rattle.store_order.specs.Order.{IsOrdered, AreOrdered}
 use Rattle.reads_spec.specs.Paths.{AccessPath, Demand}
 use Rattle.reads_spec.specs.Cover.{IsPartOf}
 use Rattle.reads_spec.specs.Reads.{declared_reads, declared_demands}
-use Rattle.reads_spec.specs.Restrict.{root_value, part, needed, restrict}
+use Rattle.reads_spec.specs.Restrict.{part, needed, restrict}
 use Rattle.manifest_computation.specs.Typed.{typed_conditions}
 use Rattle.manifest_computation.specs.Slice.{env_of, slice, slice_in}
 use Rattle.store_slices.proofs.LeastSteps.{declared_trie}
@@ -36,29 +31,18 @@ use Rattle.manifest_loading.specs.declared.error.EntitySliceError.{EntitySliceEr
 use Rattle.manifest_loading.specs.declared.error.EntitySliceError.TheVariants as error
 use Rattle.manifest_core.specs.Manifest.{Manifest, trie_for}
 use Rattle.manifest_computation.specs.Computed.{IsManifestOf}
+use Rattle.manifest_computation.proofs.RequestTries.{tries_of_reads}
 use Rattle.entity_manifest.specs.Loaded.{LoadedIsEnough, AreDecidedAlike, RefusalsAreFaults, IsFaultOrMemory, IsTold, OfToldStores, WhyNotLoaded}
-use Rattle.entity_manifest.proofs.Loaded.{trie_is, tries_there}
+use Rattle.entity_manifest.proofs.Loaded.{tries_there}
 
--- keys ascend in each value from which paths go on, where they do in the context
-pub roots_ordered : (q : Request) → IfSome q.context AreOrdered → (r : EntityRoot) → IsOrdered (root_value q r)
-roots_ordered q h (Literal u) = tt
-roots_ordered q h (Var Principal) = tt
-roots_ordered q h (Var Action) = tt
-roots_ordered q h (Var Resource) = tt
-roots_ordered q h (Var Context) = by q.context h
-  where
-    by : (o : Option Fields) → IfSome o AreOrdered → AreOrdered (known_fields o)
-    by None k = tt
-    by (Some fs) k = k
-
--- what loading by the manifest for a whole request promises of its result, where keys ascend in the context
+-- what loading by the manifest for a whole request promises of its result
 module _ (m : Manifest) (q : Request) (old new : LoaderState) (result : Result Store EntitySliceError) where
   pub record Loads (sticks : Table → Val → Type 0) : Type 0 where
     pub between : (t : Table) → trie_for m q ≡ Some t → (w : Store) → old.store ≡ Some w → HasOrder w → IsStrictlySortedBy uid_cmp (map (λ e. e.uid) w) →
-        ((r : EntityRoot) → IsOrdered (root_value q r)) → (reads : List AccessPath) (demands : List Demand) →
+        (reads : List AccessPath) (demands : List Demand) →
         IsTrieOf reads demands t → IfOk result (IsBetween old.exact reads demands q w)
     pub right : IsWhole q → (t : Table) → trie_for m q ≡ Some t → (w : Store) → old.store ≡ Some w → HasOrder w →
-        ((r : EntityRoot) → IsOrdered (root_value q r)) → IfErr result (IsRight (SticksAt t q w) old new)
+        IfErr result (IsRight (SticksAt t q w) old new)
     pub cause : IsWhole q → (t : Table) → trie_for m q ≡ Some t → IfErr result (CauseOf (sticks t) old new)
     pub without : IsWhole q → trie_for m q ≡ None → IfErr result (λ e. e ≡ error.OutOfMemory)
     pub none : IsWhole q → trie_for m q ≡ None → IfOk result (λ s. s ≡ [])
@@ -85,10 +69,7 @@ record Lies (exact : Bool) (least whole s : Store) : Type 0 where
 module _ (sticks : Table → Val → Type 0) (covered : LoadedIsEnough) (faults : RefusalsAreFaults) (schema : SchemaData) (valid : IsSchema schema)
     (policies : PolicySetData) (set : IsPolicySet policies) (once : AreKeyedOnce policies.policies) (accepted : IsAccepted schema policies)
     (m : Manifest) (computed : IsManifestOf schema policies.policies m)
-    (q : Request) (whole : IsWhole q) (conforms : RequestConforms schema q) (context : IfSome q.context AreOrdered) (old new : LoaderState) where
-  roots : (r : EntityRoot) → IsOrdered (root_value q r)
-  roots = roots_ordered q context
-
+    (q : Request) (whole : IsWhole q) (conforms : RequestConforms schema q) (old new : LoaderState) where
   -- with a trie, or without one
   by_trie : {R : Type 0} → ((t : Table) → trie_for m q ≡ Some t → R) → (trie_for m q ≡ None → R) → R
   by_trie {R = R} f g = by (trie_for m q) refl
@@ -101,12 +82,12 @@ module _ (sticks : Table → Val → Type 0) (covered : LoadedIsEnough) (faults 
   refusal : (e : EntitySliceError) → Loads m q old new (Err e) sticks → (w : Store) → IsTold old w → StoreConforms schema w → IsFaultOrMemory old new e
   refusal e loads w told stored =
       faults schema valid policies.policies m computed q conforms w stored old new e
-      record { without = λ h. loads.without whole h; right = λ t h. loads.right whole t h w told.told (record { each = told.order.order }) roots }
+      record { without = λ h. loads.without whole h; right = λ t h. loads.right whole t h w told.told (record { each = told.order.order }) }
 
   module _ (e : EntitySliceError) (loads : Loads m q old new (Err e) sticks) (not_memory : e ≡ error.OutOfMemory → ⊥) where
     -- a loader that tells its store is refused for none of its answers
     righted : (w : Store) → IsTold old w → IsRight (λ v. Unit {0}) old new e
-    righted w told = by_trie (λ t h. weaker (SticksAt t q w) e (loads.right whole t h w told.told (record { each = told.order.order }) roots)) (λ h. absurd (not_memory (loads.without whole h)))
+    righted w told = by_trie (λ t h. weaker (SticksAt t q w) e (loads.right whole t h w told.told (record { each = told.order.order }))) (λ h. absurd (not_memory (loads.without whole h)))
       where
         weaker : (P : Val → Type 0) (d : EntitySliceError) → IsRight P old new d → IsRight (λ v. Unit {0}) old new d
         weaker P (error.PartialRequest d) h = h
@@ -154,9 +135,9 @@ module _ (sticks : Table → Val → Type 0) (covered : LoadedIsEnough) (faults 
       where
         with_trie : (t : Table) → trie_for m q ≡ Some t → Lies old.exact (slice schema policies.policies q w) w s
         with_trie t at =
-            let is = trie_is schema valid policies.policies m q computed t at in
+            let is = tries_of_reads schema valid policies.policies m computed q t at in
             let ts = typed_conditions schema is.env policies.policies in
-            let between = loads.between t at w told.told (record { each = told.order.order }) told.order.ids roots (declared_reads schema is.env ts) (declared_demands schema is.env ts) (declared_trie schema is.env ts t is.trie) in
+            let between = loads.between t at w told.told (record { each = told.order.order }) told.order.ids (declared_reads schema is.env ts) (declared_demands schema is.env ts) (declared_trie schema is.env ts t is.trie) in
             let same : restrict (declared_reads schema is.env ts) (declared_demands schema is.env ts) q w ≡ slice schema policies.policies q w = sym (ap (slice_in schema policies.policies q w) is.is) in
             record { enough = subst (λ r. IsPartOf r s) same between.enough; part = between.part; exactly = λ e. between.exactly e ∙ same }
 
@@ -174,7 +155,7 @@ module _ (sticks : Table → Val → Type 0) (covered : LoadedIsEnough) (faults 
     alike : AreDecidedAlike policies.policies q s w
     alike =
         covered schema valid policies set once m computed q w record { whole = whole; request = conforms; store = stored; policies = accepted }
-        old.exact s (λ t h reads demands fit. loads.between t h w told.told (record { each = told.order.order }) told.order.ids roots reads demands fit)
+        old.exact s (λ t h reads demands fit. loads.between t h w told.told (record { each = told.order.order }) told.order.ids reads demands fit)
 
   -- what is promised of the result
   pub record Promised (result : Result Store EntitySliceError) : Type 0 where

@@ -36,11 +36,12 @@ use Rattle.manifest_core.specs.Manifest.{Manifest, trie_for}
 use Rattle.manifest_computation.specs.Computed.{IsEntryOf, IsManifestOf}
 use Rattle.entity_manifest.specs.Computed.{ComputedManifestsFit}
 use Rattle.manifest_computation.specs.Enough.{SlicesAreEnough, IsEnough}
+use Rattle.manifest_computation.specs.Laws.{IsTrieFor}
 use Rattle.manifest_computation.specs.Rules.{KeepRules}
 use Rattle.manifest_computation.specs.Slice.{env_of, slice, slice_in}
 use Rattle.manifest_computation.proofs.Same.{response_same}
-use Rattle.manifest_computation.proofs.Environments.{of_types, are_there}
-use Rattle.entity_manifest.proofs.Manifests.{entry_found}
+use Rattle.manifest_computation.proofs.Environments.{are_there}
+use Rattle.manifest_computation.proofs.RequestTries.{tries_of_reads}
 use Rattle.entity_manifest.specs.Loaded.{TriesAreThere, LoadedIsEnough, IsLoadedBy, AreDecidedAlike, IsFaultOrMemory, RefusalsAreFaults}
 
 -- ---- entries of a manifest
@@ -68,32 +69,6 @@ module _ (d : SchemaData) (ps : List PolicyData) where
           no_both k l = absurd (cc (k, l))
       by false at k rest (inr j) = rest j rt typed k
 
--- ---- the trie of a request
-
-module _ (d : SchemaData) (valid : IsSchema d) (ps : List PolicyData) (m : Manifest) (q : Request) where
-  -- the trie is that of what the conditions read and ask for in the request's environment
-  pub record IsTrieFor (t : Table) : Type 0 where
-    pub env : EnvData
-    pub is : env_of d q ≡ Some env
-    pub trie : IsLeast (declared_reads d env (typed_conditions d env ps)) (declared_demands d env (typed_conditions d env ps)) t
-
-  entries_of : (ps : List PolicyData) → IsManifestOf d ps m → (m ≡ []) ⊎ Entries d ps (unlinked_envs d) m
-  entries_of [] i = inl i
-  entries_of (p ∷ ps) i = inr i
-
-  none_in_nothing : (rt : RequestType) (t : Table) → m ≡ [] → lookup (is_at (request_type_cmp rt)) m ≡ Some t → ⊥
-  none_in_nothing rt t e k = let no : None ≡ Some t = sym (ap (lookup (is_at (request_type_cmp rt))) e) ∙ k in absurd (cc)
-
-  pub trie_is : IsManifestOf d ps m → (t : Table) → trie_for m q ≡ Some t → IsTrieFor t
-  trie_is is t h = by (request_type_of q) refl h
-    where
-      by : (o : Option RequestType) → request_type_of q ≡ o → option_and_then (λ rt. lookup (is_at (request_type_cmp rt)) m) o ≡ Some t → IsTrieFor t
-      by None e k = absurd (cc)
-      by (Some rt) e k = elim (entries_of ps is) [
-        | inl i ↦ absurd (none_in_nothing rt t i k)
-        | inr z ↦ (let o = entry_found d ps (unlinked_envs d) m rt t z k in record { env = o.env; is = of_types d valid o.env o.among q rt o.request_type e; trie = o.trie })
-      ]
-
 pub tries_there : TriesAreThere
 tries_there d [] m is q whole conforms none = refl
 tries_there d (p ∷ ps) m is q whole conforms none =
@@ -107,7 +82,7 @@ module _ (d : SchemaData) (valid : IsSchema d) (policies : PolicySetData) (m : M
   alike : outcomes policies.policies q s ≡ outcomes policies.policies q whole → AreDecidedAlike policies.policies q s whole
   alike same = record { outcomes = same; response = response_same policies.policies q s whole same }
 
-  with_trie : (t : Table) → trie_for m q ≡ Some t → IsTrieFor d valid policies.policies m q t → outcomes policies.policies q s ≡ outcomes policies.policies q whole
+  with_trie : (t : Table) → trie_for m q ≡ Some t → IsTrieFor d policies.policies q t → outcomes policies.policies q s ≡ outcomes policies.policies q whole
   with_trie t at is =
       let ts = typed_conditions d is.env policies.policies in
       let between = loaded t at (declared_reads d is.env ts) (declared_demands d is.env ts) (declared_trie d is.env ts t is.trie) in
@@ -122,7 +97,7 @@ module _ (d : SchemaData) (valid : IsSchema d) (policies : PolicySetData) (m : M
     where
       by : (o : Option Table) → trie_for m q ≡ o → AreDecidedAlike policies.policies q s whole
       by None e = alike (without (tries_there d policies.policies m computed q rules.whole rules.request e))
-      by (Some t) e = alike (with_trie t e (trie_is d valid policies.policies m q computed t e))
+      by (Some t) e = alike (with_trie t e (tries_of_reads d valid policies.policies m computed q t e))
 
 pub loaded_enough : SlicesAreEnough → LoadedIsEnough
 loaded_enough slices d valid policies set once m computed q whole rules exact s loaded =

@@ -2,14 +2,13 @@
 use Rattle.std.proofs.Common.{◌≡◌, ◌⊎◌, Bool, true, false, List, [], ◌∷◌, cond, Option, Some, None, IfSome, IsSomeAnd, refl, sym, ap, ◌∙◌, subst, inl, inr}
 use Rattle.std.specs.Prelude.{filter, if◌then◌else◌, option_map}
 use Rattle.std.specs.BTreeMap.{is_at}
-use Rattle.std.specs.List.{AllZip, cons_option}
+use Rattle.std.specs.List.{cons_option}
 use Rattle.std.specs.Map.{lookup}
 use Rattle.std.specs.Option.{option_and_then}
 use Rattle.plain_lemmas.proofs.Options.{some_injective}
-use Rattle.policy_values.specs.Ties.{equal_of}
 use Rattle.entity_store.specs.declared.request.Request.{Request}
 use Rattle.entity_store.specs.declared.request.RequestType.{RequestType}
-use Rattle.entity_store.specs.Request.{request_type_of, request_type_cmp, exact_request_type}
+use Rattle.entity_store.specs.Request.{request_type_of, request_type_cmp}
 use Rattle.access_tries.specs.Paths.{IsLeast}
 use Rattle.access_tries.specs.Table.{Table}
 use Rattle.schema_core.specs.EnvData.{EnvData, LinkedEnvironment, declared_action, request_type_in, unlinked, unlinked_of, unlinked_envs}
@@ -25,8 +24,9 @@ use Rattle.reads_spec.proofs.Lists.{IsIn, in_map_out, flat_map_out}
 use Rattle.manifest_computation.specs.Typed.{typed_conditions}
 use Rattle.store_slices.proofs.LeastSteps.{declared_trie}
 use Rattle.manifest_core.specs.Manifest.{Manifest, trie_for}
-use Rattle.manifest_computation.specs.Computed.{IsEntryOf, IsManifestOf}
+use Rattle.manifest_computation.specs.Computed.{IsManifestOf}
 use Rattle.manifest_computation.proofs.Environments.{env_action, member_found, types_known}
+use Rattle.manifest_computation.proofs.RequestTries.{IsOfEntry, entry_of}
 use Rattle.entity_manifest.specs.DeclaredPaths.{IsDeclaredTrie}
 use Rattle.entity_manifest.specs.Computed.{ComputedTriesAreDeclared}
 use Rattle.entity_manifest.proofs.Conditions.{Asks, AsksIds, asks_both, none_asked, types_fine}
@@ -59,36 +59,6 @@ tries_declared d g ps t l =
       paths = λ p h. ((declared_read d g (reads_of d g ts) p).0 ((fits.paths p).0 h)).1;
       asked = λ p r h. conditions_ask d g ps (p, r) (in_filter (are_declared d g) (p, r) (demands_of ts) ((fits.asks p r).0 h));
     }
-
--- ---- entries
-
--- an environment that the entry is of
-pub record IsOfEntry (d : SchemaData) (ps : List PolicyData) (envs : List EnvData) (rt : RequestType) (t : Table) : Type 0 where
-  pub env : EnvData
-  pub among : IsIn env envs
-  pub request_type : request_type_in env ≡ Some rt
-  pub trie : IsLeast (declared_reads d env (typed_conditions d env ps)) (declared_demands d env (typed_conditions d env ps)) t
-
-same_type : (rt k : RequestType) → is_at (request_type_cmp rt) k ≡ true → rt ≡ k
-same_type rt k h = exact_request_type rt k (equal_of (request_type_cmp rt k) h)
-
-pub entry_found : (d : SchemaData) (ps : List PolicyData) (envs : List EnvData) (m : Manifest) (rt : RequestType) (t : Table) →
-    AllZip (λ env e. IsEntryOf d env (typed_conditions d env ps) e) envs m → lookup (is_at (request_type_cmp rt)) m ≡ Some t → IsOfEntry d ps envs rt t
-entry_found d ps [] [] rt t z h = absurd (cc)
-entry_found d ps [] (e ∷ m) rt t z h = absurd z
-entry_found d ps (env ∷ envs) [] rt t z h = absurd z
-entry_found d ps (env ∷ envs) (e ∷ m) rt t z h = by (is_at (request_type_cmp rt) e.0) refl h (entry_found d ps envs m rt t z.1)
-  where
-    by : (b : Bool) → is_at (request_type_cmp rt) e.0 ≡ b → cond b (Some e.1) (lookup (is_at (request_type_cmp rt)) m) ≡ Some t → (lookup (is_at (request_type_cmp rt)) m ≡ Some t → IsOfEntry d ps envs rt t) → IsOfEntry d ps (env ∷ envs) rt t
-    by true f k rest =
-        let same : e.1 ≡ t = cc in
-        record {
-          env = env;
-          among = inl refl;
-          request_type = z.0.request_type ∙ ap Some (sym (same_type rt e.0 f));
-          trie = subst (IsLeast (declared_reads d env (typed_conditions d env ps)) (declared_demands d env (typed_conditions d env ps))) same z.0.trie;
-        }
-    by false f k rest = let r = rest k in record { env = r.env; among = inr r.among; request_type = r.request_type; trie = r.trie }
 
 -- ---- environments of a schema
 
@@ -127,9 +97,6 @@ pub record IsChosen (d : SchemaData) (q : Request) (t : Table) : Type 0 where
 pub trie_chosen : (d : SchemaData) → IsSchema d → (ps : List PolicyData) (m : Manifest) → IsManifestOf d ps m → (q : Request) (t : Table) → trie_for m q ≡ Some t → IsChosen d q t
 trie_chosen d valid ps m is q t h = by (request_type_of q) refl h
   where
-    none : (rt : RequestType) → m ≡ [] → lookup (is_at (request_type_cmp rt)) m ≡ Some t → IsChosen d q t
-    none rt e k = absurd (let no : None ≡ Some t = sym (ap (lookup (is_at (request_type_cmp rt))) e) ∙ k in cc)
-
     some : (rt : RequestType) → request_type_of q ≡ Some rt → IsOfEntry d ps (unlinked_envs d) rt t → IsChosen d q t
     some rt has e =
         let env = env_of_type d valid q rt has e.env e.among e.request_type in
@@ -139,13 +106,6 @@ trie_chosen d valid ps m is q t h = by (request_type_of q) refl h
           declared = subst (λ g. IsDeclaredTrie d g t) (sym env.is) (tries_declared d e.env ps t e.trie);
         }
 
-    entry : (ps : List PolicyData) (rt : RequestType) → IsManifestOf d ps m → lookup (is_at (request_type_cmp rt)) m ≡ Some t → (m ≡ []) ⊎ IsOfEntry d ps (unlinked_envs d) rt t
-    entry [] rt i k = inl i
-    entry (p ∷ ps) rt i k = inr (entry_found d (p ∷ ps) (unlinked_envs d) m rt t i k)
-
     by : (o : Option RequestType) → request_type_of q ≡ o → option_and_then (λ rt. lookup (is_at (request_type_cmp rt)) m) o ≡ Some t → IsChosen d q t
     by None e k = absurd (cc)
-    by (Some rt) e k = elim (entry ps rt is k) [
-      | inl i ↦ none rt i k
-      | inr i ↦ some rt e i
-    ]
+    by (Some rt) e k = some rt e (entry_of d ps m is rt t k)

@@ -21,7 +21,7 @@ use policy_set::laws::{have_keys_once, is_policy_set};
 use schema_core::ValidatorSchema;
 use std::alloc::Global;
 use std::sync::ledger::Ledger;
-use store_order::{entities_are_ordered, request_is_ordered};
+use store_order::entities_are_ordered;
 
 /// What a request reads, as a loader gives it, by the manifest of accepted policies.
 ///
@@ -62,9 +62,8 @@ pub fn load_for_request<D: EntityLoader, L: Ledger>(
     refusals_are_faults();
     have_keys_once(policies);
     is_policy_set(policies);
-    // for the proof: the names of a schema's actions ascend, and so do a context's keys
+    // for the proof: the names of a schema's actions ascend
     let _actions = schema.action_ids();
-    request_is_ordered(request);
     load_entities(alloc, manifest, request, loader, steps)
 }
 

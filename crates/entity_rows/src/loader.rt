@@ -35,6 +35,8 @@ pub struct FetchedLoader<'a, S: Alter> {
     pub faults: u64,
     /// How often entities were asked for; at the last value of u64 it stays.
     pub rounds: u64,
+    /// How often ancestors were asked for; at the last value of u64 it stays.
+    pub lists: u64,
     pub ghost found: { AreOf (told_store (state S.Store database.now)) seen.now entities.now } by { AreOf-prop (told_store (state S.Store database.now)) seen.now entities.now },
 }
 
@@ -57,6 +59,7 @@ impl<'a, S: Alter> FetchedLoader<'a, S> {
             missing: Vec::new(alloc),
             faults: 0,
             rounds: 0,
+            lists: 0,
         }
     }
 }
@@ -123,7 +126,7 @@ fn note_ancestors(
 impl<S: Alter> EntityLoader for FetchedLoader<'_, S> {
     ghost use Rattle.entity_rows.specs.Loader.{loader_state};
 
-    ghost state = { λ l. loader_state (told_store (state S.Store l.database.now)) l.faults l.rounds };
+    ghost state = { λ l. loader_state (told_store (state S.Store l.database.now)) l.faults l.rounds l.lists };
 
     fn load_entities(
         &mut self,
@@ -145,6 +148,7 @@ impl<S: Alter> EntityLoader for FetchedLoader<'_, S> {
         alloc: Global,
         requests: &Vec<AncestorsRequest>,
     ) -> Result<Vec<Vec<EntityUID>>, LoadError> {
+        self.lists = self.lists.saturating_add(1);
         if are_all_seen(self.seen, requests) {
             let mut slicer = EntitySlicer::new(self.entities);
             return slicer.load_ancestors(alloc, requests);

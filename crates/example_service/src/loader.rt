@@ -38,12 +38,21 @@ pub struct DatabaseLoader<D: Database + Drop> {
     pub strays: u64,
     /// How often entities were asked for.
     pub rounds: u64,
+    /// How often ancestors were asked for.
+    pub lists: u64,
 }
 
 impl<D: Database + Drop> EntityLoader for DatabaseLoader<D> {
     ghost use Rattle.std.specs.Prelude.{false, None};
 
-    ghost state = { λ l. record { store = None; exact = false; faults = l.faults; strays = l.strays; rounds = l.rounds } };
+    ghost state = { λ l. record {
+      store = None;
+      exact = false;
+      faults = l.faults;
+      strays = l.strays;
+      rounds = l.rounds;
+      lists = l.lists;
+    } };
 
     fn load_entities(
         &mut self,
@@ -67,6 +76,7 @@ impl<D: Database + Drop> EntityLoader for DatabaseLoader<D> {
         alloc: Global,
         requests: &Vec<AncestorsRequest>,
     ) -> Result<Vec<Vec<EntityUID>>, LoadError> {
+        self.lists = self.lists.saturating_add(1);
         self.strays = self.strays.saturating_add(1);
         match lists(alloc, &mut self.database, requests) {
             Ok(found) => Ok(found),

@@ -43,6 +43,8 @@ pub(crate) struct Liar<'a> {
     pub(crate) strays: u64,
     /// How often entities were asked for.
     pub(crate) rounds: u64,
+    /// How often ancestors were asked for.
+    pub(crate) lists: u64,
 }
 
 impl<'a> Liar<'a> {
@@ -54,6 +56,7 @@ impl<'a> Liar<'a> {
             faults: 0,
             strays: 0,
             rounds: 0,
+            lists: 0,
         }
     }
 }
@@ -62,7 +65,14 @@ impl EntityLoader for Liar<'_> {
     ghost use Rattle.std.specs.Prelude.{false, None};
 
     // It tells no store, and what it has counted.
-    ghost state = { λ l. record { store = None; exact = false; faults = l.faults; strays = l.strays; rounds = l.rounds } };
+    ghost state = { λ l. record {
+      store = None;
+      exact = false;
+      faults = l.faults;
+      strays = l.strays;
+      rounds = l.rounds;
+      lists = l.lists;
+    } };
 
     fn load_entities(
         &mut self,
@@ -86,6 +96,7 @@ impl EntityLoader for Liar<'_> {
         alloc: Global,
         requests: &Vec<AncestorsRequest>,
     ) -> Result<Vec<Vec<EntityUID>>, LoadError> {
+        self.lists = self.lists.saturating_add(1);
         if self.way == Way::FailsForAncestors {
             self.faults = self.faults.saturating_add(1);
             return Err(LoadError::Failed);

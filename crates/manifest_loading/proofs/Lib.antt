@@ -12,5 +12,6 @@ mod StoreSteps
 mod RightSteps
 mod MoreSteps
 mod AskedSteps
+mod UnaskedSteps
 mod NamedSteps
 mod BetweenSteps

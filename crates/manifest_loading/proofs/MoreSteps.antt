@@ -80,6 +80,9 @@ module _ (ids : BTreeSet EntityUID) (rest : List EntityUID) (P : EntityUID → B
 pub none_counted : {X : Type 0} (xs : List X) (n : ℕ) → length xs ≡ n → (n == 0) ≡ true → xs ≡ []
 none_counted xs n e h = nil_from_length xs (e ∙ exact_unsigned_eq n 0 h)
 
+pub some_counted : {X : Type 0} (xs : List X) (n : ℕ) → length xs ≡ n → (n == 0) ≡ false → xs ≡ [] → ⊥
+some_counted xs n e h none = false≢true (sym h ∙ ap (λ m. m == 0) (sym e ∙ ap (λ z. length z) none))
+
 -- ---- all lists
 
 pub record IsAdding (old : Found) (rs : List AncestorsRequest) (ls : List (Vec EntityUID Global)) (now : Found) (rests : List AncestorsRequest) (left : List (Vec EntityUID Global)) : Type 0 where

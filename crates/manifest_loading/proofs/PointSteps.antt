@@ -11,11 +11,12 @@ use Rattle.policy_values.specs.Value.{Val, truth, long, string, entity, set, rec
 use Rattle.access_tries.specs.declared.edge.Edge.TheVariants.{Field, AnyTag}
 use Rattle.access_tries.specs.Edges.{Address}
 use Rattle.access_tries.specs.Paths.{edge_of}
-use Rattle.reads_spec.specs.Paths.{Chain, steps_of}
+use Rattle.reads_spec.specs.Paths.{Chain, Step, along, any_tag, steps_of}
 use Rattle.reads_spec.specs.Restrict.{cut, cut_fields, values_in}
 use Rattle.reads_spec.proofs.Lists.{same_text}
 use Rattle.plain_lemmas.proofs.Booleans.{and_over_or, or_exchange, or_left_true, or_right_true, or_weaker}
 use Rattle.reads_spec.proofs.Order.{cases}
+use Rattle.reads_spec.proofs.Words.{any_out}
 use Rattle.trie_traversal.proofs.PointSteps.{fields_point_none, any_point_none}
 use Rattle.trie_traversal.specs.Wants.{Test, points, fields_point, entity_points}
 
@@ -86,10 +87,13 @@ module _ (x : EntityUID) (a : Address) where
         or_weaker (points v (λ b. t (Field n ∷ b)) x a) (fields_point fs t x a) (points v (λ b. u (Field n ∷ b)) x a) (fields_point fs u x a)
         (points_more v (λ b. t (Field n ∷ b)) (λ b. u (Field n ∷ b)) (λ b. f (Field n ∷ b))) (fields_more fs t u f) h
 
-  -- a value leads on only where some address passes
+  -- a value leads on only where steps pass, with the address behind them
+  abbrev pub Passes : Test → Type 0
+  Passes t = (ms : List Step) × (t (map edge_of ms ++ a) ≡ true)
+
   mutual
-    points_some : (v : Val) (t : Test) → points v t x a ≡ true → (b : Address) × (t b ≡ true)
-    points_some (entity y) t h = (a, (and_parts (uid_eq y x) (t a) h).1)
+    points_some : (v : Val) (t : Test) → points v t x a ≡ true → Passes t
+    points_some (entity y) t h = ([], (and_parts (uid_eq y x) (t a) h).1)
     points_some (rec fs) t h = fields_some fs t h
     points_some (truth b) t h = absurd (false≢true h)
     points_some (long b) t h = absurd (false≢true h)
@@ -100,13 +104,23 @@ module _ (x : EntityUID) (a : Address) where
     points_some (datetime b) t h = absurd (false≢true h)
     points_some (duration b) t h = absurd (false≢true h)
 
-    fields_some : (fs : Fields) (t : Test) → fields_point fs t x a ≡ true → (b : Address) × (t b ≡ true)
+    fields_some : (fs : Fields) (t : Test) → fields_point fs t x a ≡ true → Passes t
     fields_some no_fields t h = absurd (false≢true h)
     fields_some (field n v fs) t h = either (or_cases (points v (λ b. t (Field n ∷ b)) x a) (fields_point fs t x a) h) (points_some v (λ b. t (Field n ∷ b))) (fields_some fs t)
       where
-        either : (points v (λ b. t (Field n ∷ b)) x a ≡ true) ⊎ (fields_point fs t x a ≡ true) → (points v (λ b. t (Field n ∷ b)) x a ≡ true → (b : Address) × (t (Field n ∷ b) ≡ true)) → (fields_point fs t x a ≡ true → (b : Address) × (t b ≡ true)) → (b : Address) × (t b ≡ true)
-        either (inl i) f g = let r = f i in (Field n ∷ r.0, r.1)
+        either : (points v (λ b. t (Field n ∷ b)) x a ≡ true) ⊎ (fields_point fs t x a ≡ true) → (points v (λ b. t (Field n ∷ b)) x a ≡ true → Passes (λ b. t (Field n ∷ b))) → (fields_point fs t x a ≡ true → Passes t) → Passes t
+        either (inl i) f g = let r = f i in (along n ∷ r.0, r.1)
         either (inr i) f g = g i
+
+  -- and so does an entity
+  pub entity_some : (e : StoredEntity) (t : Test) → entity_points e t x a ≡ true → Passes t
+  entity_some e t h = elim (or_cases (fields_point e.attrs t x a) (list_any (λ v. points v (λ b. t (AnyTag ∷ b)) x a) (values_in e.tags)) h) [
+    | inl i ↦ fields_some e.attrs t i
+    | inr i ↦
+        let v = any_out (λ v. points v (λ b. t (AnyTag ∷ b)) x a) (values_in e.tags) i in
+        let r = points_some v.0 (λ b. t (AnyTag ∷ b)) v.2 in
+        (any_tag ∷ r.0, r.1)
+  ]
 
   -- ---- cuts: a part leads to all, where it has each chain that goes on to pass
   abbrev pub Enough : (Chain → Bool) → Test → Type 0
@@ -136,7 +150,7 @@ module _ (x : EntityUID) (a : Address) where
             → fields_point (cut_fields (field n v fs) k) t x a ≡ true
         by (inl i) (inl j) f g = rw i (or_left_true (points (cut v (λ c. k (n ∷ c))) (λ b. t (Field n ∷ b)) x a) (fields_point (cut_fields fs k) t x a) (f j))
         by (inl i) (inr j) f g = rw i (or_right_true (points (cut v (λ c. k (n ∷ c))) (λ b. t (Field n ∷ b)) x a) (fields_point (cut_fields fs k) t x a) (g j))
-        by (inr i) (inl j) f g = let r = points_some v (λ b. t (Field n ∷ b)) j in absurd (false≢true (sym i ∙ e n [] r.0 r.1))
+        by (inr i) (inl j) f g = let r = points_some v (λ b. t (Field n ∷ b)) j in absurd (false≢true (sym i ∙ e n [] (map edge_of r.0 ++ a) r.1))
         by (inr i) (inr j) f g = rw i (g j)
 
   -- the same of tags
@@ -150,7 +164,7 @@ module _ (x : EntityUID) (a : Address) where
           → list_any (λ w. points w t x a) (values_in (cut_fields (field n v fs) k)) ≡ true
       by (inl i) (inl j) f g = rw i (or_left_true (points (cut v (λ c. k (n ∷ c))) t x a) (list_any (λ w. points w t x a) (values_in (cut_fields fs k))) (f j))
       by (inl i) (inr j) f g = rw i (or_right_true (points (cut v (λ c. k (n ∷ c))) t x a) (list_any (λ w. points w t x a) (values_in (cut_fields fs k))) (g j))
-      by (inr i) (inl j) f g = let r = points_some v t j in absurd (false≢true (sym i ∙ e n [] r.0 r.1))
+      by (inr i) (inl j) f g = let r = points_some v t j in absurd (false≢true (sym i ∙ e n [] (map edge_of r.0 ++ a) r.1))
       by (inr i) (inr j) f g = rw i (g j)
 
   -- a part leads nowhere else

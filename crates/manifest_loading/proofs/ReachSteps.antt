@@ -4,25 +4,21 @@ use Rattle.std.specs.Prelude.{if◌then◌else◌}
 use Rattle.std.specs.List.{list_any}
 use Rattle.std.specs.Option.{option_to_list}
 use Rattle.std.specs.Ordering.{is_eq}
-use Rattle.std.specs.Cmp.{nat_cmp_total}
 use Rattle.std.specs.declared.cmp.Ordering.TheVariants.{Less}
-use Rattle.std.proofs.lemmas.Cmp.{tied_itself, nat_list_cmp_total}
+use Rattle.std.proofs.lemmas.Cmp.{nat_list_cmp_total}
 use Rattle.std.proofs.lemmas.Bool.{and_parts, and_from, or_cases, false≢true}
 use Rattle.policy_values.specs.declared.entity_uid.EntityUID.{EntityUID}
 use Rattle.policy_values.specs.Uid.{text_cmp, uid_eq}
 use Rattle.entity_store.specs.declared.request.Request.{Request}
 use Rattle.entity_store.specs.Store.{StoredEntity, Store, entity_at}
 use Rattle.policy_values.specs.Value.{Val, truth, long, string, entity, set, rec, decimal, ip, datetime, duration, Fields, no_fields, field, field_at}
-use Rattle.access_tries.specs.EdgeLaws.{exact_edge}
 use Rattle.access_tries.specs.declared.edge.Edge.{Edge}
 use Rattle.access_tries.specs.declared.edge.Edge.TheVariants.{Field, AnyTag, Root}
-use Rattle.access_tries.specs.declared.edge.EntityRoot.{EntityRoot}
 use Rattle.access_tries.specs.declared.table.Link.{Link}
-use Rattle.access_tries.specs.Edges.{Address, rank, first_text, second_text, edge_cmp, edge_eq}
+use Rattle.access_tries.specs.Edges.{Address, edge_eq}
 use Rattle.access_tries.specs.Paths.{edge_of}
 use Rattle.access_tries.specs.Table.{Table, at_path, has_mark, links_at}
-use Rattle.access_tries.specs.Views.{ViewData, whole}
-use Rattle.policy_values.specs.Ties.{equal_of}
+use Rattle.access_tries.specs.Views.{whole}
 use Rattle.reads_spec.specs.Merge.{IsBelowAll, IsOrdered, AreOrdered, IsEntityOrdered}
 use Rattle.reads_spec.specs.Paths.{Step, along, any_tag}
 use Rattle.reads_spec.specs.Restrict.{values_in, root_value, step, walk}
@@ -32,28 +28,21 @@ use Rattle.type_relations.proofs.UnionLaws.{own_text}
 use Rattle.plain_lemmas.proofs.Booleans.{or_left_true, or_right_true}
 use Rattle.reads_spec.proofs.Words.{any_out}
 use Rattle.trie_traversal.specs.Begun.{root_points, roots_point}
+use Rattle.trie_traversal.specs.Leads.{RootLeads}
 use Rattle.trie_traversal.specs.Wants.{Test, sees, wants, points, fields_point, entity_points}
 use Rattle.trie_traversal.specs.declared.place.Place.{Place}
 use Rattle.store_slices.specs.Reached.{IsReached}
 use Rattle.store_slices.proofs.Fronts.{front_leads as front_there}
 use Rattle.manifest_loading.proofs.PointSteps.{points_more, in_fields}
-use Rattle.plain_lemmas.proofs.Lists.{any_weaker}
 use Rattle.store_slices.proofs.LeastSteps.{map_append}
 use Rattle.access_tries.specs.SameLaws.{edge_is}
 
 -- ---- addresses
 
-pub edge_self : (e : Edge) → edge_eq e e ≡ true
-edge_self e = rw (tied_itself nat_cmp_total (rank e), tied_itself nat_list_cmp_total (first_text e), tied_itself nat_list_cmp_total (second_text e)) refl
-
 -- a front of what is seen leads somewhere
 pub front_leads : (b : Bool) (ns : Table) (i : ℕ) (es a : Address) → sees b (record { nodes = ns; number = i }) (es ++ a) ≡ true → sees false (record { nodes = ns; number = i }) es ≡ true
 front_leads true ns i es a h = front_there has_mark refl ns es a i h
 front_leads false ns i es a h = front_there is_some refl ns es a i h
-
-behind_link : (b : Bool) (ns : Table) (l : Link) (a : Address) → IsIn l (links_at ns 0) → sees b (record { nodes = ns; number = l.number }) a ≡ true → sees b (whole ns) (l.edge ∷ a) ≡ true
-behind_link true ns l a i h = any_in (λ m. edge_eq m.edge l.edge && at_path has_mark ns m.number a) l (links_at ns 0) i (and_from (edge_eq l.edge l.edge) (at_path has_mark ns l.number a) (edge_self l.edge) h)
-behind_link false ns l a i h = any_in (λ m. edge_eq m.edge l.edge && at_path is_some ns m.number a) l (links_at ns 0) i (and_from (edge_eq l.edge l.edge) (at_path is_some ns l.number a) (edge_self l.edge) h)
 
 -- the link that an address begins with
 record Begins (b : Bool) (ns : Table) (e : Edge) (a : Address) : Type 0 where
@@ -157,22 +146,8 @@ entity_leads s y e t x a at_y o h = by (or_cases (fields_point e.attrs t x a) (l
 
 -- ---- what is asked for first is reached
 
-pub start_reached : (b : Bool) (ns : Table) (q : Request) (s : Store) (x : EntityUID) (a : Address) → ((r : EntityRoot) → IsOrdered (root_value q r)) → roots_point ns q b x a ≡ true → IsReached b ns q s x a
-start_reached b ns q s x a o h =
-    let r = any_out (λ l. root_points b (record { nodes = ns; number = l.number }) q l.edge x a) (links_at ns 0) h in
-    by r.0 r.1 r.0.edge refl r.2
-  where
-    by : (l : Link) → IsIn l (links_at ns 0) → (e : Edge) → l.edge ≡ e → root_points b (record { nodes = ns; number = l.number }) q e x a ≡ true → IsReached b ns q s x a
-    by l i (Root r) e g =
-        let v : ViewData = record { nodes = ns; number = l.number } in
-        let w = value_leads s (root_value q r) (sees b v) x a (o r) g in
-        record {
-          path = record { root = r; steps = w.steps };
-          reached = w.reaches;
-          passes = subst (λ d. sees b (whole ns) (d ∷ (map edge_of w.steps ++ a)) ≡ true) e (behind_link b ns l (map edge_of w.steps ++ a) i w.passes);
-        }
-    by l i (Field n) e g = absurd (false≢true g)
-    by l i AnyTag e g = absurd (false≢true g)
+pub start_reached : (b : Bool) (ns : Table) (q : Request) (s : Store) (x : EntityUID) (a : Address) → RootLeads ns q b x a → IsReached b ns q s x a
+start_reached b ns q s x a l = record { path = record { root = l.root; steps = l.rest.steps }; reached = l.rest.reaches s; passes = l.rest.passes }
 
 -- where a reached entity leads is reached
 pub further_reached : (b : Bool) (ns : Table) (q : Request) (s : Store) (y x : EntityUID) (t : Test) (a : Address) → Leads s (entity y) t x a → ((c : Address) → t c ≡ true → IsReached b ns q s y c) → IsReached b ns q s x a

@@ -7,18 +7,17 @@ use Rattle.policy_values.specs.Uid.{uid_eq}
 use Rattle.entity_store.specs.declared.request.Request.{Request}
 use Rattle.entity_store.specs.Store.{StoredEntity, Store, entity_at}
 use Rattle.access_tries.specs.declared.edge.Edge.TheVariants.{AnyTag}
-use Rattle.access_tries.specs.declared.edge.EntityRoot.{EntityRoot}
 use Rattle.access_tries.specs.Edges.{Address}
 use Rattle.access_tries.specs.Paths.{edge_of}
 use Rattle.access_tries.specs.Table.{Table}
-use Rattle.reads_spec.specs.Merge.{IsOrdered}
 use Rattle.reads_spec.specs.Paths.{steps_of}
-use Rattle.reads_spec.specs.Restrict.{values_in, root_value}
+use Rattle.reads_spec.specs.Restrict.{values_in}
 use Rattle.reads_spec.proofs.Lists.{IsIn, any_in, same_uid, uid_self}
 use Rattle.plain_lemmas.proofs.Booleans.{or_left_true, or_right_true, or_weaker}
 use Rattle.reads_spec.proofs.Words.{any_out}
 use Rattle.trie_traversal.specs.Answered.{answer_points, answers_point}
 use Rattle.trie_traversal.specs.Begun.{roots_point}
+use Rattle.trie_traversal.specs.Leads.{RootLeads}
 use Rattle.trie_traversal.specs.Places.{node_of}
 use Rattle.trie_traversal.specs.Wants.{Adds, sees, wants, points, fields_point, entity_points}
 use Rattle.trie_traversal.specs.declared.place.Place.{Place}
@@ -127,8 +126,8 @@ module _ (ns : Table) (q : Request) (s : Store) (start : List Place) (adds : Add
       nothing_asked : (b : Bool) (y : EntityUID) (e : StoredEntity) (x : EntityUID) (a : Address) → entity_points e (wants b ns [] y) x a ≡ true → ⊥
       nothing_asked b y e x a h = false≢true (sym (entity_any x a e (λ p. uid_eq p.uid y) (λ p. sees b (node_of ns p)) []) ∙ h)
 
-  pub sound_start : ((r : EntityRoot) → IsOrdered (root_value q r)) → IsSound ns q s [] start
-  sound_start o = record { reached = λ b x a h. start_reached b ns q s x a o (sym (adds.each b x a) ∙ h) }
+  pub sound_start : ((b : Bool) (x : EntityUID) (a : Address) → roots_point ns q b x a ≡ true → RootLeads ns q b x a) → IsSound ns q s [] start
+  sound_start leads = record { reached = λ b x a h. start_reached b ns q s x a (leads b x a (sym (adds.each b x a) ∙ h)) }
 
 -- after the last round what is reached is what was asked for
 pub asked_reached : (ns : Table) (q : Request) (s : Store) (asked : List Place) → IsComplete ns q s asked [] → (b : Bool) (x : EntityUID) (a : Address) → IsReached b ns q s x a → wants b ns asked x a ≡ true
@@ -152,7 +151,7 @@ state_next exact ns q s start asked ps next after old new begun t r there noted 
 pub state_start : (exact : Bool) (ns : Table) (q : Request) (s : Store) (start : List Place) (old : Found) → IsBegun ns q s start → ((x : EntityUID) → old x ≡ None) → IsState exact ns q s [] start old
 state_start exact ns q s start old begun none = record {
   complete = complete_start ns q s start begun.asked;
-  sound = sound_start ns q s start begun.asked begun.context;
+  sound = sound_start ns q s start begun.asked begun.leads;
   part = kept_start exact s ns old none;
 }
 

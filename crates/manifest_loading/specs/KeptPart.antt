@@ -6,15 +6,14 @@ use Rattle.entity_store.specs.FromParents.{without_links}
 use Rattle.entity_store.specs.declared.request.Request.{Request}
 use Rattle.entity_store.specs.Store.{StoredEntity, Store, entity_at}
 use Rattle.access_tries.specs.declared.edge.Edge.TheVariants.{AnyTag}
-use Rattle.access_tries.specs.declared.edge.EntityRoot.{EntityRoot}
 use Rattle.access_tries.specs.Edges.{Address}
 use Rattle.access_tries.specs.Paths.{edge_of}
 use Rattle.access_tries.specs.Table.{Table}
 use Rattle.reads_spec.specs.Paths.{Chain, steps_of}
-use Rattle.reads_spec.specs.Restrict.{Keep, cut_entity, root_value}
+use Rattle.reads_spec.specs.Restrict.{Keep, cut_entity}
 use Rattle.reads_spec.specs.Among.{IsWellFormed}
-use Rattle.reads_spec.specs.Merge.{IsOrdered}
 use Rattle.trie_traversal.specs.Begun.{roots_point}
+use Rattle.trie_traversal.specs.Leads.{RootLeads}
 use Rattle.trie_traversal.specs.Wants.{Adds, wants}
 use Rattle.trie_traversal.specs.declared.place.Place.{Place}
 use Rattle.manifest_loading.specs.Keeping.{Found}
@@ -46,11 +45,11 @@ pub record IsState (exact : Bool) (ns : Table) (q : Request) (s : Store) (asked 
   pub sound : IsSound ns q s asked pending
   pub part : IsKeptPart exact s ns asked kept
 
--- the first places are those to which the roots' values lead, and keys ascend in the store and in the request
+-- the first places are those to which the roots' values lead, by steps; and keys ascend in the store
 pub record IsBegun (ns : Table) (q : Request) (s : Store) (start : List Place) : Type 0 where
   pub asked : Adds ns (roots_point ns q) [] start
+  pub leads : (b : Bool) (x : EntityUID) (a : Address) → roots_point ns q b x a ≡ true → RootLeads ns q b x a
   pub order : HasOrder s
-  pub context : (r : EntityRoot) → IsOrdered (root_value q r)
 
 -- the same entities with the same attributes and tags
 abbrev pub AreAlike : Found → Found → Type 0

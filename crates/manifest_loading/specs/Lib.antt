@@ -3,6 +3,7 @@ pub mod Answering
 pub mod Keeping
 pub mod Ordered
 pub mod Rounds
+pub mod Unasked
 pub mod KeptPart
 pub mod Causes
 pub mod Right

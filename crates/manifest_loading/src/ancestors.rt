@@ -1,8 +1,8 @@
 //! The ancestors that are asked for after the last round.
 
-ghost use Rattle.std.specs.Prelude.{◌≡◌, ◌↔◌, ◌&&◌, ◌||◌, true, length, map, Some, IfOk, IfErr, OnOk};
+ghost use Rattle.std.specs.Prelude.{◌≡◌, ◌≤◌, ◌+◌, ◌↔◌, ◌&&◌, ◌||◌, true, length, map, Some, IfOk, IfErr, OnOk};
 ghost use Rattle.std.specs.BTreeMap.{get};
-ghost use Rattle.std.specs.List.{AllZip};
+ghost use Rattle.std.specs.List.{AllZip, AllByRecursion};
 ghost use Rattle.std.specs.List.Sorted.{IsStrictlySortedBy};
 ghost use Rattle.access_tries.specs.Table.{IsTable};
 ghost use Rattle.entity_loader.specs.Answers.{IsHonestList};
@@ -18,6 +18,7 @@ ghost use Rattle.manifest_loading.specs.Causes.{CauseOf, IsRight};
 ghost use Rattle.manifest_loading.specs.Joining.{lists, asks, brings, IsAskedFor, AreAscending, HasMore, IsJoined};
 ghost use Rattle.entity_store.specs.FromParents.{without_links};
 ghost use Rattle.manifest_loading.specs.KeptPart.{AreAlike};
+ghost use Rattle.manifest_loading.specs.Unasked.{DemandNothing, AsksForSome};
 
 use crate::error::EntitySliceError;
 use crate::lent::lent_tries;
@@ -43,6 +44,9 @@ pub(crate) fn with_ancestors<D: EntityLoader>(
     requires ids { AreUnderIds loaded.kept }
     ensures goes_on { Continues (D.state loader.old) (D.state loader.new) }
     ensures rounds { (D.state loader.new).rounds ≡ (D.state loader.old).rounds }
+    ensures lists { (D.state loader.new).lists ≤ (D.state loader.old).lists + 1 }
+    ensures unasked { DemandNothing nodes.now loaded.asked.keys →
+        D.state loader.new ≡ D.state loader.old }
     ensures ids { IfOk result AreUnderIds }
     ensures alike { IfOk result (λ found. AreAlike (get uid_cmp found) (get uid_cmp loaded.kept)) }
     ensures ascending { IfOk result (λ found. AreAscending (get uid_cmp loaded.kept) →
@@ -76,6 +80,7 @@ fn ancestors_requests(
 ) -> Result<Vec<AncestorsRequest>, AllocError>
     requires table { IsTable nodes.now }
     requires whole { IsWhole request.now }
+    ensures some { IfOk result (λ requests. AllByRecursion AsksForSome requests.items) }
     ensures ascending { IfOk result
         (λ requests. IsStrictlySortedBy uid_cmp (map (λ r. r.entity_id) requests.items)) }
     ensures asked { IfOk result (λ requests. (t : Store) → IsKept kept.now t → (x y : EntityUID) →
@@ -115,6 +120,7 @@ fn lists_for<D: EntityLoader>(
     requires { IsStrictlySortedBy uid_cmp (map (λ r. r.entity_id) requests.now.items) }
     ensures goes_on { Continues (D.state loader.old) (D.state loader.new) }
     ensures rounds { (D.state loader.new).rounds ≡ (D.state loader.old).rounds }
+    ensures lists { (D.state loader.new).lists ≤ (D.state loader.old).lists + 1 }
     ensures fit { IfOk result (λ lists. length requests.now.items ≡ length lists.items) }
     ensures cause { IfErr result (CauseOf (λ v. ⊥) (D.state loader.old) (D.state loader.new)) }
     ensures honest { (s : Store) → (D.state loader.old).store ≡ Some s →

@@ -26,6 +26,7 @@ pub(crate) fn answers_for<D: EntityLoader>(
     requires { IsStrictlySortedBy uid_cmp (map (λ r. r.entity_id) requests.now.items) }
     ensures goes_on { Continues (D.state loader.old) (D.state loader.new) }
     ensures rounds { (D.state loader.new).rounds ≤ (D.state loader.old).rounds + 1 }
+    ensures lists { (D.state loader.new).lists ≡ (D.state loader.old).lists }
     ensures ids { IfOk result AreUnderIds }
     ensures cause { IfErr result (CauseOf (λ v. ⊥) (D.state loader.old) (D.state loader.new)) }
     ensures honest { (s : Store) → (D.state loader.old).store ≡ Some s →

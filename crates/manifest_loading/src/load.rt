@@ -3,14 +3,11 @@
 ghost use Rattle.std.specs.Prelude.{◌≡◌, ◌⊎◌, ◌≤◌, ◌+◌, ◌↔◌, ℕ, List, Some, map, IfOk, IfErr};
 ghost use Rattle.std.specs.BTreeMap.{get, values};
 ghost use Rattle.std.specs.List.Sorted.{IsStrictlySortedBy};
-ghost use Rattle.access_tries.specs.declared.edge.EntityRoot.{EntityRoot};
 ghost use Rattle.trie_traversal.specs.Begun.{PathsWithin, SomeRootSticks};
 ghost use Rattle.entity_loader.specs.State.{Continues};
 ghost use Rattle.policy_values.specs.Uid.{uid_cmp};
 ghost use Rattle.policy_values.specs.declared.entity_uid.EntityUID.{EntityUID};
-ghost use Rattle.reads_spec.specs.Merge.{IsOrdered};
 ghost use Rattle.reads_spec.specs.Paths.{AccessPath, Demand};
-ghost use Rattle.reads_spec.specs.Restrict.{root_value};
 ghost use Rattle.entity_store.specs.Request.{IsWhole};
 ghost use Rattle.entity_store.specs.Store.{Store, entity_at};
 ghost use Rattle.store_slices.specs.Tries.{IsTrieOf};
@@ -21,6 +18,7 @@ ghost use Rattle.manifest_loading.specs.KeptPart.{IsLoaded};
 ghost use Rattle.manifest_loading.specs.Ordered.{HasOrder};
 ghost use Rattle.manifest_loading.specs.Right.{SticksAt};
 ghost use Rattle.manifest_loading.specs.Rounds.{Sticks};
+ghost use Rattle.manifest_loading.specs.Unasked.{DemandsNothing, ReadsNothing};
 
 use crate::ancestors::with_ancestors;
 use crate::error::{EntitySliceError, PartialRequestError};
@@ -37,7 +35,9 @@ use step_counts::Steps;
 use trie_traversal::first_places;
 
 /// The entities that the paths of the trie reach on the request, each with what is read of it and those of its ancestors that
-/// are asked for, as a loader gives them. A step is counted for each call of the loader's `load_entities`.
+/// are asked for, as a loader gives them. A step is counted for each call of the loader's `load_entities`. Its
+/// `load_ancestors` is called once at most, and not where the trie asks for no ancestors. Along a trie without paths the
+/// loader is not called.
 ///
 /// Errs with `PartialRequest` exactly where an entry of the request is not known; with `IncompatibleEntityManifest` for a
 /// value below which a path of the trie goes on, or of which ancestors are asked for, though it has none; with
@@ -55,21 +55,25 @@ pub fn load_trie<D: EntityLoader, L: Ledger>(
     ensures rounds { (n : ℕ) → PathsWithin trie.now n →
         (D.state loader.new).rounds ≤ (D.state loader.old).rounds + (n + 1) }
     ensures steps { (n : ℕ) → PathsWithin trie.now n → steps.new ≤ steps.old + (n + 1) }
+    ensures lists { (D.state loader.new).lists ≤ (D.state loader.old).lists + 1 }
+    ensures undemanded { DemandsNothing trie.now →
+        (D.state loader.new).lists ≡ (D.state loader.old).lists }
+    ensures nothing { ReadsNothing trie.now →
+        (D.state loader.new ≡ D.state loader.old) × (steps.new ≡ steps.old) }
     ensures partial { IsPartial result ↔ (IsWhole request.now → ⊥) }
+    ensures untouched { (IsWhole request.now → ⊥) →
+        (D.state loader.new ≡ D.state loader.old) × (steps.new ≡ steps.old) }
     ensures honest { (s : Store) → (D.state loader.old).store ≡ Some s → HasOrder s →
-        ((r : EntityRoot) → IsOrdered (root_value request.now r)) →
         IfOk result (IsLoaded (D.state loader.old).exact trie.now request.now s) }
     ensures between { (s : Store) → (D.state loader.old).store ≡ Some s → HasOrder s →
         IsStrictlySortedBy uid_cmp (map (λ e. e.uid) s) →
-        ((r : EntityRoot) → IsOrdered (root_value request.now r)) →
         (reads : List AccessPath) (demands : List Demand) → IsTrieOf reads demands trie.now →
         IfOk result (IsBetween (D.state loader.old).exact reads demands request.now s) }
     ensures cause { IsWhole request.now →
         IfErr result (CauseOf (λ v. SomeRootSticks trie.now request.now v ⊎ Sticks trie.now v)
         (D.state loader.old) (D.state loader.new)) }
     ensures right { IsWhole request.now → (s : Store) → (D.state loader.old).store ≡ Some s →
-        HasOrder s → ((r : EntityRoot) → IsOrdered (root_value request.now r)) →
-        IfErr result (IsRight (SticksAt trie.now request.now s) (D.state loader.old)
+        HasOrder s → IfErr result (IsRight (SticksAt trie.now request.now s) (D.state loader.old)
         (D.state loader.new)) }
 {
     if !request.is_whole() {
@@ -87,23 +91,25 @@ fn load_whole<D: EntityLoader, L: Ledger>(
 ) -> Result<Entities, EntitySliceError>
     requires { IsWhole request.now }
     ensures partial { IsPartial result → ⊥ }
+    ensures lists { (D.state loader.new).lists ≤ (D.state loader.old).lists + 1 }
+    ensures undemanded { DemandsNothing trie.now →
+        (D.state loader.new).lists ≡ (D.state loader.old).lists }
+    ensures nothing { ReadsNothing trie.now →
+        (D.state loader.new ≡ D.state loader.old) × (steps.new ≡ steps.old) }
     ensures goes_on { Continues (D.state loader.old) (D.state loader.new) }
     ensures rounds { (n : ℕ) → PathsWithin trie.now n →
         (D.state loader.new).rounds ≤ (D.state loader.old).rounds + (n + 1) }
     ensures steps { (n : ℕ) → PathsWithin trie.now n → steps.new ≤ steps.old + (n + 1) }
     ensures honest { (s : Store) → (D.state loader.old).store ≡ Some s → HasOrder s →
-        ((r : EntityRoot) → IsOrdered (root_value request.now r)) →
         IfOk result (IsLoaded (D.state loader.old).exact trie.now request.now s) }
     ensures between { (s : Store) → (D.state loader.old).store ≡ Some s → HasOrder s →
         IsStrictlySortedBy uid_cmp (map (λ e. e.uid) s) →
-        ((r : EntityRoot) → IsOrdered (root_value request.now r)) →
         (reads : List AccessPath) (demands : List Demand) → IsTrieOf reads demands trie.now →
         IfOk result (IsBetween (D.state loader.old).exact reads demands request.now s) }
     ensures cause { IfErr result
         (CauseOf (λ v. SomeRootSticks trie.now request.now v ⊎ Sticks trie.now v)
         (D.state loader.old) (D.state loader.new)) }
     ensures right { (s : Store) → (D.state loader.old).store ≡ Some s → HasOrder s →
-        ((r : EntityRoot) → IsOrdered (root_value request.now r)) →
         IfErr result (IsRight (SticksAt trie.now request.now s) (D.state loader.old)
         (D.state loader.new)) }
 {

@@ -4,7 +4,6 @@ ghost use Rattle.std.specs.Prelude.{◌≡◌, ◌⊎◌, ◌≤◌, ◌+◌, �
 ghost use Rattle.std.specs.List.Sorted.{IsStrictlySortedBy};
 ghost use Rattle.std.specs.Option.{option_copied};
 ghost use Rattle.access_tries.specs.Table.{Table};
-ghost use Rattle.access_tries.specs.declared.edge.EntityRoot.{EntityRoot};
 ghost use Rattle.trie_traversal.specs.Begun.{PathsWithin, SomeRootSticks};
 ghost use Rattle.entity_loader.specs.State.{Continues};
 ghost use Rattle.manifest_loading.specs.Between.{IsBetween};
@@ -12,11 +11,10 @@ ghost use Rattle.manifest_loading.specs.Causes.{CauseOf, IsPartial, IsRight};
 ghost use Rattle.manifest_loading.specs.Ordered.{HasOrder};
 ghost use Rattle.manifest_loading.specs.Right.{SticksAt};
 ghost use Rattle.manifest_loading.specs.Rounds.{Sticks};
+ghost use Rattle.manifest_loading.specs.Unasked.{DemandsNothing, ReadsNothing};
 ghost use Rattle.manifest_loading.specs.declared.error.EntitySliceError.TheVariants.{OutOfMemory};
 ghost use Rattle.policy_values.specs.Uid.{uid_cmp};
-ghost use Rattle.reads_spec.specs.Merge.{IsOrdered};
 ghost use Rattle.reads_spec.specs.Paths.{AccessPath, Demand};
-ghost use Rattle.reads_spec.specs.Restrict.{root_value};
 ghost use Rattle.entity_store.specs.Request.{IsWhole};
 ghost use Rattle.entity_store.specs.Store.{Store};
 ghost use Rattle.store_slices.specs.Tries.{IsTrieOf};
@@ -31,7 +29,8 @@ use std::alloc::{AllocError, Global};
 use std::sync::ledger::Ledger;
 
 /// The entities that the manifest's trie of the request's type reads on the request, as a loader gives them; without a trie
-/// none, and the loader is not asked. A step is counted for each call of the loader's `load_entities`.
+/// none, and the loader is not asked; nor is it along a trie without paths. A step is counted for each call of the loader's
+/// `load_entities`.
 ///
 /// Errors: `PartialRequest` exactly where an entry of the request is not known; the others as of a trie's loading.
 pub fn load_entities<D: EntityLoader, L: Ledger>(
@@ -43,11 +42,16 @@ pub fn load_entities<D: EntityLoader, L: Ledger>(
 ) -> Result<Entities, EntitySliceError>
     ensures partial { IsPartial result ↔ (IsWhole request.now → ⊥) }
     ensures first { (IsWhole request.now → ⊥) →
-        ((D.state loader.new).rounds ≡ (D.state loader.old).rounds) × (steps.new ≡ steps.old) }
+        (D.state loader.new ≡ D.state loader.old) × (steps.new ≡ steps.old) }
     ensures none { IsWhole request.now → trie_for manifest.now request.now ≡ None →
         IfOk result (λ s. s ≡ []) }
-    ensures no_round { trie_for manifest.now request.now ≡ None →
-        ((D.state loader.new).rounds ≡ (D.state loader.old).rounds) × (steps.new ≡ steps.old) }
+    ensures unasked { trie_for manifest.now request.now ≡ None →
+        (D.state loader.new ≡ D.state loader.old) × (steps.new ≡ steps.old) }
+    ensures lists { (D.state loader.new).lists ≤ (D.state loader.old).lists + 1 }
+    ensures undemanded { (t : Table) → trie_for manifest.now request.now ≡ Some t →
+        DemandsNothing t → (D.state loader.new).lists ≡ (D.state loader.old).lists }
+    ensures nothing { (t : Table) → trie_for manifest.now request.now ≡ Some t → ReadsNothing t →
+        (D.state loader.new ≡ D.state loader.old) × (steps.new ≡ steps.old) }
     ensures goes_on { Continues (D.state loader.old) (D.state loader.new) }
     ensures rounds { (t : Table) → trie_for manifest.now request.now ≡ Some t → (n : ℕ) →
         PathsWithin t n → (D.state loader.new).rounds ≤ (D.state loader.old).rounds + (n + 1) }
@@ -56,7 +60,6 @@ pub fn load_entities<D: EntityLoader, L: Ledger>(
     ensures between { (t : Table) → trie_for manifest.now request.now ≡ Some t → (s : Store) →
         (D.state loader.old).store ≡ Some s → HasOrder s →
         IsStrictlySortedBy uid_cmp (map (λ e. e.uid) s) →
-        ((r : EntityRoot) → IsOrdered (root_value request.now r)) →
         (reads : List AccessPath) (demands : List Demand) → IsTrieOf reads demands t →
         IfOk result (IsBetween (D.state loader.old).exact reads demands request.now s) }
     ensures cause { IsWhole request.now → (t : Table) → trie_for manifest.now request.now ≡ Some t →
@@ -66,7 +69,6 @@ pub fn load_entities<D: EntityLoader, L: Ledger>(
         IfErr result (λ e. e ≡ OutOfMemory) }
     ensures right { IsWhole request.now → (t : Table) → trie_for manifest.now request.now ≡ Some t →
         (s : Store) → (D.state loader.old).store ≡ Some s → HasOrder s →
-        ((r : EntityRoot) → IsOrdered (root_value request.now r)) →
         IfErr result (IsRight (SticksAt t request.now s) (D.state loader.old)
         (D.state loader.new)) }
 {

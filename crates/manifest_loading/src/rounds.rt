@@ -17,6 +17,7 @@ ghost use Rattle.manifest_loading.specs.Answering.{AreUnderIds};
 ghost use Rattle.manifest_loading.specs.Causes.{CauseOf, IsRight};
 ghost use Rattle.manifest_loading.specs.Right.{IsStuck, IsRefused};
 ghost use Rattle.manifest_loading.specs.Rounds.{AreAnswers, IsRound, Sticks, AreNoted};
+ghost use Rattle.manifest_loading.specs.Unasked.{DemandNothing};
 
 use crate::answers::answers_for;
 use crate::error::EntitySliceError;
@@ -51,6 +52,7 @@ fn answers_at<D: EntityLoader>(
     requires { IsTable nodes.now }
     ensures goes_on { Continues (D.state loader.old) (D.state loader.new) }
     ensures rounds { (D.state loader.new).rounds ≤ (D.state loader.old).rounds + 1 }
+    ensures lists { (D.state loader.new).lists ≡ (D.state loader.old).lists }
     ensures ids { IfOk result AreUnderIds }
     ensures cause { IfErr result (CauseOf (λ v. ⊥) (D.state loader.old) (D.state loader.new)) }
     ensures honest { (s : Store) → (D.state loader.old).store ≡ Some s →
@@ -77,10 +79,13 @@ fn one_round<D: EntityLoader, L: Ledger>(
     requires ids { AreUnderIds kept.old }
     ensures goes_on { Continues (D.state loader.old) (D.state loader.new) }
     ensures rounds { (D.state loader.new).rounds ≤ (D.state loader.old).rounds + 1 }
+    ensures lists { (D.state loader.new).lists ≡ (D.state loader.old).lists }
     ensures steps { steps.new ≡ steps.old + 1 }
     ensures ids { OnOk result (AreUnderIds kept.new) }
     ensures below { IfOk result (λ next. (q : Place) → IsIn q next.keys →
         IsBelowSome nodes.now pending.now.keys q) }
+    ensures quiet { IfOk result (λ next. DemandNothing nodes.now pending.now.keys →
+        DemandNothing nodes.now next.keys) }
     ensures cause { IfErr result (CauseOf (Sticks nodes.now) (D.state loader.old) (D.state loader.new)) }
     ensures honest { (s : Store) → (D.state loader.old).store ≡ Some s →
         IfOk result (λ next.
@@ -118,9 +123,12 @@ pub(crate) fn load_rounds<D: EntityLoader, L: Ledger>(
     ensures goes_on { Continues (D.state loader.old) (D.state loader.new) }
     ensures rounds { (n : ℕ) → PathsWithin nodes.now n →
         (D.state loader.new).rounds ≤ (D.state loader.old).rounds + (n + 1) }
+    ensures lists { (D.state loader.new).lists ≡ (D.state loader.old).lists }
     ensures steps { (n : ℕ) → PathsWithin nodes.now n → steps.new ≤ steps.old + (n + 1) }
-    ensures none { start.keys ≡ [] → ((D.state loader.new).rounds ≡ (D.state loader.old).rounds) ×
-        (steps.new ≡ steps.old) }
+    ensures none { start.keys ≡ [] → (D.state loader.new ≡ D.state loader.old) ×
+        (steps.new ≡ steps.old) × IfOk result (λ loaded. loaded.asked.keys ≡ []) }
+    ensures quiet { DemandNothing nodes.now start.keys →
+        IfOk result (λ loaded. DemandNothing nodes.now loaded.asked.keys) }
     ensures ids { IfOk result (λ loaded. AreUnderIds loaded.kept) }
     ensures honest { (s : Store) → (D.state loader.old).store ≡ Some s → (q : Request) →
         IsBegun nodes.now q s start.keys →

@@ -26,10 +26,10 @@ module _ (covered : LoadedIsEnough) (faults : RefusalsAreFaults) (sticks : Table
   pub decided_alike : IfOk result (λ s. AreDecidedAlike l.policies.now.policies q s l.entities.now)
   decided_alike =
       (promised sticks covered faults l.schema.now ready.schema l.policies.now ready.set ready.keyed rules.policies l.manifest.now ready.manifest
-      q rules.whole rules.request ready.context (slicer_state old) (slicer_state new) result loads).decided l.entities.now told rules.store
+      q rules.whole rules.request (slicer_state old) (slicer_state new) result loads).decided l.entities.now told rules.store
 
   pub wants_memory : IfErr result (λ e. e ≡ error.OutOfMemory)
   wants_memory =
       memory_alone (slicer_state old) (slicer_state new) refl refl result
       ((promised sticks covered faults l.schema.now ready.schema l.policies.now ready.set ready.keyed rules.policies l.manifest.now ready.manifest
-      q rules.whole rules.request ready.context (slicer_state old) (slicer_state new) result loads).honest l.entities.now told rules.store)
+      q rules.whole rules.request (slicer_state old) (slicer_state new) result loads).honest l.entities.now told rules.store)

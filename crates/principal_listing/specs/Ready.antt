@@ -1,5 +1,5 @@
 -- What principals are decided by.
-use Rattle.std.specs.Prelude.{◌≡◌, ◌&&◌, ℕ, Bool, false, List, Option, IfSome}
+use Rattle.std.specs.Prelude.{◌≡◌, ◌&&◌, ℕ, Bool, false, List, Option}
 use Rattle.std.specs.Option.{option_copied, option_map_or}
 use Rattle.policy_values.specs.Reaches.{has}
 use Rattle.policy_values.specs.declared.entity_uid.EntityUID.{EntityUID}
@@ -9,7 +9,6 @@ use Rattle.entity_store.specs.Request.{action_of}
 use Rattle.policy_set.specs.PolicySet.{IsPolicySet, AreKeyedOnce}
 use Rattle.schema_core.specs.Faults.{IsSchema}
 use Rattle.schema_core.specs.Schema.{ActionData, action_at}
-use Rattle.store_order.specs.Order.{AreOrdered}
 use Rattle.row_loader.specs.Laws.{IsStoreOrdered}
 use Rattle.entity_manifest.specs.OfPolicies.{IsManifestOf}
 use Rattle.principal_listing.specs.Allowed.{KeepOtherRules}
@@ -33,4 +32,3 @@ pub record IsReady (l : Listing) (q : Request) : Type 0 where
   pub set : IsPolicySet l.policies.now
   pub keyed : AreKeyedOnce l.policies.now.policies
   pub store : IsStoreOrdered l.entities.now
-  pub context : IfSome q.context AreOrdered

@@ -22,7 +22,7 @@ use schema_core::{ValidatorActionId, ValidatorSchema};
 use std::alloc::{AllocError, Global};
 use std::marker::Brand;
 use std::sync::ledger::{Blank, Ledger};
-use store_order::{entities_are_ordered, request_is_ordered};
+use store_order::entities_are_ordered;
 
 /// The first principals of the store, as many as the limit at most, that may do what the request asks, ascending, of those
 /// whose ids come after this one, which need not be in the store; without one from the first on. They are the ids of the
@@ -75,7 +75,7 @@ fn declared_action<'a>(
     schema.get_action_id(asked.action.as_ref().unwrap())
 }
 
-// Keys and ids are in order, in the policies, the store and the request.
+// Keys and ids are in order, in the policies and the store.
 fn is_ready(listing: &Listing<'_>, asked: &Request)
     requires rules { KeepOtherRules listing.now.schema.now listing.now.policies.now asked.now listing.now.entities.now }
     requires action { option_copied listing.now.action ≡
@@ -89,7 +89,6 @@ fn is_ready(listing: &Listing<'_>, asked: &Request)
     is_policy_set(listing.policies);
     have_keys_once(listing.policies);
     entities_are_ordered(listing.entities);
-    request_is_ordered(asked);
 }
 
 // The page, where every rule holds that does not speak of the principal. It begins the search at the first id.

@@ -94,8 +94,8 @@ honest_list t r ys f = record { enough = f.enough; given = f.given; exactly = λ
 
 -- ---- states
 
-pub continues : (a b : RowsState) (m n : ℕ) → RowsContinue a b → Continues (loader_state a m) (loader_state b n)
-continues a b m n on = record { told = stays; exact = refl; faults = on.faults; strays = omega arith; honest = λ s h. refl }
+pub continues : (a b : RowsState) (m n k l : ℕ) → RowsContinue a b → Continues (loader_state a m k) (loader_state b n l)
+continues a b m n k l on = record { told = stays; exact = refl; faults = on.faults; strays = omega arith; honest = λ s h. refl }
   where
     stays : (s : Store) → store_told a ≡ Some s → store_told b ≡ Some s
     stays s h =

@@ -47,12 +47,13 @@ store_in_order t = if is_store_ordered (store_of t) then Some (store_of t) else 
 abbrev pub store_told : RowsState → Option Store
 store_told r = if r.steady then option_and_then store_in_order r.told else None
 
--- a loader over rows that was asked so often: it may answer more than what is asked, and never strays
-abbrev pub loader_state : RowsState → ℕ → LoaderState
-loader_state r asked = record {
+-- a loader over rows that was asked so often for entities, and for ancestors: it may answer more than what is asked, and never strays
+abbrev pub loader_state : RowsState → ℕ → ℕ → LoaderState
+loader_state r asked listed = record {
   store = store_told r;
   exact = false;
   faults = r.faults;
   strays = 0;
   rounds = asked;
+  lists = listed;
 }

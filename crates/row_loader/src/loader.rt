@@ -20,6 +20,8 @@ pub struct RowLoader<R> {
     pub rows: R,
     /// How often entities were asked for; at the last value of u64 it stays.
     pub rounds: u64,
+    /// How often ancestors were asked for; at the last value of u64 it stays.
+    pub lists: u64,
 }
 
 impl<R: Rows> RowLoader<R> {
@@ -27,15 +29,20 @@ impl<R: Rows> RowLoader<R> {
     pub fn new(rows: R) -> RowLoader<R>
         ensures rows { result.rows ≡ rows }
         ensures rounds { result.rounds ≡ 0 }
+        ensures lists { result.lists ≡ 0 }
     {
-        RowLoader { rows, rounds: 0 }
+        RowLoader {
+            rows,
+            rounds: 0,
+            lists: 0,
+        }
     }
 }
 
 impl<R: Rows> EntityLoader for RowLoader<R> {
     ghost use Rattle.row_loader.specs.State.{loader_state};
 
-    ghost state = { λ l. loader_state (R.state l.rows) l.rounds };
+    ghost state = { λ l. loader_state (R.state l.rows) l.rounds l.lists };
 
     fn load_entities(
         &mut self,
@@ -51,6 +58,7 @@ impl<R: Rows> EntityLoader for RowLoader<R> {
         alloc: Global,
         requests: &Vec<AncestorsRequest>,
     ) -> Result<Vec<Vec<EntityUID>>, LoadError> {
+        self.lists = self.lists.saturating_add(1);
         ancestor_lists(alloc, &mut self.rows, requests)
     }
 }

@@ -36,6 +36,8 @@ pub fn first_places(
     ensures asked { IfOk result
         (λ start. Adds trie.now (roots_point trie.now request.now) [] start.keys) }
     ensures first { IfOk result (λ start. (q : Place) → IsIn q start.keys → IsFirst trie.now q) }
+    ensures leads { IfOk result (λ _. (b : Bool) (x : EntityUID) (a : Address) →
+        roots_point trie.now request.now b x a ≡ true → RootLeads trie.now request.now b x a) }
     ensures why { IfErr result (RefusedBy (SomeRootSticks trie.now request.now)) }
 {
     if let Some(value) = stuck_in_context(alloc, request, trie)? {

@@ -13,8 +13,8 @@ returns-clause-answers g c =
     let ps = c.args.policies.now.policies in
     let qs = c.args.requests.now.items in
     let r = g.R.Rows.state c.args.loader.now.rows in
-    let old = loader_state r c.args.loader.now.rounds in
-    let new = loader_state (g.R.Rows.state c.decide_batch.new.loader.rows) c.decide_batch.new.loader.rounds in
+    let old = loader_state r c.args.loader.now.rounds c.args.loader.now.lists in
+    let new = loader_state (g.R.Rows.state c.decide_batch.new.loader.rows) c.decide_batch.new.loader.rounds c.decide_batch.new.loader.lists in
     IfOk-weaker c.decide_batch.result (λ answers. AreAnswers schema ps old qs answers.items new)
     (λ answers. AllZip (IsRowAnswer schema ps (store_told r)) qs answers.items)
     (λ answers h. row_answers schema ps (store_told r) (c.told_stores_are_ordered.ensures r) old new qs answers.items (λ w is. is) refl h)
@@ -27,8 +27,8 @@ returns-clause-faults g c =
     let qs = c.args.requests.now.items in
     let r = g.R.Rows.state c.args.loader.now.rows in
     let s = g.R.Rows.state c.decide_batch.new.loader.rows in
-    let old = loader_state r c.args.loader.now.rounds in
-    let new = loader_state s c.decide_batch.new.loader.rounds in
+    let old = loader_state r c.args.loader.now.rounds c.args.loader.now.lists in
+    let new = loader_state s c.decide_batch.new.loader.rounds c.decide_batch.new.loader.lists in
     IfOk-weaker c.decide_batch.result (λ answers. AreAnswers schema ps old qs answers.items new)
     (λ answers. AreCounted answers.items r.faults s.faults)
     (λ answers h. counted schema ps old new qs answers.items h) c.decide_batch.ensures.answers

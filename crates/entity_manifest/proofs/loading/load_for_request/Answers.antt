@@ -9,7 +9,7 @@ returns-clause-enough g c =
     let e = c.load_entities.ensures in
     (promised (λ t v. SomeRootSticks t c.args.request.now v ⊎ Sticks t v) c.loaded_is_enough.ensures c.refusals_are_faults.ensures
     c.args.schema.now c.action_ids-actions.ensures.schema c.args.policies.now c.is_policy_set.ensures c.have_keys_once.ensures c.requires.accepted
-    c.args.manifest.now c.requires.manifest c.args.request.now c.requires.whole c.requires.conforms c.request_is_ordered.ensures
+    c.args.manifest.now c.requires.manifest c.args.request.now c.requires.whole c.requires.conforms
     (g.D.EntityLoader.state c.args.loader.now) (g.D.EntityLoader.state c.load_entities.new.loader) c.load_entities.result
     record { between = e.between; right = e.right; cause = e.cause; without = e.cause_without; none = e.none }).enough
 
@@ -18,7 +18,7 @@ returns-clause-part g c =
     let e = c.load_entities.ensures in
     (promised (λ t v. SomeRootSticks t c.args.request.now v ⊎ Sticks t v) c.loaded_is_enough.ensures c.refusals_are_faults.ensures
     c.args.schema.now c.action_ids-actions.ensures.schema c.args.policies.now c.is_policy_set.ensures c.have_keys_once.ensures c.requires.accepted
-    c.args.manifest.now c.requires.manifest c.args.request.now c.requires.whole c.requires.conforms c.request_is_ordered.ensures
+    c.args.manifest.now c.requires.manifest c.args.request.now c.requires.whole c.requires.conforms
     (g.D.EntityLoader.state c.args.loader.now) (g.D.EntityLoader.state c.load_entities.new.loader) c.load_entities.result
     record { between = e.between; right = e.right; cause = e.cause; without = e.cause_without; none = e.none }).part
 
@@ -27,7 +27,7 @@ returns-clause-exact g c =
     let e = c.load_entities.ensures in
     (promised (λ t v. SomeRootSticks t c.args.request.now v ⊎ Sticks t v) c.loaded_is_enough.ensures c.refusals_are_faults.ensures
     c.args.schema.now c.action_ids-actions.ensures.schema c.args.policies.now c.is_policy_set.ensures c.have_keys_once.ensures c.requires.accepted
-    c.args.manifest.now c.requires.manifest c.args.request.now c.requires.whole c.requires.conforms c.request_is_ordered.ensures
+    c.args.manifest.now c.requires.manifest c.args.request.now c.requires.whole c.requires.conforms
     (g.D.EntityLoader.state c.args.loader.now) (g.D.EntityLoader.state c.load_entities.new.loader) c.load_entities.result
     record { between = e.between; right = e.right; cause = e.cause; without = e.cause_without; none = e.none }).exact
 
@@ -36,7 +36,7 @@ returns-clause-decided g c =
     let e = c.load_entities.ensures in
     (promised (λ t v. SomeRootSticks t c.args.request.now v ⊎ Sticks t v) c.loaded_is_enough.ensures c.refusals_are_faults.ensures
     c.args.schema.now c.action_ids-actions.ensures.schema c.args.policies.now c.is_policy_set.ensures c.have_keys_once.ensures c.requires.accepted
-    c.args.manifest.now c.requires.manifest c.args.request.now c.requires.whole c.requires.conforms c.request_is_ordered.ensures
+    c.args.manifest.now c.requires.manifest c.args.request.now c.requires.whole c.requires.conforms
     (g.D.EntityLoader.state c.args.loader.now) (g.D.EntityLoader.state c.load_entities.new.loader) c.load_entities.result
     record { between = e.between; right = e.right; cause = e.cause; without = e.cause_without; none = e.none }).decided
 
@@ -45,7 +45,7 @@ returns-clause-honest g c =
     let e = c.load_entities.ensures in
     (promised (λ t v. SomeRootSticks t c.args.request.now v ⊎ Sticks t v) c.loaded_is_enough.ensures c.refusals_are_faults.ensures
     c.args.schema.now c.action_ids-actions.ensures.schema c.args.policies.now c.is_policy_set.ensures c.have_keys_once.ensures c.requires.accepted
-    c.args.manifest.now c.requires.manifest c.args.request.now c.requires.whole c.requires.conforms c.request_is_ordered.ensures
+    c.args.manifest.now c.requires.manifest c.args.request.now c.requires.whole c.requires.conforms
     (g.D.EntityLoader.state c.args.loader.now) (g.D.EntityLoader.state c.load_entities.new.loader) c.load_entities.result
     record { between = e.between; right = e.right; cause = e.cause; without = e.cause_without; none = e.none }).honest
 
@@ -54,6 +54,6 @@ returns-clause-cause g c =
     let e = c.load_entities.ensures in
     (promised (λ t v. SomeRootSticks t c.args.request.now v ⊎ Sticks t v) c.loaded_is_enough.ensures c.refusals_are_faults.ensures
     c.args.schema.now c.action_ids-actions.ensures.schema c.args.policies.now c.is_policy_set.ensures c.have_keys_once.ensures c.requires.accepted
-    c.args.manifest.now c.requires.manifest c.args.request.now c.requires.whole c.requires.conforms c.request_is_ordered.ensures
+    c.args.manifest.now c.requires.manifest c.args.request.now c.requires.whole c.requires.conforms
     (g.D.EntityLoader.state c.args.loader.now) (g.D.EntityLoader.state c.load_entities.new.loader) c.load_entities.result
     record { between = e.between; right = e.right; cause = e.cause; without = e.cause_without; none = e.none }).cause

@@ -8,11 +8,13 @@ use Rattle.trie_traversal.specs.Places.{node_of}
 use Rattle.trie_traversal.specs.Wants.{sees}
 use Rattle.manifest_loading.specs.KeptPart.{IsState}
 use Rattle.manifest_loading.specs.Rounds.{IsRound}
+use Rattle.manifest_loading.specs.Unasked.{DemandNothing}
 use Rattle.manifest_loading.proofs.KeepSteps.{none_there}
 use Rattle.manifest_loading.proofs.RoundSteps.{AreDeep, deep_first, deep_more, longest, round_within, goes_on_here, goes_later}
 use Rattle.manifest_loading.specs.Right.{IsRefused}
 use Rattle.manifest_loading.proofs.RightSteps.{refused_right}
 use Rattle.manifest_loading.proofs.StateSteps.{state_start, state_next}
+use Rattle.manifest_loading.proofs.UnaskedSteps.{undemanding_noted}
 use Rattle.manifest_loading.proofs.rounds.load_rounds.Goals as goal
 
 pub rounds-init : goal.rounds-init
@@ -23,12 +25,14 @@ rounds-init g c =
     record {
       goes_on = goes_on_here old;
       rounds = omega arith;
+      lists = refl;
       steps = omega arith;
       ids = λ x e h. absurd (cc (none x, h));
       deep = let zero : 0 ≡ c.args.steps.now - c.args.steps.now = omega arith in subst (λ r. AreDeep ns r c.args.start.keys) zero (deep_first ns c.args.start.keys c.requires.start);
       within = λ n w. omega arith;
       honest = λ s told q b. subst (λ ks. IsState old.exact ns q s ks c.args.start.keys (get uid_cmp c.new-kept.result)) (sym c.new-asked.ensures.empty) (state_start old.exact ns q s c.args.start.keys (get uid_cmp c.new-kept.result) b none);
-      begun = λ e. (e, refl, refl);
+      begun = λ e. (e, c.new-asked.ensures.empty, refl, refl);
+      quiet = λ none. (subst (DemandNothing ns) (sym c.new-asked.ensures.empty) (λ x ms r. refl), none);
     }
 
 pub rounds-preserved : goal.rounds-preserved
@@ -47,6 +51,7 @@ rounds-preserved g c =
     record {
       goes_on = goes_later old mid new inv.goes_on c.one_round.ensures.goes_on;
       rounds = let a = c.one_round.ensures.rounds in let b = inv.rounds in omega (arith, a, b, before, up);
+      lists = c.one_round.ensures.lists ∙ inv.lists;
       steps = omega (arith, before, up);
       ids = c.in_ok-next.ensures.ids;
       deep = let same : k + 1 ≡ c.one_round.new.steps - c.args.steps.now = omega (arith, before, up) in subst (λ r. AreDeep ns r next) same (deep_more ns k ps next inv.deep c.in_ok-next.ensures.below);
@@ -56,6 +61,7 @@ rounds-preserved g c =
           state_next old.exact ns q s c.args.start.keys c.rounds.asked.keys ps next c.note.new.asked.keys (get uid_cmp c.rounds.kept) (get uid_cmp c.one_round.new.kept) b (inv.honest s told q b) r inv.deep.there
           (λ d x a. c.in_ok-note.ensures.tests (λ p. uid_eq p.uid x && sees d (node_of ns p) a));
       begun = λ e. absurd (some (inv.begun e).0);
+      quiet = λ none. let q = inv.quiet none in (undemanding_noted ns ps c.rounds.asked.keys c.note.new.asked.keys c.in_ok-note.ensures q.0 q.1, c.in_ok-next.ensures.quiet q.1);
     }
 
 pub rounds-smaller : goal.rounds-smaller

@@ -8,6 +8,7 @@ use Rattle.trie_traversal.specs.Begun.{PathsWithin}
 use Rattle.entity_loader.specs.State.{Continues}
 use Rattle.manifest_loading.specs.Answering.{AreUnderIds}
 use Rattle.manifest_loading.specs.KeptPart.{IsState, IsBegun}
+use Rattle.manifest_loading.specs.Unasked.{DemandNothing}
 use Rattle.manifest_loading.proofs.RoundSteps.{AreDeep}
 use Rattle.manifest_loading.proofs.rounds.load_rounds.Given as goal
 
@@ -16,12 +17,14 @@ abbrev pub invariant-rounds : goal.invariant-rounds
 invariant-rounds g l = record {
   goes_on : Continues (g.D.EntityLoader.state l.fn.loader) (g.D.EntityLoader.state l.loader);
   rounds : (g.D.EntityLoader.state l.loader).rounds ≤ (g.D.EntityLoader.state l.fn.loader).rounds + (l.steps - l.fn.steps);
+  lists : (g.D.EntityLoader.state l.loader).lists ≡ (g.D.EntityLoader.state l.fn.loader).lists;
   steps : l.fn.steps ≤ l.steps;
   ids : AreUnderIds l.kept;
   deep : AreDeep l.nodes (l.steps - l.fn.steps) l.pending.keys;
   within : (n : ℕ) → PathsWithin l.nodes n → l.steps ≤ l.fn.steps + (n + 1);
   honest : (s : Store) → (g.D.EntityLoader.state l.fn.loader).store ≡ Some s → (q : Request) → IsBegun l.nodes q s l.fn.start.keys → IsState (g.D.EntityLoader.state l.fn.loader).exact l.nodes q s l.asked.keys l.pending.keys (get uid_cmp l.kept);
-  begun : l.fn.start.keys ≡ [] → (l.pending.keys ≡ []) × (l.steps ≡ l.fn.steps) × ((g.D.EntityLoader.state l.loader).rounds ≡ (g.D.EntityLoader.state l.fn.loader).rounds);
+  begun : l.fn.start.keys ≡ [] → (l.pending.keys ≡ []) × (l.asked.keys ≡ []) × (l.steps ≡ l.fn.steps) × (g.D.EntityLoader.state l.loader ≡ g.D.EntityLoader.state l.fn.loader);
+  quiet : DemandNothing l.nodes l.fn.start.keys → DemandNothing l.nodes l.asked.keys × DemandNothing l.nodes l.pending.keys;
 }
 
 abbrev pub decreases-rounds : goal.decreases-rounds

@@ -1,5 +1,5 @@
 use Rattle.std.proofs.Common.{◌≡◌, Bool, List, [], Result, Ok, Err}
-use Rattle.std.proofs.lemmas.Result.{err_from_is_err_and, IfErr-weaker}
+use Rattle.std.proofs.lemmas.Result.{err_from_is_err_and, IfErr-weaker, IfOk-weaker}
 use Rattle.std.specs.Prelude.{IfOk, OnOk}
 use Rattle.std.specs.BTreeMap.{get}
 use Rattle.std.specs.BTreeSet.{BTreeSet}
@@ -15,6 +15,7 @@ use Rattle.manifest_loading.specs.Rounds.{AreAnswers, IsRound}
 use Rattle.manifest_loading.specs.declared.error.EntitySliceError.{EntitySliceError}
 use Rattle.manifest_loading.proofs.RightSteps.{right_refused, taken_refused}
 use Rattle.manifest_loading.proofs.RoundSteps.{not_taken}
+use Rattle.manifest_loading.proofs.UnaskedSteps.{undemanding_next}
 use Rattle.manifest_loading.proofs.rounds.one_round.Goals as goal
 
 rounded : (exact : Bool) (s : Store) (ns : Table) (ps : List Place) (old new found : Found) → AreAnswers exact s ns ps found → (r : Result (BTreeSet Place) EntitySliceError)
@@ -46,3 +47,8 @@ returns-clause-right g c = λ s told.
     IfErr-weaker c.take_answers.result _ _
     (taken_refused old.exact s c.args.nodes.now c.args.pending.now.keys (get uid_cmp c.args.kept.now) (get uid_cmp c.in_ok-found.found) old (g.D.EntityLoader.state c.answers_at.new.loader) (c.in_ok-found.ensures.honest s told))
     c.take_answers.ensures.why
+
+pub returns-clause-quiet : goal.returns-clause-quiet
+returns-clause-quiet g c =
+    IfOk-weaker c.take_answers.result _ _
+    (λ next adds none. undemanding_next c.args.nodes.now (get uid_cmp c.in_ok-found.found) c.args.pending.now.keys next.keys adds none) c.take_answers.ensures.asked

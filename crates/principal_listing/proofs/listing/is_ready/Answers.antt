@@ -10,5 +10,4 @@ returns c = record {
   set = c.is_policy_set.ensures;
   keyed = c.have_keys_once.ensures;
   store = store_ordered c.args.listing.now.entities.now c.iter-entities.ensures.ascending c.entities_are_ordered.ensures;
-  context = c.request_is_ordered.ensures;
 }
