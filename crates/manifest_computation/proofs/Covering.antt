@@ -19,7 +19,7 @@ use Rattle.schema_core.specs.EnvData.{declared_action, unlinked}
 use Rattle.schema_core.specs.Faults.{IsSchema}
 use Rattle.schema_core.specs.Schema.{ActionData, SchemaData, action_at}
 use Rattle.typing_spec.specs.Conditions.{IsCondition}
-use Rattle.typing_spec.specs.Conforms.{Applies, IsOf}
+use Rattle.typing_spec.specs.Conforms.{IsOf}
 use Rattle.typing_spec.specs.Signatures.{bool_type}
 use Rattle.typing_spec.specs.Sound.{IsOfType}
 use Rattle.typing_spec.specs.Typing.{Typing, types}
@@ -30,8 +30,7 @@ use Rattle.reads_spec.specs.Reads.{declared_reads, declared_demands}
 use Rattle.reads_spec.specs.Restrict.{needed}
 use Rattle.reads_spec.specs.Policies.{PoliciesAreCovered}
 use Rattle.policy_validate.specs.Laws.{AcceptedAreTyped, AcceptedAreSound}
-use Rattle.policy_validate.specs.Typed.{typed_conditions}
-use Rattle.manifest_computation.specs.Enough.{Covers, AreAllowedBetween, IsEnough, OutcomesAreAllowed, SlicesAreEnough}
+use Rattle.manifest_computation.specs.Enough.{Covers, IsEnough, OutcomesAreAllowed, SlicesAreEnough}
 use Rattle.manifest_computation.specs.Rules.{KeepRules}
 use Rattle.manifest_computation.specs.Slice.{slice, slice_in}
 use Rattle.manifest_computation.proofs.Same.{response_same}

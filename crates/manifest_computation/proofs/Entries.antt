@@ -26,7 +26,6 @@ use Rattle.policy_validate.specs.Typed.{typed_conditions}
 use Rattle.manifest_computation.specs.Computed.{IsEntryOf, IsManifestOf}
 use Rattle.manifest_computation.specs.Found.{AreEntries}
 use Rattle.manifest_computation.proofs.Ascending.{Pairwise, IsBefore, all_more, envs_ascend, envs_declared}
-use Rattle.plain_lemmas.proofs.Lists.{empty_of_length}
 
 request_types_total : IsTotalOrder request_type_cmp
 request_types_total = then_total (on_total (λ t. t.action) uid_cmp_total) (then_total (on_total (λ t. t.principal) nat_list_cmp_total) (on_total (λ t. t.resource) nat_list_cmp_total))

@@ -1,9 +1,12 @@
-mod Memory
-mod Typed
-pub mod Same
-mod Covering
-pub mod Environments
-pub mod Ascending
-pub mod Entries
-mod Settled
 pub mod Additions
+pub mod Ascending
+mod Covering
+pub mod Entries
+pub mod Environments
+mod Holding
+mod Memory
+pub mod RequestTries
+pub mod Same
+mod Settled
+mod Splits
+mod Typed

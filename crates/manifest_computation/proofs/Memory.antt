@@ -1,5 +1,5 @@
 -- Where every rule holds, nothing but want of memory is a reason for no slice.
-use Rattle.std.proofs.Common.{◌≡◌, true, None, Some, sym, ◌∙◌, refl}
+use Rattle.std.proofs.Common.{◌≡◌, None, Some, sym, ◌∙◌, refl}
 use Rattle.entity_store.specs.declared.request.Request.{Request}
 use Rattle.entity_store.specs.Store.{Store}
 use Rattle.conformance.specs.Laws.{RequestRulesAreExact, StoreRulesAreExact}

@@ -6,9 +6,7 @@ use Rattle.entity_store.specs.declared.request.Request.{Request}
 use Rattle.entity_store.specs.Store.{Store}
 use Rattle.policy_set.specs.Data.{PolicyData}
 use Rattle.policy_set.specs.Response.{outcome, outcomes, true_permits, true_forbids, failures, decided, response}
-use Rattle.reads_spec.specs.Cover.{IsPartOf}
 use Rattle.reads_spec.specs.Restrict.{Keep, cut, cut_fields, part}
-use Rattle.reads_spec.proofs.Order.{part_of_itself}
 
 -- the response is made of the outcomes
 permits_same : (q : Request) (s w : Store) (ps : List PolicyData) → outcomes ps q s ≡ outcomes ps q w → true_permits q s ps ≡ true_permits q w ps

@@ -15,7 +15,7 @@ use Rattle.typing_spec.specs.Typing.{Typed}
 use Rattle.policy_validate.specs.Typed.{typed_conditions}
 use Rattle.manifest_core.specs.Manifest.{Manifest}
 use Rattle.manifest_core.specs.ManifestJson.{request_type_data, trie_entry_data, manifest_data}
-use Rattle.manifest_computation.specs.Computed.{IsEntryOf, IsManifestOf}
+use Rattle.manifest_computation.specs.Computed.{IsEntryOf}
 use Rattle.manifest_computation.specs.Laws.{ManifestsAreSettled}
 
 module _ (equal : SameTriesAreEqual) (schema : SchemaData) where

@@ -1,5 +1,5 @@
 -- Accepted policies have types in the environment of a request that conforms.
-use Rattle.std.proofs.Common.{◌≡◌, ℕ, suc, length, true, false, List, [], ◌∷◌, map, Option, Some, None, IsTrue, IfSome, IsSomeAnd, option_map, refl, sym, ap, ◌∙◌, subst}
+use Rattle.std.proofs.Common.{◌≡◌, ℕ, suc, length, List, [], ◌∷◌, map, Option, Some, None, IsTrue, IfSome, IsSomeAnd, option_map, refl, sym, ap, ◌∙◌, subst}
 use Rattle.std.specs.List.{AllByRecursion, cons_option}
 use Rattle.policy_values.specs.Reaches.{has}
 use Rattle.policy_values.specs.Uid.{text_cmp}

@@ -1,6 +1,9 @@
 -- What a trie holds, with conditions that are still to be added to it.
-use Rattle.std.specs.Prelude.{◌≡◌, Bool, ◌||◌, List, map}
+use Rattle.std.specs.Prelude.{◌≡◌, ℕ, Bool, ◌||◌, List, [], ◌∷◌, ◌++◌, Option, IsSomeAnd, IsTrue, map}
+use Rattle.std.specs.BTreeSet.{BTreeSet, contains}
 use Rattle.std.specs.List.{list_any}
+use Rattle.policy_values.specs.Uid.{text_cmp}
+use Rattle.policy_expressions.specs.Plain.{Plain}
 use Rattle.access_tries.specs.Edges.{Address}
 use Rattle.access_tries.specs.Paths.{address_of, demand_of, is_front, is_same, IsLeast}
 use Rattle.access_tries.specs.Table.{Table, leads, is_marked}
@@ -8,9 +11,11 @@ use Rattle.schema_core.specs.EnvData.{EnvData}
 use Rattle.schema_core.specs.Schema.{SchemaData}
 use Rattle.typing_spec.specs.Typing.{Typed}
 use Rattle.policy_set.specs.Data.{PolicyData}
+use Rattle.policy_set.specs.PolicySet.{PolicySetData, template_at}
+use Rattle.typecheck_rules.specs.Check.{check_walked, condition_walked}
 use Rattle.reads_spec.specs.Reads.{declared_reads, declared_demands}
 use Rattle.policy_validate.specs.AcceptanceLaws.{LeavesAll}
-use Rattle.policy_validate.specs.Found.{found_conditions}
+use Rattle.policy_validate.specs.Found.{condition_in, found_conditions}
 
 module _ (schema : SchemaData) (env : EnvData) where
   -- whether the edges are a front of what conditions read or ask for
@@ -25,6 +30,22 @@ module _ (schema : SchemaData) (env : EnvData) where
   pub record HoldSame (t : Table) (ts : List Typed) (u : Table) (us : List Typed) : Type 0 where
     pub paths : (es : Address) → (leads t es || goes_along ts es) ≡ (leads u es || goes_along us es)
     pub marks : (es : Address) → (is_marked t es || asks_along ts es) ≡ (is_marked u es || asks_along us es)
+
+  -- what the check of a part of a condition leaves, at any depth
+  abbrev pub part_in : Plain → Option Typed
+  part_in e = condition_in (check_walked (condition_walked schema env e))
+
+  -- a trie, with conditions that are still to be added, holds what a condition reads and asks for
+  abbrev pub IsHeld : Table → List Typed → Typed → Type 0
+  IsHeld t ts c = HoldSame t (ts ++ c ∷ []) t ts
+
+  -- so it does for the body of each template of the set that is among these
+  abbrev pub AreHeld : PolicySetData → BTreeSet (List ℕ) → Table → List Typed → Type 0
+  AreHeld s ids t ts = (id : List ℕ) → IsTrue (contains text_cmp ids id) → IsSomeAnd (template_at s id) (λ u. IsSomeAnd (part_in u.body) (IsHeld t ts))
+
+  -- a condition was taken to the others, or added
+  abbrev pub IsTaken : Table → List Typed → Table → List Typed → Typed → Type 0
+  IsTaken u us t ts c = (more : List Typed) → HoldSame u (us ++ more) t (ts ++ c ∷ more)
 
   -- the trie of what checks leave of policies, of which they leave each condition
   pub record IsTrieLeft (ps : List PolicyData) (t : Table) : Type 0 where

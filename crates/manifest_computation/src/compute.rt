@@ -25,6 +25,7 @@ use policy_validate::{Typechecker, Validator, keep_rules};
 use schema_core::{ValidationMode, ValidatorSchema};
 use std::alloc::{AllocError, Global};
 use std::collections::BTreeMap;
+use typecheck_walk::Extensions;
 use typing_spec::{ExtensionSchemas, all_objects};
 
 /// The manifest of policies: for each environment of the schema the trie of what the static policies and links read and ask
@@ -65,7 +66,7 @@ fn tries_where_accepted(
     let extensions = ExtensionSchemas::all_available(alloc, &objects)?;
     let typechecker = Typechecker::new(schema, &extensions, ValidationMode::Strict);
     if keep_rules(alloc, schema, &typechecker, policies)? {
-        tries_where_left(alloc, schema, &typechecker, policies)
+        tries_where_left(alloc, schema, &Extensions::new(&extensions), policies)
     } else {
         Ok(None)
     }
@@ -75,11 +76,10 @@ fn tries_where_accepted(
 fn tries_where_left(
     alloc: Global,
     schema: &ValidatorSchema,
-    typechecker: &Typechecker<'_, '_>,
+    extensions: &Extensions<'_, '_>,
     policies: &PolicySet,
 ) -> Result<Option<BTreeMap<RequestType, RootAccessTrie>>, AllocError>
-    requires typechecker { typechecker.now ≡ schema.now }
-    requires rules { IsTrue (keep_rules schema.now policies.now) }
+    requires { IsTrue (keep_rules schema.now policies.now) }
     ensures tries { IfOk result
         (λ o. IfSome o (λ m. IsAccepted schema.now policies.now ×
         IsManifestOf schema.now policies.now.policies m.entries)) }
@@ -90,7 +90,7 @@ fn tries_where_left(
     if policies.len() == 0 {
         return Ok(Some(BTreeMap::new(alloc)));
     }
-    tries_of(alloc, schema, typechecker, policies)
+    tries_of(alloc, schema, extensions, policies)
 }
 
 // The policies are accepted exactly where they keep the rules and checks leave each condition.

@@ -1,6 +1,6 @@
 //! What holds of manifests.
 
-ghost use Rattle.manifest_computation.specs.Laws.{ManifestsAreSettled};
+ghost use Rattle.manifest_computation.specs.Laws.{ManifestsAreSettled, TriesAreOfReads};
 
 use access_tries::laws::same_tries_are_equal;
 
@@ -10,3 +10,9 @@ pub fn manifests_are_settled()
 {
     same_tries_are_equal();
 }
+
+/// The trie that the manifest of policies has for a request is that of exactly what they read and ask for in the request's
+/// environment.
+pub fn tries_are_of_reads()
+    ensures { TriesAreOfReads }
+{}

@@ -19,12 +19,12 @@ use entity_store::{Entities, Request};
 use link_spec::laws::typed_everywhere;
 use policy_set::PolicySet;
 use policy_set::laws::is_policy_set;
-use policy_validate::Typechecker;
 use policy_validate::condition_laws::found_are_typed;
 use policy_validate::laws::accepted_are_typed;
-use schema_core::{RequestEnv, ValidationMode, ValidatorSchema};
+use schema_core::{RequestEnv, ValidatorSchema};
 use std::alloc::{AllocError, Global};
 use store_slices::restricted_store;
+use typecheck_walk::Extensions;
 use typing_spec::{ExtensionSchemas, all_objects};
 
 /// The slice of the store: the store restricted to what the policies read on the request, each by its own condition with its
@@ -101,8 +101,8 @@ fn trie_of<'a>(
 {
     let objects = all_objects(alloc)?;
     let extensions = ExtensionSchemas::all_available(alloc, &objects)?;
-    let typechecker = Typechecker::new(schema, &extensions, ValidationMode::Strict);
-    trie_of_policies(alloc, schema, &typechecker, env, policies)
+    let extensions = Extensions::new(&extensions);
+    trie_of_policies(alloc, schema, &extensions, &*env, policies)
 }
 
 // Of accepted policies checks leave each condition, as typing gives it.

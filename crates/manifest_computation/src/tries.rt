@@ -14,19 +14,18 @@ use crate::gathering::trie_of_policies;
 use access_tries::RootAccessTrie;
 use entity_store::RequestType;
 use policy_set::PolicySet;
-use policy_validate::Typechecker;
 use schema_core::{RequestEnv, ValidatorSchema};
 use std::alloc::{AllocError, Global};
 use std::collections::BTreeMap;
+use typecheck_walk::Extensions;
 
 /// A trie for each environment of the schema, under its request type; nothing where the check of some condition fails.
 pub(crate) fn tries_of(
     alloc: Global,
     schema: &ValidatorSchema,
-    typechecker: &Typechecker<'_, '_>,
+    extensions: &Extensions<'_, '_>,
     policies: &PolicySet,
 ) -> Result<Option<BTreeMap<RequestType, RootAccessTrie>>, AllocError>
-    requires { typechecker.now ≡ schema.now }
     ensures entries { IfOk result
         (λ o. IfSome o (λ m.
         AreEntries schema.now policies.now.policies (unlinked_envs schema.now) m.entries)) }
@@ -37,7 +36,7 @@ pub(crate) fn tries_of(
     let envs = schema.unlinked_request_envs(alloc)?;
     let mut tries = BTreeMap::new(alloc);
     for env in &envs {
-        match trie_of_policies(alloc, schema, typechecker, env, policies)? {
+        match trie_of_policies(alloc, schema, &*extensions, env, policies)? {
             Some(trie) => {
                 let _nodes = trie.nodes();
                 add_trie_of(env, trie, &mut tries)?;
