@@ -17,8 +17,8 @@ use Rattle.batch_decisions.specs.declared.answer.BatchAnswer.{BatchAnswer}
 use Rattle.batch_decisions.specs.declared.answer.BatchAnswer.TheVariants.{Partial, Refused, Loading, Decided}
 
 module _ (schema : SchemaData) (ps : List PolicyData) where
-  -- the answer to a request, for which the loader goes from one state to another; where it tells a store that conforms, the
-  -- decision is the response on that store
+  -- the answer to a request, for which the loader goes from one state to another; where it tells a store that
+  -- conforms, the decision is the response on that store
   abbrev pub IsAnswerTo : LoaderState → LoaderState → Request → BatchAnswer → Type 0
   IsAnswerTo old new q Partial = ¬ IsWhole q
   IsAnswerTo old new q (Refused e) = IsWhole q × (first_request_fault schema (λ _. true) q ≡ Some e)
@@ -45,15 +45,16 @@ module _ (schema : SchemaData) (ps : List PolicyData) where
   IsAnswerOrFault w q (Loading e) = IsWhole q × RequestConforms schema q × (e ≡ error.LoaderFault)
   IsAnswerOrFault w q a = IsStoreAnswer w q a
 
-  -- why rows that tell this store, or none, do not give what a request reads: they failed, the store does not conform, or
-  -- there is none and answers do not agree
+  -- why rows that tell this store, or none, do not give what a request reads: they failed, the store does not
+  -- conform, or there is none and answers do not agree
   abbrev pub WhyNotGiven : Option Store → EntitySliceError → Type 0
   WhyNotGiven told error.LoaderFault = ⊤
   WhyNotGiven told (error.IncompatibleEntityManifest e) = IfSome told (λ w. ¬ StoreConforms schema w)
   WhyNotGiven told (error.InconsistentLoader uid kept got) = told ≡ None
   WhyNotGiven told e = ⊥
 
-  -- the answer to a request by rows that tell this store, or none; where the store conforms, a decision is the response on it
+  -- the answer to a request by rows that tell this store, or none; where the store conforms, a decision is
+  -- the response on it
   abbrev pub IsRowAnswer : Option Store → Request → BatchAnswer → Type 0
   IsRowAnswer told q Partial = ¬ IsWhole q
   IsRowAnswer told q (Refused e) = IsWhole q × (first_request_fault schema (λ _. true) q ≡ Some e)

@@ -14,12 +14,14 @@ use Rattle.batch_decisions.specs.Answers.{AreAnswers, IsAnswerOrFault, AreCounte
 -- where the loader tells a store that conforms, each answer is that on this store, or a fault
 abbrev pub AnswersAreWhole : Type 0
 AnswersAreWhole =
-    (schema : SchemaData) (ps : List PolicyData) (old new : LoaderState) (qs : List Request) (answers : List BatchAnswer) →
+    (schema : SchemaData) (ps : List PolicyData) (old new : LoaderState) (qs : List Request)
+    (answers : List BatchAnswer) →
     AreAnswers schema ps old qs answers new → (w : Store) → IsTold old w → StoreConforms schema w →
     AllZip (IsAnswerOrFault schema ps w) qs answers
 
 -- no more faults are answered than are counted
 abbrev pub FaultsAreCounted : Type 0
 FaultsAreCounted =
-    (schema : SchemaData) (ps : List PolicyData) (old new : LoaderState) (qs : List Request) (answers : List BatchAnswer) →
+    (schema : SchemaData) (ps : List PolicyData) (old new : LoaderState) (qs : List Request)
+    (answers : List BatchAnswer) →
     AreAnswers schema ps old qs answers new → AreCounted answers old.faults new.faults

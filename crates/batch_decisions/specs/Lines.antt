@@ -24,7 +24,8 @@ partial_message = codes "entity slicing requires a fully concrete request. Got a
 -- what is said where what a request reads was not loaded
 abbrev pub fault_message : EntitySliceError → List ℕ
 fault_message error.LoaderFault = codes "the loader failed"
-fault_message (error.IncompatibleEntityManifest e) = codes "the entity manifest does not fit a value that it reaches"
+fault_message (error.IncompatibleEntityManifest e) =
+    codes "the entity manifest does not fit a value that it reaches"
 fault_message e = codes "the loader's answers do not agree"
 
 -- the line on an answer

@@ -24,12 +24,13 @@ use std::alloc::{AllocError, Global};
 use std::marker::Brand;
 use std::sync::ledger::{Blank, Ledger};
 
-/// An answer for each request, in their order: `Partial` exactly where an entry of the request is not known; else `Refused`
-/// exactly where it breaks a rule, with the first one; else the response on what the loader gives for it, or why that is
-/// not loaded. The manifest is computed once, and for each request what it reads is loaded anew.
+/// An answer for each request, in their order: `Partial` exactly where an entry of the request is not known;
+/// else `Refused` exactly where it breaks a rule, with the first one; else the response on what the loader
+/// gives for it, or why that is not loaded. The manifest is computed once, and for each request what it reads
+/// is loaded anew.
 ///
-/// Errs with `Validation` exactly where the policies are not accepted, and with `OutOfMemory` where memory runs out, at
-/// whichever request.
+/// Errs with `Validation` exactly where the policies are not accepted, and with `OutOfMemory` where memory
+/// runs out, at whichever request.
 pub fn decide_batch<D: EntityLoader>(
     alloc: Global,
     schema: &ValidatorSchema,

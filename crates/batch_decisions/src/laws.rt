@@ -2,8 +2,8 @@
 
 ghost use Rattle.batch_decisions.specs.Laws.{AnswersAreWhole, FaultsAreCounted};
 
-/// Where a loader tells a store that conforms, each decision is the response on all of it, and each whole request that
-/// conforms is decided or ends with a fault of the loader.
+/// Where a loader tells a store that conforms, each decision is the response on all of it, and each whole
+/// request that conforms is decided or ends with a fault of the loader.
 pub fn answers_are_whole()
     ensures { AnswersAreWhole }
 {}

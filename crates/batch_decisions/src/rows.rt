@@ -18,8 +18,9 @@ use schema_core::ValidatorSchema;
 use std::alloc::Global;
 use table_loader::{Rows, StoreRows};
 
-/// The same over rows of tables. Where the rows tell a store that conforms, each decision is the response on all of it, and
-/// each whole request that conforms is decided, or the rows failed: at most as often as their count of faults rose.
+/// The same over rows of tables. Where the rows tell a store that conforms, each decision is the response on
+/// all of it, and each whole request that conforms is decided, or the rows failed: at most as often as their
+/// count of faults rose.
 pub fn decide_batch_on_rows<R: Rows>(
     alloc: Global,
     schema: &ValidatorSchema,
@@ -48,7 +49,8 @@ pub fn decide_batch_on_store(
     entities: &Entities,
 ) -> Result<Vec<BatchAnswer>, EntityManifestError>
     ensures answers { IfOk result (λ answers. StoreConforms schema.now entities.now →
-        AllZip (IsStoreAnswer schema.now policies.now.policies entities.now) requests.now.items answers.items) }
+        AllZip (IsStoreAnswer schema.now policies.now.policies entities.now)
+        requests.now.items answers.items) }
     ensures accepted { IfOk result (λ _. IsAccepted schema.now policies.now) }
     ensures refused { IfErr result (WhyNone schema.now policies.now) }
 {

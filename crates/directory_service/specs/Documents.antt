@@ -17,7 +17,8 @@ IsFault text r = (r.status ≡ status.Document) × (string_bytes r.text ≡ text
 -- the document that a JSON value is, or the reply with the place of its first fault
 abbrev pub IsReadingOf : Data → Result Document Reply → Type 0
 IsReadingOf v (Ok d) = IsRead shape.Whole v (Ok d)
-IsReadingOf v (Err r) = (place : Place) × IsRead shape.Whole v (Err place) × IsFault (place_text place ++ codes "\n") r
+IsReadingOf v (Err r) =
+    (place : Place) × IsRead shape.Whole v (Err place) × IsFault (place_text place ++ codes "\n") r
 
 abbrev pub IsReadingIf : Option Data → Result Document Reply → Type 0
 IsReadingIf None (Ok d) = ⊥

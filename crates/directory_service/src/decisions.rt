@@ -95,7 +95,8 @@ fn by_policies<S: Start, I: Source + Drop, K: Sink>(
     }
 }
 
-/// Reads schema and policies from the first line of the source, and answers each further line by the rows of the file.
+/// Reads schema and policies from the first line of the source, and answers each further line by the rows of
+/// the file.
 pub(crate) fn decide<S: Start, I: Source + Drop, K: Sink>(
     rt: &HostRuntime,
     path: &str,

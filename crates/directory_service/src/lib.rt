@@ -1,5 +1,5 @@
-//! The directory as a service: entities from a document into a file, decisions on requests that come as lines, and whether
-//! all rows conform.
+//! The directory as a service: entities from a document into a file, decisions on requests that come as
+//! lines, and whether all rows conform.
 #![tactic(auto)]
 
 mod decisions;

@@ -26,8 +26,8 @@ fn run_command<S: Start, I: Source + Drop, K: Sink>(
     }
 }
 
-/// Does what the words ask for with the file that they name, reads from the source what that needs, and writes what is
-/// answered to the sink; the status says how it ended.
+/// Does what the words ask for with the file that they name, reads from the source what that needs, and
+/// writes what is answered to the sink; the status says how it ended.
 pub fn run<S: Start, I: Source + Drop, K: Sink>(
     rt: &HostRuntime,
     words: &Vec<String>,

@@ -23,17 +23,22 @@ use Rattle.manifest_core.specs.Manifest.{Manifest, trie_for}
 use Rattle.manifest_computation.specs.Computed.{IsManifestOf}
 use Rattle.entity_manifest.specs.DeclaredPaths.{IsDeclaredTrie}
 
--- the trie of exactly what typed conditions read and ask for has declared paths alone, and asks only ids for ancestors
+-- the trie of exactly what typed conditions read and ask for has declared paths alone, and asks only ids for
+-- ancestors
 abbrev pub ComputedTriesAreDeclared : Type 0
 ComputedTriesAreDeclared =
     (schema : SchemaData) (env : EnvData) (ps : List PolicyData) (t : Table) →
-    IsLeast (declared_reads schema env (typed_conditions schema env ps)) (declared_demands schema env (typed_conditions schema env ps)) t → IsDeclaredTrie schema env t
+    IsLeast (declared_reads schema env (typed_conditions schema env ps))
+    (declared_demands schema env (typed_conditions schema env ps)) t → IsDeclaredTrie schema env t
 
--- where the request and the store conform, the trie that the manifest of policies has for the request sticks at no value
+-- where the request and the store conform, the trie that the manifest of policies has for the request sticks
+-- at no value
 abbrev pub ComputedManifestsFit : Type 0
 ComputedManifestsFit =
-    (schema : SchemaData) → IsSchema schema → (ps : List PolicyData) (m : Manifest) → IsManifestOf schema ps m →
-    (q : Request) → RequestConforms schema q → (s : Store) → StoreConforms schema s → (t : Table) → trie_for m q ≡ Some t → (v : Val) → ¬ SticksAt t q s v
+    (schema : SchemaData) → IsSchema schema → (ps : List PolicyData) (m : Manifest) →
+    IsManifestOf schema ps m →
+    (q : Request) → RequestConforms schema q → (s : Store) → StoreConforms schema s → (t : Table) →
+    trie_for m q ≡ Some t → (v : Val) → ¬ SticksAt t q s v
 
 -- a refusal as loading by the manifest promises it of an honest loader of the store
 pub record IsRightRefusal (m : Manifest) (q : Request) (s : Store) (old new : LoaderState) (e : EntitySliceError) : Type 0 where
@@ -43,12 +48,16 @@ pub record IsRightRefusal (m : Manifest) (q : Request) (s : Store) (old new : Lo
 -- there an honest loader whose count of faults did not rise is refused for want of memory alone
 abbrev pub HonestLoadingSucceeds : Type 0
 HonestLoadingSucceeds =
-    (schema : SchemaData) → IsSchema schema → (ps : List PolicyData) (m : Manifest) → IsManifestOf schema ps m →
+    (schema : SchemaData) → IsSchema schema → (ps : List PolicyData) (m : Manifest) →
+    IsManifestOf schema ps m →
     (q : Request) → RequestConforms schema q → (s : Store) → StoreConforms schema s →
-    (old new : LoaderState) → ¬ Rose old.faults new.faults → (e : EntitySliceError) → IsRightRefusal m q s old new e → e ≡ OutOfMemory
+    (old new : LoaderState) → ¬ Rose old.faults new.faults → (e : EntitySliceError) →
+    IsRightRefusal m q s old new e → e ≡ OutOfMemory
 
 -- there no path of the trie is blocked in the store, so slicing along it does not refuse the trie
 abbrev pub ComputedSlicesFit : Type 0
 ComputedSlicesFit =
-    (schema : SchemaData) → IsSchema schema → (ps : List PolicyData) (m : Manifest) → IsManifestOf schema ps m →
-    (q : Request) → RequestConforms schema q → (s : Store) → StoreConforms schema s → (t : Table) → trie_for m q ≡ Some t → (v : Val) → ¬ IsBlocked t q s v
+    (schema : SchemaData) → IsSchema schema → (ps : List PolicyData) (m : Manifest) →
+    IsManifestOf schema ps m →
+    (q : Request) → RequestConforms schema q → (s : Store) → StoreConforms schema s → (t : Table) →
+    trie_for m q ≡ Some t → (v : Val) → ¬ IsBlocked t q s v

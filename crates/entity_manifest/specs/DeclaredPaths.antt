@@ -18,4 +18,5 @@ is_of_ids t = false
 -- each path is declared in the environment, and ancestors are asked for only where a path leads to ids
 pub record IsDeclaredTrie (schema : SchemaData) (env : EnvData) (t : Table) : Type 0 where
   pub paths : (p : AccessPath) → has_path t p ≡ true → is_declared_path schema env p ≡ true
-  pub asked : (p r : AccessPath) → asks t p r ≡ true → IfSome (path_type schema env p) (λ u. IsTrue (is_of_ids u))
+  pub asked : (p r : AccessPath) → asks t p r ≡ true →
+      IfSome (path_type schema env p) (λ u. IsTrue (is_of_ids u))

@@ -29,21 +29,25 @@ TriesAreThere =
     (schema : SchemaData) (ps : List PolicyData) (m : Manifest) → IsManifestOf schema ps m →
     (q : Request) → IsWhole q → RequestConforms schema q → trie_for m q ≡ None → ps ≡ []
 
--- what loading by the manifest, and slicing by it, promise: where it has a trie for the request, the store lies between what the trie reads of the
--- whole one and the whole one, whatever paths and demands the trie is said to be of
+-- what loading by the manifest, and slicing by it, promise: where it has a trie for the request, the store
+-- lies between what the trie reads of the whole one and the whole one, whatever paths and demands the trie is
+-- said to be of
 abbrev pub IsLoadedBy : Bool → Manifest → Request → Store → Store → Type 0
 IsLoadedBy exact m q whole s =
-    (t : Table) → trie_for m q ≡ Some t → (reads : List AccessPath) (demands : List Demand) → IsTrieOf reads demands t → IsBetween exact reads demands q whole s
+    (t : Table) → trie_for m q ≡ Some t → (reads : List AccessPath) (demands : List Demand) →
+    IsTrieOf reads demands t → IsBetween exact reads demands q whole s
 
 -- each policy has the same outcome on both stores, and so the response is the same
 pub record AreDecidedAlike (ps : List PolicyData) (q : Request) (s whole : Store) : Type 0 where
   pub outcomes : outcomes ps q s ≡ outcomes ps q whole
   pub response : response ps q s ≡ response ps q whole
 
--- on what is loaded by the manifest of accepted policies each policy has the outcome that it has on the whole store
+-- on what is loaded by the manifest of accepted policies each policy has the outcome that it has on the whole
+-- store
 abbrev pub LoadedIsEnough : Type 0
 LoadedIsEnough =
-    (schema : SchemaData) → IsSchema schema → (policies : PolicySetData) → IsPolicySet policies → AreKeyedOnce policies.policies →
+    (schema : SchemaData) → IsSchema schema → (policies : PolicySetData) → IsPolicySet policies →
+    AreKeyedOnce policies.policies →
     (m : Manifest) → IsManifestOf schema policies.policies m →
     (q : Request) (whole : Store) → KeepRules schema policies q whole →
     (exact : Bool) (s : Store) → IsLoadedBy exact m q whole s → AreDecidedAlike policies.policies q s whole
@@ -52,12 +56,15 @@ LoadedIsEnough =
 abbrev pub IsFaultOrMemory : LoaderState → LoaderState → EntitySliceError → Type 0
 IsFaultOrMemory old new e = ((e ≡ error.LoaderFault) × Rose old.faults new.faults) ⊎ (e ≡ error.OutOfMemory)
 
--- with such a manifest an honest loader of a store that conforms is refused, on a request that conforms, for a fault that rose or for want of memory
+-- with such a manifest an honest loader of a store that conforms is refused, on a request that conforms, for
+-- a fault that rose or for want of memory
 abbrev pub RefusalsAreFaults : Type 0
 RefusalsAreFaults =
-    (schema : SchemaData) → IsSchema schema → (ps : List PolicyData) (m : Manifest) → IsManifestOf schema ps m →
+    (schema : SchemaData) → IsSchema schema → (ps : List PolicyData) (m : Manifest) →
+    IsManifestOf schema ps m →
     (q : Request) → RequestConforms schema q → (s : Store) → StoreConforms schema s →
-    (old new : LoaderState) (e : EntitySliceError) → IsRightRefusal m q s old new e → IsFaultOrMemory old new e
+    (old new : LoaderState) (e : EntitySliceError) → IsRightRefusal m q s old new e →
+    IsFaultOrMemory old new e
 
 -- a store in order that a loader tells
 pub record IsTold (l : LoaderState) (w : Store) : Type 0 where
@@ -69,13 +76,17 @@ module _ (schema : SchemaData) where
   abbrev pub OfToldStores : LoaderState → (Store → Type 0) → Type 0
   OfToldStores l P = (w : Store) → IsTold l w → StoreConforms schema w → P w
 
-  -- why a loader that goes from one state to another does not give what a request reads: it failed; the store does not
-  -- conform; or it does not tell its store, and its answers do not agree or are not for what was asked
+  -- why a loader that goes from one state to another does not give what a request reads: it failed; the store
+  -- does not conform; or it does not tell its store, and its answers do not agree or are not for what was
+  -- asked
   abbrev pub WhyNotLoaded : LoaderState → LoaderState → EntitySliceError → Type 0
   WhyNotLoaded old new error.LoaderFault = Rose old.faults new.faults
-  WhyNotLoaded old new (error.IncompatibleEntityManifest e) = (w : Store) → IsTold old w → ¬ StoreConforms schema w
+  WhyNotLoaded old new (error.IncompatibleEntityManifest e) =
+      (w : Store) → IsTold old w → ¬ StoreConforms schema w
   WhyNotLoaded old new (error.InconsistentLoader uid kept got) = (w : Store) → ¬ IsTold old w
-  WhyNotLoaded old new (error.WrongNumberOfEntities e) = Rose old.strays new.strays × ((w : Store) → ¬ IsTold old w)
-  WhyNotLoaded old new (error.WrongNumberOfAncestors n m) = Rose old.strays new.strays × ((w : Store) → ¬ IsTold old w)
+  WhyNotLoaded old new (error.WrongNumberOfEntities e) =
+      Rose old.strays new.strays × ((w : Store) → ¬ IsTold old w)
+  WhyNotLoaded old new (error.WrongNumberOfAncestors n m) =
+      Rose old.strays new.strays × ((w : Store) → ¬ IsTold old w)
   WhyNotLoaded old new (error.PartialRequest e) = ⊥
   WhyNotLoaded old new error.OutOfMemory = ⊥

@@ -11,14 +11,19 @@ use Rattle.manifest_loading.specs.Right.{SticksAt}
 use Rattle.store_slices.specs.Blocked.{IsBlocked}
 use Rattle.entity_manifest.specs.DeclaredPaths.{IsDeclaredTrie}
 
--- where the request, of the environment, and the store conform, a trie whose paths are declared there sticks at no value
+-- where the request, of the environment, and the store conform, a trie whose paths are declared there sticks
+-- at no value
 abbrev pub NothingSticks : Type 0
 NothingSticks =
-    (schema : SchemaData) → IsSchema schema → (env : LinkedEnvironment) (q : Request) → RequestConforms schema q → IsOf schema q env →
-    (s : Store) → StoreConforms schema s → (t : Table) → IsDeclaredTrie schema (declared_action env) t → (v : Val) → ¬ SticksAt t q s v
+    (schema : SchemaData) → IsSchema schema → (env : LinkedEnvironment) (q : Request) →
+    RequestConforms schema q → IsOf schema q env →
+    (s : Store) → StoreConforms schema s → (t : Table) → IsDeclaredTrie schema (declared_action env) t →
+    (v : Val) → ¬ SticksAt t q s v
 
 -- and no path of it is blocked in the store
 abbrev pub NothingIsBlocked : Type 0
 NothingIsBlocked =
-    (schema : SchemaData) → IsSchema schema → (env : LinkedEnvironment) (q : Request) → RequestConforms schema q → IsOf schema q env →
-    (s : Store) → StoreConforms schema s → (t : Table) → IsDeclaredTrie schema (declared_action env) t → (v : Val) → ¬ IsBlocked t q s v
+    (schema : SchemaData) → IsSchema schema → (env : LinkedEnvironment) (q : Request) →
+    RequestConforms schema q → IsOf schema q env →
+    (s : Store) → StoreConforms schema s → (t : Table) → IsDeclaredTrie schema (declared_action env) t →
+    (v : Val) → ¬ IsBlocked t q s v

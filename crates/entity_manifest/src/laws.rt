@@ -3,8 +3,8 @@
 ghost use Rattle.entity_manifest.specs.Computed.{ComputedTriesAreDeclared, ComputedManifestsFit, ComputedSlicesFit, HonestLoadingSucceeds};
 ghost use Rattle.entity_manifest.specs.Sticking.{NothingIsBlocked, NothingSticks};
 
-/// A trie of declared paths that asks only ids for ancestors fits what it reaches: where request and store conform to the
-/// schema, no path of it comes to a value from which it cannot go on.
+/// A trie of declared paths that asks only ids for ancestors fits what it reaches: where request and store
+/// conform to the schema, no path of it comes to a value from which it cannot go on.
 pub fn nothing_sticks()
     ensures { NothingSticks }
 {}
@@ -24,13 +24,14 @@ pub fn computed_manifests_fit()
     ensures { ComputedManifestsFit }
 {}
 
-/// With a computed manifest, and a request and a store that conform to the schema, loading from an honest loader whose count
-/// of faults does not rise succeeds, or ends for want of memory.
+/// With a computed manifest, and a request and a store that conform to the schema, loading from an honest
+/// loader whose count of faults does not rise succeeds, or ends for want of memory.
 pub fn honest_loading_succeeds()
     ensures { HonestLoadingSucceeds }
 {}
 
-/// With them no path of the manifest's trie is blocked in the store, and slicing along it does not refuse the trie.
+/// With them no path of the manifest's trie is blocked in the store, and slicing along it does not refuse the
+/// trie.
 pub fn computed_slices_fit()
     ensures { ComputedSlicesFit }
 {}

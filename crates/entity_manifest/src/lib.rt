@@ -1,5 +1,6 @@
-//! Entity manifests: what policies read, computed, written and read as JSON, and entities loaded and sliced by them.
-//! Passes on the calls of the crates behind it, and has the laws that tie computed manifests to loading.
+//! Entity manifests: what policies read, computed, written and read as JSON, and entities loaded and sliced
+//! by them. Passes on the calls of the crates behind it, and has the laws that tie computed manifests to
+//! loading.
 #![tactic(auto)]
 
 pub mod laws;

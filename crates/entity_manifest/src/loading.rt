@@ -25,13 +25,13 @@ use store_order::entities_are_ordered;
 
 /// What a request reads, as a loader gives it, by the manifest of accepted policies.
 ///
-/// Where the loader tells a store that conforms, what is loaded has at least the slice of that store and at most the store;
-/// each policy has on it the outcome that it has on the whole store, and the response is the same. A loader that answers
-/// just what is asked gives the slice.
+/// Where the loader tells a store that conforms, what is loaded has at least the slice of that store and at
+/// most the store; each policy has on it the outcome that it has on the whole store, and the response is the
+/// same. A loader that answers just what is asked gives the slice.
 ///
-/// Errs with `LoaderFault` only where a call of the loader failed, and with `OutOfMemory` where memory runs out. A loader
-/// that tells such a store is refused for nothing else: `IncompatibleEntityManifest` comes where its store does not conform,
-/// and the others where it tells no store.
+/// Errs with `LoaderFault` only where a call of the loader failed, and with `OutOfMemory` where memory runs
+/// out. A loader that tells such a store is refused for nothing else: `IncompatibleEntityManifest` comes
+/// where its store does not conform, and the others where it tells no store.
 pub fn load_for_request<D: EntityLoader, L: Ledger>(
     alloc: Global,
     schema: &ValidatorSchema,

@@ -10,7 +10,8 @@ pub fn tries_are_there()
     ensures { TriesAreThere }
 {}
 
-/// On what is loaded by the manifest of accepted policies each policy has the outcome that it has on the whole store.
+/// On what is loaded by the manifest of accepted policies each policy has the outcome that it has on the
+/// whole store.
 pub fn loaded_is_enough()
     ensures { LoadedIsEnough }
 {

@@ -25,5 +25,6 @@ pub record IsWith (schema : SchemaData) (s : PolicySetData) (p : PolicyData) (ne
 -- the manifest of a set and the tries of its policies become those of the set with what has the id
 abbrev pub AddsTo : SchemaData → PolicySetData → List ℕ → Tries → Tries → Manifest → Manifest → Type 0
 AddsTo schema new id before after m n =
-    (s : PolicySetData) (p : PolicyData) → p.id ≡ id → IsWith schema s p new → IsManifestOf schema s.policies m → HaveTries schema before s.policies →
+    (s : PolicySetData) (p : PolicyData) → p.id ≡ id → IsWith schema s p new →
+    IsManifestOf schema s.policies m → HaveTries schema before s.policies →
     IsManifestOf schema new.policies n × HaveTries schema after new.policies

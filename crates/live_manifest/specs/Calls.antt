@@ -25,4 +25,5 @@ module _ (schema : SchemaData) where
 
 -- after any calls the policies are those after the edits for which there was memory
 abbrev pub CallsAreEdits : Type 0
-CallsAreEdits = (schema : SchemaData) (s : PolicySetData) (cs : List Call) → after_calls schema s cs ≡ after_edits schema s (edits_done cs)
+CallsAreEdits = (schema : SchemaData) (s : PolicySetData) (cs : List Call) →
+    after_calls schema s cs ≡ after_edits schema s (edits_done cs)

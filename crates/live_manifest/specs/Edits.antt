@@ -14,14 +14,16 @@ use Rattle.findings.specs.declared.error.ValidationError.{ValidationError}
 use Rattle.finding_messages.specs.Findings.{Findings}
 use Rattle.policy_validate.specs.Entries.{findings_of_written, findings_of_link}
 
--- an edit: a static policy, a template, or a link (of the template with an id, under its own, with ids for slots) is added; what has an id is removed
+-- an edit: a static policy, a template, or a link (of the template with an id, under its own, with ids for
+-- slots) is added; what has an id is removed
 pub data Edit : Type 0 where
   add_static : TemplateData → Edit
   add_template : TemplateData → Edit
   link : List ℕ → List ℕ → List (SlotId × EntityUID) → Edit
   remove : List ℕ → Edit
 
--- why an edit is refused: the set does not take it; there is nothing to remove, or it is in use; there are errors in what is added
+-- why an edit is refused: the set does not take it; there is nothing to remove, or it is in use; there are
+-- errors in what is added
 pub data Refusal : Type 0 where
   not_added : PolicySetError → Refusal
   not_removed : RemovalFault → Refusal
@@ -67,7 +69,8 @@ module _ (schema : SchemaData) where
   abbrev pub refusal : PolicySetData → Edit → Option Refusal
   refusal s (add_static t) = or_findings (id_fault s t.id) (findings_of_written schema t)
   refusal s (add_template t) = or_findings (id_fault s t.id) (findings_of_written schema t)
-  refusal s (link template id values) = or_findings (link_fault s template id values) (link_findings (template_at s template) id values)
+  refusal s (link template id values) =
+      or_findings (link_fault s template id values) (link_findings (template_at s template) id values)
   refusal s (remove id) = option_map not_removed (removal_fault s id)
 
   abbrev pub after_edit : PolicySetData → Edit → PolicySetData

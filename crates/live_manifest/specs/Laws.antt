@@ -12,8 +12,11 @@ use Rattle.live_manifest.specs.Kept.{IsKept, LiveData}
 
 -- an accepted set is accepted after an edit, which may be refused
 abbrev pub EditsKeepAcceptance : Type 0
-EditsKeepAcceptance = (schema : SchemaData) (s : PolicySetData) → IsPolicySet s → IsAccepted schema s → (e : Edit) → IsAccepted schema (after_edit schema s e)
+EditsKeepAcceptance = (schema : SchemaData) (s : PolicySetData) → IsPolicySet s → IsAccepted schema s →
+    (e : Edit) → IsAccepted schema (after_edit schema s e)
 
--- the manifest that is kept is the one that is computed of the policies: the same request types, with the same tries; and both are the same JSON
+-- the manifest that is kept is the one that is computed of the policies: the same request types, with the
+-- same tries; and both are the same JSON
 abbrev pub KeptAreComputed : Type 0
-KeptAreComputed = (l : LiveData) → IsKept l → (m : Manifest) → IsManifestOf l.schema l.policies.policies m → AreSame l.manifest m × (manifest_data l.manifest ≡ manifest_data m)
+KeptAreComputed = (l : LiveData) → IsKept l → (m : Manifest) → IsManifestOf l.schema l.policies.policies m →
+    AreSame l.manifest m × (manifest_data l.manifest ≡ manifest_data m)

@@ -21,7 +21,8 @@ use Rattle.live_manifest.specs.Unions.{IsTrieOfPolicies}
 
 -- the trie of exactly what the condition that checks leave of a policy reads and asks for
 abbrev pub IsFoundTrie : SchemaData → PolicyData → EnvData → Table → Type 0
-IsFoundTrie schema p env t = IsLeast (declared_reads schema env (found_conditions schema env (p ∷ []))) (declared_demands schema env (found_conditions schema env (p ∷ []))) t
+IsFoundTrie schema p env t = IsLeast (declared_reads schema env (found_conditions schema env (p ∷ [])))
+    (declared_demands schema env (found_conditions schema env (p ∷ []))) t
 
 abbrev pub AreFoundTries : SchemaData → PolicyData → List Table → Type 0
 AreFoundTries schema p ts = AllZip (IsFoundTrie schema p) (unlinked_envs schema) ts
@@ -62,12 +63,15 @@ AreUnited (e ∷ m) us vs = AreUnionsOf (map (λ d. d.1) (e ∷ m)) us vs
 
 -- the tries that checks leave of a policy of the set are its own
 abbrev pub AreTypedTries : SchemaData → PolicySetData → Type 0
-AreTypedTries schema s = (id : List ℕ) (p : PolicyData) → policy_at s id ≡ Some p → (ts : List Table) → AreFoundTries schema p ts → AreTriesOf schema (p ∷ []) ts
+AreTypedTries schema s = (id : List ℕ) (p : PolicyData) → policy_at s id ≡ Some p → (ts : List Table) →
+    AreFoundTries schema p ts → AreTriesOf schema (p ∷ []) ts
 
 -- a trie with the paths and the marks of all those with the number, and no others
 pub record IsUnionAt (i : ℕ) (vs : List (Vec Table Global)) (t : Table) : Type 0 where
-  pub paths : (es : Address) → leads t es ≡ list_any (λ v. option_map_or (λ u. leads u es) (slice_get v.items i) false) vs
-  pub marks : (es : Address) → is_marked t es ≡ list_any (λ v. option_map_or (λ u. is_marked u es) (slice_get v.items i) false) vs
+  pub paths : (es : Address) →
+      leads t es ≡ list_any (λ v. option_map_or (λ u. leads u es) (slice_get v.items i) false) vs
+  pub marks : (es : Address) →
+      is_marked t es ≡ list_any (λ v. option_map_or (λ u. is_marked u es) (slice_get v.items i) false) vs
 
 -- this one, or that of nothing where there is none
 abbrev pub IsTrieOr : Option Table → Table → Type 0

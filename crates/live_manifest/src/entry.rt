@@ -45,8 +45,8 @@ pub(crate) fn check_entry<L: Ledger>(
     }
 }
 
-/// The tries of the policy with the id, one for each environment of the schema, in their order; none where there is no such
-/// policy. A step is counted for each environment.
+/// The tries of the policy with the id, one for each environment of the schema, in their order; none where
+/// there is no such policy. A step is counted for each environment.
 pub(crate) fn tries_of_entry<L: Ledger>(
     alloc: Global,
     schema: &ValidatorSchema,

@@ -22,8 +22,9 @@ use std::marker::Model;
 use std::sync::ledger::Ledger;
 use step_counts::Steps;
 
-/// A set of policies that is accepted by a schema, and its manifest, which is kept under edits: after each edit it is the one
-/// that [`manifest_computation::compute_entity_manifest`] answers for the policies. An edit that is refused changes nothing.
+/// A set of policies that is accepted by a schema, and its manifest, which is kept under edits: after each
+/// edit it is the one that [`manifest_computation::compute_entity_manifest`] answers for the policies. An
+/// edit that is refused changes nothing.
 #[derive(Drop)]
 pub struct LiveManifest<'a> {
     alloc: Global,
@@ -44,7 +45,9 @@ impl<'a> Model for LiveManifest<'a> {
 
     ghost view = { λ l. record { schema = l.schema.now; policies = l.policies; manifest = l.manifest } };
 
-    ghost invariant = { λ l. IsKept (record { schema = l.schema.now; policies = l.policies; manifest = l.manifest }) × HaveTries l.schema.now l.tries l.policies.policies };
+    ghost invariant = { λ l. IsKept
+        (record { schema = l.schema.now; policies = l.policies; manifest = l.manifest })
+        × HaveTries l.schema.now l.tries l.policies.policies };
 }
 
 impl<'a> LiveManifest<'a> {
@@ -85,9 +88,9 @@ impl<'a> LiveManifest<'a> {
         &self.policies
     }
 
-    /// Adds a static policy, a template whose scope has no slot. Errs, in this order, with `PolicySet` where the set does not
-    /// take it, and with `Validation` where there are errors in it; `OutOfMemory` may come in place of any answer. On any error
-    /// all is as it was.
+    /// Adds a static policy, a template whose scope has no slot. Errs, in this order, with `PolicySet` where
+    /// the set does not take it, and with `Validation` where there are errors in it; `OutOfMemory` may come
+    /// in place of any answer. On any error all is as it was.
     pub fn add_static<L: Ledger>(
         &mut self,
         template: Template,
@@ -131,7 +134,8 @@ impl<'a> LiveManifest<'a> {
         }
     }
 
-    /// Adds a template, whose scope has a slot; the manifest is as it was. Errs as [`LiveManifest::add_static`] does.
+    /// Adds a template, whose scope has a slot; the manifest is as it was. Errs as
+    /// [`LiveManifest::add_static`] does.
     pub fn add_template<L: Ledger>(
         &mut self,
         template: Template,
@@ -159,8 +163,8 @@ impl<'a> LiveManifest<'a> {
         settle_template(self.alloc, self.schema, &mut self.policies, id, steps)
     }
 
-    /// Adds the link of a template of the set under a new id, with an id for each of the template's slots. Errs as
-    /// [`LiveManifest::add_static`] does.
+    /// Adds the link of a template of the set under a new id, with an id for each of the template's slots.
+    /// Errs as [`LiveManifest::add_static`] does.
     pub fn link<L: Ledger>(
         &mut self,
         template_id: &Text,
@@ -206,8 +210,9 @@ impl<'a> LiveManifest<'a> {
         }
     }
 
-    /// Removes the template, static policy or link with the id. Errs with `PolicySet` exactly where the set has no such entry,
-    /// or a link stands on it; `OutOfMemory` may come in place of any answer. On any error all is as it was.
+    /// Removes the template, static policy or link with the id. Errs with `PolicySet` exactly where the set
+    /// has no such entry, or a link stands on it; `OutOfMemory` may come in place of any answer. On any error
+    /// all is as it was.
     pub fn remove<'b>(&mut self, id: &'b Text) -> Result<(), LiveRemovalError<'b>>
         ensures made { OnOk result (IsMade (remove id.now) self.old self.new) }
         ensures refused { IfErr result (IsNotTaken id.now self.old) }
@@ -263,8 +268,8 @@ fn not_added(error: PolicySetError) -> LiveManifestError
     }
 }
 
-// The manifest of the policies, of which the one with the id was just added; its tries are put to the others. On an error the
-// policy is taken out again, and the tries are as they were.
+// The manifest of the policies, of which the one with the id was just added; its tries are put to the others.
+// On an error the policy is taken out again, and the tries are as they were.
 fn settle<L: Ledger>(
     alloc: Global,
     schema: &ValidatorSchema,
@@ -335,8 +340,8 @@ fn take_back(policies: &mut PolicySet, id: &Text)
     let _removed = policies.remove(id);
 }
 
-// The manifest of the policies, of which the one with the id was just added; its tries are put to the others. On an error the
-// tries are as they were.
+// The manifest of the policies, of which the one with the id was just added; its tries are put to the others.
+// On an error the tries are as they were.
 fn with_policy<L: Ledger>(
     alloc: Global,
     schema: &ValidatorSchema,

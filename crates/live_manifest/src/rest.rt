@@ -68,7 +68,8 @@ fn is_another(policy: &Policy, id: &Text) -> bool
     id.cmp(policy.id()) != Ordering::Equal
 }
 
-// The union of the tries with the number. It is made half by half, so that no trie is copied more often than halves are made.
+// The union of the tries with the number. It is made half by half, so that no trie is copied more often than
+// halves are made.
 fn union_at(
     alloc: Global,
     number: usize,

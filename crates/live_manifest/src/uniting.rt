@@ -7,8 +7,8 @@ use access_tries::RootAccessTrie;
 use manifest_core::EntityManifest;
 use std::alloc::{AllocError, Global};
 
-/// The tries of the manifest, each united with the one at its place; of a manifest without entries, which is that of no
-/// policies, the others alone.
+/// The tries of the manifest, each united with the one at its place; of a manifest without entries, which is
+/// that of no policies, the others alone.
 pub(crate) fn united(
     alloc: Global,
     manifest: &EntityManifest,

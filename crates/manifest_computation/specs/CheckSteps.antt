@@ -23,6 +23,7 @@ IsStoreRefusal fault e = ⊥
 
 -- of the policies
 abbrev pub IsPoliciesRefusal : SchemaData → PolicySetData → SliceForRequestError → Type 0
-IsPoliciesRefusal schema set (no_slice.Validation found) = (found ≡ findings_of schema set) × (¬ IsAccepted schema set)
+IsPoliciesRefusal schema set (no_slice.Validation found) =
+    (found ≡ findings_of schema set) × (¬ IsAccepted schema set)
 IsPoliciesRefusal schema set no_slice.OutOfMemory = ⊤
 IsPoliciesRefusal schema set e = ⊥

@@ -17,8 +17,8 @@ use Rattle.manifest_computation.specs.declared.error.EntityManifestError.{Entity
 use Rattle.manifest_computation.specs.declared.error.EntityManifestError.TheVariants.{Validation, OutOfMemory}
 
 module _ (schema : SchemaData) where
-  -- of an environment: its request type, with the trie of exactly what these typed conditions read and ask for there, as a table in order, so
-  -- that each path stands once and no node leads anywhere else
+  -- of an environment: its request type, with the trie of exactly what these typed conditions read and ask
+  -- for there, as a table in order, so that each path stands once and no node leads anywhere else
   pub record IsEntryOf (env : EnvData) (ts : List Typed) (e : RequestType × Table) : Type 0 where
     pub request_type : request_type_in env ≡ Some e.0
     pub trie : IsLeast (declared_reads schema env ts) (declared_demands schema env ts) e.1
@@ -27,7 +27,8 @@ module _ (schema : SchemaData) where
   -- without policies there is no entry; else there is one for each environment of the schema, in their order
   abbrev pub IsManifestOf : List PolicyData → Manifest → Type 0
   IsManifestOf [] m = m ≡ []
-  IsManifestOf ps m = AllZip (λ env e. IsEntryOf env (typed_conditions schema env ps) e) (unlinked_envs schema) m
+  IsManifestOf ps m =
+      AllZip (λ env e. IsEntryOf env (typed_conditions schema env ps) e) (unlinked_envs schema) m
 
   -- why there is none: the policies are not accepted, with all that is found of them, or there was no memory
   abbrev pub WhyNone : PolicySetData → EntityManifestError → Type 0

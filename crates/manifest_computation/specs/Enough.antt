@@ -14,14 +14,16 @@ use Rattle.manifest_computation.specs.Rules.{KeepRules}
 
 -- on each store between the slice and the whole one, each policy has the outcome that it has on the whole one
 abbrev pub Covers : List PolicyData → Request → Store → Store → Type 0
-Covers ps q part whole = (s : Store) → IsPartOf part s → IsPartOf s whole → outcomes ps q s ≡ outcomes ps q whole
+Covers ps q part whole =
+    (s : Store) → IsPartOf part s → IsPartOf s whole → outcomes ps q s ≡ outcomes ps q whole
 
--- on each store between the slice and the whole one, each policy has an outcome that is allowed: a truth value, a missing entity or an overflow
+-- on each store between the slice and the whole one, each policy has an outcome that is allowed: a truth
+-- value, a missing entity or an overflow
 abbrev pub AreAllowedBetween : List PolicyData → Request → Store → Store → Type 0
 AreAllowedBetween ps q part whole = (s : Store) → IsPartOf part s → IsPartOf s whole → AreAllowed ps q s
 
--- the part is one of the store. On it, and on each store between the two, each policy has the outcome that it has on the whole store, which
--- is allowed; and the response on the part is that on the whole store
+-- the part is one of the store. On it, and on each store between the two, each policy has the outcome that it
+-- has on the whole store, which is allowed; and the response on the part is that on the whole store
 pub record IsEnough (ps : List PolicyData) (q : Request) (part whole : Store) : Type 0 where
   pub is_part : IsPartOf part whole
   pub same : outcomes ps q part ≡ outcomes ps q whole
@@ -33,11 +35,14 @@ pub record IsEnough (ps : List PolicyData) (q : Request) (part whole : Store) : 
 -- where every rule holds, the slice is enough
 abbrev pub SlicesAreEnough : Type 0
 SlicesAreEnough =
-    (schema : SchemaData) → IsSchema schema → (policies : PolicySetData) → IsPolicySet policies → AreKeyedOnce policies.policies →
-    (q : Request) (s : Store) → KeepRules schema policies q s → IsEnough policies.policies q (slice schema policies.policies q s) s
+    (schema : SchemaData) → IsSchema schema → (policies : PolicySetData) → IsPolicySet policies →
+    AreKeyedOnce policies.policies →
+    (q : Request) (s : Store) → KeepRules schema policies q s →
+    IsEnough policies.policies q (slice schema policies.policies q s) s
 
 -- where every rule holds, each policy has an outcome on the store that is allowed
 abbrev pub OutcomesAreAllowed : Type 0
 OutcomesAreAllowed =
-    (schema : SchemaData) → IsSchema schema → (policies : PolicySetData) → IsPolicySet policies → AreKeyedOnce policies.policies →
+    (schema : SchemaData) → IsSchema schema → (policies : PolicySetData) → IsPolicySet policies →
+    AreKeyedOnce policies.policies →
     (q : Request) (s : Store) → KeepRules schema policies q s → AreAllowed policies.policies q s

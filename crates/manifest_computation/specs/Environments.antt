@@ -14,7 +14,8 @@ use Rattle.manifest_computation.specs.Slice.{env_of}
 abbrev pub EnvironmentsAreOfTypes : Type 0
 EnvironmentsAreOfTypes =
     (schema : SchemaData) → IsSchema schema → (env : EnvData) → IsIn env (unlinked_envs schema) →
-    (q : Request) (t : RequestType) → request_type_in env ≡ Some t → request_type_of q ≡ Some t → env_of schema q ≡ Some env
+    (q : Request) (t : RequestType) → request_type_in env ≡ Some t → request_type_of q ≡ Some t →
+    env_of schema q ≡ Some env
 
 -- an environment of the schema, which is the request's and has its type
 pub record HasEnvironment (schema : SchemaData) (q : Request) : Type 0 where
@@ -27,4 +28,5 @@ pub record HasEnvironment (schema : SchemaData) (q : Request) : Type 0 where
 
 -- a whole request that conforms has one
 abbrev pub EnvironmentsAreThere : Type 0
-EnvironmentsAreThere = (schema : SchemaData) (q : Request) → IsWhole q → RequestConforms schema q → HasEnvironment schema q
+EnvironmentsAreThere =
+    (schema : SchemaData) (q : Request) → IsWhole q → RequestConforms schema q → HasEnvironment schema q

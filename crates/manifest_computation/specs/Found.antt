@@ -11,4 +11,5 @@ use Rattle.manifest_computation.specs.Computed.{IsEntryOf}
 
 -- an entry for each environment, of what checks leave there: the condition of each policy
 abbrev pub AreEntries : SchemaData → List PolicyData → List EnvData → Manifest → Type 0
-AreEntries schema ps envs m = AllZip (λ env e. IsEntryOf schema env (found_conditions schema env ps) e × LeavesAll schema ps env) envs m
+AreEntries schema ps envs m = AllZip
+    (λ env e. IsEntryOf schema env (found_conditions schema env ps) e × LeavesAll schema ps env) envs m

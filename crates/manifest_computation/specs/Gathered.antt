@@ -20,7 +20,8 @@ use Rattle.policy_validate.specs.Found.{condition_in, found_conditions}
 module _ (schema : SchemaData) (env : EnvData) where
   -- whether the edges are a front of what conditions read or ask for
   abbrev pub goes_along : List Typed → Address → Bool
-  goes_along ts es = list_any (is_front es) (map address_of (declared_reads schema env ts)) || list_any (is_front es) (map demand_of (declared_demands schema env ts))
+  goes_along ts es = list_any (is_front es) (map address_of (declared_reads schema env ts))
+      || list_any (is_front es) (map demand_of (declared_demands schema env ts))
 
   -- whether they are what one of them asks for
   abbrev pub asks_along : List Typed → Address → Bool
@@ -41,7 +42,8 @@ module _ (schema : SchemaData) (env : EnvData) where
 
   -- so it does for the body of each template of the set that is among these
   abbrev pub AreHeld : PolicySetData → BTreeSet (List ℕ) → Table → List Typed → Type 0
-  AreHeld s ids t ts = (id : List ℕ) → IsTrue (contains text_cmp ids id) → IsSomeAnd (template_at s id) (λ u. IsSomeAnd (part_in u.body) (IsHeld t ts))
+  AreHeld s ids t ts = (id : List ℕ) → IsTrue (contains text_cmp ids id) →
+      IsSomeAnd (template_at s id) (λ u. IsSomeAnd (part_in u.body) (IsHeld t ts))
 
   -- a condition was taken to the others, or added
   abbrev pub IsTaken : Table → List Typed → Table → List Typed → Typed → Type 0
@@ -49,5 +51,6 @@ module _ (schema : SchemaData) (env : EnvData) where
 
   -- the trie of what checks leave of policies, of which they leave each condition
   pub record IsTrieLeft (ps : List PolicyData) (t : Table) : Type 0 where
-    pub trie : IsLeast (declared_reads schema env (found_conditions schema env ps)) (declared_demands schema env (found_conditions schema env ps)) t
+    pub trie : IsLeast (declared_reads schema env (found_conditions schema env ps))
+        (declared_demands schema env (found_conditions schema env ps)) t
     pub left : LeavesAll schema ps env

@@ -67,7 +67,8 @@ fn check_with(
     request: &Request,
     extensions: &ExtensionSchemas<'_>,
 ) -> Result<(), SliceForRequestError>
-    ensures { MatchResult result (λ _. first_request_fault schema.now (knows extensions.now) request.now ≡ None)
+    ensures { MatchResult result
+        (λ _. first_request_fault schema.now (knows extensions.now) request.now ≡ None)
         (IsRequestRefusal (first_request_fault schema.now (knows extensions.now) request.now)) }
 {
     match validate_request(alloc, schema, request, extensions) {

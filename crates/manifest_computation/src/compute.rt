@@ -28,9 +28,10 @@ use std::collections::BTreeMap;
 use typecheck_walk::Extensions;
 use typing_spec::{ExtensionSchemas, all_objects};
 
-/// The manifest of policies: for each environment of the schema the trie of what the static policies and links read and ask
-/// for there, each by its own condition, with its types; no trie where there is no policy. Errs with `Validation` exactly
-/// where the policies are not accepted, and with `OutOfMemory` where memory runs out.
+/// The manifest of policies: for each environment of the schema the trie of what the static policies and
+/// links read and ask for there, each by its own condition, with its types; no trie where there is no policy.
+/// Errs with `Validation` exactly where the policies are not accepted, and with `OutOfMemory` where memory
+/// runs out.
 pub fn compute_entity_manifest(
     alloc: Global,
     schema: &ValidatorSchema,
@@ -49,8 +50,9 @@ pub fn compute_entity_manifest(
     }
 }
 
-// A trie for each environment of the schema, or none without policies; nothing where the policies are not accepted. Each
-// condition is typed once in an environment: the check that accepts it also gives what goes into the trie.
+// A trie for each environment of the schema, or none without policies; nothing where the policies are not
+// accepted. Each condition is typed once in an environment: the check that accepts it also gives what goes
+// into the trie.
 fn tries_where_accepted(
     alloc: Global,
     schema: &ValidatorSchema,

@@ -23,12 +23,12 @@ use std::alloc::{AllocError, Global};
 use std::collections::BTreeSet;
 use typecheck_walk::{Extensions, Setting, check_walk, is_too_deep};
 
-// How many conditions are kept with their types at a time: few, so that they are still near when they are read, but the more
-// the larger the trie is, which is copied each time.
+// How many conditions are kept with their types at a time: few, so that they are still near when they are
+// read, but the more the larger the trie is, which is copied each time.
 const AT_ONCE: usize = 16;
 
-/// The trie of what the policies' conditions read and ask for in the environment, each with its types there; nothing where
-/// the check of one fails. The body that links of one template share is typed once.
+/// The trie of what the policies' conditions read and ask for in the environment, each with its types there;
+/// nothing where the check of one fails. The body that links of one template share is typed once.
 pub(crate) fn trie_of_policies<'a>(
     alloc: Global,
     schema: &'a ValidatorSchema,
@@ -68,7 +68,8 @@ pub(crate) fn trie_of_policies<'a>(
     Ok(Some(trie))
 }
 
-// Takes what the check of a policy's condition leaves, its scope and its body apart; says whether that is anything.
+// Takes what the check of a policy's condition leaves, its scope and its body apart; says whether that is
+// anything.
 fn take_policy<'a>(
     at: &Setting<'a, 'a, '_, '_>,
     policies: &PolicySet,
@@ -86,7 +87,8 @@ fn take_policy<'a>(
         trie.new conditions.new.items trie.old conditions.old.items)) }
     ensures missing { IfOk result (λ b. b ≡ false →
         condition_in (checked at.now.schema.now (env_data_of at.now.env.now) policy.now.condition) ≡ None) }
-    ensures held { IfOk result (λ b. b ≡ true → AreHeld at.now.schema.now (env_data_of at.now.env.now) policies.now
+    ensures held { IfOk result
+        (λ b. b ≡ true → AreHeld at.now.schema.now (env_data_of at.now.env.now) policies.now
         bodies.new trie.new conditions.new.items) }
 {
     if is_too_deep(policy.condition()) {
@@ -138,7 +140,8 @@ fn take_body<'a>(
         trie.new conditions.new.items trie.old conditions.old.items)) }
     ensures missing { IfOk result (λ b. b ≡ false →
         part_in at.now.schema.now (env_data_of at.now.env.now) policy.now.body ≡ None) }
-    ensures held { IfOk result (λ b. b ≡ true → AreHeld at.now.schema.now (env_data_of at.now.env.now) policies.now
+    ensures held { IfOk result
+        (λ b. b ≡ true → AreHeld at.now.schema.now (env_data_of at.now.env.now) policies.now
         bodies.new trie.new conditions.new.items) }
 {
     match policy.template() {

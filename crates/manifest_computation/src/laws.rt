@@ -11,8 +11,8 @@ pub fn manifests_are_settled()
     same_tries_are_equal();
 }
 
-/// The trie that the manifest of policies has for a request is that of exactly what they read and ask for in the request's
-/// environment.
+/// The trie that the manifest of policies has for a request is that of exactly what they read and ask for in
+/// the request's environment.
 pub fn tries_are_of_reads()
     ensures { TriesAreOfReads }
 {}

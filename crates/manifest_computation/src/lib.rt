@@ -1,5 +1,5 @@
-//! The manifest of policies: what they read of a store, for each type of requests; and the slice of a store for a request:
-//! every check, then what accepted policies read.
+//! The manifest of policies: what they read of a store, for each type of requests; and the slice of a store
+//! for a request: every check, then what accepted policies read.
 #![tactic(auto)]
 
 mod checks;

@@ -19,12 +19,13 @@ use policy_set::laws::{have_keys_once, is_policy_set};
 use schema_core::ValidatorSchema;
 use std::alloc::Global;
 
-/// The slice of the store: the store restricted to what the policies read on the request. On it, and on each store between it
-/// and the whole one, each policy has the outcome that it has on the whole one: a truth value, a missing entity or an
-/// overflow.
+/// The slice of the store: the store restricted to what the policies read on the request. On it, and on each
+/// store between it and the whole one, each policy has the outcome that it has on the whole one: a truth
+/// value, a missing entity or an overflow.
 ///
-/// Errs with the first of these that does not hold: the request is whole, it conforms to the schema, so does the store, and
-/// the policies are accepted; a warning does not matter. Where all hold, it errs for want of memory alone.
+/// Errs with the first of these that does not hold: the request is whole, it conforms to the schema, so does
+/// the store, and the policies are accepted; a warning does not matter. Where all hold, it errs for want of
+/// memory alone.
 pub fn slice_for_request(
     alloc: Global,
     schema: &ValidatorSchema,

@@ -27,8 +27,8 @@ use store_slices::restricted_store;
 use typecheck_walk::Extensions;
 use typing_spec::{ExtensionSchemas, all_objects};
 
-/// The slice of the store: the store restricted to what the policies read on the request, each by its own condition with its
-/// types in the environment of the request. Every rule holds.
+/// The slice of the store: the store restricted to what the policies read on the request, each by its own
+/// condition with its types in the environment of the request. Every rule holds.
 pub fn restricted_to_reads(
     alloc: Global,
     schema: &ValidatorSchema,

@@ -19,7 +19,8 @@ use std::alloc::{AllocError, Global};
 use std::collections::BTreeMap;
 use typecheck_walk::Extensions;
 
-/// A trie for each environment of the schema, under its request type; nothing where the check of some condition fails.
+/// A trie for each environment of the schema, under its request type; nothing where the check of some
+/// condition fails.
 pub(crate) fn tries_of(
     alloc: Global,
     schema: &ValidatorSchema,

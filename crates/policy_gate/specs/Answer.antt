@@ -89,7 +89,8 @@ refused_request d = option_map (λ e. answer status.Request (request_text e)) (r
 
 -- that an entity of the store breaks one
 abbrev pub refused_store : Document → Option Answer
-refused_store d = option_map (λ f. answer status.Store (entity_text (record { uid = f.0; rule = f.1 }))) (store_fault d)
+refused_store d =
+    option_map (λ f. answer status.Store (entity_text (record { uid = f.0; rule = f.1 }))) (store_fault d)
 
 -- that there are errors among the findings; a warning alone does not matter
 abbrev pub refused_with : List ValidationError → Findings → Option Answer
@@ -113,7 +114,8 @@ refused_levels n d = refused_with (found_at n d).errors (found_at n d)
 abbrev pub refused_data : Document → Option Answer
 refused_data d = option_or (refused_request d) (refused_store d)
 
--- why there is no slice and no decision: the request is not whole, or breaks a rule, or the store does, or there are errors in the policies
+-- why there is no slice and no decision: the request is not whole, or breaks a rule, or the store does, or
+-- there are errors in the policies
 abbrev pub refused_decision : Document → Option Answer
 refused_decision d = option_or (refused_partial d) (option_or (refused_data d) (refused_policies d))
 
@@ -133,7 +135,8 @@ refused_entries d = if is_whole_but d.request then None else Some partial_reques
 abbrev pub refused_asked : Document → Option Answer
 refused_asked d = option_map (λ e. answer status.Request (request_text e)) (asked_fault d)
 
--- why there is no page: the request is not whole but for the principal, or breaks another rule, or the store does, or there are errors in the policies
+-- why there is no page: the request is not whole but for the principal, or breaks another rule, or the store
+-- does, or there are errors in the policies
 abbrev pub refused_listing : Document → Option Answer
 refused_listing d = option_or (refused_entries d) (option_or (refused_asked d) (refused_batch d))
 
@@ -161,12 +164,14 @@ manifest_text m = compact_text (manifest_data m) ++ codes "\n"
 
 -- the policies are accepted, and the text is their manifest
 abbrev pub IsManifestText : SchemaData → PolicySetData → List ℕ → Type 0
-IsManifestText schema set text = (m : Manifest) × IsAccepted schema set × IsManifestOf schema set.policies m × (text ≡ manifest_text m)
+IsManifestText schema set text =
+    (m : Manifest) × IsAccepted schema set × IsManifestOf schema set.policies m × (text ≡ manifest_text m)
 
 -- the line on a slice: of how many entities the store is made, how many are kept, and the decision
 abbrev pub sample_text : ℕ → ℕ → Decision → List ℕ
 sample_text size kept decision =
-    codes "entities " ++ (decimal size ++ (codes " kept " ++ (decimal kept ++ (codes " decision " ++ (decision_text decision ++ codes "\n")))))
+    codes "entities " ++ (decimal size ++ (codes " kept " ++ (decimal kept ++ (codes " decision "
+    ++ (decision_text decision ++ codes "\n")))))
 
 -- why there is no response to a request
 abbrev pub refused_json : List ℕ → Data
@@ -183,7 +188,8 @@ whole_line d q (Some e) = refused_line (request_message e)
 
 -- the line on one of many requests
 abbrev pub request_line : Document → Request → List ℕ
-request_line d q = if is_whole q then whole_line d q (first_request_fault d.schema (λ _. true) q) else refused_line partial_message
+request_line d q = if is_whole q then whole_line d q (first_request_fault d.schema (λ _. true) q)
+    else refused_line partial_message
 
 -- a line for each request
 abbrev pub batch_text : Document → List ℕ
@@ -198,7 +204,8 @@ verdict_word May = codes "may"
 abbrev pub row_line : ReviewRow → List ℕ
 row_line r =
     verdict_word r.verdict ++ (codes " " ++ (r.policy_id ++ (codes ": "
-    ++ (r.request_type.principal ++ (codes ", " ++ (id_text r.request_type.action ++ (codes ", " ++ (r.request_type.resource ++ codes "\n"))))))))
+    ++ (r.request_type.principal ++ (codes ", " ++ (id_text r.request_type.action ++ (codes ", "
+    ++ (r.request_type.resource ++ codes "\n"))))))))
 
 -- the least level, or that there is none
 abbrev pub level_word : Option ℕ → List ℕ
@@ -211,10 +218,12 @@ level_line l = codes "level " ++ (l.policy_id ++ (codes ": " ++ (level_word l.le
 
 -- a line for each row of the review of the document's policies, and then one for each least level
 abbrev pub review_text : Document → List ℕ
-review_text d = flat_map row_line (matrix_of d.schema d.policies) ++ flat_map level_line (levels_of d.schema d.policies)
+review_text d =
+    flat_map row_line (matrix_of d.schema d.policies) ++ flat_map level_line (levels_of d.schema d.policies)
 
--- the text is that of the command's work: the findings; that all conforms; the manifest of the policies; the restricted store, with the response on it; the response on
--- the whole store; the line on the restricted store; a line for each request; the manifest of the policies after the edits, which are accepted; the
+-- the text is that of the command's work: the findings; that all conforms; the manifest of the policies; the
+-- restricted store, with the response on it; the response on the whole store; the line on the restricted
+-- store; a line for each request; the manifest of the policies after the edits, which are accepted; the
 -- review of the policies; the page of principals
 abbrev pub IsWork : Command → Document → List ℕ → Type 0
 IsWork Check d text = text ≡ findings_text (found_in d)
@@ -223,7 +232,8 @@ IsWork Conformance d text = text ≡ codes "conforms\n"
 IsWork Reads d text = (m : Manifest) × IsManifestOf d.schema d.policies.policies m × (text ≡ manifest_text m)
 IsWork Slice d text = text ≡ slice_text (response d.policies.policies d.request (slice_of d)) (slice_of d)
 IsWork Decide d text = text ≡ response_text (response d.policies.policies d.request d.entities)
-IsWork (Sample seed size) d text = text ≡ sample_text size (length (slice_of d)) (response d.policies.policies d.request (slice_of d)).decision
+IsWork (Sample seed size) d text = text ≡
+    sample_text size (length (slice_of d)) (response d.policies.policies d.request (slice_of d)).decision
 IsWork Batch d text = text ≡ batch_text d
 IsWork Live d text = IsManifestText d.schema (policies_after d) text
 IsWork Review d text = text ≡ review_text d
@@ -238,7 +248,8 @@ IsRefusedOr (Some r) IsDone a = a ≡ r
 abbrev pub IsAnswerTo : Command → Document → Answer → Type 0
 IsAnswerTo c d a = IsRefusedOr (refusal c d) (IsWork c d) a
 
--- what holds of each document that is read: its schema is one, its policies are a set, and each record of a condition has each of its keys once
+-- what holds of each document that is read: its schema is one, its policies are a set, and each record of a
+-- condition has each of its keys once
 pub record IsWellMade (d : Document) : Type 0 where
   pub schema : IsSchema d.schema
   pub policies : IsPolicySet d.policies
@@ -246,7 +257,8 @@ pub record IsWellMade (d : Document) : Type 0 where
 
 -- what is due for a JSON value: the place of the first fault, where it is no document
 abbrev pub IsAnswerFor : Command → Data → Answer → Type 0
-IsAnswerFor c v a = ((place : Place) × IsRead (shape_of c) v (Err place) × (a ≡ answer status.Document (place_text place ++ codes "\n")))
+IsAnswerFor c v a = ((place : Place) × IsRead (shape_of c) v (Err place)
+    × (a ≡ answer status.Document (place_text place ++ codes "\n")))
     ⊎ ((d : Document) × IsRead (shape_of c) v (Ok d) × IsWellMade d × IsAnswerTo c d a)
 
 -- what is due where the bytes may be JSON

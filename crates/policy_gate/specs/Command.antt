@@ -22,7 +22,8 @@ one_word word =
     (if bytes_eq word (codes "live") then Some Live else
     (if bytes_eq word (codes "review") then Some Review else None)))))))
 
--- a size of documents that are made, and a limit of pages: 1 to 10000, of digits with no zero in front of others
+-- a size of documents that are made, and a limit of pages: 1 to 10000, of digits with no zero in front of
+-- others
 abbrev pub size_of : List ℕ → Option ℕ
 size_of digits = option_and_then (λ n. if nat_lt 0 n then Some n else None) (plain_of 10000 digits)
 
@@ -35,7 +36,9 @@ two_words word other =
 -- a command of three words: a sample is of a seed of 64 bits, written in the same way, and a size
 abbrev pub three_words : List ℕ → List ℕ → List ℕ → Option Command
 three_words word seed size =
-    if bytes_eq word (codes "sample") then option_and_then (λ n. option_map (Sample n) (size_of size)) (plain_of 18446744073709551615 seed) else None
+    if bytes_eq word (codes "sample")
+    then option_and_then (λ n. option_map (Sample n) (size_of size)) (plain_of 18446744073709551615 seed)
+    else None
 
 -- the id of a type and an eid, where the first word is a name
 abbrev pub uid_of_words : List ℕ → List ℕ → Option EntityUID
@@ -43,7 +46,8 @@ uid_of_words name eid = uid_of_parts (name_of_text name) (Some eid)
 
 -- a page with a limit that comes after an id
 abbrev pub page_after : List ℕ → List ℕ → List ℕ → Option Command
-page_after limit name eid = option_and_then (λ n. option_map (λ u. Page n (Some u)) (uid_of_words name eid)) (size_of limit)
+page_after limit name eid =
+    option_and_then (λ n. option_map (λ u. Page n (Some u)) (uid_of_words name eid)) (size_of limit)
 
 -- a command of four words: such a page
 abbrev pub four_words : List ℕ → List ℕ → List ℕ → List ℕ → Option Command

@@ -64,15 +64,20 @@ KeepsOtherRules d = KeepOtherRules d.schema d.policies d.request d.entities
 abbrev pub HasNoRefusedEdit : Document → Type 0
 HasNoRefusedEdit d = refused_edit d ≡ None
 
--- on each request and store that conform, the outcome of each policy is a truth value, a missing entity or an overflow
+-- on each request and store that conform, the outcome of each policy is a truth value, a missing entity or an
+-- overflow
 abbrev pub HasAllowedOutcomes : Document → Type 0
-HasAllowedOutcomes d = (q : ARequest) (s : Store) → KeepRules d.schema d.policies q s → AreAllowed d.policies.policies q s
+HasAllowedOutcomes d =
+    (q : ARequest) (s : Store) → KeepRules d.schema d.policies q s → AreAllowed d.policies.policies q s
 
--- for each request and store that conform, the store restricted to what the policies read in the request's environment is enough
+-- for each request and store that conform, the store restricted to what the policies read in the request's
+-- environment is enough
 abbrev pub ReadsAreEnough : Document → Type 0
-ReadsAreEnough d = (q : ARequest) (s : Store) → KeepRules d.schema d.policies q s → IsEnough d.policies.policies q (slice d.schema d.policies.policies q s) s
+ReadsAreEnough d = (q : ARequest) (s : Store) → KeepRules d.schema d.policies q s →
+    IsEnough d.policies.policies q (slice d.schema d.policies.policies q s) s
 
--- the text says that the request and the store conform, and they do; a request that is whole conforms to the schema
+-- the text says that the request and the store conform, and they do; a request that is whole conforms to the
+-- schema
 pub record IsConforming (d : Document) (text : List ℕ) : Type 0 where
   pub written : text ≡ codes "conforms\n"
   pub conforms : Conforms d
@@ -97,21 +102,23 @@ abbrev pub HasPoliciesFor : Command → Document → Type 0
 HasPoliciesFor (Level n) d = HasPoliciesAt n d
 HasPoliciesFor c d = HasAcceptedPolicies d
 
--- the text is the findings on the document's policies, which are accepted: there may be warnings. So each of them has an outcome that is allowed
+-- the text is the findings on the document's policies, which are accepted: there may be warnings. So each of
+-- them has an outcome that is allowed
 pub record IsChecked (d : Document) (text : List ℕ) : Type 0 where
   pub written : text ≡ findings_text (found_in d)
   pub accepted : HasAcceptedPolicies d
   pub sound : HasAllowedOutcomes d
 
--- the text is the findings on the document's policies, which are accepted at the level. So on the store cut at the level each of them has the
--- outcome that it has on the whole store, for each request and store that conform
+-- the text is the findings on the document's policies, which are accepted at the level. So on the store cut
+-- at the level each of them has the outcome that it has on the whole store, for each request and store that
+-- conform
 pub record IsCheckedAt (n : ℕ) (d : Document) (text : List ℕ) : Type 0 where
   pub written : text ≡ findings_text (found_at n d)
   pub accepted : HasPoliciesAt n d
   pub enough : CutIsEnough d.schema n d.policies
 
--- the text is the manifest of the document's policies, which are accepted: what they read and ask for in each environment of the schema, which is
--- enough to decide on
+-- the text is the manifest of the document's policies, which are accepted: what they read and ask for in each
+-- environment of the schema, which is enough to decide on
 pub record IsManifested (d : Document) (text : List ℕ) : Type 0 where
   pub manifest : Tries
   pub computed : IsManifestOf d.schema d.policies.policies manifest
@@ -119,44 +126,49 @@ pub record IsManifested (d : Document) (text : List ℕ) : Type 0 where
   pub accepted : HasAcceptedPolicies d
   pub enough : ReadsAreEnough d
 
--- the text is the slice with the response on it. The slice is a part of the store, and enough: on it, and on every store between the
--- two, each policy has the outcome that it has on the whole store, which is a truth value, a missing entity or an overflow; so the
--- response is the same
+-- the text is the slice with the response on it. The slice is a part of the store, and enough: on it, and on
+-- every store between the two, each policy has the outcome that it has on the whole store, which is a truth
+-- value, a missing entity or an overflow; so the response is the same
 pub record IsSliced (d : Document) (text : List ℕ) : Type 0 where
   pub written : text ≡ slice_text (response d.policies.policies d.request (slice_of d)) (slice_of d)
   pub enough : IsEnough d.policies.policies d.request (slice_of d) d.entities
 
--- the text is the response on the whole store, on which the outcome of each policy is a truth value, a missing entity or an overflow
+-- the text is the response on the whole store, on which the outcome of each policy is a truth value, a
+-- missing entity or an overflow
 pub record IsDecided (d : Document) (text : List ℕ) : Type 0 where
   pub written : text ≡ response_text (response d.policies.policies d.request d.entities)
   pub allowed : AreAllowed d.policies.policies d.request d.entities
 
 -- the text is the line on the slice, which is enough as that of `slice` is
 pub record IsSampled (size : ℕ) (d : Document) (text : List ℕ) : Type 0 where
-  pub written : text ≡ sample_text size (length (slice_of d)) (response d.policies.policies d.request (slice_of d)).decision
+  pub written : text ≡
+      sample_text size (length (slice_of d)) (response d.policies.policies d.request (slice_of d)).decision
   pub enough : IsEnough d.policies.policies d.request (slice_of d) d.entities
 
--- the line on a request is the response on the whole store, on which the outcome of each policy is a truth value, a missing entity or an overflow
+-- the line on a request is the response on the whole store, on which the outcome of each policy is a truth
+-- value, a missing entity or an overflow
 pub record IsDecidedLine (d : Document) (q : ARequest) : Type 0 where
   pub written : request_line d q ≡ response_text (response d.policies.policies q d.entities)
   pub allowed : AreAllowed d.policies.policies q d.entities
 
--- the text has a line for each request; where the request is whole and conforms it is decided on. The store conforms, and the policies are accepted
+-- the text has a line for each request; where the request is whole and conforms it is decided on. The store
+-- conforms, and the policies are accepted
 pub record IsBatch (d : Document) (text : List ℕ) : Type 0 where
   pub written : text ≡ batch_text d
   pub decided : (q : ARequest) → KeepRules d.schema d.policies q d.entities → IsDecidedLine d q
   pub rules : IsReadyForRequests d
 
--- the text has a line for each row and each least level of the review of the document's policies, which are accepted. Of what a row says never,
--- the policy is true on no request of the row's type and on no store, where both conform; and each level is the least at which the policy passes
+-- the text has a line for each row and each least level of the review of the document's policies, which are
+-- accepted. Of what a row says never, the policy is true on no request of the row's type and on no store,
+-- where both conform; and each level is the least at which the policy passes
 pub record IsReviewed (d : Document) (text : List ℕ) : Type 0 where
   pub written : text ≡ review_text d
   pub accepted : HasAcceptedPolicies d
   pub never : NeversAreNeverTrue d.schema d.policies
   pub least : LevelsAreLeast d.schema d.policies
 
--- none of the document's edits is refused, and the text is the manifest of the policies that they leave, which are accepted: what they read and ask
--- for in each environment of the schema
+-- none of the document's edits is refused, and the text is the manifest of the policies that they leave,
+-- which are accepted: what they read and ask for in each environment of the schema
 pub record IsLive (d : Document) (text : List ℕ) : Type 0 where
   pub manifest : Tries
   pub computed : IsManifestOf d.schema (policies_after d).policies manifest
@@ -164,8 +176,8 @@ pub record IsLive (d : Document) (text : List ℕ) : Type 0 where
   pub accepted : IsAccepted d.schema (policies_after d)
   pub made : HasNoRefusedEdit d
 
--- the text is the page of at most so many principals that comes after the id, of those of the store that may do what the request asks; every rule
--- holds that does not speak of the principal
+-- the text is the page of at most so many principals that comes after the id, of those of the store that may
+-- do what the request asks; every rule holds that does not speak of the principal
 pub record IsListed (limit : ℕ) (after : Option EntityUID) (d : Document) (text : List ℕ) : Type 0 where
   pub written : text ≡ list_text limit after d
   pub rules : KeepsOtherRules d

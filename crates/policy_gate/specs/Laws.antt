@@ -12,7 +12,8 @@ pub record Laws : Type 0 where
   -- no broken rule is found exactly where request and store conform
   pub requests : RequestRulesAreExact
   pub stores : StoreRulesAreExact
-  -- where every rule holds: the store cut at a level is enough, the slice is, and outcomes on the whole store are allowed
+  -- where every rule holds: the store cut at a level is enough, the slice is, and outcomes on the whole store
+  -- are allowed
   pub levels : AcceptedLevelsAreSound
   pub slices : SlicesAreEnough
   pub outcomes : OutcomesAreAllowed

@@ -36,4 +36,5 @@ page_text ids more = flat_map id_line ids ++ end_line more
 
 -- the page of so many ids at most that comes after the id; without one the first
 abbrev pub list_text : ℕ → Option EntityUID → Document → List ℕ
-list_text limit after d = page_text (page_ids limit after (allowed_in d)) (has_more limit after (allowed_in d))
+list_text limit after d =
+    page_text (page_ids limit after (allowed_in d)) (has_more limit after (allowed_in d))

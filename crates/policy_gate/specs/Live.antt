@@ -31,7 +31,8 @@ policies_after d = after_edits d.schema no_policies (edits_in d)
 -- the first edit that is refused, counted from a number on, and why; those before are made
 abbrev pub first_refused : SchemaData → ℕ → PolicySetData → List SetEdit → Option (ℕ × Refusal)
 first_refused schema n s [] = None
-first_refused schema n s (e ∷ es) = option_or (option_map (λ why. (n, why)) (refusal schema s e)) (first_refused schema (n + 1) (made e s) es)
+first_refused schema n s (e ∷ es) = option_or (option_map (λ why. (n, why)) (refusal schema s e))
+    (first_refused schema (n + 1) (made e s) es)
 
 -- the first of the document's
 abbrev pub refused_edit : Document → Option (ℕ × Refusal)

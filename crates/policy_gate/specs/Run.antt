@@ -24,10 +24,13 @@ read_fault = answer ReadFault (codes "read fault\n")
 abbrev pub too_long : Answer
 too_long = answer TooLong (codes "document: more than 16777216 bytes\n")
 
--- what is due where a document is read: what the command asks for its bytes; or the source failed, or gave too many bytes
+-- what is due where a document is read: what the command asks for its bytes; or the source failed, or gave
+-- too many bytes
 abbrev pub IsDueAfterReading : Command → SourceState → SourceState → Answer → Type 0
-IsDueAfterReading command source source' a = ((bytes : List ℕ) × WasRead source source' bytes × IsAnswer command bytes a)
-    ⊎ (((a ≡ read_fault) × Rose source.faults source'.faults × (source'.taken ≤ source.taken + document_limit))
+IsDueAfterReading command source source' a =
+    ((bytes : List ℕ) × WasRead source source' bytes × IsAnswer command bytes a)
+    ⊎ (((a ≡ read_fault) × Rose source.faults source'.faults
+    × (source'.taken ≤ source.taken + document_limit))
     ⊎ ((a ≡ too_long) × TakesTooMany source source'))
 
 -- what is due for a command that has a document of its own: the source is left alone; the others read one
@@ -53,20 +56,23 @@ IsGiven command source source' bytes = IsGivenBy (own_document command) source s
 abbrev pub Reads : Command → Type 0
 Reads command = own_document command ≡ None
 
--- these bytes are what the command is to work on: what the source has left, where that is no more than a document may have and the source does not fail; or
--- those of its own document
+-- these bytes are what the command is to work on: what the source has left, where that is no more than a
+-- document may have and the source does not fail; or those of its own document
 abbrev pub IsToReadBy : Option (List ℕ) → SourceState → SourceState → List ℕ → Type 0
-IsToReadBy None source source' bytes = (source.left ≡ Some bytes) × (length bytes ≤ document_limit) × IsQuiet source.faults source'.faults
+IsToReadBy None source source' bytes =
+    (source.left ≡ Some bytes) × (length bytes ≤ document_limit) × IsQuiet source.faults source'.faults
 IsToReadBy (Some own) source source' bytes = bytes ≡ own
 
 -- the same for a command
 abbrev pub IsToWorkOn : Command → SourceState → SourceState → List ℕ → Type 0
 IsToWorkOn command source source' bytes = IsToReadBy (own_document command) source source' bytes
 
--- all of the answer's text is written, and its status stands; or the sink's count rose, and a front of the text is written
+-- all of the answer's text is written, and its status stands; or the sink's count rose, and a front of the
+-- text is written
 abbrev pub Gives : Answer → SinkState → SinkState → Status → Type 0
 Gives a sink sink' status = ((status ≡ a.status) × Appends sink.holds sink'.holds a.text)
-    ⊎ (Rose sink.faults sink'.faults × (status ≡ after_fault a.status) × ((n : ℕ) × Appends sink.holds sink'.holds (take n a.text)))
+    ⊎ (Rose sink.faults sink'.faults × (status ≡ after_fault a.status)
+    × ((n : ℕ) × Appends sink.holds sink'.holds (take n a.text)))
 
 -- a run gives the answer that is due; or memory ran out for a command, and nothing is written
 abbrev pub Runs : Option Command → SourceState → SourceState → SinkState → SinkState → Status → Type 0
@@ -74,10 +80,12 @@ Runs command source source' sink sink' status =
     (IsSome command × (status ≡ OutOfMemory) × Keeps sink.holds sink'.holds)
     ⊎ ((a : Answer) × IsDue command source source' a × Gives a sink sink' status)
 
--- the words are a command, the document was read or is its own, and this status is due for its bytes, with this text
+-- the words are a command, the document was read or is its own, and this status is due for its bytes, with
+-- this text
 abbrev pub IsDocumentDue : Option Command → SourceState → SourceState → Status → List ℕ → Type 0
 IsDocumentDue None source source' status text = ⊥
-IsDocumentDue (Some command) source source' status text = (bytes : List ℕ) × IsGiven command source source' bytes × IsAnswer command bytes (answer status text)
+IsDocumentDue (Some command) source source' status text =
+    (bytes : List ℕ) × IsGiven command source source' bytes × IsAnswer command bytes (answer status text)
 
 -- the words are a command that reads a document
 abbrev pub IsReader : Option Command → Type 0
@@ -86,16 +94,24 @@ IsReader (Some command) = Reads command
 
 -- why a run ends with a status
 abbrev pub Cause : Option Command → SourceState → SourceState → SinkState → SinkState → Status → Type 0
-Cause command source source' sink sink' Done = (text : List ℕ) × IsDocumentDue command source source' Done text × Appends sink.holds sink'.holds text
+Cause command source source' sink sink' Done =
+    (text : List ℕ) × IsDocumentDue command source source' Done text × Appends sink.holds sink'.holds text
 Cause command source source' sink sink' Usage = (command ≡ None) × (source' ≡ source)
-Cause command source source' sink sink' Document = (text : List ℕ) × IsDocumentDue command source source' Document text
-Cause command source source' sink sink' Findings = (text : List ℕ) × IsDocumentDue command source source' Findings text
-Cause command source source' sink sink' Request = (text : List ℕ) × IsDocumentDue command source source' Request text
-Cause command source source' sink sink' Store = (text : List ℕ) × IsDocumentDue command source source' Store text
-Cause command source source' sink sink' PartialRequest = (text : List ℕ) × IsDocumentDue command source source' PartialRequest text
+Cause command source source' sink sink' Document =
+    (text : List ℕ) × IsDocumentDue command source source' Document text
+Cause command source source' sink sink' Findings =
+    (text : List ℕ) × IsDocumentDue command source source' Findings text
+Cause command source source' sink sink' Request =
+    (text : List ℕ) × IsDocumentDue command source source' Request text
+Cause command source source' sink sink' Store =
+    (text : List ℕ) × IsDocumentDue command source source' Store text
+Cause command source source' sink sink' PartialRequest =
+    (text : List ℕ) × IsDocumentDue command source source' PartialRequest text
 Cause command source source' sink sink' ReadFault = IsReader command × Rose source.faults source'.faults
 Cause command source source' sink sink' WriteFault = Rose sink.faults sink'.faults
-    × ((text : List ℕ) × IsDocumentDue command source source' Done text × ((n : ℕ) × Appends sink.holds sink'.holds (take n text)))
+    × ((text : List ℕ) × IsDocumentDue command source source' Done text
+    × ((n : ℕ) × Appends sink.holds sink'.holds (take n text)))
 Cause command source source' sink sink' OutOfMemory = Keeps sink.holds sink'.holds
 Cause command source source' sink sink' TooLong = IsReader command × TakesTooMany source source'
-Cause command source source' sink sink' Edit = (text : List ℕ) × IsDocumentDue command source source' Edit text
+Cause command source source' sink sink' Edit =
+    (text : List ℕ) × IsDocumentDue command source source' Edit text

@@ -76,7 +76,8 @@ pub enum Command {
     },
     /// Decide on each of the document's requests, over its whole store.
     Batch,
-    /// Make the edits of the document one after another, and say what the policies that they leave read of stores.
+    /// Make the edits of the document one after another, and say what the policies that they leave read of
+    /// stores.
     Live,
     /// Say on which types of requests each policy can be true, and the least level at which each passes.
     Review,

@@ -19,8 +19,8 @@ use policy_values::EntityUID;
 use principal_listing::{ListError, Page, list_principals};
 use std::alloc::{AllocError, Global};
 
-/// The page of so many principals at most that comes after the id, where every rule holds that does not speak of the
-/// principal.
+/// The page of so many principals at most that comes after the id, where every rule holds that does not speak
+/// of the principal.
 pub(crate) fn listed(
     alloc: Global,
     document: &Document,
@@ -48,7 +48,8 @@ pub(crate) fn listed(
 
 // Why there is no page.
 fn refused_page(alloc: Global, document: &Document, error: ListError) -> Result<Reply, AllocError>
-    requires { WhyNoPage document.now.schema document.now.policies document.now.request document.now.entities error }
+    requires { WhyNoPage document.now.schema document.now.policies document.now.request
+        document.now.entities error }
     ensures { IfOk result (λ r. refused_listing document.now ≡ Some (reply_view r)) }
 {
     laws();

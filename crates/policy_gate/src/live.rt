@@ -24,7 +24,8 @@ use std::marker::Brand;
 use std::mem;
 use std::sync::ledger::{Blank, Ledger};
 
-/// The manifest of the policies that the document's edits leave, where none of them is refused; the edits are taken out.
+/// The manifest of the policies that the document's edits leave, where none of them is refused; the edits are
+/// taken out.
 pub(crate) fn live(alloc: Global, document: &mut Document) -> Result<Reply, AllocError>
     ensures { IfOk result (λ r. IsAnswerTo Command.Live document.old (reply_view r)) }
 {
@@ -42,8 +43,10 @@ fn edited<L: Ledger>(
     requires name { blank.name ≡ L.name }
     requires parts { blank.parts ≡ L.parts }
     requires one { blank.parts ≡ 1 }
-    ensures { IfOk result (λ r. IsRefusedOr (refused_first (first_refused schema.now 0 no_policies (map edit_for edits)))
-        (IsManifestText schema.now (after_edits schema.now no_policies (map edit_for edits))) (reply_view r)) }
+    ensures { IfOk result
+        (λ r. IsRefusedOr (refused_first (first_refused schema.now 0 no_policies (map edit_for edits)))
+        (IsManifestText schema.now (after_edits schema.now no_policies (map edit_for edits)))
+        (reply_view r)) }
 {
     let mut steps = Steps::<L>::new(blank);
     let mut live = LiveManifest::new(alloc, schema);
@@ -66,7 +69,8 @@ fn make_all<L: Ledger>(
     ensures made { IfOk result (λ o. o ≡ None → (live.new.schema ≡ live.old.schema)
         × (live.new.policies ≡ after_edits live.old.schema live.old.policies (map edit_for edits.items))) }
     ensures refused { IfOk result (λ o. option_map string_bytes o
-        ≡ option_map edit_text (first_refused live.old.schema 0 live.old.policies (map edit_for edits.items))) }
+        ≡ option_map edit_text
+        (first_refused live.old.schema 0 live.old.policies (map edit_for edits.items))) }
 {
     let mut number: usize = 0;
     for edit in edits {
@@ -106,7 +110,8 @@ fn add<L: Ledger>(
     ensures made { IfOk result (λ o. o ≡ None →
         IsMade (edit_for (edit_of.Policy template)) live.old live.new) }
     ensures refused { IfOk result (λ o. option_map string_bytes o
-        ≡ option_map refusal_text (refusal live.old.schema live.old.policies (edit_for (edit_of.Policy template)))) }
+        ≡ option_map refusal_text
+        (refusal live.old.schema live.old.policies (edit_for (edit_of.Policy template)))) }
 {
     if template.has_slot() {
         let added = live.add_template(template, steps);
@@ -126,7 +131,8 @@ fn link<L: Ledger>(
     ensures made { IfOk result (λ o. o ≡ None →
         IsMade (edit_for (edit_of.Link link)) live.old live.new) }
     ensures refused { IfOk result (λ o. option_map string_bytes o
-        ≡ option_map refusal_text (refusal live.old.schema live.old.policies (edit_for (edit_of.Link link)))) }
+        ≡ option_map refusal_text
+        (refusal live.old.schema live.old.policies (edit_for (edit_of.Link link)))) }
 {
     let TemplateLink {
         id,
@@ -146,7 +152,8 @@ fn remove(
     ensures made { IfOk result (λ o. o ≡ None →
         IsMade (edit_for (edit_of.Remove id)) live.old live.new) }
     ensures refused { IfOk result (λ o. option_map string_bytes o
-        ≡ option_map refusal_text (refusal live.old.schema live.old.policies (edit_for (edit_of.Remove id)))) }
+        ≡ option_map refusal_text
+        (refusal live.old.schema live.old.policies (edit_for (edit_of.Remove id)))) }
 {
     match live.remove(&id) {
         Ok(()) => Ok(None),

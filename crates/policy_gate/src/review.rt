@@ -27,7 +27,8 @@ pub(crate) fn reviewed(alloc: Global, document: &Document) -> Result<Reply, Allo
 
 fn written_review(alloc: Global, review: &Review) -> Result<Reply, AllocError>
     ensures { IfOk result (λ r. (r.status ≡ Status.Done)
-        × (string_bytes r.text ≡ flat_map row_line review.now.matrix.items ++ flat_map level_line review.now.levels.items)) }
+        × (string_bytes r.text ≡
+        flat_map row_line review.now.matrix.items ++ flat_map level_line review.now.levels.items)) }
 {
     let mut text = row_lines(alloc, &review.matrix)?;
     let levels = level_lines(alloc, &review.levels)?;

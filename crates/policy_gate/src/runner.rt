@@ -64,7 +64,8 @@ fn reply_to<S: Source>(
     source: &mut S,
 ) -> Result<Reply, AllocError>
     ensures due { IfOk result (λ r.
-        IsDueFor (own_document command.now) command.now (S.state source.old) (S.state source.new) (reply_view r)) }
+        IsDueFor (own_document command.now) command.now (S.state source.old) (S.state source.new)
+        (reply_view r)) }
     ensures taken { TakesFew (S.state source.old) (S.state source.new) }
 {
     match own_document(alloc, command)? {
@@ -138,8 +139,9 @@ pub fn run<S: Source, K: Sink>(
     ensures cause { Cause (command_of (map string_bytes words.now.items))
         (S.state source.old) (S.state source.new) (K.state sink.old) (K.state sink.new) result }
 
-    // At most one byte more is taken than a document may have. Every status but usage, a failing source, want of memory and a
-    // document that is too long means that the source was read to its end, or that the command has a document of its own.
+    // At most one byte more is taken than a document may have. Every status but usage, a failing source, want
+    // of memory and a document that is too long means that the source was read to its end, or that the
+    // command has a document of its own.
     ensures taken { TakesFew (S.state source.old) (S.state source.new) }
     ensures read { IsAfterEnd result
         → (command : Command) × (command_of (map string_bytes words.now.items) ≡ Some command)
@@ -167,92 +169,105 @@ pub fn run<S: Source, K: Sink>(
         × Appends (K.state sink.old).holds (K.state sink.new).holds text)
         ⊎ (result ≡ Status.OutOfMemory) }
 
-    // The headline: where `slice` ends with 0 all bytes were read and are a document that keeps every rule, and the text that is written is
-    // its store restricted to what its policies read, with the response; on that slice, and on every store between it and
-    // the whole one, every policy has the outcome that it has on the whole store: a truth value, a missing entity or an
-    // overflow.
+    // The headline: where `slice` ends with 0 all bytes were read and are a document that keeps every rule,
+    // and the text that is written is its store restricted to what its policies read, with the response; on
+    // that slice, and on every store between it and the whole one, every policy has the outcome that it has
+    // on the whole store: a truth value, a missing entity or an overflow.
     ensures headline { command_of (map string_bytes words.now.items) ≡ Some Command.Slice
         → result ≡ Status.Done
         → (bytes : List ℕ) × (text : List ℕ) × WasRead (S.state source.old) (S.state source.new) bytes
-        × ((document : Document) × IsDocumentOf shape.Whole bytes document × KeepsRules document × IsSliced document text)
+        × ((document : Document) × IsDocumentOf shape.Whole bytes document × KeepsRules document
+        × IsSliced document text)
         × Appends (K.state sink.old).holds (K.state sink.new).holds text }
 
-    // Where `check` ends with 0 the document's policies are accepted, and the text is what is found of them: warnings alone.
+    // Where `check` ends with 0 the document's policies are accepted, and the text is what is found of them:
+    // warnings alone.
     ensures checked { command_of (map string_bytes words.now.items) ≡ Some Command.Check
         → result ≡ Status.Done
         → (bytes : List ℕ) × (text : List ℕ) × WasRead (S.state source.old) (S.state source.new) bytes
         × ((document : Document) × IsDocumentOf shape.Whole bytes document × IsChecked document text)
         × Appends (K.state sink.old).holds (K.state sink.new).holds text }
 
-    // Where `level` ends with 0 the policies are accepted at the level, and the text is what is found of them: warnings alone. Then on a store cut
-    // at the level each policy has the outcome that it has on the whole store, where request and store conform.
-    ensures levelled { (level : ℕ) → command_of (map string_bytes words.now.items) ≡ Some (Command.Level level)
+    // Where `level` ends with 0 the policies are accepted at the level, and the text is what is found of
+    // them: warnings alone. Then on a store cut at the level each policy has the outcome that it has on the
+    // whole store, where request and store conform.
+    ensures levelled { (level : ℕ) →
+        command_of (map string_bytes words.now.items) ≡ Some (Command.Level level)
         → result ≡ Status.Done
         → (bytes : List ℕ) × (text : List ℕ) × WasRead (S.state source.old) (S.state source.new) bytes
         × ((document : Document) × IsDocumentOf shape.Whole bytes document × IsCheckedAt level document text)
         × Appends (K.state sink.old).holds (K.state sink.new).holds text }
 
-    // Where `request` ends with 0 the document's request breaks no rule, and its store conforms; the text says so.
+    // Where `request` ends with 0 the document's request breaks no rule, and its store conforms; the text
+    // says so.
     ensures conforming { command_of (map string_bytes words.now.items) ≡ Some Command.Request
         → result ≡ Status.Done
         → (bytes : List ℕ) × (text : List ℕ) × WasRead (S.state source.old) (S.state source.new) bytes
         × ((document : Document) × IsDocumentOf shape.Whole bytes document × IsConforming document text)
         × Appends (K.state sink.old).holds (K.state sink.new).holds text }
 
-    // Where `manifest` ends with 0 the document's policies are accepted, and the text is their manifest: for each environment of the schema
-    // what they read and ask for there.
+    // Where `manifest` ends with 0 the document's policies are accepted, and the text is their manifest: for
+    // each environment of the schema what they read and ask for there.
     ensures manifested { command_of (map string_bytes words.now.items) ≡ Some Command.Manifest
         → result ≡ Status.Done
         → (bytes : List ℕ) × (text : List ℕ) × WasRead (S.state source.old) (S.state source.new) bytes
         × ((document : Document) × IsDocumentOf shape.Whole bytes document × IsManifested document text)
         × Appends (K.state sink.old).holds (K.state sink.new).holds text }
 
-    // Where `decide` ends with 0 the document keeps every rule, and the text is the response on its whole store, on which each policy's
-    // outcome is a truth value, a missing entity or an overflow.
+    // Where `decide` ends with 0 the document keeps every rule, and the text is the response on its whole
+    // store, on which each policy's outcome is a truth value, a missing entity or an overflow.
     ensures decided { command_of (map string_bytes words.now.items) ≡ Some Command.Decide
         → result ≡ Status.Done
         → (bytes : List ℕ) × (text : List ℕ) × WasRead (S.state source.old) (S.state source.new) bytes
-        × ((document : Document) × IsDocumentOf shape.Whole bytes document × KeepsRules document × IsDecided document text)
+        × ((document : Document) × IsDocumentOf shape.Whole bytes document × KeepsRules document
+        × IsDecided document text)
         × Appends (K.state sink.old).holds (K.state sink.new).holds text }
 
-    // Where `sample` ends with 0 the source is left alone, and the document that the seed and the size make keeps every rule; the text is the line
-    // on its slice, which is enough as that of `slice` is.
-    ensures sampled { (seed size : ℕ) → command_of (map string_bytes words.now.items) ≡ Some (Command.Sample seed size)
+    // Where `sample` ends with 0 the source is left alone, and the document that the seed and the size make
+    // keeps every rule; the text is the line on its slice, which is enough as that of `slice` is.
+    ensures sampled { (seed size : ℕ) →
+        command_of (map string_bytes words.now.items) ≡ Some (Command.Sample seed size)
         → result ≡ Status.Done
         → (text : List ℕ) × (S.state source.new ≡ S.state source.old)
-        × ((document : Document) × IsDocumentOf shape.Whole (sample_document seed size) document × KeepsRules document × IsSampled size document text)
+        × ((document : Document) × IsDocumentOf shape.Whole (sample_document seed size) document
+        × KeepsRules document × IsSampled size document text)
         × Appends (K.state sink.old).holds (K.state sink.new).holds text }
 
-    // Where `batch` ends with 0 the document's store conforms and its policies are accepted, and the text has a line for each of its requests: for one
-    // that is whole and conforms the response on the whole store, on which each policy's outcome is a truth value, a missing entity or an overflow.
+    // Where `batch` ends with 0 the document's store conforms and its policies are accepted, and the text has
+    // a line for each of its requests: for one that is whole and conforms the response on the whole store, on
+    // which each policy's outcome is a truth value, a missing entity or an overflow.
     ensures batched { command_of (map string_bytes words.now.items) ≡ Some Command.Batch
         → result ≡ Status.Done
         → (bytes : List ℕ) × (text : List ℕ) × WasRead (S.state source.old) (S.state source.new) bytes
         × ((document : Document) × IsDocumentOf shape.Batch bytes document × IsBatch document text)
         × Appends (K.state sink.old).holds (K.state sink.new).holds text }
 
-    // Where `review` ends with 0 the document's policies are accepted, and the text says on which types of requests each can be true, and at which least
-    // level it passes: what it says never of is true on no request of that type and on no store, where both conform.
+    // Where `review` ends with 0 the document's policies are accepted, and the text says on which types of
+    // requests each can be true, and at which least level it passes: what it says never of is true on no
+    // request of that type and on no store, where both conform.
     ensures reviewed { command_of (map string_bytes words.now.items) ≡ Some Command.Review
         → result ≡ Status.Done
         → (bytes : List ℕ) × (text : List ℕ) × WasRead (S.state source.old) (S.state source.new) bytes
         × ((document : Document) × IsDocumentOf shape.Whole bytes document × IsReviewed document text)
         × Appends (K.state sink.old).holds (K.state sink.new).holds text }
 
-    // Where `live` ends with 0 none of the document's edits is refused, and the text is the manifest of the policies that they leave, which are accepted:
-    // for each environment of the schema what they read and ask for there.
+    // Where `live` ends with 0 none of the document's edits is refused, and the text is the manifest of the
+    // policies that they leave, which are accepted: for each environment of the schema what they read and ask
+    // for there.
     ensures lived { command_of (map string_bytes words.now.items) ≡ Some Command.Live
         → result ≡ Status.Done
         → (bytes : List ℕ) × (text : List ℕ) × WasRead (S.state source.old) (S.state source.new) bytes
         × ((document : Document) × IsDocumentOf shape.Live bytes document × IsLive document text)
         × Appends (K.state sink.old).holds (K.state sink.new).holds text }
 
-    // Where `list` ends with 0 every rule holds that does not speak of the principal, and the text is a page of those principals of the store for which
-    // the decision on the whole store is Allow.
-    ensures listed { (limit : ℕ) (after : Option EntityUID) → command_of (map string_bytes words.now.items) ≡ Some (Command.List limit after)
+    // Where `list` ends with 0 every rule holds that does not speak of the principal, and the text is a page
+    // of those principals of the store for which the decision on the whole store is Allow.
+    ensures listed { (limit : ℕ) (after : Option EntityUID) →
+        command_of (map string_bytes words.now.items) ≡ Some (Command.List limit after)
         → result ≡ Status.Done
         → (bytes : List ℕ) × (text : List ℕ) × WasRead (S.state source.old) (S.state source.new) bytes
-        × ((document : Document) × IsDocumentOf shape.Whole bytes document × IsListed limit after document text)
+        × ((document : Document) × IsDocumentOf shape.Whole bytes document
+        × IsListed limit after document text)
         × Appends (K.state sink.old).holds (K.state sink.new).holds text }
 
     // An edit is refused by `live` alone: the text that is due says which one is the first, and why.
@@ -261,11 +276,13 @@ pub fn run<S: Source, K: Sink>(
         × ((bytes : List ℕ) × (text : List ℕ) × WasRead (S.state source.old) (S.state source.new) bytes
         × ((document : Document) × IsDocumentOf shape.Live bytes document × IsRefusedEdit document text)) }
 
-    // A command finds errors in the policies of no other documents than those whose policies are not accepted, for `level` at the level.
+    // A command finds errors in the policies of no other documents than those whose policies are not
+    // accepted, for `level` at the level.
     ensures refused { result ≡ Status.Findings
         → (command : Command) × (command_of (map string_bytes words.now.items) ≡ Some command)
         × ((bytes : List ℕ) × IsGiven command (S.state source.old) (S.state source.new) bytes
-        × ((document : Document) × IsDocumentOf (shape_of command) bytes document × (¬ HasPoliciesFor command document))) }
+        × ((document : Document) × IsDocumentOf (shape_of command) bytes document
+        × (¬ HasPoliciesFor command document))) }
 
     // And 0 comes wherever every rule of the command holds, unless memory runs out.
     ensures complete { (command : Command) (bytes : List ℕ) (document : Document)

@@ -19,17 +19,21 @@ use Rattle.policy_typecheck.specs.declared.verdict.Verdict.TheVariants.{Never}
 use Rattle.policy_validate.specs.Accepted.{IsAccepted}
 use Rattle.policy_review.specs.Levels.{HasLeastLevel}
 
--- a policy of which a row says never is true on no request of the row's type and on no store, where both conform
+-- a policy of which a row says never is true on no request of the row's type and on no store, where both
+-- conform
 abbrev pub NeversAreNeverTrue : SchemaData → PolicySetData → Type 0
 NeversAreNeverTrue schema s =
-    (p : PolicyData) → IsIn p s.policies → (env : EnvData) → IsIn env (unlinked_envs schema) → verdict_of schema p.condition env ≡ Never →
-    (q : Request) → RequestConforms schema q → (t : RequestType) → request_type_in env ≡ Some t → request_type_of q ≡ Some t →
+    (p : PolicyData) → IsIn p s.policies → (env : EnvData) → IsIn env (unlinked_envs schema) →
+    verdict_of schema p.condition env ≡ Never →
+    (q : Request) → RequestConforms schema q → (t : RequestType) → request_type_in env ≡ Some t →
+    request_type_of q ≡ Some t →
     (store : Store) → StoreConforms schema store → IsTruth (outcome p q store) → ⊥
 
 -- of an accepted set
 abbrev pub NeverIsNeverTrue : Type 0
 NeverIsNeverTrue =
-    (schema : SchemaData) → IsSchema schema → (s : PolicySetData) → IsPolicySet s → AreKeyedOnce s.policies → IsAccepted schema s → NeversAreNeverTrue schema s
+    (schema : SchemaData) → IsSchema schema → (s : PolicySetData) → IsPolicySet s →
+    AreKeyedOnce s.policies → IsAccepted schema s → NeversAreNeverTrue schema s
 
 -- each template and static policy passes at its least level and at none below
 abbrev pub LevelsAreLeast : SchemaData → PolicySetData → Type 0

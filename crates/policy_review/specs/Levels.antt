@@ -21,7 +21,8 @@ greatest (o ∷ os) = greater o (greatest os)
 module _ (schema : SchemaData) where
   -- the least level at which a condition, typed in an environment, passes
   abbrev pub least_level_in : Plain → EnvData → Option ℕ
-  least_level_in e env = option_map_or (λ x. least_level (action_in env) x.tree) (types schema env [] e) (Some 0)
+  least_level_in e env =
+      option_map_or (λ x. least_level (action_in env) x.tree) (types schema env [] e) (Some 0)
 
   -- that of a template or static policy: the greatest of those in its environments; none, where one has none
   abbrev pub least_level_of : TemplateData → Option ℕ
@@ -34,4 +35,5 @@ module _ (schema : SchemaData) where
   -- it passes at that level and at none below; where there is none, it passes nowhere
   abbrev pub HasLeastLevel : TemplateData → Type 0
   HasLeastLevel t =
-      MatchOption (least_level_of t) ((n : ℕ) → PassesAt schema n t → ⊥) (λ m. PassesAt schema m t × ((n : ℕ) → n < m → PassesAt schema n t → ⊥))
+      MatchOption (least_level_of t) ((n : ℕ) → PassesAt schema n t → ⊥)
+      (λ m. PassesAt schema m t × ((n : ℕ) → n < m → PassesAt schema n t → ⊥))

@@ -11,7 +11,8 @@ use Rattle.policy_review.specs.declared.rows.ReviewRow.{ReviewRow}
 
 -- a row on a policy in an environment
 abbrev pub row_at : List ℕ → EnvData → Verdict → Option ReviewRow
-row_at id env v = option_map (λ t. record { policy_id = id; request_type = t; verdict = v }) (request_type_in env)
+row_at id env v =
+    option_map (λ t. record { policy_id = id; request_type = t; verdict = v }) (request_type_in env)
 
 module _ (schema : SchemaData) where
   -- what is said of a policy in an environment, by its own condition

@@ -36,8 +36,8 @@ pub(crate) fn level_of(
     Ok(level)
 }
 
-/// The level, raised to the least at which what the check leaves of a condition passes. What has no level is not walked
-/// through: none stays none.
+/// The level, raised to the least at which what the check leaves of a condition passes. What has no level is
+/// not walked through: none stays none.
 pub(crate) fn raised_by(
     alloc: Global,
     policy_id: &Text,
@@ -100,8 +100,8 @@ fn condition_of(check: PolicyCheck) -> Option<Expr<Option<Type>>>
     }
 }
 
-// The level, raised to the least at which conditions pass. The errors at a level tell which level they need, and so the
-// second turn passes as a rule.
+// The level, raised to the least at which conditions pass. The errors at a level tell which level they need,
+// and so the second turn passes as a rule.
 fn raised(
     alloc: Global,
     policy_id: &Text,

@@ -1,4 +1,5 @@
-//! Reviews of policies: on which types of requests each can be true, and how far off the request it asks for entities.
+//! Reviews of policies: on which types of requests each can be true, and how far off the request it asks for
+//! entities.
 #![tactic(auto)]
 
 mod error;

@@ -26,8 +26,8 @@ use std::alloc::{AllocError, Global};
 use std::collections::BTreeMap;
 use typecheck_rules::laws::check_is_exact;
 
-/// Adds the rows of all policies, and the levels of static ones. Answers whether each condition passes its check in every
-/// environment of the schema: then all is added.
+/// Adds the rows of all policies, and the levels of static ones. Answers whether each condition passes its
+/// check in every environment of the schema: then all is added.
 pub(crate) fn add_policies(
     alloc: Global,
     schema: &ValidatorSchema,

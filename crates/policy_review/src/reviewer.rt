@@ -26,12 +26,13 @@ use std::collections::BTreeMap;
 use typecheck_rules::laws::check_is_exact;
 use typing_spec::{ExtensionSchemas, all_objects};
 
-/// The review of policies: for each static policy and link, in each environment of the schema, whether it can be true on
-/// requests of that type; and for each template and static policy the least level at which it passes. Errs with
-/// `Validation` exactly where the policies are not accepted, and with `OutOfMemory` where memory runs out.
+/// The review of policies: for each static policy and link, in each environment of the schema, whether it can
+/// be true on requests of that type; and for each template and static policy the least level at which it
+/// passes. Errs with `Validation` exactly where the policies are not accepted, and with `OutOfMemory` where
+/// memory runs out.
 ///
-/// The condition of each static policy and link is typed once in each environment, for its rows and its level. Time and
-/// memory are those of the typing, but for the rows themselves.
+/// The condition of each static policy and link is typed once in each environment, for its rows and its
+/// level. Time and memory are those of the typing, but for the rows themselves.
 pub fn review(
     alloc: Global,
     schema: &ValidatorSchema,
@@ -94,7 +95,8 @@ fn review_where_accepted(
     }
 }
 
-// Policies are accepted exactly where they keep the rules and each condition passes its check in every environment.
+// Policies are accepted exactly where they keep the rules and each condition passes its check in every
+// environment.
 fn accepted_exactly(schema: &ValidatorSchema, policies: &PolicySet)
     ensures { (IsTrue (keep_rules schema.now policies.now) ×
         IsTrue (list_all (passes_everywhere schema.now) policies.now.policies)) ↔

@@ -14,8 +14,10 @@ use Rattle.policy_validate.specs.Rules.{keep_rules}
 abbrev pub LeavesAll : SchemaData → List PolicyData → EnvData → Type 0
 LeavesAll schema ps env = length (found_conditions schema env ps) ≡ length ps
 
--- a set is accepted exactly where it keeps the rules, and checks leave the condition of each policy in every environment of the schema
+-- a set is accepted exactly where it keeps the rules, and checks leave the condition of each policy in every
+-- environment of the schema
 abbrev pub AcceptedByRules : Type 0
 AcceptedByRules =
     (schema : SchemaData) → IsSchema schema → (s : PolicySetData) → IsPolicySet s →
-    (IsTrue (keep_rules schema s) × AllByRecursion (LeavesAll schema s.policies) (unlinked_envs schema)) ↔ IsAccepted schema s
+    (IsTrue (keep_rules schema s) × AllByRecursion (LeavesAll schema s.policies) (unlinked_envs schema)) ↔
+    IsAccepted schema s

@@ -20,8 +20,8 @@ module _ (schema : SchemaData) where
   abbrev pub typing_errors : TemplateData → List ValidationError
   typing_errors t = all_added same_error [] (refusals schema t)
 
-  -- the errors of a template or a static policy: the types, the ids of enumerated types and the actions that its condition names, its
-  -- scope, and what typing finds
+  -- the errors of a template or a static policy: the types, the ids of enumerated types and the actions that
+  -- its condition names, its scope, and what typing finds
   abbrev pub errors_of_written : TemplateData → List ValidationError
   errors_of_written t =
       map UnrecognizedEntityType (entity_type_findings schema t.id (condition_of t))
@@ -32,7 +32,8 @@ module _ (schema : SchemaData) where
 
   -- those of a link: the types of the ids that it gives for slots, and its own scope
   abbrev pub errors_of_link : PolicyData → List ValidationError
-  errors_of_link p = map UnrecognizedEntityType (slot_type_findings schema p) ++ map InvalidActionApplication (application_findings schema (written_of p))
+  errors_of_link p = map UnrecognizedEntityType (slot_type_findings schema p)
+      ++ map InvalidActionApplication (application_findings schema (written_of p))
 
   -- the warning on a template or a static policy that is impossible
   abbrev pub warnings_of : TemplateData → List ValidationWarning
@@ -45,12 +46,15 @@ module _ (schema : SchemaData) where
     warnings = flat_map warnings_of (written s);
   }
 
-  -- a link keeps the rules for links: what it gives for slots is of known types, and some action meets its own scope
+  -- a link keeps the rules for links: what it gives for slots is of known types, and some action meets its
+  -- own scope
   pub record KeepsLinkRules (p : PolicyData) : Type 0 where
-    pub slots : IfSome p.link (λ l. HasKnownType schema l.values.principal × HasKnownType schema l.values.resource)
+    pub slots :
+        IfSome p.link (λ l. HasKnownType schema l.values.principal × HasKnownType schema l.values.resource)
     pub scope : IsTrue (is_applicable schema (written_of p))
 
-  -- each template and static policy is accepted, and each link keeps the rules for links; warnings do not matter
+  -- each template and static policy is accepted, and each link keeps the rules for links; warnings do not
+  -- matter
   pub record IsAccepted (s : PolicySetData) : Type 0 where
     pub as_written : AllByRecursion (IsAcceptedTemplate schema) (written s)
     pub as_linked : AllByRecursion KeepsLinkRules (links s)

@@ -10,7 +10,8 @@ use Rattle.policy_validate.specs.Accepted.{IsAccepted}
 use Rattle.policy_validate.specs.Typed.{typed_conditions}
 use Rattle.policy_validate.specs.Found.{found_conditions}
 
--- of accepted policies, where each has a type in the environment, the conditions that checks leave are those that typing gives
+-- of accepted policies, where each has a type in the environment, the conditions that checks leave are those
+-- that typing gives
 abbrev pub FoundAreTyped : Type 0
 FoundAreTyped =
     (schema : SchemaData) (s : PolicySetData) → IsPolicySet s → IsAccepted schema s →
@@ -20,6 +21,7 @@ FoundAreTyped =
 -- so is the condition that a check leaves of one of them
 abbrev pub EachFoundIsTyped : Type 0
 EachFoundIsTyped =
-    (schema : SchemaData) (s : PolicySetData) → IsPolicySet s → IsAccepted schema s → (id : List ℕ) (p : PolicyData) → policy_at s id ≡ Some p →
+    (schema : SchemaData) (s : PolicySetData) → IsPolicySet s → IsAccepted schema s →
+    (id : List ℕ) (p : PolicyData) → policy_at s id ≡ Some p →
     (env : EnvData) → AllByRecursion (λ q. IsTyped schema q.condition env) s.policies →
     found_conditions schema env (p ∷ []) ≡ typed_conditions schema env (p ∷ [])

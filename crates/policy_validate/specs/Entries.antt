@@ -47,9 +47,12 @@ module _ (schema : SchemaData) where
 
   -- an accepted set is accepted with one more entry that is accepted by itself, and without what has an id
   pub record IsByEntry (s : PolicySetData) : Type 0 where
-    pub with_static : (t : TemplateData) → IsAcceptedTemplate schema t → IsAccepted schema (with_policy (static_of t) s)
-    pub with_template : (t : TemplateData) → IsAcceptedTemplate schema t → IsAccepted schema (with_template t s)
-    pub with_link : (p : PolicyData) → is_link p ≡ true → KeepsLinkRules schema p → IsAccepted schema (with_policy p s)
+    pub with_static : (t : TemplateData) → IsAcceptedTemplate schema t →
+        IsAccepted schema (with_policy (static_of t) s)
+    pub with_template : (t : TemplateData) → IsAcceptedTemplate schema t →
+        IsAccepted schema (with_template t s)
+    pub with_link : (p : PolicyData) → is_link p ≡ true → KeepsLinkRules schema p →
+        IsAccepted schema (with_policy p s)
     pub without : (id : List ℕ) → IsAccepted schema (without id s)
 
   -- no error is found of an entry only where it is accepted by itself
@@ -58,16 +61,22 @@ module _ (schema : SchemaData) where
     pub linked : (p : PolicyData) → errors_of_link schema p ≡ [] → KeepsLinkRules schema p
 
 abbrev pub AcceptanceIsByEntry : Type 0
-AcceptanceIsByEntry = (schema : SchemaData) (s : PolicySetData) → IsPolicySet s → IsAccepted schema s → IsByEntry schema s
+AcceptanceIsByEntry =
+    (schema : SchemaData) (s : PolicySetData) → IsPolicySet s → IsAccepted schema s → IsByEntry schema s
 
 abbrev pub EntriesAreAccepted : Type 0
 EntriesAreAccepted = (schema : SchemaData) → EntryErrorsAreExact schema
 
--- the findings on a set are those of its entries: of each template and static policy, and then of each link, in the order of the ids
+-- the findings on a set are those of its entries: of each template and static policy, and then of each link,
+-- in the order of the ids
 pub record FindingsAreByEntry (schema : SchemaData) (s : PolicySetData) : Type 0 where
   pub errors :
-      (findings_of schema s).errors ≡ flat_map (λ t. (findings_of_entry schema s t.id).errors) (written s) ++ flat_map (λ p. (findings_of_entry schema s p.id).errors) (links s)
-  pub warnings : (findings_of schema s).warnings ≡ flat_map (λ t. (findings_of_entry schema s t.id).warnings) (written s)
+      (findings_of schema s).errors ≡
+      flat_map (λ t. (findings_of_entry schema s t.id).errors) (written s)
+      ++ flat_map (λ p. (findings_of_entry schema s p.id).errors) (links s)
+  pub warnings : (findings_of schema s).warnings ≡
+      flat_map (λ t. (findings_of_entry schema s t.id).warnings) (written s)
 
 abbrev pub FindingsFollowEntries : Type 0
-FindingsFollowEntries = (schema : SchemaData) (s : PolicySetData) → IsPolicySet s → FindingsAreByEntry schema s
+FindingsFollowEntries =
+    (schema : SchemaData) (s : PolicySetData) → IsPolicySet s → FindingsAreByEntry schema s

@@ -14,9 +14,11 @@ use Rattle.policy_validate.specs.Accepted.{findings_of, IsAccepted}
 
 -- no error is found exactly where the set is accepted
 abbrev pub NoErrorsWhereAccepted : Type 0
-NoErrorsWhereAccepted = (schema : SchemaData) (s : PolicySetData) → ((findings_of schema s).errors ≡ []) ↔ IsAccepted schema s
+NoErrorsWhereAccepted =
+    (schema : SchemaData) (s : PolicySetData) → ((findings_of schema s).errors ≡ []) ↔ IsAccepted schema s
 
--- in an accepted set the condition of each policy, static or a link, has a type in every environment of the schema
+-- in an accepted set the condition of each policy, static or a link, has a type in every environment of the
+-- schema
 abbrev pub AcceptedAreTyped : Type 0
 AcceptedAreTyped =
     (schema : SchemaData) → IsSchema schema → (s : PolicySetData) → IsPolicySet s → IsAccepted schema s →
@@ -25,5 +27,7 @@ AcceptedAreTyped =
 -- and keeps what typing promises of conditions, for each request and each store that conform
 abbrev pub AcceptedAreSound : Type 0
 AcceptedAreSound =
-    (schema : SchemaData) → IsSchema schema → (s : PolicySetData) → IsPolicySet s → AreKeyedOnce s.policies → IsAccepted schema s →
-    (q : Request) → RequestConforms schema q → (e : Store) → StoreConforms schema e → AllByRecursion (λ p. IsConditionFor schema p.condition q e) s.policies
+    (schema : SchemaData) → IsSchema schema → (s : PolicySetData) → IsPolicySet s →
+    AreKeyedOnce s.policies → IsAccepted schema s →
+    (q : Request) → RequestConforms schema q → (e : Store) → StoreConforms schema e →
+    AllByRecursion (λ p. IsConditionFor schema p.condition q e) s.policies

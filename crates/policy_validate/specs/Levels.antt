@@ -52,29 +52,35 @@ module _ (schema : SchemaData) where
       warnings = flat_map (warnings_of schema) (written s);
     }
 
-    -- the set is accepted, and each template and static policy passes at the level in each of its environments
+    -- the set is accepted, and each template and static policy passes at the level in each of its
+    -- environments
     pub record IsAcceptedAt (s : PolicySetData) : Type 0 where
       pub accepted : IsAccepted schema s
       pub levels : AllByRecursion (PassesAt schema n) (written s)
 
-    -- on the store cut at the level each policy has the outcome that it has on the whole store, where request and store conform
+    -- on the store cut at the level each policy has the outcome that it has on the whole store, where request
+    -- and store conform
     abbrev pub CutIsEnough : PolicySetData → Type 0
     CutIsEnough s =
         (q : Request) → RequestConforms schema q → (whole : Store) → StoreConforms schema whole →
         AllByRecursion (λ p. eval p.condition q (cut n q whole) ≡ eval p.condition q whole) s.policies
 
--- without other errors there is none on levels exactly where the template, or the static policy, passes in each of its environments;
--- each tells of a dereference in its typed condition
+-- without other errors there is none on levels exactly where the template, or the static policy, passes in
+-- each of its environments; each tells of a dereference in its typed condition
 abbrev pub LevelErrorsOfAreExact : Type 0
 LevelErrorsOfAreExact =
     (schema : SchemaData) (n : ℕ) (t : TemplateData) → errors_of_written schema t ≡ [] →
-    ((level_errors_of schema n t ≡ []) ↔ PassesAt schema n t) × AllByRecursion (IsToldOf t.id n (flat_map dereferences_in (conditions_of schema t))) (level_errors_of schema n t)
+    ((level_errors_of schema n t ≡ []) ↔ PassesAt schema n t)
+    × AllByRecursion (IsToldOf t.id n (flat_map dereferences_in (conditions_of schema t)))
+    (level_errors_of schema n t)
 
 -- no error is found exactly where the set is accepted at the level
 abbrev pub NoErrorsWhereAcceptedAt : Type 0
-NoErrorsWhereAcceptedAt = (schema : SchemaData) (n : ℕ) (s : PolicySetData) → ((level_findings_of schema n s).errors ≡ []) ↔ IsAcceptedAt schema n s
+NoErrorsWhereAcceptedAt = (schema : SchemaData) (n : ℕ) (s : PolicySetData) →
+    ((level_findings_of schema n s).errors ≡ []) ↔ IsAcceptedAt schema n s
 
 -- levels are sound
 abbrev pub AcceptedLevelsAreSound : Type 0
 AcceptedLevelsAreSound =
-    (schema : SchemaData) → IsSchema schema → (n : ℕ) (s : PolicySetData) → IsPolicySet s → AreKeyedOnce s.policies → IsAcceptedAt schema n s → CutIsEnough schema n s
+    (schema : SchemaData) → IsSchema schema → (n : ℕ) (s : PolicySetData) → IsPolicySet s →
+    AreKeyedOnce s.policies → IsAcceptedAt schema n s → CutIsEnough schema n s

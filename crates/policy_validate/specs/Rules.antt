@@ -14,7 +14,8 @@ abbrev pub is_none : {X : Type 0} → List X → Bool
 is_none xs = length xs == 0
 
 module _ (schema : SchemaData) where
-  -- a template is typed where it may be linked; of a static policy, whose own condition is typed later, the depth is looked at
+  -- a template is typed where it may be linked; of a static policy, whose own condition is typed later, the
+  -- depth is looked at
   abbrev pub is_ready : TemplateData → Bool
   is_ready t = if has_scope_slot t then is_accepted schema t else not (is_too_deep schema t)
 
@@ -29,7 +30,8 @@ module _ (schema : SchemaData) where
 
   -- nor of the ids that a link gives for slots and of its own scope
   abbrev pub link_keeps_rules : PolicyData → Bool
-  link_keeps_rules p = is_none (slot_type_findings schema p) && is_none (application_findings schema (written_of p))
+  link_keeps_rules p =
+      is_none (slot_type_findings schema p) && is_none (application_findings schema (written_of p))
 
   -- all that is written keeps the rules, and each link does
   abbrev pub keep_rules : PolicySetData → Bool

@@ -7,8 +7,8 @@ use crate::laws::{accepted_are_typed, no_errors_where_accepted};
 use link_spec::laws::statics_are_unlinked;
 use typecheck_rules::laws::check_is_exact;
 
-/// A set of policies is accepted exactly where it keeps the rules, and checks leave the condition of each policy in every
-/// environment of the schema.
+/// A set of policies is accepted exactly where it keeps the rules, and checks leave the condition of each
+/// policy in every environment of the schema.
 pub fn accepted_by_rules()
     ensures { AcceptedByRules }
 {

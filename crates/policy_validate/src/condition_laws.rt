@@ -5,7 +5,8 @@ ghost use Rattle.policy_validate.specs.ConditionLaws.{EachFoundIsTyped, FoundAre
 use link_spec::laws::links_are_written_out;
 use typecheck_rules::laws::check_is_exact;
 
-/// Of accepted policies the conditions that checks leave in an environment are those that typing gives, where each has a type there.
+/// Of accepted policies the conditions that checks leave in an environment are those that typing gives, where
+/// each has a type there.
 pub fn found_are_typed()
     ensures { FoundAreTyped }
 {

@@ -30,7 +30,8 @@ pub fn acceptance_is_by_entry()
     ensures { AcceptanceIsByEntry }
 {}
 
-/// The findings on a set are those of its entries: of all that is written, and then of all links, in the order of the ids.
+/// The findings on a set are those of its entries: of all that is written, and then of all links, in the
+/// order of the ids.
 pub fn findings_are_by_entry()
     ensures { FindingsFollowEntries }
 {}
@@ -43,7 +44,8 @@ pub fn accepted_are_typed()
     statics_are_typed();
 }
 
-/// In an accepted set the condition of each policy keeps what typing promises, for each request and store that conform.
+/// In an accepted set the condition of each policy keeps what typing promises, for each request and store
+/// that conform.
 pub fn accepted_are_sound()
     ensures { AcceptedAreSound }
 {
@@ -51,8 +53,8 @@ pub fn accepted_are_sound()
     typed_are_sound();
 }
 
-/// Where there are no other errors, there is none on levels exactly where a template or a static policy passes in each of its
-/// environments; each tells of a dereference.
+/// Where there are no other errors, there is none on levels exactly where a template or a static policy
+/// passes in each of its environments; each tells of a dereference.
 pub fn level_errors_of_are_exact()
     ensures { LevelErrorsOfAreExact }
 {
@@ -69,8 +71,8 @@ pub fn no_errors_where_accepted_at()
     level_errors_of_are_exact();
 }
 
-/// Levels are sound: in a set that is accepted at a level each policy has, on the store cut at that level, the outcome that
-/// it has on the whole one.
+/// Levels are sound: in a set that is accepted at a level each policy has, on the store cut at that level,
+/// the outcome that it has on the whole one.
 pub fn accepted_levels_are_sound()
     ensures { AcceptedLevelsAreSound }
 {

@@ -31,10 +31,11 @@ use std::alloc::{AllocError, Global};
 use typing_spec::{ExtensionSchemas, all_objects};
 
 impl<'a> Validator<'a> {
-    /// All findings on policies that are checked for a level: those of [`Validator::validate`], and behind them, for each
-    /// template and static policy on which there are no other errors, that it asks for entities which are further from the
-    /// request than the level allows, or for those of literals or slots. Where there is no error, each policy has, on the
-    /// store cut at the level, the outcome that it has on the whole store, for each request and store that conform.
+    /// All findings on policies that are checked for a level: those of [`Validator::validate`], and behind
+    /// them, for each template and static policy on which there are no other errors, that it asks for
+    /// entities which are further from the request than the level allows, or for those of literals or slots.
+    /// Where there is no error, each policy has, on the store cut at the level, the outcome that it has on
+    /// the whole store, for each request and store that conform.
     pub fn validate_with_level(
         &self,
         alloc: Global,
@@ -202,8 +203,8 @@ fn add_typed_at(
     }
 }
 
-// What typing leaves of a condition where it finds no error: whether it is false in each environment, and what of it is
-// too far from the request.
+// What typing leaves of a condition where it finds no error: whether it is false in each environment, and
+// what of it is too far from the request.
 #[derive(Drop)]
 struct TypedAt {
     impossible: bool,
@@ -305,8 +306,8 @@ fn with_condition(
     more
 }
 
-// Adds what is found on the levels of a template or a static policy in which typing finds no error, and warns where it is
-// false everywhere.
+// Adds what is found on the levels of a template or a static policy in which typing finds no error, and warns
+// where it is false everywhere.
 fn add_levels(
     alloc: Global,
     id: &Text,

@@ -15,9 +15,10 @@ use policy_typecheck::{Typechecker, is_too_deep};
 use schema_core::ValidatorSchema;
 use std::alloc::{AllocError, Global};
 
-/// Whether the policies keep the rules that stand beside the typing of each policy's own condition: nothing is found of the
-/// names and of the scope of each template and static policy, nor of what a link gives for slots and of its own scope; each
-/// template is typed in its environments, and no static policy is too deep to be typed.
+/// Whether the policies keep the rules that stand beside the typing of each policy's own condition: nothing
+/// is found of the names and of the scope of each template and static policy, nor of what a link gives for
+/// slots and of its own scope; each template is typed in its environments, and no static policy is too deep
+/// to be typed.
 pub fn keep_rules(
     alloc: Global,
     schema: &ValidatorSchema,

@@ -62,12 +62,12 @@ impl<'a> Validator<'a> {
 
     /// All findings on the policies. The set is accepted exactly where there is no error among them.
     ///
-    /// First come the errors of templates and static policies in the order of their ids, of each in this order: types
-    /// that are not declared, ids that their enumerated types do not list, actions that are not declared, a scope that no
-    /// declared action meets, and then what typing its condition finds, environment by environment, or that the condition
-    /// is too deep to be typed. Then come those of links in the order of their ids, of each: types of the ids that it
-    /// gives for slots, and a scope that no declared action meets. A template or a static policy is warned of where its
-    /// condition is false in every environment.
+    /// First come the errors of templates and static policies in the order of their ids, of each in this
+    /// order: types that are not declared, ids that their enumerated types do not list, actions that are not
+    /// declared, a scope that no declared action meets, and then what typing its condition finds, environment
+    /// by environment, or that the condition is too deep to be typed. Then come those of links in the order
+    /// of their ids, of each: types of the ids that it gives for slots, and a scope that no declared action
+    /// meets. A template or a static policy is warned of where its condition is false in every environment.
     pub fn validate(
         &self,
         alloc: Global,
@@ -87,9 +87,9 @@ impl<'a> Validator<'a> {
         checked(alloc, self.schema, &typechecker, policies)
     }
 
-    /// The findings on the entry of the set that has the id, in strict mode: of a template or a static policy its own errors
-    /// and warnings, of a link its own errors, each as [`Validator::validate`] has them. A step is counted for each environment
-    /// in which a condition is typed; the condition of a link is not.
+    /// The findings on the entry of the set that has the id, in strict mode: of a template or a static policy
+    /// its own errors and warnings, of a link its own errors, each as [`Validator::validate`] has them. A
+    /// step is counted for each environment in which a condition is typed; the condition of a link is not.
     pub fn validate_entry<L: Ledger>(
         &self,
         alloc: Global,
@@ -267,7 +267,8 @@ fn add_written(
     add_typing(alloc, typechecker, template, errors, warnings)
 }
 
-// Adds what is found of a template or a static policy before its condition is typed: of names and of the scope.
+// Adds what is found of a template or a static policy before its condition is typed: of names and of the
+// scope.
 pub(crate) fn add_untyped(
     alloc: Global,
     schema: &ValidatorSchema,
@@ -286,8 +287,8 @@ pub(crate) fn add_untyped(
     )
 }
 
-// Adds what typing the condition of a template or a static policy finds. It goes into lists of its own first, since the
-// typechecker looks through the errors that it is handed for each that it adds.
+// Adds what typing the condition of a template or a static policy finds. It goes into lists of its own first,
+// since the typechecker looks through the errors that it is handed for each that it adds.
 pub(crate) fn add_typing(
     alloc: Global,
     typechecker: &Typechecker<'_, '_>,

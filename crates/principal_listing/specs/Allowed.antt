@@ -30,8 +30,8 @@ pub record IsWholeBut (q : Request) : Type 0 where
   pub resource : IsSome q.resource
   pub context : IsSome q.context
 
--- every rule holds that does not speak of the principal: the other entries are there and break none, the store conforms, and
--- the policies are accepted
+-- every rule holds that does not speak of the principal: the other entries are there and break none, the
+-- store conforms, and the policies are accepted
 pub record KeepOtherRules (schema : SchemaData) (set : PolicySetData) (q : Request) (s : Store) : Type 0 where
   pub whole : IsWholeBut q
   pub request : first_request_fault schema (λ _. true) (passed_over q) ≡ None
@@ -40,15 +40,18 @@ pub record KeepOtherRules (schema : SchemaData) (set : PolicySetData) (q : Reque
 
 -- whether the request's action applies to principals of the type
 abbrev pub applies_to : SchemaData → Request → List ℕ → Bool
-applies_to schema q n = option_map_or (λ a. has text_cmp a.principals n) (action_at schema (action_of q)) false
+applies_to schema q n =
+    option_map_or (λ a. has text_cmp a.principals n) (action_at schema (action_of q)) false
 
 abbrev pub is_allow : Decision → Bool
 is_allow Allow = true
 is_allow Deny = false
 
--- whether the action applies to principals of the id's type, and the decision for it on the whole store is Allow
+-- whether the action applies to principals of the id's type, and the decision for it on the whole store is
+-- Allow
 abbrev pub is_allowed : SchemaData → List PolicyData → Request → Store → EntityUID → Bool
-is_allowed schema ps q s u = applies_to schema q u.entity_type && is_allow (response ps (asked_by q u) s).decision
+is_allowed schema ps q s u =
+    applies_to schema q u.entity_type && is_allow (response ps (asked_by q u) s).decision
 
 -- the ids of the store for which that is so, ascending as they are in the store
 abbrev pub allowed_principals : SchemaData → List PolicyData → Request → Store → List EntityUID

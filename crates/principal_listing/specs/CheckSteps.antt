@@ -23,6 +23,7 @@ IsStoreRefusal fault e = ⊥
 
 -- of the policies
 abbrev pub IsPoliciesRefusal : SchemaData → PolicySetData → ListError → Type 0
-IsPoliciesRefusal schema set (error.Validation found) = (found ≡ findings_of schema set) × (¬ IsAccepted schema set)
+IsPoliciesRefusal schema set (error.Validation found) =
+    (found ≡ findings_of schema set) × (¬ IsAccepted schema set)
 IsPoliciesRefusal schema set error.OutOfMemory = ⊤
 IsPoliciesRefusal schema set e = ⊥

@@ -15,18 +15,21 @@ use Rattle.principal_listing.specs.Allowed.{asked_by, applies_to, allowed_princi
 use Rattle.principal_listing.specs.Pages.{after, AreResumed}
 use Rattle.principal_listing.specs.declared.page.Page.{Page}
 
--- where every rule holds that does not speak of the principal, every rule holds for each principal of the store to which
--- the action applies
+-- where every rule holds that does not speak of the principal, every rule holds for each principal of the
+-- store to which the action applies
 abbrev pub CandidatesKeepRules : Type 0
 CandidatesKeepRules =
     (schema : SchemaData) → IsSchema schema → (policies : PolicySetData) (q : Request) (s : Store) →
-    KeepOtherRules schema policies q s → (e : StoredEntity) → IsIn e s → applies_to schema q e.uid.entity_type ≡ true →
+    KeepOtherRules schema policies q s → (e : StoredEntity) → IsIn e s →
+    applies_to schema q e.uid.entity_type ≡ true →
     KeepRules schema policies (asked_by q e.uid) s
 
--- pages of one id or more, each resumed after the last id of the one before, give all allowed principals that come after,
--- once and in their order
+-- pages of one id or more, each resumed after the last id of the one before, give all allowed principals that
+-- come after, once and in their order
 abbrev pub PagesAreAll : Type 0
 PagesAreAll =
-    (schema : SchemaData) (ps : List PolicyData) (q : Request) (s : Store) → IsStrictlySortedBy uid_cmp (map (λ e. e.uid) s) →
-    (n : ℕ) → 1 ≤ n → (x : Option EntityUID) (pages : List Page) → AreResumed n (allowed_principals schema ps q s) x pages →
+    (schema : SchemaData) (ps : List PolicyData) (q : Request) (s : Store) →
+    IsStrictlySortedBy uid_cmp (map (λ e. e.uid) s) →
+    (n : ℕ) → 1 ≤ n → (x : Option EntityUID) (pages : List Page) →
+    AreResumed n (allowed_principals schema ps q s) x pages →
     flat_map (λ p. p.ids.items) pages ≡ after x (allowed_principals schema ps q s)

@@ -36,4 +36,5 @@ pub record IsPage (n : ℕ) (us : List EntityUID) (x : Option EntityUID) (p : Pa
 abbrev pub AreResumed : ℕ → List EntityUID → Option EntityUID → List Page → Type 0
 AreResumed n us x [] = ⊥
 AreResumed n us x (p ∷ []) = IsPage n us x p × (p.more ≡ false)
-AreResumed n us x (p ∷ r ∷ ps) = IsPage n us x p × (p.more ≡ true) × AreResumed n us (last_of p.ids.items) (r ∷ ps)
+AreResumed n us x (p ∷ r ∷ ps) =
+    IsPage n us x p × (p.more ≡ true) × AreResumed n us (last_of p.ids.items) (r ∷ ps)

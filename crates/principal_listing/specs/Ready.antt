@@ -23,7 +23,8 @@ takes a n = option_map_or (λ a. has text_cmp a.principals n) a false
 abbrev pub is_candidate : Option ActionData → Option EntityUID → EntityUID → Bool
 is_candidate a x u = comes_after x u && takes a u.entity_type
 
--- every rule holds that does not speak of the principal, the manifest is that of the policies, and all is in order
+-- every rule holds that does not speak of the principal, the manifest is that of the policies, and all is in
+-- order
 pub record IsReady (l : Listing) (q : Request) : Type 0 where
   pub rules : KeepOtherRules l.schema.now l.policies.now q l.entities.now
   pub action : option_copied l.action ≡ action_at l.schema.now (action_of q)

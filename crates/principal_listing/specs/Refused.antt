@@ -13,14 +13,17 @@ use Rattle.principal_listing.specs.declared.error.ListError.{ListError}
 use Rattle.principal_listing.specs.declared.error.ListError.TheVariants as error
 
 module _ (schema : SchemaData) (set : PolicySetData) (q : Request) (s : Store) where
-  -- the first rule that does not hold, in this order: the entries but for the principal are there; they break no rule of
-  -- requests; the store conforms; the policies are accepted. Or there was no memory
+  -- the first rule that does not hold, in this order: the entries but for the principal are there; they break
+  -- no rule of requests; the store conforms; the policies are accepted. Or there was no memory
   abbrev pub WhyNoPage : ListError → Type 0
   WhyNoPage error.PartialRequest = ¬ IsWholeBut q
-  WhyNoPage (error.Request e) = IsWholeBut q × (first_request_fault schema (λ _. true) (passed_over q) ≡ Some e)
+  WhyNoPage (error.Request e) =
+      IsWholeBut q × (first_request_fault schema (λ _. true) (passed_over q) ≡ Some e)
   WhyNoPage (error.EntityDoesNotConform e) =
-      IsWholeBut q × (first_request_fault schema (λ _. true) (passed_over q) ≡ None) × (first_store_fault schema s ≡ Some (e.uid, e.rule))
+      IsWholeBut q × (first_request_fault schema (λ _. true) (passed_over q) ≡ None)
+      × (first_store_fault schema s ≡ Some (e.uid, e.rule))
   WhyNoPage (error.Validation found) =
-      IsWholeBut q × (first_request_fault schema (λ _. true) (passed_over q) ≡ None) × StoreConforms schema s ×
+      IsWholeBut q × (first_request_fault schema (λ _. true) (passed_over q) ≡ None)
+      × StoreConforms schema s ×
       (found ≡ findings_of schema set) × (¬ IsAccepted schema set)
   WhyNoPage error.OutOfMemory = ⊤

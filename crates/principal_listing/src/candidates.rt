@@ -40,8 +40,9 @@ pub(crate) struct Listing<'a> {
     pub(crate) entities: &'a Entities,
 }
 
-/// Whether a principal of the store is one of those that come after this id, if there is one, and may do what is asked. The
-/// request becomes the principal's where the policies are asked; whom no permit's scope lets in is denied without that.
+/// Whether a principal of the store is one of those that come after this id, if there is one, and may do what
+/// is asked. The request becomes the principal's where the policies are asked; whom no permit's scope lets in
+/// is denied without that.
 pub(crate) fn is_listed<L: Ledger>(
     alloc: Global,
     listing: &Listing<'_>,
@@ -53,7 +54,8 @@ pub(crate) fn is_listed<L: Ledger>(
     requires ready { IsReady listing.now (passed_over asked.old) }
     requires entity { IsIn entity.now listing.now.entities.now }
     ensures listed { IfOk result (λ b. b ≡ (comes_after (option_copied after.entry) entity.now.uid
-        && is_allowed listing.now.schema.now listing.now.policies.now.policies asked.old listing.now.entities.now entity.now.uid)) }
+        && is_allowed listing.now.schema.now listing.now.policies.now.policies asked.old
+        listing.now.entities.now entity.now.uid)) }
     ensures asked { passed_over asked.new ≡ passed_over asked.old }
 {
     candidates_keep_rules();
@@ -108,7 +110,8 @@ fn is_allowed<L: Ledger>(
     steps: &mut Steps<L>,
 ) -> Result<bool, AllocError>
     requires ready { IsReady listing.now (passed_over asked.now) }
-    requires rules { KeepRules listing.now.schema.now listing.now.policies.now asked.now listing.now.entities.now }
+    requires rules { KeepRules listing.now.schema.now listing.now.policies.now asked.now
+        listing.now.entities.now }
     ensures { IfOk result (λ b. b ≡
         is_allow (response listing.now.policies.now.policies asked.now listing.now.entities.now).decision) }
 {
@@ -143,7 +146,8 @@ fn load_candidate<L: Ledger>(
     steps: &mut Steps<L>,
 ) -> Result<Entities, EntitySliceError>
     requires ready { IsReady listing.now (passed_over asked.now) }
-    requires rules { KeepRules listing.now.schema.now listing.now.policies.now asked.now listing.now.entities.now }
+    requires rules { KeepRules listing.now.schema.now listing.now.policies.now asked.now
+        listing.now.entities.now }
     ensures decided { IfOk result
         (λ s. AreDecidedAlike listing.now.policies.now.policies asked.now s listing.now.entities.now) }
     ensures memory { IfErr result (λ e. e ≡ OutOfMemory) }

@@ -22,8 +22,8 @@ use policy_set::PolicySet;
 use schema_core::ValidatorSchema;
 use std::alloc::Global;
 
-/// The manifest of the policies and the request without its principal, where every rule holds that does not speak of the
-/// principal; else the first that does not.
+/// The manifest of the policies and the request without its principal, where every rule holds that does not
+/// speak of the principal; else the first that does not.
 pub(crate) fn checked(
     alloc: Global,
     schema: &ValidatorSchema,

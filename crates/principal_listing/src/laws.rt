@@ -4,8 +4,8 @@ ghost use Rattle.principal_listing.specs.Laws.{CandidatesKeepRules, PagesAreAll}
 
 use conformance::laws::request_rules_are_exact;
 
-/// Where every rule holds that does not speak of the principal, every rule holds for each principal of the store to which the
-/// action applies.
+/// Where every rule holds that does not speak of the principal, every rule holds for each principal of the
+/// store to which the action applies.
 pub fn candidates_keep_rules()
     ensures { CandidatesKeepRules }
 {

@@ -24,16 +24,18 @@ use std::marker::Brand;
 use std::sync::ledger::{Blank, Ledger};
 use store_order::entities_are_ordered;
 
-/// The first principals of the store, as many as the limit at most, that may do what the request asks, ascending, of those
-/// whose ids come after this one, which need not be in the store; without one from the first on. They are the ids of the
-/// store of a type to which the action applies, for which the decision on the whole store is Allow. The request's principal
-/// is passed over.
+/// The first principals of the store, as many as the limit at most, that may do what the request asks,
+/// ascending, of those whose ids come after this one, which need not be in the store; without one from the
+/// first on. They are the ids of the store of a type to which the action applies, for which the decision on
+/// the whole store is Allow. The request's principal is passed over.
 ///
-/// Errs with the first of these that does not hold: the request's action, resource and context are known; they break no rule
-/// of requests; the store conforms; the policies are accepted. Where all hold, it errs for want of memory alone.
+/// Errs with the first of these that does not hold: the request's action, resource and context are known;
+/// they break no rule of requests; the store conforms; the policies are accepted. Where all hold, it errs for
+/// want of memory alone.
 ///
-/// The manifest is computed once, and each principal is decided on what it reads, by look-ups; whom no permit's scope lets in
-/// is denied without that. None is decided behind the first allowed one for which the page has no room.
+/// The manifest is computed once, and each principal is decided on what it reads, by look-ups; whom no
+/// permit's scope lets in is denied without that. None is decided behind the first allowed one for which the
+/// page has no room.
 pub fn list_principals(
     alloc: Global,
     schema: &ValidatorSchema,
@@ -77,10 +79,12 @@ fn declared_action<'a>(
 
 // Keys and ids are in order, in the policies and the store.
 fn is_ready(listing: &Listing<'_>, asked: &Request)
-    requires rules { KeepOtherRules listing.now.schema.now listing.now.policies.now asked.now listing.now.entities.now }
+    requires rules { KeepOtherRules listing.now.schema.now listing.now.policies.now asked.now
+        listing.now.entities.now }
     requires action { option_copied listing.now.action ≡
         action_at listing.now.schema.now (action_of asked.now) }
-    requires manifest { IsManifestOf listing.now.schema.now listing.now.policies.now.policies listing.now.manifest.now }
+    requires manifest { IsManifestOf listing.now.schema.now listing.now.policies.now.policies
+        listing.now.manifest.now }
     ensures { IsReady listing.now asked.now }
 {
     // for the proof: the names of a schema's actions ascend, and so do the ids of a store
@@ -91,7 +95,8 @@ fn is_ready(listing: &Listing<'_>, asked: &Request)
     entities_are_ordered(listing.entities);
 }
 
-// The page, where every rule holds that does not speak of the principal. It begins the search at the first id.
+// The page, where every rule holds that does not speak of the principal. It begins the search at the first
+// id.
 fn page_of<L: Ledger>(
     alloc: Global,
     listing: &Listing<'_>,
@@ -105,7 +110,8 @@ fn page_of<L: Ledger>(
     requires one { blank.parts ≡ 1 }
     requires ready { IsReady listing.now (passed_over asked.old) }
     ensures { IfOk result (IsPage limit
-        (allowed_principals listing.now.schema.now listing.now.policies.now.policies asked.old listing.now.entities.now)
+        (allowed_principals listing.now.schema.now listing.now.policies.now.policies asked.old
+        listing.now.entities.now)
         (option_copied after.entry)) }
 {
     let mut steps = Steps::<L>::new(blank);

@@ -11,8 +11,8 @@ use policy_set::{
 };
 use policy_values::{EntityType, EntityUID};
 
-/// Whether the scope of some policy that permits may let the entity in as who asks. Where none does, the decision is Deny.
-/// It takes no memory, and looks up no other entity.
+/// Whether the scope of some policy that permits may let the entity in as who asks. Where none does, the
+/// decision is Deny. It takes no memory, and looks up no other entity.
 pub(crate) fn some_lets_in(policies: &PolicySet, asked: &Request, entity: &Entity) -> bool
     ensures { result ≡ list_any (lets_in asked.now.action entity.now) policies.now.policies }
 {
