@@ -102,6 +102,7 @@ fn trie_of<'a>(
     let objects = all_objects(alloc)?;
     let extensions = ExtensionSchemas::all_available(alloc, &objects)?;
     let extensions = Extensions::new(&extensions);
+    // Lent again (`&*`), so that the references inside live no longer than `extensions`.
     trie_of_policies(alloc, schema, &extensions, &*env, policies)
 }
 

@@ -37,6 +37,7 @@ pub(crate) fn tries_of(
     let envs = schema.unlinked_request_envs(alloc)?;
     let mut tries = BTreeMap::new(alloc);
     for env in &envs {
+        // Lent again (`&*`), so that the references inside live no longer than `envs`.
         match trie_of_policies(alloc, schema, &*extensions, env, policies)? {
             Some(trie) => {
                 let _nodes = trie.nodes();
