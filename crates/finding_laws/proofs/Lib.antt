@@ -1,0 +1,3 @@
+mod Exact
+mod Findings
+mod Parts

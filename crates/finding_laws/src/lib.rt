@@ -1,0 +1,4 @@
+//! What it says that findings are equal.
+#![tactic(auto)]
+
+pub mod laws;
