@@ -16,9 +16,9 @@ use Rattle.schema_core.specs.Environments.{Environment, environment, environment
 use Rattle.schema_core.specs.Faults.{IsSchema}
 use Rattle.schema_core.specs.Schema.{ActionData, SchemaData, action_at}
 use Rattle.schema_core.proofs.Found.{found_here}
-use Rattle.policy_set.specs.declared.constraint.EntityReference.TheVariants.{EUID, Slot}
+use Rattle.policy_set.specs.declared.constraint.EntityReference.TheVariants.{Slot}
 use Rattle.policy_set.specs.declared.constraint.PrincipalOrResourceConstraint.{PrincipalOrResourceConstraint}
-use Rattle.policy_set.specs.declared.constraint.PrincipalOrResourceConstraint.TheVariants.{Any, Eq, In, Is, IsIn}
+use Rattle.policy_set.specs.declared.constraint.PrincipalOrResourceConstraint.TheVariants.{Eq, In, IsIn}
 use Rattle.policy_set.specs.Data.{TemplateData}
 use Rattle.policy_set.specs.Condition.{condition_of}
 use Rattle.policy_scope.specs.PlainScope.{is_plain_scope}
@@ -44,7 +44,7 @@ IsFull (x ∷ xs) = ⊤
 
 -- lists that are gone through
 module _ {S : Type 0} where
-  fold_same : {X : Type 0} (f g : S → X → S) (xs : List X) → AllByRecursion (λ x. (s : S) → f s x ≡ g s x) xs → (s : S) → fold f s xs ≡ fold g s xs
+  pub fold_same : {X : Type 0} (f g : S → X → S) (xs : List X) → AllByRecursion (λ x. (s : S) → f s x ≡ g s x) xs → (s : S) → fold f s xs ≡ fold g s xs
   fold_same f g [] h s = refl
   fold_same f g (x ∷ xs) h s = ap (λ z. fold f z xs) (h.0 s) ∙ fold_same f g xs h.1 (g s x)
 
@@ -78,7 +78,7 @@ module _ {S : Type 0} where
   fold_once g f twice (x ∷ xs) n h s = ap (λ z. fold f z xs) (h.0 s) ∙ fold_again g f twice xs h.1 s
 
 -- each name of a list is in it
-all_in : (ns : List (List ℕ)) → AllByRecursion (λ n. has text_cmp ns n ≡ true) ns
+pub all_in : (ns : List (List ℕ)) → AllByRecursion (λ n. has text_cmp ns n ≡ true) ns
 all_in [] = tt
 all_in (m ∷ ns) = (ap (λ o. is_eq o || has text_cmp ns m) (tied_itself nat_list_cmp_total m), all_weaker (λ n h. last (is_eq (text_cmp n m)) n h) ns (all_in ns))
   where
@@ -90,7 +90,7 @@ by_index : {X : Type 0} (P : X → Type 0) (xs : List X) → ((k : ℕ) (x : X) 
 by_index P [] h = tt
 by_index P (x ∷ xs) h = (h 0 x (omega arith) refl, by_index P xs (λ k y lt e. h (suc k) y (omega arith) e))
 
-all_listed : (schema : SchemaData) → IsSchema schema → AllByRecursion (λ a. action_at schema a.name ≡ Some a) schema.action_ids
+pub all_listed : (schema : SchemaData) → IsSchema schema → AllByRecursion (λ a. action_at schema a.name ≡ Some a) schema.action_ids
 all_listed schema ok =
     by_index (λ a. action_at schema a.name ≡ Some a) schema.action_ids
     (λ k a lt e. found_here uid_cmp_total exact_uid (λ x. x.name) a.name schema.action_ids ok.actions_ascend k a lt (ap (λ x. uid_cmp x.name a.name) e ∙ tied_itself uid_cmp_total a.name) ∙ ap Some e)
@@ -111,7 +111,7 @@ full_slots schema (In Slot) n = full_around schema n
 full_slots schema (IsIn m Slot) n = full_around schema n
 full_slots schema c n = tt
 
-slots_stand : (schema : SchemaData) (c : PrincipalOrResourceConstraint) (n : List ℕ) → AllByRecursion (Stands c n) (slot_types schema c n)
+pub slots_stand : (schema : SchemaData) (c : PrincipalOrResourceConstraint) (n : List ℕ) → AllByRecursion (Stands c n) (slot_types schema c n)
 slots_stand schema (Eq Slot) n = (refl, tt)
 slots_stand schema (In Slot) n = each (λ o. ⊤) (λ o. tt) (map Some (types_around schema n))
 slots_stand schema (IsIn m Slot) n = each (λ o. ⊤) (λ o. tt) (map Some (types_around schema n))

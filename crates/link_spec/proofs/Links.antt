@@ -6,7 +6,6 @@ use Rattle.std.specs.Ordering.{is_eq}
 use Rattle.policy_values.specs.Reaches.{has}
 use Rattle.policy_values.specs.Uid.{text_cmp}
 use Rattle.policy_expressions.specs.declared.kinds.SlotId.TheVariants.{Principal, Resource}
-use Rattle.policy_expressions.specs.declared.kinds.SlotValues.{SlotValues}
 use Rattle.policy_expressions.specs.Tree.{conj}
 use Rattle.schema_core.specs.EnvData.{EnvData, unlinked, unlinked_of}
 use Rattle.schema_core.specs.Environments.{Environment, environments_of}
@@ -20,7 +19,7 @@ use Rattle.link_spec.specs.Accepted.{IsTyped}
 use Rattle.policy_set.specs.Data.{TemplateData}
 use Rattle.policy_set.specs.Condition.{scope_part, action_part, condition_of}
 use Rattle.policy_expressions.specs.Plain.{unmarked}
-use Rattle.policy_set.specs.Links.{own_condition, linked, linked_of, HasPlainBody}
+use Rattle.policy_set.specs.Links.{own_condition, linked}
 use Rattle.link_spec.specs.Laws.{IsSameOrFalse, FollowsTyping, own_slot, LinksFollowTemplates, LinksAreTyped}
 use Rattle.link_spec.specs.Linked.{linked_env, types_above, types_around, slot_types, linked_envs_with, linked_envs_at, linked_envs_of}
 use Rattle.link_spec.proofs.Declared.{AreOfEntities, of_entities}

@@ -95,11 +95,11 @@ module _ (schema : SchemaData) (a : ActionData) (e : Environment) (s s' : Option
   abbrev env : EnvData
   env = linked_env a e s s'
 
-  abbrev name_of : SlotId → List ℕ
+  abbrev pub name_of : SlotId → List ℕ
   name_of Principal = e.principal
   name_of Resource = e.resource
 
-  abbrev slot_of : SlotId → Option (List ℕ)
+  abbrev pub slot_of : SlotId → Option (List ℕ)
   slot_of Principal = s
   slot_of Resource = s'
 

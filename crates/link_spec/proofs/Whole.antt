@@ -1,5 +1,5 @@
 -- The whole scope of a policy.
-use Rattle.std.proofs.Common.{◌≡◌, inl, inr, ℕ, Bool, true, false, ◌&&◌, List, Option, IsTrue, IsSome, is_some, refl, sym, ap, subst, ◌∙◌}
+use Rattle.std.proofs.Common.{◌≡◌, inl, inr, ℕ, true, false, ◌&&◌, List, Option, IsTrue, IsSome, is_some, refl, sym, ap, subst, ◌∙◌}
 use Rattle.std.specs.Option.{option_map_or}
 use Rattle.policy_values.specs.Reaches.{has}
 use Rattle.policy_values.specs.Basename.{is_action_type}
@@ -25,8 +25,21 @@ use Rattle.plain_lemmas.proofs.Booleans.{and_parts_of}
 use Rattle.link_spec.specs.Parts.{side_part, action_part_of, joined, whole_part, Stands}
 use Rattle.link_spec.specs.ScopeLaws.{IsEnvironment, ScopeIsDecided, ScopeIsMet}
 use Rattle.link_spec.proofs.Joins.{Comes, joins}
-use Rattle.link_spec.proofs.Sides.{side}
+use Rattle.link_spec.proofs.Sides.{name_of, slot_of, side}
 use Rattle.link_spec.proofs.Actions.{action_comes}
+
+module _ (schema : SchemaData) (ok : IsSchema schema) (a : ActionData) (e : Environment) (is : IsEnvironment schema a e) (s s' : Option (List ℕ)) where
+  actions : (u : EntityUID) → IsSome (action_at schema u) → is_action_type u.entity_type ≡ true
+  actions u h = ok.names.actions u h
+
+  -- the types of an environment are none of actions
+  no_action : (i : SlotId) → is_action_type (name_of schema a e s s' i) ≡ false
+  no_action Principal = ok.names.types e.principal (ok.names.named_types e.principal (inl (inr (inl (a.name, ap (λ o. option_map_or (λ x. has text_cmp x.principals e.principal) o false) is.action ∙ is.principal)))))
+  no_action Resource = ok.names.types e.resource (ok.names.named_types e.resource (inl (inr (inr (a.name, ap (λ o. option_map_or (λ x. has text_cmp x.resources e.resource) o false) is.action ∙ is.resource)))))
+
+  pub side_comes : (i : SlotId) (c : PrincipalOrResourceConstraint) → IsTrue (is_plain_side schema c) → Stands c (name_of schema a e s s' i) (slot_of schema a e s s' i) →
+      Comes schema (linked_env a e s s') (scope_part i c) (side_part schema i (name_of schema a e s s' i) (slot_of schema a e s s' i) c)
+  side_comes i c plain f = side schema a e s s' actions i c (no_action i) plain f
 
 pub whole_comes : (schema : SchemaData) → IsSchema schema → (a : ActionData) (e : Environment) → IsEnvironment schema a e →
     (p : PrincipalOrResourceConstraint) (c : ActionConstraint) (r : PrincipalOrResourceConstraint) → IsTrue (is_plain_scope schema p c r) →
@@ -34,22 +47,13 @@ pub whole_comes : (schema : SchemaData) → IsSchema schema → (a : ActionData)
 whole_comes schema ok a e is p c r plain s s' f g =
     joins schema env (conj (scope_part Principal p) (action_part c) unmarked) (scope_part Resource r) (joined (side_part schema Principal e.principal s p) (action_part_of schema a c)) (side_part schema Resource e.resource s' r)
     (joins schema env (scope_part Principal p) (action_part c) (side_part schema Principal e.principal s p) (action_part_of schema a c)
-    (side schema a e s s' actions Principal p principal_type first.0 f)
+    (side_comes schema ok a e is s s' Principal p first.0 f)
     (subst (λ u. Comes schema (linked_env a (environment e.principal u e.resource) s s') (action_part c) (action_part_of schema a c)) (sym is.name)
-    (action_comes schema actions a (ap is_some is.action) e.principal e.resource s s' c first.1)))
-    (side schema a e s s' actions Resource r resource_type parts.1 g)
+    (action_comes schema (actions schema ok a e is s s') a (ap is_some is.action) e.principal e.resource s s' c first.1)))
+    (side_comes schema ok a e is s s' Resource r parts.1 g)
   where
     env : EnvData
     env = linked_env a e s s'
-
-    actions : (u : EntityUID) → IsSome (action_at schema u) → is_action_type u.entity_type ≡ true
-    actions u h = ok.names.actions u h
-
-    principal_type : is_action_type e.principal ≡ false
-    principal_type = ok.names.types e.principal (ok.names.named_types e.principal (inl (inr (inl (a.name, ap (λ o. option_map_or (λ x. has text_cmp x.principals e.principal) o false) is.action ∙ is.principal)))))
-
-    resource_type : is_action_type e.resource ≡ false
-    resource_type = ok.names.types e.resource (ok.names.named_types e.resource (inl (inr (inr (a.name, ap (λ o. option_map_or (λ x. has text_cmp x.resources e.resource) o false) is.action ∙ is.resource)))))
 
     parts : (is_plain_side schema p && is_plain_action schema c ≡ true) × (is_plain_side schema r ≡ true)
     parts = and_parts_of (is_plain_side schema p && is_plain_action schema c) (is_plain_side schema r) plain
@@ -61,7 +65,7 @@ pub scope_decided : ScopeIsDecided
 scope_decided schema ok a e is p c r plain s s' f g cs = whole_comes schema ok a e is p c r plain s s' f g cs
 
 -- whether a part is met is what the test of its scope says
-side_met : (schema : SchemaData) (i : SlotId) (n : List ℕ) (o : Option (List ℕ)) (c : PrincipalOrResourceConstraint) → (side_part schema i n o c).meets ≡ type_meets schema c n
+pub side_met : (schema : SchemaData) (i : SlotId) (n : List ℕ) (o : Option (List ℕ)) (c : PrincipalOrResourceConstraint) → (side_part schema i n o c).meets ≡ type_meets schema c n
 side_met schema i n o Any = refl
 side_met schema i n o (Eq r) = refl
 side_met schema i n o (In r) = refl

@@ -25,8 +25,8 @@ module _ (schema : SchemaData) where
   abbrev pub IsTypedIn : Plain → List EnvData → Type 0
   IsTypedIn e envs = AllByRecursion (IsTyped e) envs
 
-  -- a template or a static policy: its names are known, some action meets its scope, its condition is no deeper than 200 and has a type in
-  -- each of its environments
+  -- a template or a static policy: its names are known, some action meets its scope, its condition is no
+  -- deeper than 200 and has a type in each of its environments
   pub record IsAcceptedTemplate (t : TemplateData) : Type 0 where
     pub names : IsTrue (has_known_names schema (condition_of t))
     pub scope : IsTrue (is_applicable schema t)

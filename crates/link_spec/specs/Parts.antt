@@ -1,6 +1,5 @@
 -- What the scope of a policy comes to in an environment, by its names alone.
-use Rattle.std.specs.Prelude.{◌≡◌, ⊤, ℕ, Bool, true, false, ◌&&◌, List, [], ◌∷◌, Option, Some, None, is_some, map}
-use Rattle.std.specs.List.{list_all}
+use Rattle.std.specs.Prelude.{◌≡◌, ⊤, ℕ, Bool, true, false, ◌&&◌, List, [], ◌∷◌, Option, Some, None, map}
 use Rattle.std.specs.Ordering.{is_eq}
 use Rattle.policy_values.specs.declared.entity_uid.EntityUID.{EntityUID}
 use Rattle.policy_values.specs.Uid.{text_cmp, uid_eq}
@@ -15,8 +14,7 @@ use Rattle.policy_expressions.specs.Plain.{unmarked}
 use Rattle.schema_types.specs.Ty.{Ty, true_type, false_type, any_set, set_of, entity, action, no_attrs}
 use Rattle.schema_core.specs.EnvData.{literal_type}
 use Rattle.schema_core.specs.Environments.{Environment}
-use Rattle.schema_core.specs.Schema.{ActionData, SchemaData, action_at}
-use Rattle.type_relations.specs.Join.{text_eq}
+use Rattle.schema_core.specs.Schema.{ActionData, SchemaData}
 use Rattle.typing_spec.specs.Environment.{slot_entity}
 use Rattle.typing_spec.specs.Signatures.{bool_type}
 use Rattle.typing_spec.specs.Typing.{Typed, Typing, typing, at, unreached}
@@ -35,7 +33,8 @@ verdict false sure = false_type
 verdict true true = true_type
 verdict true false = bool_type
 
--- a part of a scope in an environment: whether it is met, whether that makes it true, and its typed expression
+-- a part of a scope in an environment: whether it is met, whether that makes it true, and its typed
+-- expression
 pub record Part : Type 0 where
   pub meets : Bool
   pub sure : Bool
@@ -54,7 +53,9 @@ if_met true x = x
 if_met false x = unreached
 
 abbrev pub joined : Part → Part → Part
-joined p q = part (p.meets && q.meets) (p.sure && q.sure) (conj p.tree (if_met p.meets q.tree) (at (verdict (p.meets && q.meets) (p.sure && q.sure)) unmarked))
+joined p q =
+    part (p.meets && q.meets) (p.sure && q.sure)
+    (conj p.tree (if_met p.meets q.tree) (at (verdict (p.meets && q.meets) (p.sure && q.sure)) unmarked))
 
 -- a part that asks for nothing
 abbrev pub any_part : Part
@@ -65,7 +66,9 @@ typed_variable i n = var (variable_of i) (at (entity (n ∷ [])) unmarked)
 
 -- the test for a type
 abbrev pub type_part : SlotId → List ℕ → List ℕ → Part
-type_part i n m = part (is_eq (text_cmp m n)) true (is_type (typed_variable i n) m (at (verdict (is_eq (text_cmp m n)) true) unmarked))
+type_part i n m =
+    part (is_eq (text_cmp m n)) true
+    (is_type (typed_variable i n) m (at (verdict (is_eq (text_cmp m n)) true) unmarked))
 
 module _ (schema : SchemaData) where
   abbrev pub noted : EntityUID → Mark (Option Ty)
@@ -80,7 +83,9 @@ module _ (schema : SchemaData) where
   typed_reference i o Slot = slot i (at (slot_entity o) unmarked)
 
   abbrev pub compared_part : BinaryOp → SlotId → List ℕ → Option (List ℕ) → EntityReference → Bool → Part
-  compared_part op i n o r b = part b false (binary op (typed_variable i n) (typed_reference i o r) (at (verdict b false) unmarked))
+  compared_part op i n o r b =
+      part b false
+      (binary op (typed_variable i n) (typed_reference i o r) (at (verdict b false) unmarked))
 
   -- what the scope asks of the principal or the resource, of a variable of the type
   abbrev pub side_part : SlotId → List ℕ → Option (List ℕ) → PrincipalOrResourceConstraint → Part
@@ -107,18 +112,26 @@ module _ (schema : SchemaData) where
   -- what the scope asks of the action
   abbrev pub action_part_of : ActionData → ActionConstraint → Part
   action_part_of a asked.Any = any_part
-  action_part_of a (asked.Eq u) = part (uid_eq u a.name) true (binary IsEqual (typed_action a) (typed_id u) (at (verdict (uid_eq u a.name) true) unmarked))
+  action_part_of a (asked.Eq u) =
+      part (uid_eq u a.name) true
+      (binary IsEqual (typed_action a) (typed_id u) (at (verdict (uid_eq u a.name) true) unmarked))
   action_part_of a (asked.In us) =
       part (action_meets schema (asked.In us) a) false
-      (binary IsIn (typed_action a) (set (typed_ids us) (at (listed_type us) unmarked)) (at (verdict (action_meets schema (asked.In us) a) false) unmarked))
+      (binary IsIn (typed_action a) (set (typed_ids us) (at (listed_type us) unmarked))
+      (at (verdict (action_meets schema (asked.In us) a) false) unmarked))
 
   -- the whole scope, in an environment of the action with these types of what stands for slots
-  abbrev pub whole_part : ActionData → Environment → Option (List ℕ) → Option (List ℕ) → PrincipalOrResourceConstraint → ActionConstraint → PrincipalOrResourceConstraint → Part
-  whole_part a e s s' p c r = joined (joined (side_part Principal e.principal s p) (action_part_of a c)) (side_part Resource e.resource s' r)
+  abbrev pub whole_part : ActionData → Environment → Option (List ℕ) → Option (List ℕ) →
+      PrincipalOrResourceConstraint → ActionConstraint → PrincipalOrResourceConstraint → Part
+  whole_part a e s s' p c r =
+      joined (joined (side_part Principal e.principal s p) (action_part_of a c))
+      (side_part Resource e.resource s' r)
 
   -- the environment meets the scope
-  abbrev pub is_met_in : ActionData → Environment → PrincipalOrResourceConstraint → ActionConstraint → PrincipalOrResourceConstraint → Bool
-  is_met_in a e p c r = (type_meets schema p e.principal && action_meets schema c a) && type_meets schema r e.resource
+  abbrev pub is_met_in : ActionData → Environment →
+      PrincipalOrResourceConstraint → ActionConstraint → PrincipalOrResourceConstraint → Bool
+  is_met_in a e p c r =
+      (type_meets schema p e.principal && action_meets schema c a) && type_meets schema r e.resource
 
 -- where a slot is compared with `==`, an entity of the variable's type stands for it
 abbrev pub Stands : PrincipalOrResourceConstraint → List ℕ → Option (List ℕ) → Type 0

@@ -25,7 +25,8 @@ pub fn statics_are_typed()
     ensures { StaticsAreTyped }
 {}
 
-/// What has a type in every environment of the schema has one in that of each request that an action applies to.
+/// What has a type in every environment of the schema has one in that of each request that an action applies
+/// to.
 pub fn typed_everywhere()
     ensures { TypedEverywhere }
 {}
@@ -35,7 +36,8 @@ pub fn links_have_keys_once()
     ensures { LinksHaveKeysOnce }
 {}
 
-/// A condition that has a type in every environment of the schema keeps what typing promises, for each request that conforms.
+/// A condition that has a type in every environment of the schema keeps what typing promises, for each
+/// request that conforms.
 pub fn typed_are_sound()
     ensures { TypedAreSound }
 {

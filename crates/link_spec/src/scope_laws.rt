@@ -2,7 +2,8 @@
 
 ghost use Rattle.link_spec.specs.ScopeLaws.{BodiesReadNoSlots, ConditionsFollowScopes, ScopeIsDecided, ScopeIsMet};
 
-/// Where the ids of a scope have types, to type the scope finds nothing, and its typing is that of its names alone.
+/// Where the ids of a scope have types, to type the scope finds nothing, and its typing is that of its names
+/// alone.
 pub fn scope_is_decided()
     ensures { ScopeIsDecided }
 {}
