@@ -59,7 +59,7 @@ taken_line (Some xs) (Some ys) line bytes takes is = (ys, refl, by takes.1)
 
 -- ---- counts
 
-rose_none : (n : ℕ) → RoseBy 0 n n
+pub rose_none : (n : ℕ) → RoseBy 0 n n
 rose_none n = inl (omega arith)
 
 pub rose_more : (n k from mid to : ℕ) → RoseBy n from mid → RoseBy k mid to → RoseBy (n + k) from to

@@ -1,5 +1,5 @@
 -- What is written of an answer, and what is counted with it.
-use Rattle.std.proofs.Common.{◌≡◌, List, ℕ, Option, Result, Ok, Err, IfOk, String, Global, arith, inl, refl, subst, sym}
+use Rattle.std.proofs.Common.{◌≡◌, List, ℕ, Option, Result, Ok, Err, IfOk, String, Global, refl, subst, sym}
 use Rattle.std.specs.Prelude.{◌≢◌, string_bytes}
 use Rattle.byte_streams.specs.Steps.{RoseBy}
 use Rattle.entity_store.specs.declared.request.Request.{Request}
@@ -11,26 +11,24 @@ use Rattle.batch_decisions.specs.declared.EntitySliceError.TheVariants as error
 use Rattle.batch_decisions.specs.declared.answer.BatchAnswer.{BatchAnswer}
 use Rattle.batch_decisions.specs.declared.answer.BatchAnswer.TheVariants.{Partial, Refused, Loading, Decided}
 use Rattle.batch_decisions.specs.Lines.{line_on}
+use Rattle.bounded_lines.proofs.Served.{rose_none}
 use Rattle.directory.specs.Attempts.{OfStore}
 use Rattle.directory.specs.Lines.{IsRequestLine}
 use Rattle.directory.specs.declared.requests.LineRequest.{LineRequest}
 use Rattle.directory.specs.declared.requests.LineRequest.TheVariants as line
 
-pub quiet : (n : ℕ) → RoseBy 0 n n
-quiet n = inl (omega arith)
-
 -- an answer that is no fault counts none
 pub no_fault_quiet : (a : BatchAnswer) (n : ℕ) → a ≢ Loading error.LoaderFault → RoseBy (is_fault a) n n
-no_fault_quiet Partial n h = quiet n
-no_fault_quiet (Refused e) n h = quiet n
-no_fault_quiet (Decided r) n h = quiet n
+no_fault_quiet Partial n h = rose_none n
+no_fault_quiet (Refused e) n h = rose_none n
+no_fault_quiet (Decided r) n h = rose_none n
 no_fault_quiet (Loading error.LoaderFault) n h = absurd (h refl)
-no_fault_quiet (Loading error.OutOfMemory) n h = quiet n
-no_fault_quiet (Loading (error.IncompatibleEntityManifest e)) n h = quiet n
-no_fault_quiet (Loading (error.InconsistentLoader uid kept got)) n h = quiet n
-no_fault_quiet (Loading (error.WrongNumberOfEntities e)) n h = quiet n
-no_fault_quiet (Loading (error.WrongNumberOfAncestors k m)) n h = quiet n
-no_fault_quiet (Loading (error.PartialRequest e)) n h = quiet n
+no_fault_quiet (Loading error.OutOfMemory) n h = rose_none n
+no_fault_quiet (Loading (error.IncompatibleEntityManifest e)) n h = rose_none n
+no_fault_quiet (Loading (error.InconsistentLoader uid kept got)) n h = rose_none n
+no_fault_quiet (Loading (error.WrongNumberOfEntities e)) n h = rose_none n
+no_fault_quiet (Loading (error.WrongNumberOfAncestors k m)) n h = rose_none n
+no_fault_quiet (Loading (error.PartialRequest e)) n h = rose_none n
 
 -- the line on an answer of which something holds
 pub told_line : {E : Type 0} (r : Result (String Global) E) (P Q : BatchAnswer → Type 0) (a : BatchAnswer) → P a → Q a → IfOk r (λ s. string_bytes s ≡ line_on a)

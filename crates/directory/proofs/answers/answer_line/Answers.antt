@@ -1,9 +1,10 @@
 use Rattle.std.proofs.Common.{◌∙◌, refl, sym}
 use Rattle.sqlite.specs.Held.{state}
 use Rattle.entity_rows.specs.Rows.{told_store}
+use Rattle.bounded_lines.proofs.Served.{rose_none}
 use Rattle.directory.specs.declared.requests.LineRequest.TheVariants as line
 use Rattle.directory.specs.Lines.{line_request}
-use Rattle.directory.proofs.Written.{quiet, refusal_told, request_told}
+use Rattle.directory.proofs.Written.{refusal_told, request_told}
 use Rattle.directory.proofs.answers.answer_line.Goals as goal
 
 pub returns-in-Request-clause-answer : goal.returns-in-Request-clause-answer
@@ -14,9 +15,9 @@ returns-in-Request-clause-answer g c =
 pub returns-in-NoRequest-clause-answer : goal.returns-in-NoRequest-clause-answer
 returns-in-NoRequest-clause-answer g c =
     refusal_told c.args.schema.now c.args.policies.now.policies (told_store (state g.S.Store c.args.directory.now.conn)) c.args.directory.now.faults c.args.directory.now.faults
-    (line_request c.args.line.now) line.NoRequest _ c.refused_line.result (sym c.in_ok-asked.ensures ∙ c.in-NoRequest.is) (quiet c.args.directory.now.faults) (λ w. (refl, refl)) c.refused_line.ensures
+    (line_request c.args.line.now) line.NoRequest _ c.refused_line.result (sym c.in_ok-asked.ensures ∙ c.in-NoRequest.is) (rose_none c.args.directory.now.faults) (λ w. (refl, refl)) c.refused_line.ensures
 
 pub returns-in-NoJson-clause-answer : goal.returns-in-NoJson-clause-answer
 returns-in-NoJson-clause-answer g c =
     refusal_told c.args.schema.now c.args.policies.now.policies (told_store (state g.S.Store c.args.directory.now.conn)) c.args.directory.now.faults c.args.directory.now.faults
-    (line_request c.args.line.now) line.NoJson _ c.refused_line-in-NoJson.result (sym c.in_ok-asked.ensures ∙ c.in-NoJson.is) (quiet c.args.directory.now.faults) (λ w. (refl, refl)) c.refused_line-in-NoJson.ensures
+    (line_request c.args.line.now) line.NoJson _ c.refused_line-in-NoJson.result (sym c.in_ok-asked.ensures ∙ c.in-NoJson.is) (rose_none c.args.directory.now.faults) (λ w. (refl, refl)) c.refused_line-in-NoJson.ensures
