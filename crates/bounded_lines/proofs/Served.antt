@@ -10,7 +10,7 @@ use Rattle.std.proofs.lemmas.List.Folds.{concat-append}
 use Rattle.std.specs.Io.KnownBytes.{Consumes, Keeps, IsAtEnd, Appends}
 use Rattle.byte_streams.specs.Steps.{RoseBy}
 use Rattle.bounded_lines.specs.Lines.{is_plain, TakesLine}
-use Rattle.bounded_lines.specs.Answering.{with_byte, lines_of, Answers, AreAnswers, Remains, AreAnswered, IsStep, IsWritten}
+use Rattle.bounded_lines.specs.Answering.{with_byte, lines_of, Answers, AnswersEach, Remains, AreAnswered, IsStep, IsWritten}
 use Rattle.bounded_lines.specs.declared.answering.Ended.{Ended}
 use Rattle.bounded_lines.specs.declared.answering.Ended.TheVariants as ended
 
@@ -80,7 +80,7 @@ module _ (P Q : Option (List ℕ) → List ℕ → Type 0) (f : (asked : Option 
   remains_map ended.WriteFault rest part h = (h.0, h.1, h.2, h.3, h.4, answer_map h.0 h.2 h.5, h.6)
 
 module _ (P Q : ℕ → Option (List ℕ) → List ℕ → Type 0) (f : (n : ℕ) (asked : Option (List ℕ)) (text : List ℕ) → P n asked text → Q n asked text) where
-  answers_map : (n : ℕ) (lines texts : List (List ℕ)) → AreAnswers P n lines texts → AreAnswers Q n lines texts
+  answers_map : (n : ℕ) (lines texts : List (List ℕ)) → AnswersEach P n lines texts → AnswersEach Q n lines texts
   answers_map n [] [] h = h
   answers_map n [] (t ∷ ts) h = absurd h
   answers_map n (l ∷ ls) [] h = absurd h
@@ -92,8 +92,8 @@ module _ (P Q : ℕ → Option (List ℕ) → List ℕ → Type 0) (f : (n : ℕ
       let g = h bytes is in
       (g.0, g.1, g.2, g.3, g.4, g.5, g.6, answers_map g.4 g.0 g.2 g.7, g.8, remains_map (P g.5) (Q g.5) (f g.5) e g.1 g.3 g.9, g.10)
 
-answers_push : (P : ℕ → Option (List ℕ) → List ℕ → Type 0) (n k : ℕ) (lines texts : List (List ℕ)) (line text : List ℕ) → AreAnswers P n lines texts → Answers (P k) line text
-    → AreAnswers P (n + k) (lines ++ (line ∷ [])) (texts ++ (text ∷ []))
+answers_push : (P : ℕ → Option (List ℕ) → List ℕ → Type 0) (n k : ℕ) (lines texts : List (List ℕ)) (line text : List ℕ) → AnswersEach P n lines texts → Answers (P k) line text
+    → AnswersEach P (n + k) (lines ++ (line ∷ [])) (texts ++ (text ∷ []))
 answers_push P n k [] [] line text h a = (k, 0, by n h, a, refl)
   where
     by : (n : ℕ) → n ≡ 0 → n + k ≡ k + 0
@@ -109,7 +109,7 @@ answers_push P n k (l ∷ ls) (t ∷ ts) line text h a = (h.0, h.1 + k, by h.0 h
 abbrev pub AreServed : (ℕ → Option (List ℕ) → List ℕ → Type 0) → ℕ → ℕ → Option (List ℕ) → Option (List ℕ) → Option (List ℕ) → Option (List ℕ) → Type 0
 AreServed P from to left rest old new = (bytes : List ℕ) → left ≡ Some bytes →
     (front : List (List ℕ)) × (texts : List (List ℕ)) × (behind : List ℕ) × (n : ℕ)
-    × (rest ≡ Some behind) × (lines_of bytes ≡ front ++ lines_of behind) × AreAnswers P n front texts × Appends old new (concat texts) × RoseBy n from to
+    × (rest ≡ Some behind) × (lines_of bytes ≡ front ++ lines_of behind) × AnswersEach P n front texts × Appends old new (concat texts) × RoseBy n from to
 
 -- nothing was asked yet
 pub served_none : (P : ℕ → Option (List ℕ) → List ℕ → Type 0) (from : ℕ) (left old : Option (List ℕ)) → AreServed P from from left left old old

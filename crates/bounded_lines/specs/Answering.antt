@@ -25,11 +25,11 @@ abbrev pub Answers : (Option (List ℕ) → List ℕ → Type 0) → List ℕ �
 Answers IsAnswer line text = (length line ≤ DOCUMENT_LIMIT → IsAnswer (Some line) text) × (DOCUMENT_LIMIT < length line → IsAnswer None text)
 
 -- each line has its text; with the answers so many faults in all are counted
-abbrev pub AreAnswers : (ℕ → Option (List ℕ) → List ℕ → Type 0) → ℕ → List (List ℕ) → List (List ℕ) → Type 0
-AreAnswers IsAnswer n [] [] = n ≡ 0
-AreAnswers IsAnswer n (line ∷ lines) (text ∷ texts) =
-    (k : ℕ) × (m : ℕ) × (n ≡ k + m) × Answers (IsAnswer k) line text × AreAnswers IsAnswer m lines texts
-AreAnswers IsAnswer n lines texts = ⊥
+abbrev pub AnswersEach : (ℕ → Option (List ℕ) → List ℕ → Type 0) → ℕ → List (List ℕ) → List (List ℕ) → Type 0
+AnswersEach IsAnswer n [] [] = n ≡ 0
+AnswersEach IsAnswer n (line ∷ lines) (text ∷ texts) =
+    (k : ℕ) × (m : ℕ) × (n ≡ k + m) × Answers (IsAnswer k) line text × AnswersEach IsAnswer m lines texts
+AnswersEach IsAnswer n lines texts = ⊥
 
 -- what is left unanswered, and written behind the last answer: nothing; or, where a write failed, a front of the next answer
 abbrev pub Remains : (Option (List ℕ) → List ℕ → Type 0) → Ended → List (List ℕ) → List ℕ → Type 0
@@ -44,7 +44,7 @@ abbrev pub AreAnswered :
     (ℕ → Option (List ℕ) → List ℕ → Type 0) → ℕ → ℕ → Option (List ℕ) → Option (List ℕ) → Option (List ℕ) → Ended → Type 0
 AreAnswered IsAnswer from to left old new e = (bytes : List ℕ) → left ≡ Some bytes →
     (front : List (List ℕ)) × (rest : List (List ℕ)) × (texts : List (List ℕ)) × (part : List ℕ) × (n : ℕ) × (k : ℕ)
-    × (lines_of bytes ≡ front ++ rest) × AreAnswers IsAnswer n front texts × Appends old new (concat texts ++ part) × Remains (IsAnswer k) e rest part
+    × (lines_of bytes ≡ front ++ rest) × AnswersEach IsAnswer n front texts × Appends old new (concat texts ++ part) × Remains (IsAnswer k) e rest part
     × RoseBy (n + k) from to
 
 -- one line was taken and answered, or how that ended
