@@ -16,11 +16,14 @@ is_plain (b ∷ bs) = not (eqb b 10) && is_plain bs
 
 -- of what was left the bytes were taken, and the newline that ends them or, where that is none, all
 abbrev pub TakesRest : Option (List ℕ) → Option (List ℕ) → List ℕ → Type 0
-TakesRest old new bytes = (is_plain bytes ≡ true) × (Consumes old new (bytes ++ (10 ∷ [])) ⊎ (Consumes old new bytes × IsAtEnd new))
+TakesRest old new bytes =
+    (is_plain bytes ≡ true) × (Consumes old new (bytes ++ (10 ∷ [])) ⊎ (Consumes old new bytes × IsAtEnd new))
 
 -- they are a line: where no newline ends them there is a byte
 abbrev pub TakesLine : Option (List ℕ) → Option (List ℕ) → List ℕ → Type 0
-TakesLine old new bytes = (is_plain bytes ≡ true) × (Consumes old new (bytes ++ (10 ∷ [])) ⊎ (Consumes old new bytes × IsAtEnd new × (bytes ≢ [])))
+TakesLine old new bytes =
+    (is_plain bytes ≡ true)
+    × (Consumes old new (bytes ++ (10 ∷ [])) ⊎ (Consumes old new bytes × IsAtEnd new × (bytes ≢ [])))
 
 -- the next line is this; of a line that is too long, that is its length
 abbrev pub IsNext : Option (List ℕ) → Option (List ℕ) → Line → Type 0
@@ -63,7 +66,8 @@ IsFilled old new bytes filled.OutOfMemory = ⊤
 
 -- what comes behind the bytes of a line that is as long as may be
 abbrev pub IsEnd : Option (List ℕ) → Option (List ℕ) → List ℕ → Line → Type 0
-IsEnd old new front (line.Text v) = (v.items ≡ front) × (Consumes old new (10 ∷ []) ⊎ (Keeps old new × IsAtEnd new))
+IsEnd old new front (line.Text v) =
+    (v.items ≡ front) × (Consumes old new (10 ∷ []) ⊎ (Keeps old new × IsAtEnd new))
 IsEnd old new front line.TooLong = (bytes : List ℕ) × (bytes ≢ []) × TakesRest old new bytes
 IsEnd old new front line.End = ⊥
 IsEnd old new front line.Failed = ⊤

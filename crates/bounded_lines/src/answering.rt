@@ -38,9 +38,12 @@ pub trait AnswersLines {
     fn answer(&mut self, alloc: Global, line: &[u8]) -> Result<String, AllocError>
         requires { is_ready self.old }
         ensures ready { is_ready self.new }
-        ensures answer { IfOk result (λ text. (n : ℕ) × is_answer self.new n (Some line.now) (string_bytes text) × RoseBy n (faults self.old) (faults self.new)) }
+        ensures answer { IfOk result (λ text. (n : ℕ)
+            × is_answer self.new n (Some line.now) (string_bytes text)
+            × RoseBy n (faults self.old) (faults self.new)) }
         ensures counted { RoseBy 0 (faults self.old) (faults self.new) }
-        ensures goes_on { (n : ℕ) (asked : Option (List ℕ)) (text : List ℕ) → is_answer self.old n asked text → is_answer self.new n asked text }
+        ensures goes_on { (n : ℕ) (asked : Option (List ℕ)) (text : List ℕ) →
+            is_answer self.old n asked text → is_answer self.new n asked text }
         ensures comes { (first : Self) → comes_of first self.old → comes_of first self.new };
 
     /// The answer to a line that has more bytes than a document may have, its last newline included.
@@ -70,8 +73,10 @@ fn answer_next<A: AnswersLines, I: Source + Drop, K: Sink>(
 ) -> Result<(), Ended>
     requires { A.is_ready answers.old }
     ensures ready { A.is_ready answers.new }
-    ensures step { IsStep (A.is_answer answers.new) (A.faults answers.old) (A.faults answers.new) lines.old lines.new (K.state sink.old).holds (K.state sink.new).holds result }
-    ensures goes_on { (n : ℕ) (asked : Option (List ℕ)) (text : List ℕ) → A.is_answer answers.old n asked text → A.is_answer answers.new n asked text }
+    ensures step { IsStep (A.is_answer answers.new) (A.faults answers.old) (A.faults answers.new)
+        lines.old lines.new (K.state sink.old).holds (K.state sink.new).holds result }
+    ensures goes_on { (n : ℕ) (asked : Option (List ℕ)) (text : List ℕ) →
+        A.is_answer answers.old n asked text → A.is_answer answers.new n asked text }
     ensures comes { (first : A) → A.comes_of first answers.old → A.comes_of first answers.new }
 {
     match lines.next_line(alloc) {
@@ -85,9 +90,10 @@ fn answer_next<A: AnswersLines, I: Source + Drop, K: Sink>(
 
 /// Answers each line that is left of the source, and writes each answer at once.
 ///
-/// However it ends, what is written are answers to the first lines, in their order; behind them, where a write failed, a front
-/// of the next answer. At the end of the source no line is left out. The count of faults rose by those of all these answers at
-/// least. A read failed, or memory ran out, in the midst of a line where these are told.
+/// However it ends, what is written are answers to the first lines, in their order; behind them, where a
+/// write failed, a front of the next answer. At the end of the source no line is left out. The count of
+/// faults rose by those of all these answers at least. A read failed, or memory ran out, in the midst of a
+/// line where these are told.
 pub fn answer_lines<A: AnswersLines, I: Source + Drop, K: Sink>(
     alloc: Global,
     answers: &mut A,
@@ -96,8 +102,10 @@ pub fn answer_lines<A: AnswersLines, I: Source + Drop, K: Sink>(
 ) -> Ended
     requires { A.is_ready answers.old }
     ensures ready { A.is_ready answers.new }
-    ensures answered { AreAnswered (A.is_answer answers.new) (A.faults answers.old) (A.faults answers.new) lines.old (K.state sink.old).holds (K.state sink.new).holds result }
-    ensures goes_on { (n : ℕ) (asked : Option (List ℕ)) (text : List ℕ) → A.is_answer answers.old n asked text → A.is_answer answers.new n asked text }
+    ensures answered { AreAnswered (A.is_answer answers.new) (A.faults answers.old) (A.faults answers.new)
+        lines.old (K.state sink.old).holds (K.state sink.new).holds result }
+    ensures goes_on { (n : ℕ) (asked : Option (List ℕ)) (text : List ℕ) →
+        A.is_answer answers.old n asked text → A.is_answer answers.new n asked text }
     ensures comes { (first : A) → A.comes_of first answers.old → A.comes_of first answers.new }
 {
     for _ in 0..u64::MAX {

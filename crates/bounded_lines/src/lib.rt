@@ -1,4 +1,5 @@
-//! The lines of a source of bytes, none of which is longer than a document may be, answered one after another.
+//! The lines of a source of bytes, none of which is longer than a document may be, answered one after
+//! another.
 #![tactic(auto)]
 
 mod answering;

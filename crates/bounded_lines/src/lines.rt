@@ -37,7 +37,8 @@ pub enum NextByte {
     OutOfMemory,
 }
 
-/// A source whose bytes are read line by line; contracts see what of its bytes is left, where the source tells it.
+/// A source whose bytes are read line by line; contracts see what of its bytes is left, where the source
+/// tells it.
 ///
 /// A newline ends a line, and so does the end of the source behind other bytes.
 #[derive(Drop)]
@@ -104,8 +105,8 @@ impl<S: Source + Drop> Lines<S> {
 
     /// The next line.
     ///
-    /// A read failed, or memory ran out, in the midst of a line where these are told; a line of 2^64 bytes and more is told
-    /// as a failed read.
+    /// A read failed, or memory ran out, in the midst of a line where these are told; a line of 2^64 bytes
+    /// and more is told as a failed read.
     pub fn next_line(&mut self, alloc: Global) -> Line
         ensures { IsNext self.old self.new result }
     {

@@ -21,14 +21,18 @@ request_in (Some v) = option_map_or line.Request (request_of (Some v)) line.NoRe
 abbrev pub line_request : List ℕ → LineRequest
 line_request bytes = request_in (json_of bytes)
 
--- by the store of all rows the text is the line on the response to the line's request; or the line on a fault, with which one is counted; or it
--- says that there is no request
+-- by the store of all rows the text is the line on the response to the line's request; or the line on a
+-- fault, with which one is counted; or it says that there is no request
 abbrev pub IsRequestLine : SchemaData → List PolicyData → Store → ℕ → LineRequest → List ℕ → Type 0
-IsRequestLine schema ps w faults (line.Request q) text = (a : BatchAnswer) × IsAnswerOrFault schema ps w q a × (faults ≡ is_fault a) × (text ≡ line_on a)
-IsRequestLine schema ps w faults line.NoRequest text = (faults ≡ 0) × (text ≡ refused_line (codes "line: no request"))
-IsRequestLine schema ps w faults line.NoJson text = (faults ≡ 0) × (text ≡ refused_line (codes "line: no JSON"))
+IsRequestLine schema ps w faults (line.Request q) text =
+    (a : BatchAnswer) × IsAnswerOrFault schema ps w q a × (faults ≡ is_fault a) × (text ≡ line_on a)
+IsRequestLine schema ps w faults line.NoRequest text =
+    (faults ≡ 0) × (text ≡ refused_line (codes "line: no request"))
+IsRequestLine schema ps w faults line.NoJson text =
+    (faults ≡ 0) × (text ≡ refused_line (codes "line: no JSON"))
 
 -- the same of a line, or of one that is too long
 abbrev pub IsLineOn : SchemaData → List PolicyData → Store → ℕ → Option (List ℕ) → List ℕ → Type 0
 IsLineOn schema ps w faults (Some bytes) text = IsRequestLine schema ps w faults (line_request bytes) text
-IsLineOn schema ps w faults None text = (faults ≡ 0) × (text ≡ refused_line (codes "line: more than 16777216 bytes"))
+IsLineOn schema ps w faults None text =
+    (faults ≡ 0) × (text ≡ refused_line (codes "line: more than 16777216 bytes"))

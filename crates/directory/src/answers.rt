@@ -43,7 +43,8 @@ fn answer_request<S: Alter + Drop, L: Ledger>(
     ensures goes_on { Continues (told_store (state S.Store directory.old.conn))
         (told_store (state S.Store directory.new.conn)) }
     ensures answer { IfOk result (λ text. (a : BatchAnswer)
-        × OfStore schema.now (told_store (state S.Store directory.new.conn)) (λ w. IsAnswerOrFault schema.now policies.now.policies w request.now a)
+        × OfStore schema.now (told_store (state S.Store directory.new.conn))
+        (λ w. IsAnswerOrFault schema.now policies.now.policies w request.now a)
         × RoseBy (is_fault a) directory.old.faults directory.new.faults
         × (string_bytes text ≡ line_on a)) }
     ensures kept { RoseBy 0 directory.old.faults directory.new.faults }
@@ -52,11 +53,12 @@ fn answer_request<S: Alter + Drop, L: Ledger>(
     line_on(alloc, &answer)
 }
 
-/// The line that answers a line of the input, by the manifest of accepted policies: the response on the rows to the request that
-/// the line is, or why there is none.
+/// The line that answers a line of the input, by the manifest of accepted policies: the response on the rows
+/// to the request that the line is, or why there is none.
 ///
-/// Where after the call the database is open and its disk has returned what was written, and the store of its rows is in order
-/// and conforms, the line is that on the response on this whole store, or on a fault, by which the count of faults rose.
+/// Where after the call the database is open and its disk has returned what was written, and the store of its
+/// rows is in order and conforms, the line is that on the response on this whole store, or on a fault, by
+/// which the count of faults rose.
 pub fn answer_line<S: Alter + Drop, L: Ledger>(
     alloc: Global,
     schema: &ValidatorSchema,

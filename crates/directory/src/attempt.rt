@@ -45,10 +45,11 @@ fn store_of(alloc: Global, fetched: &Fetched) -> Result<Entities, LoadError>
     }
 }
 
-/// Decides by the manifest of accepted policies, on a whole request that conforms, with what was looked up so far.
+/// Decides by the manifest of accepted policies, on a whole request that conforms, with what was looked up so
+/// far.
 ///
-/// Where the database tells the store of its rows and that conforms, a decision is the response on all of it, and nothing is
-/// refused. Errs with `Failed` where two entities that were found have one id.
+/// Where the database tells the store of its rows and that conforms, a decision is the response on all of it,
+/// and nothing is refused. Errs with `Failed` where two entities that were found have one id.
 pub(crate) fn try_decide<S: Alter, L: Ledger>(
     alloc: Global,
     schema: &ValidatorSchema,

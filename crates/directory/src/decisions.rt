@@ -34,8 +34,8 @@ use std::sync::ledger::Ledger;
 pub struct Directory<S: Alter + Drop> {
     /// The database.
     pub conn: Connection<S>,
-    /// How often a request was not decided, since the database failed or a row was no entity; at the last value of u64 it
-    /// stays.
+    /// How often a request was not decided, since the database failed or a row was no entity; at the last
+    /// value of u64 it stays.
     pub faults: u64,
 }
 
@@ -120,12 +120,12 @@ fn decided<S: Alter, L: Ledger>(
     Err(LoadError::Failed)
 }
 
-/// The answer to a request, by the manifest of accepted policies: `Partial` where an entry of it is not known; else `Refused`
-/// where it breaks a rule, with the first one; else the response, or `Loading(LoaderFault)`, which is counted, where the
-/// database failed or a row that is read is no entity.
+/// The answer to a request, by the manifest of accepted policies: `Partial` where an entry of it is not
+/// known; else `Refused` where it breaks a rule, with the first one; else the response, or
+/// `Loading(LoaderFault)`, which is counted, where the database failed or a row that is read is no entity.
 ///
-/// Where after the call the database is open and its disk has returned what was written, and the store of its rows is in order
-/// and conforms, the answer is that on this whole store, or a fault.
+/// Where after the call the database is open and its disk has returned what was written, and the store of its
+/// rows is in order and conforms, the answer is that on this whole store, or a fault.
 pub fn decide_on<S: Alter + Drop, L: Ledger>(
     alloc: Global,
     schema: &ValidatorSchema,

@@ -1,4 +1,5 @@
-//! Decisions by the rows of a database, where each policy has the outcome that it has on the store of all rows.
+//! Decisions by the rows of a database, where each policy has the outcome that it has on the store of all
+//! rows.
 #![tactic(auto)]
 
 mod answers;

@@ -38,16 +38,19 @@ pub struct LineDecider<'a, S: Alter + Drop, L: Ledger> {
 }
 
 impl<S: Alter + Drop, L: Ledger> AnswersLines for LineDecider<'_, S, L> {
-    ghost is_ready = { λ d. IsAccepted d.schema.now d.policies.now × IsManifestOf d.schema.now d.policies.now.policies d.manifest.now
+    ghost is_ready = { λ d. IsAccepted d.schema.now d.policies.now
+        × IsManifestOf d.schema.now d.policies.now.policies d.manifest.now
         × IsReady (state S.Store d.directory.conn) };
 
-    ghost is_answer = { λ d faults asked text. OfStore d.schema.now (told_store (state S.Store d.directory.conn)) (λ w.
-        IsLineOn d.schema.now d.policies.now.policies w faults asked text) };
+    ghost is_answer = { λ d faults asked text.
+        OfStore d.schema.now (told_store (state S.Store d.directory.conn))
+        (λ w. IsLineOn d.schema.now d.policies.now.policies w faults asked text) };
 
     ghost faults = { λ d. d.directory.faults };
 
     ghost comes_of = { λ first d. (d.schema.now ≡ first.schema.now) × (d.policies.now ≡ first.policies.now)
-        × Continues (told_store (state S.Store first.directory.conn)) (told_store (state S.Store d.directory.conn)) };
+        × Continues (told_store (state S.Store first.directory.conn))
+        (told_store (state S.Store d.directory.conn)) };
 
     fn answer(&mut self, alloc: Global, line: &[u8]) -> Result<String, AllocError> {
         answer_line(
@@ -85,7 +88,8 @@ fn answer_marked<S: Alter + Drop, L: Ledger, I: Source + Drop, K: Sink>(
     requires ready { IsReady (state S.Store directory.conn) }
     ensures ready { IsReady (state S.Store result.1.conn) }
     ensures answered { OfStore schema.now (told_store (state S.Store result.1.conn)) (λ w.
-        AreAnswered (IsLineOn schema.now policies.now.policies w) directory.faults result.1.faults lines.old (K.state sink.old).holds (K.state sink.new).holds result.0) }
+        AreAnswered (IsLineOn schema.now policies.now.policies w) directory.faults result.1.faults
+        lines.old (K.state sink.old).holds (K.state sink.new).holds result.0) }
     ensures goes_on { Continues (told_store (state S.Store directory.conn))
         (told_store (state S.Store result.1.conn)) }
 {
@@ -102,13 +106,14 @@ fn answer_marked<S: Alter + Drop, L: Ledger, I: Source + Drop, K: Sink>(
     (ended, directory)
 }
 
-/// Answers each line that is left of the source, by the rows of the directory, where these are accepted policies with their
-/// manifest, and writes each answer at once. How it ended, and the directory.
+/// Answers each line that is left of the source, by the rows of the directory, where these are accepted
+/// policies with their manifest, and writes each answer at once. How it ended, and the directory.
 ///
-/// Where then the database is open and its disk has returned what was written, and the store of its rows is in order and
-/// conforms: what was written are the lines on the responses on this whole store to the requests of the first lines, in their
-/// order, or on faults, of which there are at most as many as the count of faults rose by, unless that stands at the last value
-/// of u64; and where it ended with `Done` no line is left out.
+/// Where then the database is open and its disk has returned what was written, and the store of its rows is
+/// in order and conforms: what was written are the lines on the responses on this whole store to the requests
+/// of the first lines, in their order, or on faults, of which there are at most as many as the count of
+/// faults rose by, unless that stands at the last value of u64; and where it ended with `Done` no line is
+/// left out.
 pub fn answer_lines<S: Alter + Drop, I: Source + Drop, K: Sink>(
     alloc: Global,
     schema: &ValidatorSchema,
@@ -123,7 +128,8 @@ pub fn answer_lines<S: Alter + Drop, I: Source + Drop, K: Sink>(
     requires ready { IsReady (state S.Store directory.conn) }
     ensures ready { IsReady (state S.Store result.1.conn) }
     ensures answered { OfStore schema.now (told_store (state S.Store result.1.conn)) (λ w.
-        AreAnswered (IsLineOn schema.now policies.now.policies w) directory.faults result.1.faults lines.old (K.state sink.old).holds (K.state sink.new).holds result.0) }
+        AreAnswered (IsLineOn schema.now policies.now.policies w) directory.faults result.1.faults
+        lines.old (K.state sink.old).holds (K.state sink.new).holds result.0) }
     ensures goes_on { Continues (told_store (state S.Store directory.conn))
         (told_store (state S.Store result.1.conn)) }
 {
