@@ -7,7 +7,7 @@ use Rattle.byte_streams.specs.declared.reading.TheConstants.{DOCUMENT_LIMIT}
 use Rattle.std.specs.List.{concat}
 use Rattle.std.proofs.KnownBytes.{Appends-trans}
 use Rattle.std.proofs.lemmas.List.Folds.{concat-append}
-use Rattle.std.specs.Io.KnownBytes.{Consumes, Keeps, IsAtEnd, Appends}
+use Rattle.std.specs.Io.KnownBytes.{Keeps, IsAtEnd, Appends}
 use Rattle.byte_streams.specs.Steps.{RoseBy}
 use Rattle.bounded_lines.specs.Lines.{is_plain, TakesLine}
 use Rattle.bounded_lines.specs.Answering.{with_byte, lines_of, Answers, AnswersEach, Remains, AreAnswered, IsStep, IsWritten}

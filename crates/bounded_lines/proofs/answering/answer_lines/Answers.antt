@@ -1,6 +1,4 @@
-use Rattle.std.proofs.Common.{◌∙◌, Ok, subst}
-use Rattle.bounded_lines.specs.Answering.{IsStep}
-use Rattle.bounded_lines.proofs.Served.{served_end, served_more, served_none, served_stop}
+use Rattle.bounded_lines.proofs.Served.{served_end, served_more, served_none}
 use Rattle.bounded_lines.proofs.answering.answer_lines.Goals as goal
 
 pub loop-init : goal.loop-init
