@@ -1,4 +1,8 @@
 -- Types below others: along what is declared of the one, values are of types below those that are declared of the other.
+-- The plan. Nothing is read below a value of a plain type, so any two of these are below each other; records and actions
+-- are compared attribute by attribute, required or not, and entity types have the same names. That is reflexive and goes
+-- along (`below_self`, `below_trans`); joins and the types of attributes are above what they are made of (`join_above`,
+-- `attr_below`).
 use Rattle.std.proofs.Common.{◌≡◌, ℕ, Bool, true, false, ◌&&◌, List, Some, IsTrue, Result, Ok, Err, cond, refl, sym, ◌∙◌, subst, IfOk, IfSome}
 use Rattle.policy_values.specs.Ties.{equal_of}
 use Rattle.policy_values.specs.Uid.{text_cmp}

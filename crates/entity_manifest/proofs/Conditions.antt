@@ -1,4 +1,7 @@
 -- Typed conditions ask for ancestors of ids alone.
+-- The plan. By induction over the expression, along the typing rules: the type is above what the paths of its shape lead
+-- to, and ancestors are demanded of ids alone (`Asks`). An operator that demands them does so of its left operand, which
+-- its rule types as an id; all else hands on what its parts demand.
 use Rattle.std.proofs.Common.{◌≡◌, ◌⊎◌, ℕ, Bool, true, false, ◌&&◌, ◌||◌, List, [], ◌∷◌, ◌++◌, map, Option, Some, None, is_some, IsTrue, refl, sym, ap, subst, IfSome, inl, inr}
 use Rattle.std.specs.Prelude.{if◌then◌else◌, option_map, Result, Ok, Err, IfOk}
 use Rattle.std.specs.Option.{option_and_then, option_map_or}

@@ -1,4 +1,7 @@
 -- Nothing sticks where paths are declared.
+-- The plan. A walk along a trie sticks at a value that is neither an id nor a record. Where the value has its declared type
+-- and the trie's paths are declared from there, no step comes to such a value: first one value, then an entity, whole or
+-- cut, then each root of the request, then each place that a path reaches (`none_stuck`, `none_blocked`).
 use Rattle.std.proofs.Common.{◌≡◌, ◌⊎◌, ℕ, Bool, true, false, ◌&&◌, List, [], ◌∷◌, ◌++◌, map, Option, Some, None, IsTrue, is_some, refl, sym, ap, ◌∙◌, subst, IfSome, inl, inr, append_assoc}
 use Rattle.std.specs.List.{AllByRecursion}
 use Rattle.std.specs.Option.{option_map}

@@ -1,4 +1,8 @@
 -- What a trie holds with conditions beside it: it stays held, and is added once.
+-- The plan. A condition is held by a trie, or by the list of conditions beside it that are still to be added. What was
+-- taken is held from then on, and `&&` asks for what its sides ask for; so a scope and a body may be taken apart, a body of
+-- a template is taken once and found again by the template's id (`held_with_new`, `body_held`), and a step of the loop
+-- over policies keeps that the whole holds the same (`one_step`).
 use Rattle.std.proofs.Common.{◌≡◌, ◌↔◌, ℕ, Bool, true, false, true≢false, cond, ◌||◌, List, [], ◌∷◌, ◌++◌, append_assoc, append-nil, map, Option, Some, None, IsSomeAnd, IsTrue, refl, sym, ap, ◌∙◌, subst}
 use Rattle.std.specs.Prelude.{IfSome, filter, if◌then◌else◌, nat_lt, option_map}
 use Rattle.std.specs.BTreeSet.{BTreeSet, contains}

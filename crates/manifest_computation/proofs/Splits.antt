@@ -1,4 +1,8 @@
 -- The check of a policy's condition, by the checks of its scope and of its body.
+-- The plan. A condition is `scope && body`, and its check that of a walk over this `&&`. First what a walk comes to where
+-- both sides make nothing known or what is known before does not matter, then what it comes to as a boolean; so behind
+-- each type of a scope (True, Bool, False, none) the check of the whole is told from the two (`policy_split`), and last
+-- the same of the parts as code has them (`policy_told`).
 use Rattle.std.specs.Prelude.{⊤, cond, if◌then◌else◌, nat_lt, option_map}
 use Rattle.std.proofs.Common.{◌≡◌, ℕ, Bool, true, false, ◌&&◌, List, [], ◌++◌, Option, Some, None, IfSome, refl, sym, ap, subst, ◌∙◌}
 use Rattle.std.specs.Option.{option_and_then}

@@ -1,4 +1,7 @@
 -- From what a run does to why it ends so. Nothing here looks into what answers a document has.
+-- The plan. What a run does is a chain of cases (words, bytes, document, answer, write). One induction over this chain for
+-- each promise: from the status to its cause (`causes`), from the status to what was read (`read_for`), from a rule to the
+-- status (`usage_for`, `too_long_for`, `exact_for`), and from 0, 1 and 12 to what is written.
 use Rattle.std.proofs.Common.{◌≡◌, ℕ, ◌+◌, ◌<◌, ◌≤◌, List, ◌++◌, length, true≢false, ◌⊎◌, inl, inr, Option, Some, None, append-nil, length-append, sym, ap, ◌∙◌, refl, subst, arith}
 use Rattle.std.specs.Io.KnownBytes.{Appends, Consumes, IsAtEnd}
 use Rattle.byte_streams.specs.Document.{document_limit, WasRead}

@@ -1,4 +1,9 @@
 -- What an answer with status 0 or 1 says, and when 0 is due.
+-- The plan. A refusal has a status of its own, so where 0 is due nothing was refused, and the text is that of the command's
+-- work (`done`). That nothing was refused means that each rule of the command holds, part by part: the request, the store,
+-- the policies, the edits (`keeping`, `conforming_store` and so on), and back (`not_refused`, `kept_is_done`). What 0 says
+-- is then what the definitions of the work say under these rules. Of refusals only that of policies has the status 1, and
+-- only that of an edit 12. Last, the same of bytes in place of a document.
 use Rattle.std.proofs.Common.{◌≡◌, ◌&&◌, ℕ, Bool, true, false, List, [], ◌∷◌, inl, inr, Option, Some, None, is_some, IfSome, IsSomeAnd, Ok, Err, sym, ap, refl, subst, if◌then◌else◌}
 use Rattle.std.specs.Option.{option_or, option_map}
 use Rattle.serde_json.specs.Data.{Data}
