@@ -1,25 +1,34 @@
 -- What checks tell, one after another.
-use Rattle.std.proofs.Common.{◌≡◌, ℕ, Bool, true, false, not, ◌&&◌, List, [], ◌∷◌, map, refl, sym, ap, ◌∙◌}
-use Rattle.std.specs.Prelude.{flat_map, if◌then◌else◌}
+use Rattle.std.proofs.Common.{◌≡◌, ℕ, Bool, true, false, not, ◌&&◌, List, [], ◌∷◌, map, Option, Some, None, refl, sym, ap, ◌∙◌, true≢false}
+use Rattle.std.specs.Prelude.{flat_map, is_none, if◌then◌else◌}
 use Rattle.std.specs.List.{list_all}
 use Rattle.std.proofs.lemmas.List.Sums.{fold-append}
-use Rattle.schema_core.specs.EnvData.{EnvData}
+use Rattle.schema_types.specs.declared.kinds.Primitive.TheVariants.{Bool as BoolType}
+use Rattle.schema_types.specs.Ty.{Ty, true_type, false_type, primitive}
+use Rattle.schema_core.specs.EnvData.{EnvData, literal_type}
 use Rattle.schema_core.specs.Faults.{IsSchema}
 use Rattle.schema_core.specs.Schema.{SchemaData}
 use Rattle.policy_expressions.specs.Slots.{has_slot}
 use Rattle.policy_set.specs.Data.{TemplateData}
 use Rattle.link_spec.specs.Linked.{linked_envs}
-use Rattle.policy_scope.specs.PlainScope.{is_plain_scope}
+use Rattle.policy_set.specs.declared.constraint.ActionConstraint.{ActionConstraint}
+use Rattle.policy_set.specs.declared.constraint.ActionConstraint.TheVariants.{Any, Eq}
+use Rattle.plain_lemmas.proofs.Booleans.{and_parts_of}
+use Rattle.policy_scope.specs.PlainScope.{is_plain_scope, is_plain_side}
 use Rattle.findings.specs.declared.error.ValidationError.{ValidationError}
 use Rattle.findings.specs.contracts.error.ValidationErrorEq.TheImpl.Laws.{laws-law}
-use Rattle.typecheck_rules.specs.Check.{Check, Success, Irrelevant, Fail, TooDeep}
-use Rattle.link_spec.specs.Met.{body_check, met_envs}
+use Rattle.typecheck_rules.specs.Check.{Check, Success, Irrelevant, Fail, TooDeep, check_of, check_walked}
+use Rattle.typecheck_rules.specs.Walked as walk
+use Rattle.typecheck_rules.specs.Walked.{Walked, findings_of}
+use Rattle.link_spec.specs.Met.{body_check, met_envs, refused_check}
 use Rattle.link_spec.proofs.Steps.{IsStep, same_asked}
 use Rattle.link_spec.proofs.Folds.{checks_follow}
+use Rattle.link_spec.proofs.Undeclared.{refused_follow}
 use Rattle.typecheck_walk.specs.declared.policy_check.PolicyCheck.{PolicyCheck}
 use Rattle.typecheck_walk.specs.declared.policy_check.PolicyCheck.TheVariants as code
 use Rattle.policy_typecheck.specs.Added.{added, all_added, same_error}
 use Rattle.typecheck_walk.specs.Answer.{Tells, errors_of, too_deep}
+use Rattle.policy_typecheck.specs.NoAction.{names_no_action}
 use Rattle.policy_typecheck.specs.Policies.{passes, is_irrelevant, is_too_deep, checks_of, refusals, is_accepted, is_impossible}
 use Rattle.policy_typecheck.specs.Told.{Told, told_by, told, all_told, condition_check}
 use Rattle.policy_typecheck.proofs.Lists.{once_added}
@@ -47,6 +56,37 @@ told_step id = record {
 pub bodies_tell : (schema : SchemaData) → IsSchema schema → (t : TemplateData) → is_plain_scope schema t.principal t.action t.resource ≡ true → has_slot t.body ≡ false → is_too_deep schema t ≡ false → (s : Told) →
     all_told t.id (body_check schema t) s (met_envs schema t) ≡ all_told t.id (condition_check schema t) s (linked_envs schema t)
 bodies_tell schema ok t plain no_slot flat s = sym (checks_follow schema ok t plain no_slot flat (told t.id) (told_step t.id) s)
+
+-- a body that has a type has no errors
+body_errors : (id : List ℕ) (w : Walked) → errors_of id (check_walked w) ≡ errors_of id (Fail (findings_of w))
+body_errors id (walk.Fail t fs) = refl
+body_errors id (walk.Success a) = by a.type
+  where
+    by : (t : Ty) → errors_of id (check_of t a.tree []) ≡ []
+    by true_type = refl
+    by false_type = refl
+    by (primitive BoolType) = refl
+    by t = refl
+
+pub refused_told : (id : List ℕ) (w : Walked) (s : Told) (found : List ValidationError) → found ≡ (told id (check_walked w) s).1 → (record { accepted = false; impossible = false }, found) ≡ told id (Fail (findings_of w)) s
+refused_told id w s found h = λ j. (record { accepted = false; impossible = false }, (h ∙ ap (all_added same_error s.1) (body_errors id w)) j)
+
+-- where a scope names an action that is not declared, what is found of the body tells what the conditions do
+pub refused_tell : (schema : SchemaData) → IsSchema schema → (t : TemplateData) → names_no_action schema t.principal t.action t.resource ≡ true → is_too_deep schema t ≡ false → (s : Told) →
+    all_told t.id (refused_check schema t) s (linked_envs schema t) ≡ all_told t.id (condition_check schema t) s (linked_envs schema t)
+refused_tell schema ok t names flat s = by t.action refl names
+  where
+    none : (o : Option Ty) → is_none o ≡ true → o ≡ None
+    none None h = refl
+    none (Some u) h = absurd (true≢false (sym h))
+
+    by : (c : ActionConstraint) → t.action ≡ c → names_no_action schema t.principal c t.resource ≡ true → all_told t.id (refused_check schema t) s (linked_envs schema t) ≡ all_told t.id (condition_check schema t) s (linked_envs schema t)
+    by (Eq u) e h =
+        let parts = and_parts_of (is_none (literal_type schema u)) (is_plain_scope schema t.principal Any t.resource) h in
+        let sides = and_parts_of (is_plain_side schema t.principal && true) (is_plain_side schema t.resource) parts.1 in
+        let principal = and_parts_of (is_plain_side schema t.principal) true sides.0 in
+        sym (refused_follow schema ok t u e (none (literal_type schema u) parts.0) principal.0 sides.1 flat (told t.id) (λ x s. refl) s)
+    by c e h = absurd (true≢false (sym h))
 
 -- behind the environments each passes where each did before and each of these does
 with_true : (a : Bool) → (a && true) ≡ a

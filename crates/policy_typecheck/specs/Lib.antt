@@ -1,6 +1,7 @@
 pub mod Added
 pub mod Checks
 pub mod Missing
+pub mod NoAction
 pub mod Pointed
 pub mod Policies
 pub mod Told

@@ -19,10 +19,16 @@ Told = Summary × List ValidationError
 
 -- one check more, in code and by the definitions
 abbrev pub told_by : PolicyCheck → Told → Told
-told_by r s = (record { accepted = has_passed r && s.0.accepted; impossible = is_false r && s.0.impossible }, all_added same_error s.1 (errors_in r))
+told_by r s = (
+  record { accepted = has_passed r && s.0.accepted; impossible = is_false r && s.0.impossible },
+  all_added same_error s.1 (errors_in r),
+)
 
 abbrev pub told : List ℕ → Check → Told → Told
-told id c s = (record { accepted = passes c && s.0.accepted; impossible = is_irrelevant c && s.0.impossible }, all_added same_error s.1 (errors_of id c))
+told id c s = (
+  record { accepted = passes c && s.0.accepted; impossible = is_irrelevant c && s.0.impossible },
+  all_added same_error s.1 (errors_of id c),
+)
 
 -- the checks in environments, one after another
 abbrev pub all_told : List ℕ → (EnvData → Check) → Told → List EnvData → Told

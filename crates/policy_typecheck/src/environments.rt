@@ -13,7 +13,8 @@ use policy_values::EntityType;
 use schema_core::{RequestEnv, ValidatorActionId, ValidatorSchema};
 use std::alloc::{AllocError, Global};
 
-/// The environments of a template: those of the schema, ascending, each with the types of what may stand for the slots.
+/// The environments of a template: those of the schema, ascending, each with the types of what may stand for
+/// the slots.
 pub fn linked_request_envs<'a>(
     alloc: Global,
     schema: &'a ValidatorSchema,
@@ -29,7 +30,7 @@ pub fn linked_request_envs<'a>(
 }
 
 // Adds those of an action.
-fn add_of_action<'a>(
+pub(crate) fn add_of_action<'a>(
     envs: &mut Vec<RequestEnv<'a>>,
     schema: &'a ValidatorSchema,
     t: &Template,

@@ -5,6 +5,7 @@ mod added;
 mod bodies;
 mod environments;
 mod met;
+mod no_action;
 mod policies;
 mod slots;
 mod typechecker;

@@ -17,8 +17,9 @@ use schema_core::{ValidatorActionId, ValidatorSchema, add_all};
 use std::alloc::{AllocError, Global};
 use std::collections::BTreeSet;
 
-/// The actions that meet what a scope asks of the action, ascending. A named one is looked up, and of a list the ids that
-/// meet it are collected first, so that the time grows with the actions and the list, and not with their product.
+/// The actions that meet what a scope asks of the action, ascending. A named one is looked up, and of a list
+/// the ids that meet it are collected first, so that the time grows with the actions and the list, and not
+/// with their product.
 pub(crate) fn met_actions<'a>(
     alloc: Global,
     schema: &'a ValidatorSchema,

@@ -68,7 +68,8 @@ fn add_errors_of(
     }
 }
 
-/// Adds what is found of a policy behind what the lists hold. There is room first, so that on an error both are as they were.
+/// Adds what is found of a policy behind what the lists hold. There is room first, so that on an error both
+/// are as they were.
 pub(crate) fn add_found(
     alloc: Global,
     id: &Text,

@@ -13,7 +13,8 @@ use schema_core::{ValidatorEntityType, ValidatorSchema};
 use std::alloc::{AllocError, Global};
 use std::cmp::Ordering;
 
-// The types of what may stand for the slot of a constraint on a variable of the type; where there is no slot, none.
+// The types of what may stand for the slot of a constraint on a variable of the type; where there is no slot,
+// none.
 pub(crate) fn slot_types<'a>(
     alloc: Global,
     schema: &'a ValidatorSchema,

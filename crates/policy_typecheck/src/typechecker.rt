@@ -19,6 +19,7 @@ ghost use Rattle.policy_typecheck.specs.Verdict.{verdict_of};
 
 use crate::added::add_errors;
 use crate::bodies::check_bodies;
+use crate::no_action::{check_refused, names_no_action};
 use crate::policies::{Summary, add_found, tell_check};
 use crate::verdict::verdict_by;
 use crate::{Verdict, linked_request_envs};
@@ -72,9 +73,9 @@ impl<'a, 'x> Typechecker<'a, 'x> {
         }
     }
 
-    /// The check of a template's condition in an environment: it succeeds where the condition has the type True or Bool,
-    /// is irrelevant where it has the type False, and fails elsewhere, with all that is found; a condition that is deeper
-    /// than 200 fails with `TooDeep` alone.
+    /// The check of a template's condition in an environment: it succeeds where the condition has the type
+    /// True or Bool, is irrelevant where it has the type False, and fails elsewhere, with all that is found;
+    /// a condition that is deeper than 200 fails with `TooDeep` alone.
     pub fn typecheck_by_single_request_env<'b>(
         &self,
         alloc: Global,
@@ -87,10 +88,10 @@ impl<'a, 'x> Typechecker<'a, 'x> {
         self.check_in(alloc, env, t.id(), t.condition())
     }
 
-    /// Types the condition of a template in its environments, and says whether it is accepted: whether it is not too deep,
-    /// and fails in none of them. What is found is added behind the errors, environment by environment; a condition that is
-    /// not too deep, and is false in each environment, is warned of. What a list holds already is not added again. On an
-    /// error both lists are as they were.
+    /// Types the condition of a template in its environments, and says whether it is accepted: whether it is
+    /// not too deep, and fails in none of them. What is found is added behind the errors, environment by
+    /// environment; a condition that is not too deep, and is false in each environment, is warned of. What a
+    /// list holds already is not added again. On an error both lists are as they were.
     pub fn typecheck_policy(
         &self,
         alloc: Global,
@@ -138,8 +139,9 @@ impl<'a, 'x> Typechecker<'a, 'x> {
         Ok(summary)
     }
 
-    // Checks the condition in all its environments. Where the ids of the scope have types, only its body is typed, and that
-    // only in the environments that meet the scope, without slots: it is false in the others.
+    // Checks the condition in all its environments. Where the ids of the scope have types, only its body is
+    // typed, and that only in the environments that meet the scope, without slots: it is false in the others.
+    // Where only that of the action has none, the scope fails with no finding of its own.
     fn check_all(
         &self,
         alloc: Global,
@@ -154,9 +156,12 @@ impl<'a, 'x> Typechecker<'a, 'x> {
             (linked_envs self.now t.now)) }
     {
         let principal = t.principal_constraint();
+        let action = t.action_constraint();
         let resource = t.resource_constraint();
-        if is_plain_scope(self.schema, principal, t.action_constraint(), resource) {
+        if is_plain_scope(self.schema, principal, action, resource) {
             check_bodies(self, alloc, t, summary, found)
+        } else if names_no_action(self.schema, principal, action, resource) {
+            check_refused(self, alloc, t, summary, found)
         } else {
             self.check_conditions(alloc, t, summary, found)
         }
@@ -243,8 +248,8 @@ impl<'a, 'x> Typechecker<'a, 'x> {
         Ok(checks)
     }
 
-    /// Whether a policy can be true on requests of an environment of the schema: never exactly where its own condition has
-    /// the type False there. A condition that is deeper than 200 is not typed.
+    /// Whether a policy can be true on requests of an environment of the schema: never exactly where its own
+    /// condition has the type False there. A condition that is deeper than 200 is not typed.
     pub fn verdict<'b>(
         &self,
         alloc: Global,
