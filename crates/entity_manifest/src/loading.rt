@@ -1,6 +1,8 @@
 //! Loading what a request reads by the manifest that is computed of policies.
 
-ghost use Rattle.std.specs.Prelude.{◌≡◌, ◌≢◌, true, IfOk, IfErr};
+ghost use Rattle.std.specs.Prelude.{◌≡◌, ◌≢◌, ◌≤◌, ◌+◌, ℕ, true, Some, None, IfOk, IfErr};
+ghost use Rattle.access_tries.specs.Table.{Table};
+ghost use Rattle.trie_traversal.specs.Begun.{PathsWithin};
 ghost use Rattle.entity_loader.specs.State.{Continues};
 ghost use Rattle.entity_store.specs.Request.{IsWhole};
 ghost use Rattle.typing_spec.specs.Conforms.{RequestConforms, StoreConforms};
@@ -8,6 +10,7 @@ ghost use Rattle.manifest_computation.specs.Accepted.{IsAccepted};
 ghost use Rattle.reads_spec.specs.Cover.{IsPartOf};
 ghost use Rattle.manifest_computation.specs.Slice.{slice};
 ghost use Rattle.manifest_computation.specs.Computed.{IsManifestOf};
+ghost use Rattle.manifest_core.specs.Manifest.{trie_for};
 ghost use Rattle.manifest_loading.specs.declared.error.EntitySliceError.TheVariants.{OutOfMemory};
 ghost use Rattle.entity_manifest.specs.Loaded.{OfToldStores, AreDecidedAlike, IsFaultOrMemory, WhyNotLoaded};
 
@@ -28,6 +31,9 @@ use store_order::entities_are_ordered;
 /// Where the loader tells a store that conforms, what is loaded has at least the slice of that store and at
 /// most the store; each policy has on it the outcome that it has on the whole store, and the response is the
 /// same. A loader that answers just what is asked gives the slice.
+///
+/// The loader is asked for entities at most once more than the longest path of the request's trie has steps,
+/// and no more steps are counted; for ancestors once at most. Without a trie it is not asked.
 ///
 /// Errs with `LoaderFault` only where a call of the loader failed, and with `OutOfMemory` where memory runs
 /// out. A loader that tells such a store is refused for nothing else: `IncompatibleEntityManifest` comes
@@ -57,6 +63,13 @@ pub fn load_for_request<D: EntityLoader, L: Ledger>(
     ensures cause { IfErr result (λ e. e ≢ OutOfMemory →
         WhyNotLoaded schema.now (D.state loader.old) (D.state loader.new) e) }
     ensures goes_on { Continues (D.state loader.old) (D.state loader.new) }
+    ensures rounds { (t : Table) → trie_for manifest.now request.now ≡ Some t → (n : ℕ) →
+        PathsWithin t n → (D.state loader.new).rounds ≤ (D.state loader.old).rounds + (n + 1) }
+    ensures steps { (t : Table) → trie_for manifest.now request.now ≡ Some t → (n : ℕ) →
+        PathsWithin t n → steps.new ≤ steps.old + (n + 1) }
+    ensures lists { (D.state loader.new).lists ≤ (D.state loader.old).lists + 1 }
+    ensures unasked { trie_for manifest.now request.now ≡ None →
+        (D.state loader.new ≡ D.state loader.old) × (steps.new ≡ steps.old) }
 {
     loaded_is_enough();
     refusals_are_faults();
@@ -85,6 +98,9 @@ pub fn load_slice<L: Ledger>(
     ensures slice { IfOk result (λ s. s ≡
         slice schema.now policies.now.policies request.now entities.now) }
     ensures memory { IfErr result (λ e. e ≡ OutOfMemory) }
+    ensures steps { (t : Table) → trie_for manifest.now request.now ≡ Some t → (n : ℕ) →
+        PathsWithin t n → steps.new ≤ steps.old + (n + 1) }
+    ensures unasked { trie_for manifest.now request.now ≡ None → steps.new ≡ steps.old }
 {
     entities_are_ordered(entities);
     // for the proof: the ids of a store ascend
