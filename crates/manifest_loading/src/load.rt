@@ -55,6 +55,7 @@ pub fn load_trie<D: EntityLoader, L: Ledger>(
     ensures rounds { (n : ℕ) → PathsWithin trie.now n →
         (D.state loader.new).rounds ≤ (D.state loader.old).rounds + (n + 1) }
     ensures steps { (n : ℕ) → PathsWithin trie.now n → steps.new ≤ steps.old + (n + 1) }
+    ensures counted { (D.state loader.new).rounds + steps.old ≤ (D.state loader.old).rounds + steps.new }
     ensures lists { (D.state loader.new).lists ≤ (D.state loader.old).lists + 1 }
     ensures undemanded { DemandsNothing trie.now →
         (D.state loader.new).lists ≡ (D.state loader.old).lists }
@@ -100,6 +101,7 @@ fn load_whole<D: EntityLoader, L: Ledger>(
     ensures rounds { (n : ℕ) → PathsWithin trie.now n →
         (D.state loader.new).rounds ≤ (D.state loader.old).rounds + (n + 1) }
     ensures steps { (n : ℕ) → PathsWithin trie.now n → steps.new ≤ steps.old + (n + 1) }
+    ensures counted { (D.state loader.new).rounds + steps.old ≤ (D.state loader.old).rounds + steps.new }
     ensures honest { (s : Store) → (D.state loader.old).store ≡ Some s → HasOrder s →
         IfOk result (IsLoaded (D.state loader.old).exact trie.now request.now s) }
     ensures between { (s : Store) → (D.state loader.old).store ≡ Some s → HasOrder s →

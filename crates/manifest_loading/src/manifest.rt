@@ -57,6 +57,7 @@ pub fn load_entities<D: EntityLoader, L: Ledger>(
         PathsWithin t n → (D.state loader.new).rounds ≤ (D.state loader.old).rounds + (n + 1) }
     ensures steps { (t : Table) → trie_for manifest.now request.now ≡ Some t → (n : ℕ) →
         PathsWithin t n → steps.new ≤ steps.old + (n + 1) }
+    ensures counted { (D.state loader.new).rounds + steps.old ≤ (D.state loader.old).rounds + steps.new }
     ensures between { (t : Table) → trie_for manifest.now request.now ≡ Some t → (s : Store) →
         (D.state loader.old).store ≡ Some s → HasOrder s →
         IsStrictlySortedBy uid_cmp (map (λ e. e.uid) s) →

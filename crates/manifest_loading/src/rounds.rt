@@ -125,6 +125,7 @@ pub(crate) fn load_rounds<D: EntityLoader, L: Ledger>(
         (D.state loader.new).rounds ≤ (D.state loader.old).rounds + (n + 1) }
     ensures lists { (D.state loader.new).lists ≡ (D.state loader.old).lists }
     ensures steps { (n : ℕ) → PathsWithin nodes.now n → steps.new ≤ steps.old + (n + 1) }
+    ensures counted { (D.state loader.new).rounds + steps.old ≤ (D.state loader.old).rounds + steps.new }
     ensures none { start.keys ≡ [] → (D.state loader.new ≡ D.state loader.old) ×
         (steps.new ≡ steps.old) × IfOk result (λ loaded. loaded.asked.keys ≡ []) }
     ensures quiet { DemandNothing nodes.now start.keys →

@@ -144,3 +144,12 @@ returns-in_err-kept-clause-right g c = λ s told order.
     rw (exit.1, exit.2)
     (right_later (λ v. ⊥) (SticksAt c.args.trie.now c.args.request.now s) old mid (g.D.EntityLoader.state c.with_ancestors.new.loader) c.load_rounds.ensures.goes_on (λ v h. absurd h) c.in_err-kept.field-0.0
     (c.in_err-kept.ensures.right s (c.load_rounds.ensures.goes_on.told s told)))
+
+pub returns-in_err-kept-clause-counted : goal.returns-in_err-kept-clause-counted
+returns-in_err-kept-clause-counted g c = let a = c.load_rounds.ensures.counted in let b = c.with_ancestors.ensures.rounds in omega (arith, a, b)
+
+pub returns-in_err-store_of-clause-counted : goal.returns-in_err-store_of-clause-counted
+returns-in_err-store_of-clause-counted g c = let a = c.load_rounds.ensures.counted in let b = c.with_ancestors.ensures.rounds in omega (arith, a, b)
+
+pub returns-clause-counted : goal.returns-clause-counted
+returns-clause-counted g c = let a = c.load_rounds.ensures.counted in let b = c.with_ancestors.ensures.rounds in omega (arith, a, b)

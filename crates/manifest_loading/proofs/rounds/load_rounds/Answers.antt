@@ -126,3 +126,25 @@ returns-in_err-next-clause-right g c = λ s told q b.
     rw (exit.1, exit.2)
     (refused_right old.exact ns q s c.rounds.asked.keys ps (get uid_cmp c.rounds.kept) (inv.honest s told q b) b.order inv.deep.there old mid new inv.goes_on c.in_err-next.field-0.0
     (subst (λ e. IsRefused e s ns ps (get uid_cmp c.rounds.kept) mid new c.in_err-next.field-0.0) inv.goes_on.exact (c.in_err-next.ensures.right s (inv.goes_on.told s told))))
+
+pub returns-in_err-next-clause-counted : goal.returns-in_err-next-clause-counted
+returns-in_err-next-clause-counted g c =
+    let a = c.one_round.ensures.rounds in
+    let b = c.rounds.invariant.rounds in
+    let up = c.one_round.ensures.steps in
+    let before = c.rounds.invariant.steps in
+    omega (arith, a, b, up, before)
+
+pub returns-in_err-note-clause-counted : goal.returns-in_err-note-clause-counted
+returns-in_err-note-clause-counted g c =
+    let a = c.one_round.ensures.rounds in
+    let b = c.rounds.invariant.rounds in
+    let up = c.one_round.ensures.steps in
+    let before = c.rounds.invariant.steps in
+    omega (arith, a, b, up, before)
+
+pub returns-clause-counted : goal.returns-clause-counted
+returns-clause-counted g c =
+    let b = c.rounds.invariant.rounds in
+    let before = c.rounds.invariant.steps in
+    omega (arith, b, before)
