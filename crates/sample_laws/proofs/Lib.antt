@@ -1,0 +1,10 @@
+mod Ascii
+mod Declared
+mod Document
+mod Drawn
+mod Json
+mod Parts
+mod Policies
+mod Read
+mod Store
+mod Text

@@ -1,0 +1,4 @@
+//! What documents that are made from a number are.
+#![tactic(auto)]
+
+pub mod laws;
