@@ -1,3 +1,5 @@
+pub mod Decided
 pub mod Documents
+pub mod Run
 pub mod Status
 pub mod Words

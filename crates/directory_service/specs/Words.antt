@@ -1,5 +1,5 @@
--- What the first word of a call asks for.
-use Rattle.std.specs.Prelude.{ℕ, List, if◌then◌else◌, Option, Some, None, codes}
+-- What the words of a call ask for.
+use Rattle.std.specs.Prelude.{ℕ, List, [], ◌∷◌, if◌then◌else◌, Option, Some, None, codes}
 use Rattle.std.specs.Str.{bytes_eq}
 use Rattle.directory_service.specs.declared.words.Command.{Command}
 use Rattle.directory_service.specs.declared.words.Command.TheVariants.{Import, Decide, Check}
@@ -10,3 +10,10 @@ command_of word =
     if bytes_eq word (codes "import") then Some Import else
     (if bytes_eq word (codes "decide") then Some Decide else
     (if bytes_eq word (codes "check") then Some Check else None))
+
+-- what two words ask for: the first is the command, the second the path of its file; others ask for nothing
+abbrev pub asked_for : List (List ℕ) → Option Command
+asked_for [] = None
+asked_for (word ∷ []) = None
+asked_for (word ∷ path ∷ []) = command_of word
+asked_for (word ∷ path ∷ more ∷ words) = None

@@ -1,8 +1,14 @@
 //! Decisions on the lines that follow the policies.
+ghost use Rattle.std.specs.Prelude.{◌≡◌, IfOk};
+ghost use Rattle.sqlite.specs.Held.{Held, state};
+ghost use Rattle.entity_rows.specs.Rows.{told_store};
+ghost use Rattle.entity_rows.specs.Table.{IsReady};
 ghost use Rattle.directory.specs.Accepted.{IsAccepted};
 ghost use Rattle.directory.specs.OfPolicies.{IsManifestOf};
+ghost use Rattle.directory_service.specs.Decided.{AreDecided, Decides, IsReadFirst};
+ghost use Rattle.directory_service.specs.Run.{IsRefusal};
 
-use crate::document::{READ_FAULT, TOO_LONG, read_bytes};
+use crate::document::{NO_JSON, READ_FAULT, TOO_LONG, read_bytes};
 use crate::reply::{Reply, file_reply, finish, finish_with, reply_with};
 use crate::status::Status;
 use byte_streams::{Sink, Source};
@@ -12,17 +18,19 @@ use directory::{
 };
 use json_document::Document;
 use policy_scope::findings_text;
-use sqlite::Start;
+use sqlite::{Alter, Connection, Start};
 use std::alloc::{AllocError, Global};
 
 // The document on the first line, or the reply on its first fault.
 fn first_document<I: Source + Drop>(
     alloc: Global,
     lines: &mut Lines<I>,
-) -> Result<Result<Document, Reply>, AllocError> {
+) -> Result<Result<Document, Reply>, AllocError>
+    ensures { IfOk result (IsReadFirst lines.old lines.new) }
+{
     match lines.next_line(alloc) {
         Line::Text(line) => read_bytes(alloc, line.as_slice()),
-        Line::End => read_bytes(alloc, &[]),
+        Line::End => Ok(Err(reply_with(alloc, Status::Document, NO_JSON)?)),
         Line::TooLong => Ok(Err(reply_with(alloc, Status::TooLong, TOO_LONG)?)),
         Line::Failed => Ok(Err(reply_with(alloc, Status::ReadFault, READ_FAULT)?)),
         Line::OutOfMemory => Err(AllocError),
@@ -30,13 +38,45 @@ fn first_document<I: Source + Drop>(
 }
 
 // How the run ends where answering lines ended so.
-fn ended_with<K: Sink>(sink: &mut K, ended: Ended) -> Status {
+fn ended_with<K: Sink>(sink: &mut K, ended: Ended) -> Status
+    ensures done { result ≡ Status.Done → (ended ≡ Ended.Done) × (K.state sink.new ≡ K.state sink.old) }
+    ensures command { ¬ (result ≡ Status.Usage) }
+{
     match ended {
         Ended::Done => Status::Done,
         Ended::ReadFault => finish(sink, Status::ReadFault, READ_FAULT),
         Ended::WriteFault => Status::WriteFault,
         Ended::OutOfMemory => Status::OutOfMemory,
     }
+}
+
+// Answers each line by the rows of a database that was opened.
+fn by_rows<S: Alter + Drop, I: Source + Drop, K: Sink>(
+    alloc: Global,
+    document: &Document,
+    manifest: &EntityManifest,
+    conn: Connection<S>,
+    lines: &mut Lines<I>,
+    sink: &mut K,
+) -> Status
+    requires accepted { IsAccepted document.now.schema document.now.policies }
+    requires manifest { IsManifestOf document.now.schema document.now.policies.policies manifest.now }
+    requires ready { IsReady (state S.Store conn) }
+    ensures done { result ≡ Status.Done → (last : Held S) × IsReady (state S.Store last)
+        × AreDecided document.now (told_store (state S.Store conn)) (told_store (state S.Store last)) lines.old
+        (K.state sink.old) (K.state sink.new) }
+    ensures command { ¬ (result ≡ Status.Usage) }
+{
+    let (ended, _) = answer_lines(
+        alloc,
+        &document.schema,
+        &document.policies,
+        manifest,
+        Directory { conn, faults: 0 },
+        lines,
+        sink,
+    );
+    ended_with(sink, ended)
 }
 
 // Answers each line by the rows of the file.
@@ -51,25 +91,19 @@ fn by_file<S: Start, I: Source + Drop, K: Sink>(
 ) -> Status
     requires accepted { IsAccepted document.now.schema document.now.policies }
     requires manifest { IsManifestOf document.now.schema document.now.policies.policies manifest.now }
+    ensures command { ¬ (result ≡ Status.Usage) }
 {
     let conn = match entity_files::open(rt, path, start) {
         Ok(conn) => conn,
         Err(error) => return finish_with(sink, file_reply(rt.alloc(), &error)),
     };
-    let (ended, _) = answer_lines(
-        rt.alloc(),
-        &document.schema,
-        &document.policies,
-        manifest,
-        Directory { conn, faults: 0 },
-        lines,
-        sink,
-    );
-    ended_with(sink, ended)
+    by_rows(rt.alloc(), document, manifest, conn, lines, sink)
 }
 
 // The reply that the policies are not accepted.
-fn refusal(alloc: Global, error: EntityManifestError) -> Result<Reply, AllocError> {
+fn refusal(alloc: Global, error: EntityManifestError) -> Result<Reply, AllocError>
+    ensures { IfOk result IsRefusal }
+{
     match &error {
         EntityManifestError::Validation(found) => {
             let text = findings_text(alloc, found)?;
@@ -87,7 +121,10 @@ fn by_policies<S: Start, I: Source + Drop, K: Sink>(
     document: &Document,
     lines: &mut Lines<I>,
     sink: &mut K,
-) -> Status {
+) -> Status
+    ensures accepted { result ≡ Status.Done → IsAccepted document.now.schema document.now.policies }
+    ensures command { ¬ (result ≡ Status.Usage) }
+{
     let alloc = rt.alloc();
     match compute_entity_manifest(alloc, &document.schema, &document.policies) {
         Ok(manifest) => by_file(rt, path, start, document, &manifest, lines, sink),
@@ -103,7 +140,10 @@ pub(crate) fn decide<S: Start, I: Source + Drop, K: Sink>(
     start: S,
     source: I,
     sink: &mut K,
-) -> Status {
+) -> Status
+    ensures done { result ≡ Status.Done → Decides (I.state source).left }
+    ensures command { ¬ (result ≡ Status.Usage) }
+{
     let alloc = rt.alloc();
     let mut lines = Lines::new(alloc, source);
     match first_document(alloc, &mut lines) {

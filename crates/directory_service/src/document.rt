@@ -2,6 +2,7 @@
 ghost use Rattle.std.specs.Prelude.{IfOk};
 ghost use Rattle.serde_json.specs.View.{view};
 ghost use Rattle.directory_service.specs.Documents.{IsReading, IsReadingOf};
+ghost use Rattle.directory_service.specs.Run.{IsReadOf};
 
 use crate::reply::{Reply, reply_with};
 use crate::status::Status;
@@ -10,7 +11,7 @@ use json_document::{Document, DocumentFault, parse_json, read_document};
 use serde_json::Value;
 use std::alloc::{AllocError, Global};
 
-const NO_JSON: &str = "document: json\n";
+pub(crate) const NO_JSON: &str = "document: json\n";
 
 pub(crate) const READ_FAULT: &str = "read fault\n";
 
@@ -46,7 +47,9 @@ fn read_json(alloc: Global, value: Value) -> Result<Result<Document, Reply>, All
 pub(crate) fn read_source<S: Source>(
     alloc: Global,
     source: &mut S,
-) -> Result<Result<Document, Reply>, AllocError> {
+) -> Result<Result<Document, Reply>, AllocError>
+    ensures { IfOk result (IsReadOf (S.state source.old).left) }
+{
     match read_document_bytes(alloc, source) {
         Ok(bytes) => read_bytes(alloc, bytes.as_slice()),
         Err(ReadError::Fault) => Ok(Err(reply_with(alloc, Status::ReadFault, READ_FAULT)?)),

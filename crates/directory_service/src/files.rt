@@ -1,4 +1,6 @@
 //! Documents and files of entities: written, and checked.
+ghost use Rattle.std.specs.Prelude.{◌≡◌, ◌++◌, IfOk, string_bytes, codes, decimal};
+ghost use Rattle.directory_service.specs.Run.{IsChecked, IsImported, IsRightOf};
 
 use crate::document::read_source;
 use crate::reply::{Reply, file_reply, reply_with};
@@ -12,7 +14,10 @@ use std::alloc::{AllocError, Global};
 const CONFORMS: &str = "conforms\n";
 
 // The reply that so many entities were written.
-fn imported(alloc: Global, count: usize) -> Result<Reply, AllocError> {
+fn imported(alloc: Global, count: usize) -> Result<Reply, AllocError>
+    ensures status { IfOk result (λ r. r.status ≡ Status.Done) }
+    ensures text { IfOk result (λ r. string_bytes r.text ≡ codes "imported " ++ (decimal count ++ codes "\n")) }
+{
     Ok(Reply {
         status: Status::Done,
         text: format!(in alloc; "imported {count}\n")?,
@@ -24,7 +29,10 @@ fn import_document<S: Start>(
     path: &str,
     start: S,
     document: &Document,
-) -> Result<Reply, AllocError> {
+) -> Result<Reply, AllocError>
+    ensures done { IfOk result (λ r. r.status ≡ Status.Done → IsImported document.now (string_bytes r.text)) }
+    ensures command { IfOk result (λ r. ¬ (r.status ≡ Status.Usage)) }
+{
     let entities = &document.entities;
     match import_into_file(rt, path, start, &document.schema, entities) {
         Ok(()) => imported(rt.alloc(), entities.len()),
@@ -38,7 +46,10 @@ pub(crate) fn import_source<S: Start, I: Source>(
     path: &str,
     start: S,
     source: &mut I,
-) -> Result<Reply, AllocError> {
+) -> Result<Reply, AllocError>
+    ensures done { IfOk result (IsRightOf IsImported (I.state source.old).left) }
+    ensures command { IfOk result (λ r. ¬ (r.status ≡ Status.Usage)) }
+{
     match read_source(rt.alloc(), source)? {
         Ok(document) => import_document(rt, path, start, &document),
         Err(reply) => Ok(reply),
@@ -61,7 +72,10 @@ fn check_file<S: Start>(
     path: &str,
     start: S,
     document: &Document,
-) -> Result<Reply, AllocError> {
+) -> Result<Reply, AllocError>
+    ensures done { IfOk result (λ r. r.status ≡ Status.Done → IsChecked document.now (string_bytes r.text)) }
+    ensures command { IfOk result (λ r. ¬ (r.status ≡ Status.Usage)) }
+{
     match check_rows(rt, path, start, document) {
         Ok(()) => reply_with(rt.alloc(), Status::Done, CONFORMS),
         Err(error) => file_reply(rt.alloc(), &error),
@@ -74,7 +88,10 @@ pub(crate) fn check_source<S: Start, I: Source>(
     path: &str,
     start: S,
     source: &mut I,
-) -> Result<Reply, AllocError> {
+) -> Result<Reply, AllocError>
+    ensures done { IfOk result (IsRightOf IsChecked (I.state source.old).left) }
+    ensures command { IfOk result (λ r. ¬ (r.status ≡ Status.Usage)) }
+{
     match read_source(rt.alloc(), source)? {
         Ok(document) => check_file(rt, path, start, &document),
         Err(reply) => Ok(reply),

@@ -1,5 +1,7 @@
 //! What is answered.
-ghost use Rattle.std.specs.Prelude.{◌≡◌, IfOk, string_bytes};
+ghost use Rattle.std.specs.Prelude.{◌≡◌, IfOk, IsOkAnd, string_bytes};
+ghost use Rattle.std.specs.Io.KnownBytes.{Appends};
+ghost use Rattle.directory_service.specs.Run.{Gives, IsDone, IsRefusal};
 
 use crate::status::Status;
 use byte_streams::{Sink, write_text};
@@ -30,7 +32,9 @@ const OTHER_SCHEMA: &str = "database: it has another schema than the table of en
 
 const IN_TRANSACTION: &str = "database: a transaction is open\n";
 
-fn database_reply(alloc: Global, why: &str) -> Result<Reply, AllocError> {
+fn database_reply(alloc: Global, why: &str) -> Result<Reply, AllocError>
+    ensures { IfOk result (λ r. r.status ≡ Status.Database) }
+{
     Ok(Reply {
         status: Status::Database,
         text: format!(in alloc; "database: {why}\n")?,
@@ -38,7 +42,9 @@ fn database_reply(alloc: Global, why: &str) -> Result<Reply, AllocError> {
 }
 
 /// The reply that a file is not written or read.
-pub(crate) fn file_reply(alloc: Global, error: &FileError) -> Result<Reply, AllocError> {
+pub(crate) fn file_reply(alloc: Global, error: &FileError) -> Result<Reply, AllocError>
+    ensures { IfOk result IsRefusal }
+{
     match error {
         FileError::Database(why) | FileError::Row(why) => database_reply(alloc, why.as_str()),
         FileError::OtherSchema => reply_with(alloc, Status::Database, OTHER_SCHEMA),
@@ -49,7 +55,12 @@ pub(crate) fn file_reply(alloc: Global, error: &FileError) -> Result<Reply, Allo
 }
 
 /// Writes the text, and says how the run ends.
-pub(crate) fn finish<K: Sink>(sink: &mut K, status: Status, text: &str) -> Status {
+pub(crate) fn finish<K: Sink>(sink: &mut K, status: Status, text: &str) -> Status
+    ensures gives { Gives status text.now (K.state sink.old) (K.state sink.new) result }
+    ensures done { result ≡ Status.Done
+        → (status ≡ Status.Done) × Appends (K.state sink.old).holds (K.state sink.new).holds text.now }
+    ensures usage { result ≡ Status.Usage → status ≡ Status.Usage }
+{
     match write_text(sink, text.as_bytes()) {
         Ok(()) => status,
         Err(_) => status.after_fault(),
@@ -57,7 +68,10 @@ pub(crate) fn finish<K: Sink>(sink: &mut K, status: Status, text: &str) -> Statu
 }
 
 /// Writes the reply, where there was memory for it, and says how the run ends.
-pub(crate) fn finish_with<K: Sink>(sink: &mut K, reply: Result<Reply, AllocError>) -> Status {
+pub(crate) fn finish_with<K: Sink>(sink: &mut K, reply: Result<Reply, AllocError>) -> Status
+    ensures done { result ≡ Status.Done → IsDone reply (K.state sink.old) (K.state sink.new) }
+    ensures usage { result ≡ Status.Usage → IsOkAnd reply (λ r. r.status ≡ Status.Usage) }
+{
     match reply {
         Ok(reply) => finish(sink, reply.status, reply.text.as_str()),
         Err(_) => Status::OutOfMemory,

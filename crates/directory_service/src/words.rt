@@ -1,6 +1,6 @@
 //! The words of a call.
 ghost use Rattle.std.specs.Prelude.{◌≡◌, IfSome, map, string_bytes, option_map};
-ghost use Rattle.directory_service.specs.Words.{command_of};
+ghost use Rattle.directory_service.specs.Words.{asked_for, command_of};
 
 /// What is done with a file.
 #[derive(Clone, Copy, Debug, PartialEq, Eq)]
@@ -22,5 +22,20 @@ pub fn command_of(word: &str) -> Option<Command>
         "decide" => Some(Command::Decide),
         "check" => Some(Command::Check),
         _ => None,
+    }
+}
+
+/// The command that the words ask for, with the path of its file.
+pub(crate) fn call_of(words: &Vec<String>) -> Option<(Command, &str)>
+    ensures { option_map (λ call. call.0) result ≡ asked_for (map string_bytes words.now.items) }
+{
+    match words.as_slice() {
+        [word, path] => match command_of(word.as_str()) {
+            Some(command) => Some((command, path.as_str())),
+            None => None,
+        },
+        [] => None,
+        [_] => None,
+        [_, _, _, ..] => None,
     }
 }
