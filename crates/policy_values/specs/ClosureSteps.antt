@@ -1,5 +1,6 @@
 -- How a closure is found, set by set: only the private functions and their proofs speak of this.
-use Rattle.std.specs.Prelude.{◌≡◌, ◌↔◌, List, Some, Contains, IfSome, true}
+use Rattle.std.specs.Prelude.{◌≡◌, ◌↔◌, ◌||◌, List, Some, Contains, is_some, IfSome, true}
+use Rattle.std.specs.Ordering.{is_eq}
 use Rattle.std.specs.declared.cmp.Ordering.{Ordering}
 use Rattle.std.specs.Cmp.Lexicographic.{slice_cmp}
 use Rattle.std.specs.List.Sorted.{IsStrictlySortedBy}
@@ -14,6 +15,11 @@ set_cmp cmp s t = slice_cmp cmp s.keys t.keys
 pub record AreWhole {K : Type 0} (cmp : K → K → Ordering) (steps closed : List (K × BTreeSet K)) : Type 0 where
   pub reached : (x : K) → IfSome (at cmp closed x) (λ set. (y : K) → Contains set.keys y ↔ Reaches (Leads cmp steps) x y)
   pub ordered : (x : K) → IfSome (at cmp closed x) (λ set. IsStrictlySortedBy cmp set.keys)
+
+-- the keys are those that there were, and one
+abbrev pub IsAdded : {K A : Type 0} → (K → K → Ordering) → K → List (K × A) → List (K × A) → Type 0
+IsAdded {K} cmp x before after =
+    (q : K) → is_some (at cmp after q) ≡ (is_eq (cmp q x) || is_some (at cmp before q))
 
 -- what is known for a set is what is reached from each key that leads to just that set
 pub record AreReached {K : Type 0} (cmp : K → K → Ordering) (steps : List (K × BTreeSet K)) (known : List (BTreeSet K × BTreeSet K)) : Type 0 where

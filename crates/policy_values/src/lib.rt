@@ -13,6 +13,7 @@ pub mod laws;
 mod map;
 mod name;
 mod parse;
+mod post_order;
 mod reach;
 mod readings;
 mod repeats;

@@ -53,7 +53,7 @@ pub fn least_upper_bound(
 ) -> Result<Type, LubError>
     ensures { MatchResult result (λ t. join mode a.now b.now ≡ Ok t) (λ e. IsLubError (join mode a.now b.now) e) }
 {
-    match join(alloc, a, b, mode)? {
+    match join_at_once(alloc, a, b, mode)? {
         Ok(t) => Ok(t),
         Err(help) => Err(LubError::Help(help)),
     }
@@ -82,12 +82,27 @@ fn join_list(
 {
     let mut joined = Type::never();
     for t in types {
-        match join(alloc, &joined, t, mode)? {
+        match join_at_once(alloc, &joined, t, mode)? {
             Ok(next) => joined = next,
             Err(help) => return Ok(Err(help)),
         }
     }
     Ok(Ok(joined))
+}
+
+// The join. The strict one of equal types is either, and need not be made part by part.
+fn join_at_once(
+    alloc: Global,
+    a: &Type,
+    b: &Type,
+    mode: SubtypeMode,
+) -> Result<Result<Type, LubHelp>, AllocError>
+    ensures { IfOk result (λ r. r ≡ join mode a.now b.now) }
+{
+    match mode {
+        SubtypeMode::Strict if a == b => Ok(Ok(a.try_clone(alloc)?)),
+        _ => join(alloc, a, b, mode),
+    }
 }
 
 #[cycle(join)]
