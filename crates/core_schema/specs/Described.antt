@@ -18,7 +18,13 @@ listed_in (enumerated ids) = Some ids
 
 -- a type as it is described, with the types whose entities may be ancestors of its own
 abbrev pub description_of : TypeData → List (List ℕ) → TypeDescription
-description_of t parents = record { name = t.name; eids = listed_in t.kind; attrs = attributes_in t.kind; tags = tags_in t.kind; parents = parents }
+description_of t parents = record {
+  name = t.name;
+  eids = listed_in t.kind;
+  attrs = attributes_in t.kind;
+  tags = tags_in t.kind;
+  parents = parents;
+}
 
 module _ (s : SchemaData) where
   -- the declared types whose entities may be ancestors of the type's

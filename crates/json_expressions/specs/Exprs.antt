@@ -118,4 +118,10 @@ abbrev mutual
 
 -- what the value of an object's one member is read as
 abbrev pub operands_of : Data → Operands
-operands_of d = record { one = expr_of d; all = operands_all d; first = operands_first d; behind = operands_behind d; fields = operands_fields d }
+operands_of d = record {
+  one = expr_of d;
+  all = operands_all d;
+  first = operands_first d;
+  behind = operands_behind d;
+  fields = operands_fields d;
+}

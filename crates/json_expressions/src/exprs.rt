@@ -163,7 +163,8 @@ fn read_named_form(
     value: &Value,
     key: &str,
 ) -> Result<Option<Bounded<Expr<()>>>, AllocError>
-    ensures { IfOk result (λ o. o ≡ option_map bounded (named_form_tree key.now (view value.now) (operands_of (view value.now)))) }
+    ensures { IfOk result (λ o. o ≡
+        option_map bounded (named_form_tree key.now (view value.now) (operands_of (view value.now)))) }
 {
     match form_named(key) {
         Some(form) => read_form(alloc, value, form),
@@ -177,7 +178,8 @@ fn read_form(
     value: &Value,
     form: Form,
 ) -> Result<Option<Bounded<Expr<()>>>, AllocError>
-    ensures { IfOk result (λ o. o ≡ option_map bounded (formed_tree form (view value.now) (operands_of (view value.now)))) }
+    ensures { IfOk result (λ o. o ≡
+        option_map bounded (formed_tree form (view value.now) (operands_of (view value.now)))) }
 {
     match form {
         Form::Id => read_id(alloc, value),

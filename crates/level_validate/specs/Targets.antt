@@ -15,8 +15,10 @@ target_faults_at c e fs = target_faults (option_copied c.action) c.max_level e f
 
 -- what is found in a branch of a target: one that is not reached is walked as all else
 abbrev pub branch_faults_at : Checked → Typed → List (List ℕ) → List LevelFault
-branch_faults_at c e fs = if is_reached e then target_faults_at c e fs else level_faults (option_copied c.action) c.max_level e
+branch_faults_at c e fs =
+    if is_reached e then target_faults_at c e fs else level_faults (option_copied c.action) c.max_level e
 
--- what is found in a record literal that is a target: the fields that are not asked for are walked as all else
-abbrev pub named_targets_at : Checked → Option Loc → Named (Mark (Option Ty)) → List (List ℕ) → List LevelFault
+-- what is found in a record literal that is a target: fields that are not asked for are walked as all else
+abbrev pub named_targets_at :
+    Checked → Option Loc → Named (Mark (Option Ty)) → List (List ℕ) → List LevelFault
 named_targets_at c l xs fs = named_targets (option_copied c.action) c.max_level l xs fs

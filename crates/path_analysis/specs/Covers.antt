@@ -28,5 +28,6 @@ own_path (at_path p) = with_step (p ∷ [])
 own_path a = []
 
 -- what the expression reads is added, but for the path that its result is itself
-abbrev pub AddsButOwn : SchemaData → EnvData → {A : Type 0} → Tree A → List AccessPath → List AccessPath → Type 0
+abbrev pub AddsButOwn :
+    SchemaData → EnvData → {A : Type 0} → Tree A → List AccessPath → List AccessPath → Type 0
 AddsButOwn schema env e old new = Adds old (reads schema env e) new (own_path (shape_of e))

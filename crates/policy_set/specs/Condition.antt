@@ -120,8 +120,11 @@ abbrev pub template_with : List ℕ → Effect → PrincipalOrResourceConstraint
 template_with id effect p a r whole = record { id = id; effect = effect; principal = p; action = a; resource = r; body = right_of whole }
 
 -- the template of these parts, with its body
-abbrev pub template_of : List ℕ → Effect → PrincipalOrResourceConstraint → ActionConstraint → PrincipalOrResourceConstraint → Plain → TemplateData
-template_of id effect p a r body = record { id = id; effect = effect; principal = p; action = a; resource = r; body = body }
+abbrev pub template_of :
+    List ℕ → Effect → PrincipalOrResourceConstraint → ActionConstraint → PrincipalOrResourceConstraint → Plain
+    → TemplateData
+template_of id effect p a r body =
+    record { id = id; effect = effect; principal = p; action = a; resource = r; body = body }
 
 -- the condition would be nested deeper than 400
 abbrev pub IsTooDeep : TemplateData → Type 0

@@ -143,7 +143,8 @@ IsLinkWith s template id values p =
 abbrev pub IsLinkAdded : PolicySetData → PolicySetData → List ℕ → List ℕ → List (SlotId × EntityUID) → Type 0
 IsLinkAdded old new template id values =
     (link_fault old template id values ≡ None)
-    × IsSomeAnd (template_at old template) (λ t. new ≡ with_policy (linked_policy id (slot_values values) t) old)
+    × IsSomeAnd (template_at old template)
+    (λ t. new ≡ with_policy (linked_policy id (slot_values values) t) old)
 
 -- the error is this fault, or that there is no memory
 abbrev pub IsNotAdded : Option PolicySetError → PolicySetError → Type 0

@@ -144,7 +144,9 @@ impl PolicySet {
         new_id: Text,
         values: Vec<(SlotId, EntityUID)>,
     ) -> Result<(), PolicySetError>
-        ensures answer { MatchResult result (λ _. IsLinkAdded self.old self.new template_id.now new_id values.items) (IsNotAdded (link_fault self.old template_id.now new_id values.items)) }
+        ensures answer { MatchResult result
+            (λ _. IsLinkAdded self.old self.new template_id.now new_id values.items)
+            (IsNotAdded (link_fault self.old template_id.now new_id values.items)) }
         ensures unchanged { OnErr result (self.new ≡ self.old) }
     {
         if self.is_taken(&new_id) {
@@ -163,7 +165,9 @@ impl PolicySet {
         id: Text,
         values: Vec<(SlotId, EntityUID)>,
     ) -> Result<Policy, PolicySetError>
-        ensures answer { MatchResult result (IsLinkWith self.now template_id.now id values.items) (IsNotAdded (template_fault (template_at self.now template_id.now) template_id.now values.items)) }
+        ensures answer { MatchResult result (IsLinkWith self.now template_id.now id values.items)
+            (IsNotAdded
+            (template_fault (template_at self.now template_id.now) template_id.now values.items)) }
         ensures link { IfOk result (IsLinkedIn self.now) }
     {
         let template = match self.template(template_id) {

@@ -113,7 +113,8 @@ impl Template {
     ) -> Result<Template, TemplateError>
         ensures ok { IfOk result (λ t. t ≡ template_of id effect principal action resource body) }
         ensures slot { (result ≡ Err TemplateError.SlotInCondition) ↔ (has_slot body ≡ true) }
-        ensures nested { (result ≡ Err TemplateError.Nested) ↔ ((has_slot body ≡ false) × IsTooDeep (template_of id effect principal action resource body)) }
+        ensures nested { (result ≡ Err TemplateError.Nested) ↔
+            ((has_slot body ≡ false) × IsTooDeep (template_of id effect principal action resource body)) }
     {
         match whole_condition(alloc, &principal, &action, &resource, body) {
             Ok(condition) => Ok(Template {

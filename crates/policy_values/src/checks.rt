@@ -79,7 +79,8 @@ pub fn first_not_closed<K: Key>(steps: &SharedSteps<K>) -> Option<&K>
 
 // Whether the steps from keys of the set lead into it.
 fn is_closed<K: Key>(steps: &SharedSteps<K>, next: &BTreeSet<K>) -> bool
-    ensures { MatchBool result (IsClosedUnder K.cmp steps.now.entries next.now.keys) (HasStepOut K.cmp steps.now.entries next.now.keys) }
+    ensures { MatchBool result (IsClosedUnder K.cmp steps.now.entries next.now.keys)
+        (HasStepOut K.cmp steps.now.entries next.now.keys) }
 {
     for key in next {
         if let Some(far) = steps.get(key) {

@@ -21,7 +21,8 @@ IsCause r old new = Unit {0}
 abbrev pub PutsIfAny : BTreeMap (List ℕ) Val → BTreeMap (List ℕ) Val → List ℕ → Option Val → Type 0
 PutsIfAny old new key value =
     (k : List ℕ) →
-    get text_cmp new k ≡ (if is_eq (text_cmp key k) then option_or value (get text_cmp old k) else get text_cmp old k)
+    get text_cmp new k ≡
+    (if is_eq (text_cmp key k) then option_or value (get text_cmp old k) else get text_cmp old k)
 
 -- of the ids, those that are ancestors of the entity in the store of the tables
 pub record AreFound (t : Tables) (u : EntityUID) (ids found : List EntityUID) : Type 0 where

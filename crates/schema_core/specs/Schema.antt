@@ -103,7 +103,8 @@ module _ (s : SchemaData) where
   abbrev pub AreActionsInSet : List EntityUID → BTreeSet EntityUID → Type 0
   AreActionsInSet uids actions =
       ((u : EntityUID) → Contains uids u → IsDeclaredAction u)
-      × ((q : EntityUID) → Contains actions.keys q ↔ (Contains uids q ⊎ ((u : EntityUID) × Contains uids u × HasActionDescendant u q)))
+      × ((q : EntityUID) → Contains actions.keys q ↔
+      (Contains uids q ⊎ ((u : EntityUID) × Contains uids u × HasActionDescendant u q)))
 
   -- the same, as tests: the type, the action, is among the descendants of the other
   abbrev pub type_below : List ℕ → List ℕ → Bool

@@ -20,7 +20,8 @@ pub fn schema_parts(
     action_ids: Vec<ValidatorActionId>,
 ) -> Result<SchemaParts, SchemaFault>
     requires { IsOnce (map (λ t. t.name) entity_types.items) }
-    ensures { MatchResult result (λ parts. IsSchemaOfData (made_of entity_types.items action_ids.items) (made_of parts.0.items parts.1.items))
+    ensures { MatchResult result
+        (λ p. IsSchemaOfData (made_of entity_types.items action_ids.items) (made_of p.0.items p.1.items))
         (IsRefusedData (made_of entity_types.items action_ids.items)) }
 {
     let ids = ids_of(alloc, &action_ids)?;

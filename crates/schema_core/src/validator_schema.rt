@@ -62,7 +62,8 @@ impl ValidatorSchema {
         action_ids: Vec<ValidatorActionId>,
     ) -> Result<ValidatorSchema, SchemaFault>
         requires { IsOnce (map (λ t. t.name) entity_types.items) }
-        ensures { MatchResult result (IsSchemaOfData (made_of entity_types.items action_ids.items)) (IsRefusedData (made_of entity_types.items action_ids.items)) }
+        ensures { MatchResult result (IsSchemaOfData (made_of entity_types.items action_ids.items))
+            (IsRefusedData (made_of entity_types.items action_ids.items)) }
     {
         match schema_parts(alloc, entity_types, action_ids) {
             Ok((entity_types, action_ids)) => Ok(ValidatorSchema {
@@ -183,7 +184,8 @@ impl ValidatorSchema {
         alloc: Global,
         uids: &[EntityUID],
     ) -> Result<Option<BTreeSet<EntityUID>>, AllocError>
-        ensures actions { IfOk result (λ found. MatchOption found (HasUndeclaredAction self.now uids.now) (AreActionsInSet self.now uids.now)) }
+        ensures actions { IfOk result (λ found.
+            MatchOption found (HasUndeclaredAction self.now uids.now) (AreActionsInSet self.now uids.now)) }
         ensures ascending { IfOk result (λ found. IfSome found (IsOrdered uid_cmp)) }
     {
         let mut actions = BTreeSet::new(alloc);

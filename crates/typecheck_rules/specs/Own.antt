@@ -116,7 +116,8 @@ binary_found schema o known k type l r m t u = []
 
 -- an attribute that is not declared
 abbrev pub undeclared_found : SchemaData → AttributeAccess → List ℕ → Option Loc → Ty → List Finding
-undeclared_found schema access n l t = one (UnsafeAttributeAccess access (may_have (declared_attributes schema) t n)) l
+undeclared_found schema access n l t =
+    one (UnsafeAttributeAccess access (may_have (declared_attributes schema) t n)) l
 
 -- `.`: an attribute that is not declared, or that may be absent
 abbrev pub attribute_found : SchemaData → AttributeAccess → Bool → List ℕ → Option Loc → Ty → Option AttributeType → List Finding
@@ -139,7 +140,8 @@ text_found f l (Some text) = one (unreadable f text) l
 
 -- a call of another number of arguments
 abbrev pub count_found : {A : Type 0} → ExtensionFunction → Trees A → Option Loc → List Finding
-count_found f xs l = if_not (has_count f xs) (one (WrongNumberArguments (length (signature_of f).arguments) (count_of xs)) l)
+count_found f xs l =
+    if_not (has_count f xs) (one (WrongNumberArguments (length (signature_of f).arguments) (count_of xs)) l)
 
 -- a call, before its arguments are looked at: their number, a text that can't be read, arguments of a constructor that are no literals
 abbrev pub call_found : {A : Type 0} → ExtensionFunction → Trees A → Option Loc → List Finding

@@ -192,7 +192,9 @@ pub fn undeclared_found(
     n: &Text,
     loc: Option<Loc>,
 ) -> Result<Vec<Finding>, AllocError>
-    ensures { IfOk result (λ r. findings_from r.items ≡ own.undeclared_found schema.now (access.attribute_access (env_data_of env.now) tree.now n.now) n.now loc t.now) }
+    ensures { IfOk result (λ r. findings_from r.items ≡
+        own.undeclared_found schema.now (access.attribute_access (env_data_of env.now) tree.now n.now)
+        n.now loc t.now) }
 {
     let access = AttributeAccess::from_expr(alloc, env, tree, n.try_clone()?)?;
     let may_exist = may_have_attr(schema, t, n);

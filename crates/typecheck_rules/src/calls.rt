@@ -205,7 +205,8 @@ fn count_found(
     arguments: &[Expr<()>],
     loc: Option<Loc>,
 ) -> Result<Vec<Finding>, AllocError>
-    ensures { IfOk result (λ r. findings_from r.items ≡ own.count_found f.entry.function (trees_of arguments.now) loc) }
+    ensures { IfOk result (λ r. findings_from r.items ≡
+        own.count_found f.entry.function (trees_of arguments.now) loc) }
 {
     if has_count(f, arguments) {
         Ok(Vec::new(alloc))

@@ -22,7 +22,8 @@ use Rattle.typecheck_walk.specs.declared.conditional.Chosen.{Chosen}
 
 -- the walk through the first branch, with what the test makes known, unless that failed
 abbrev pub first_branch_walked : SchemaData → EnvData → List Capability → Walked → Plain → Walked
-first_branch_walked schema env cs u y = reached_after u (λ ds. walked schema env (cs ++ ds) y) (walked schema env cs y)
+first_branch_walked schema env cs u y =
+    reached_after u (λ ds. walked schema env (cs ++ ds) y) (walked schema env cs y)
 
 -- a test taken apart: one that lends no type is one of which nothing is known
 pub record Tested : Type 0 where

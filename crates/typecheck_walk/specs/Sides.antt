@@ -20,7 +20,8 @@ use Rattle.typecheck_walk.specs.declared.sides.Own.{Own}
 
 -- the walk through the right side of `&&`, with what the left side makes known, unless that failed
 abbrev pub right_side_walked : SchemaData → EnvData → List Capability → Walked → Plain → Walked
-right_side_walked schema env cs v y = reached_after v (λ ds. tested schema env (cs ++ ds) y) (tested schema env cs y)
+right_side_walked schema env cs v y =
+    reached_after v (λ ds. tested schema env (cs ++ ds) y) (tested schema env cs y)
 
 abbrev pub own : Ty → List Capability → Bool → Own
 own t cs b = record { of = t; caps = cs; is_reached = b }

@@ -140,4 +140,6 @@ module _ {A : Type 0} where
   -- the type of a call, by the function of its name, where there is one, its arguments and their types
   abbrev pub call_type : Option ExtensionFunction → Trees A → List Ty → Option Ty
   call_type None xs ts = None
-  call_type (Some f) xs ts = if is_formed f xs && same_types ts (signature_of f).arguments then Some (signature_of f).result else None
+  call_type (Some f) xs ts =
+      if is_formed f xs && same_types ts (signature_of f).arguments
+      then Some (signature_of f).result else None
