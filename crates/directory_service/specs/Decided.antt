@@ -7,9 +7,10 @@ use Rattle.byte_streams.specs.State.{SinkState}
 use Rattle.directory.specs.Accepted.{IsAccepted}
 use Rattle.directory.specs.Attempts.{OfStore}
 use Rattle.directory.specs.Lines.{IsLineOn}
-use Rattle.entity_rows.specs.Table.{Continues}
-use Rattle.entity_store.specs.Store.{Store}
+use Rattle.entity_rows.specs.Rows.{told_store}
+use Rattle.entity_rows.specs.Table.{IsReady, Continues}
 use Rattle.json_document.specs.declared.document.Document.{Document}
+use Rattle.sqlite.specs.State.{State}
 use Rattle.directory_service.specs.Documents.{IsReading}
 use Rattle.directory_service.specs.Run.{IsRefusal}
 use Rattle.directory_service.specs.declared.reply.Reply.{Reply}
@@ -23,10 +24,13 @@ abbrev pub IsReadFirst : Option (List ℕ) → Option (List ℕ) → Result Docu
 IsReadFirst left rest (Ok d) = IsFirst left rest d
 IsReadFirst left rest (Err r) = IsRefusal r
 
--- Each line that is left has its answer, by a store that is told at the end, and was told at the beginning: where
--- it is in order and conforms to the document's schema, the lines on the responses on it, or on faults.
-abbrev pub AreDecided : Document → Option Store → Option Store → Option (List ℕ) → SinkState → SinkState → Type 0
-AreDecided d first last left sink sink' = Continues first last × OfStore d.schema last (λ w. (faults : ℕ)
+-- Each line that is left has its answer, by the store of the rows that are told at the end, and were told at
+-- the beginning: where it is in order and conforms to the document's schema, the lines on the responses on
+-- it, or on faults. The database can be used again.
+abbrev pub AreDecided : Document → State → State → Option (List ℕ) → SinkState → SinkState → Type 0
+AreDecided d first last left sink sink' =
+    IsReady last × Continues (told_store first) (told_store last)
+    × OfStore d.schema (told_store last) (λ w. (faults : ℕ)
     × AreAnswered (IsLineOn d.schema d.policies.policies w) 0 faults left sink.holds sink'.holds ended.Done)
 
 -- the first line is a document whose policies are accepted

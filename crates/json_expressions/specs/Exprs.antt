@@ -115,3 +115,13 @@ abbrev mutual
   expr_of_members (member k d no_members) = named_form_tree k d (record { one = expr_of d; all = operands_all d; first = operands_first d; behind = operands_behind d; fields = operands_fields d })
   expr_of_members (member k d (member l e no_members)) = placed_tree k d l (expr_of e)
   expr_of_members (member k d (member l e (member m f ms))) = None
+
+-- what the value of an object's one member is read as
+abbrev pub operands_of : Data → Operands
+operands_of d = record {
+  one = expr_of d;
+  all = operands_all d;
+  first = operands_first d;
+  behind = operands_behind d;
+  fields = operands_fields d;
+}

@@ -6,7 +6,7 @@ ghost use Rattle.policy_expressions.specs.Tree.{lit};
 ghost use Rattle.json_expressions.specs.Forms.{call_tree, get_tree, has_tree, id_tree, in_turn, like_tree, listed_tree, long_tree, of_one, placed, record_tree, set_tree, type_test_tree, unary_tree, unmarked, var_tree};
 ghost use Rattle.json_expressions.specs.Parts.{called_name_of, attr_names_of, pattern_of, tested_type_of};
 ghost use Rattle.json_expressions.specs.Reads.{bounded, bounded_field};
-ghost use Rattle.json_expressions.specs.Exprs.{expr_of, expr_of_members, exprs_of, first_expr_of, formed_tree, named_exprs_of, named_form_tree, named_tree, operands_all, operands_fields, operands_behind, operands_first, is_place, placed_tree, with_part};
+ghost use Rattle.json_expressions.specs.Exprs.{expr_of, expr_of_members, exprs_of, first_expr_of, formed_tree, named_exprs_of, named_form_tree, named_tree, operands_all, operands_fields, operands_behind, operands_first, operands_of, is_place, placed_tree, with_part};
 
 use crate::forms::{Form, ListForm, form_named, var_named};
 use crate::nesting::Bounded;
@@ -163,7 +163,8 @@ fn read_named_form(
     value: &Value,
     key: &str,
 ) -> Result<Option<Bounded<Expr<()>>>, AllocError>
-    ensures { IfOk result (λ o. o ≡ option_map bounded (named_form_tree key.now (view value.now) (record { one = expr_of (view value.now); all = operands_all (view value.now); first = operands_first (view value.now); behind = operands_behind (view value.now); fields = operands_fields (view value.now) }))) }
+    ensures { IfOk result (λ o. o ≡
+        option_map bounded (named_form_tree key.now (view value.now) (operands_of (view value.now)))) }
 {
     match form_named(key) {
         Some(form) => read_form(alloc, value, form),
@@ -177,7 +178,8 @@ fn read_form(
     value: &Value,
     form: Form,
 ) -> Result<Option<Bounded<Expr<()>>>, AllocError>
-    ensures { IfOk result (λ o. o ≡ option_map bounded (formed_tree form (view value.now) (record { one = expr_of (view value.now); all = operands_all (view value.now); first = operands_first (view value.now); behind = operands_behind (view value.now); fields = operands_fields (view value.now) }))) }
+    ensures { IfOk result (λ o. o ≡
+        option_map bounded (formed_tree form (view value.now) (operands_of (view value.now)))) }
 {
     match form {
         Form::Id => read_id(alloc, value),

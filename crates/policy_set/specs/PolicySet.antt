@@ -133,6 +133,19 @@ template_fault (Some t) id values = slot_fault t values
 abbrev pub link_fault : PolicySetData → List ℕ → List ℕ → List (SlotId × EntityUID) → Option PolicySetError
 link_fault s template id values = option_or (id_fault s id) (template_fault (template_at s template) template values)
 
+-- the policy is the link under the id of a template of the set that can be linked with what is given
+abbrev pub IsLinkWith : PolicySetData → List ℕ → List ℕ → List (SlotId × EntityUID) → PolicyData → Type 0
+IsLinkWith s template id values p =
+    (template_fault (template_at s template) template values ≡ None)
+    × IsSomeAnd (template_at s template) (λ t. p ≡ linked_policy id (slot_values values) t)
+
+-- nothing stands against the link under the id, and the new set is the old one with it
+abbrev pub IsLinkAdded : PolicySetData → PolicySetData → List ℕ → List ℕ → List (SlotId × EntityUID) → Type 0
+IsLinkAdded old new template id values =
+    (link_fault old template id values ≡ None)
+    × IsSomeAnd (template_at old template)
+    (λ t. new ≡ with_policy (linked_policy id (slot_values values) t) old)
+
 -- the error is this fault, or that there is no memory
 abbrev pub IsNotAdded : Option PolicySetError → PolicySetError → Type 0
 IsNotAdded fault OutOfMemory = ⊤

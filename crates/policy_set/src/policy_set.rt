@@ -84,7 +84,7 @@ pub enum RemovalError<'a> {
 }
 
 impl PolicySet {
-    ghost use Rattle.std.specs.Prelude.{◌≡◌, IsTrue, false, [], length, map, OnErr, MatchResult, None, IfOk, IfErr, OnOk, IsSomeAnd};
+    ghost use Rattle.std.specs.Prelude.{◌≡◌, IsTrue, false, [], length, map, OnErr, MatchResult, None, IfOk, IfErr, OnOk};
     ghost use Rattle.std.specs.Option.{option_copied};
     ghost use Rattle.std.specs.List.{AllByRecursion};
     ghost use Rattle.std.specs.List.Sorted.{IsStrictlySortedBy};
@@ -92,9 +92,8 @@ impl PolicySet {
     ghost use Rattle.policy_values.specs.Uid.{text_cmp};
     ghost use Rattle.policy_set.specs.Data.{TemplateData, PolicyData};
     ghost use Rattle.policy_set.specs.Condition.{IsPolicy, has_scope_slot, static_of};
-    ghost use Rattle.policy_set.specs.Links.{linked_policy};
     ghost use Rattle.policy_set.specs.Removal.{is_linked, removal_fault, without, IsNotRemoved};
-    ghost use Rattle.policy_set.specs.PolicySet.{template_at, policy_at, is_taken, with_template, with_policy, written, links, id_fault, link_fault, template_fault, slot_values, IsNotAdded, IsToLink, IsLinkedIn};
+    ghost use Rattle.policy_set.specs.PolicySet.{template_at, policy_at, is_taken, with_template, with_policy, written, links, id_fault, link_fault, template_fault, IsLinkWith, IsLinkAdded, IsNotAdded, IsToLink, IsLinkedIn};
 
     /// A set without templates and policies.
     pub fn new(alloc: Global) -> PolicySet
@@ -145,7 +144,9 @@ impl PolicySet {
         new_id: Text,
         values: Vec<(SlotId, EntityUID)>,
     ) -> Result<(), PolicySetError>
-        ensures answer { MatchResult result (λ _. (link_fault self.old template_id.now new_id values.items ≡ None) × IsSomeAnd (template_at self.old template_id.now) (λ t. self.new ≡ with_policy (linked_policy new_id (slot_values values.items) t) self.old)) (IsNotAdded (link_fault self.old template_id.now new_id values.items)) }
+        ensures answer { MatchResult result
+            (λ _. IsLinkAdded self.old self.new template_id.now new_id values.items)
+            (IsNotAdded (link_fault self.old template_id.now new_id values.items)) }
         ensures unchanged { OnErr result (self.new ≡ self.old) }
     {
         if self.is_taken(&new_id) {
@@ -164,7 +165,9 @@ impl PolicySet {
         id: Text,
         values: Vec<(SlotId, EntityUID)>,
     ) -> Result<Policy, PolicySetError>
-        ensures answer { MatchResult result (λ p. (template_fault (template_at self.now template_id.now) template_id.now values.items ≡ None) × IsSomeAnd (template_at self.now template_id.now) (λ t. p ≡ linked_policy id (slot_values values.items) t)) (IsNotAdded (template_fault (template_at self.now template_id.now) template_id.now values.items)) }
+        ensures answer { MatchResult result (IsLinkWith self.now template_id.now id values.items)
+            (IsNotAdded
+            (template_fault (template_at self.now template_id.now) template_id.now values.items)) }
         ensures link { IfOk result (IsLinkedIn self.now) }
     {
         let template = match self.template(template_id) {

@@ -1,10 +1,10 @@
 //! Templates: policies as they are written, a scope and a body, which make one condition.
 
-ghost use Rattle.std.specs.Prelude.{◌≡◌, ◌↔◌, ◌<◌, ◌≤◌, true, false, IfOk, Err};
+ghost use Rattle.std.specs.Prelude.{◌≡◌, ◌↔◌, ◌≤◌, true, false, IfOk, Err};
 ghost use Rattle.policy_expressions.specs.Tree.{depth_of};
 ghost use Rattle.policy_expressions.specs.Slots.{has_slot};
 ghost use Rattle.policy_set.specs.Data.{TemplateData};
-ghost use Rattle.policy_set.specs.Condition.{condition_of, has_scope_slot};
+ghost use Rattle.policy_set.specs.Condition.{condition_of, has_scope_slot, template_of, IsTooDeep};
 ghost use Rattle.policy_set.specs.Links.{linked_of, own_condition};
 
 use crate::{ActionConstraint, Effect, EntityReference, PrincipalOrResourceConstraint};
@@ -111,9 +111,10 @@ impl Template {
         resource: PrincipalOrResourceConstraint,
         body: Expr<()>,
     ) -> Result<Template, TemplateError>
-        ensures ok { IfOk result (λ t. t ≡ record { id = id; effect = effect; principal = principal; action = action; resource = resource; body = body }) }
+        ensures ok { IfOk result (λ t. t ≡ template_of id effect principal action resource body) }
         ensures slot { (result ≡ Err TemplateError.SlotInCondition) ↔ (has_slot body ≡ true) }
-        ensures nested { (result ≡ Err TemplateError.Nested) ↔ ((has_slot body ≡ false) × (400 < depth_of (condition_of record { id = id; effect = effect; principal = principal; action = action; resource = resource; body = body }))) }
+        ensures nested { (result ≡ Err TemplateError.Nested) ↔
+            ((has_slot body ≡ false) × IsTooDeep (template_of id effect principal action resource body)) }
     {
         match whole_condition(alloc, &principal, &action, &resource, body) {
             Ok(condition) => Ok(Template {

@@ -35,3 +35,12 @@ pub record IsStart {K : Type 0} (cmp : K → K → Ordering) (steps : List (K ×
   pub ordered : IsStrictlySortedBy cmp keys
   pub reached : (q : K) → has cmp keys q ≡ true → Reaches (Leads cmp steps) from q
   pub closed : (x q : K) → has cmp keys x ≡ true → leads cmp steps x q ≡ true → has cmp keys q ≡ true
+
+module _ {K : Type 0} (cmp : K → K → Ordering) (steps : List (K × BTreeSet K)) (keys : List K) where
+  -- no step leads out of the keys
+  abbrev pub IsClosedUnder : Type 0
+  IsClosedUnder = (y z : K) → Contains keys y → Leads cmp steps y z → Contains keys z
+
+  -- a step leads out of the keys
+  abbrev pub HasStepOut : Type 0
+  HasStepOut = (y : K) × (z : K) × Contains keys y × Leads cmp steps y z × (¬ Contains keys z)

@@ -4,6 +4,7 @@ ghost use Rattle.std.specs.Option.{option_copied};
 ghost use Rattle.std.specs.BTreeMap.{get};
 ghost use Rattle.policy_values.specs.Reaches.{Leads, IsUnlisted, IsOutside, IsNotClosed};
 ghost use Rattle.policy_values.specs.Least.{IsLeastIfAny, lower_of};
+ghost use Rattle.policy_values.specs.ClosureSteps.{IsClosedUnder, HasStepOut};
 
 use crate::{Key, SharedSet, SharedSteps};
 use std::collections::{BTreeMap, BTreeSet};
@@ -78,8 +79,8 @@ pub fn first_not_closed<K: Key>(steps: &SharedSteps<K>) -> Option<&K>
 
 // Whether the steps from keys of the set lead into it.
 fn is_closed<K: Key>(steps: &SharedSteps<K>, next: &BTreeSet<K>) -> bool
-    ensures { MatchBool result ((y z : K) → Contains next.now.keys y → Leads K.cmp steps.now.entries y z → Contains next.now.keys z)
-        ((y : K) × (z : K) × Contains next.now.keys y × Leads K.cmp steps.now.entries y z × (¬ Contains next.now.keys z)) }
+    ensures { MatchBool result (IsClosedUnder K.cmp steps.now.entries next.now.keys)
+        (HasStepOut K.cmp steps.now.entries next.now.keys) }
 {
     for key in next {
         if let Some(far) = steps.get(key) {

@@ -8,9 +8,9 @@ ghost use Rattle.reads_spec.specs.Among.{IsIn};
 ghost use Rattle.entity_manifest.specs.Rules.{KeepRules};
 ghost use Rattle.manifest_loading.specs.declared.error.EntitySliceError.TheVariants.{OutOfMemory};
 ghost use Rattle.entity_manifest.specs.Loaded.{AreDecidedAlike};
-ghost use Rattle.principal_listing.specs.Allowed.{passed_over, is_allow, is_allowed};
+ghost use Rattle.principal_listing.specs.Allowed.{passed_over, is_allow};
 ghost use Rattle.principal_listing.specs.Pages.{comes_after};
-ghost use Rattle.principal_listing.specs.Ready.{IsReady, takes, is_candidate};
+ghost use Rattle.principal_listing.specs.Ready.{IsReady, takes, is_candidate, is_listed_after};
 
 use crate::laws::candidates_keep_rules;
 use crate::scopes::some_lets_in;
@@ -53,9 +53,8 @@ pub(crate) fn is_listed<L: Ledger>(
 ) -> Result<bool, AllocError>
     requires ready { IsReady listing.now (passed_over asked.old) }
     requires entity { IsIn entity.now listing.now.entities.now }
-    ensures listed { IfOk result (λ b. b ≡ (comes_after (option_copied after.entry) entity.now.uid
-        && is_allowed listing.now.schema.now listing.now.policies.now.policies asked.old
-        listing.now.entities.now entity.now.uid)) }
+    ensures listed { IfOk result (λ b. b ≡
+        is_listed_after listing.now asked.old (option_copied after.entry) entity.now.uid) }
     ensures asked { passed_over asked.new ≡ passed_over asked.old }
 {
     candidates_keep_rules();

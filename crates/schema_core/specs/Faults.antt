@@ -1,5 +1,5 @@
 -- What a schema keeps, and why there is none: the first rule that is broken, with the least name that breaks it.
-use Rattle.std.specs.Prelude.{⊤, List, All, map}
+use Rattle.std.specs.Prelude.{◌≡◌, ⊤, List, All, map}
 use Rattle.std.specs.List.Sorted.{IsStrictlySortedBy}
 use Rattle.policy_values.specs.declared.entity_uid.EntityUID.{EntityUID}
 use Rattle.policy_values.specs.Uid.{text_cmp, uid_cmp}
@@ -64,6 +64,10 @@ action_ids_of s = map (λ a. a.name) s.action_ids
 -- the rules before those about descendants are kept
 abbrev pub HasOnceNamed : SchemaData → Type 0
 HasOnceNamed s = IsOnce (action_ids_of s) × HasSoundNames (outline_of s)
+
+-- the schema keeps every rule, and declares and lists what these types and actions do
+abbrev pub IsSchemaOfData : SchemaData → SchemaData → Type 0
+IsSchemaOfData given s = IsSchema s × (outline_of s ≡ outline_of given)
 
 -- why these types and actions are no schema
 abbrev pub IsRefusedData : SchemaData → SchemaFault → Type 0

@@ -1,6 +1,7 @@
 -- A schema as plain data: entity types and actions, each in ascending order of its names.
-use Rattle.std.specs.Prelude.{◌⊎◌, ℕ, Bool, false, List, Option, IsSome, IsTrue, IsSomeAnd, Contains, find, refl}
+use Rattle.std.specs.Prelude.{◌↔◌, ◌⊎◌, ℕ, Bool, false, List, Option, IsSome, IsTrue, IsSomeAnd, Contains, find, refl}
 use Rattle.std.specs.Coded.{Coded, coded×, coded_ℕ, coded_list, code_by}
+use Rattle.std.specs.BTreeSet.{BTreeSet}
 use Rattle.std.specs.Ordering.{is_eq}
 use Rattle.std.specs.Option.{option_map_or}
 use Rattle.policy_values.specs.Reaches.{has}
@@ -93,6 +94,17 @@ module _ (s : SchemaData) where
   -- the action `below` is in the action `uid`
   abbrev pub HasActionDescendant : EntityUID → EntityUID → Type 0
   HasActionDescendant uid below = IsSomeAnd (action_at uid) (λ a. Contains a.descendants below)
+
+  -- one of the actions is not declared
+  abbrev pub HasUndeclaredAction : List EntityUID → Type 0
+  HasUndeclaredAction uids = (u : EntityUID) × Contains uids u × (¬ IsDeclaredAction u)
+
+  -- the actions are declared, and the set has exactly them and their descendants
+  abbrev pub AreActionsInSet : List EntityUID → BTreeSet EntityUID → Type 0
+  AreActionsInSet uids actions =
+      ((u : EntityUID) → Contains uids u → IsDeclaredAction u)
+      × ((q : EntityUID) → Contains actions.keys q ↔
+      (Contains uids q ⊎ ((u : EntityUID) × Contains uids u × HasActionDescendant u q)))
 
   -- the same, as tests: the type, the action, is among the descendants of the other
   abbrev pub type_below : List ℕ → List ℕ → Bool

@@ -2,8 +2,8 @@
 
 ghost use Rattle.std.specs.Prelude.{◌≡◌, map, IfOk, MatchResult};
 ghost use Rattle.schema_core.specs.Schema.{made_of};
-ghost use Rattle.schema_core.specs.Outline.{outline_of, HasSoundNames, HasDescendants};
-ghost use Rattle.schema_core.specs.Faults.{IsOnce, IsSchema, IsRefusedData};
+ghost use Rattle.schema_core.specs.Outline.{HasSoundNames, HasDescendants};
+ghost use Rattle.schema_core.specs.Faults.{IsOnce, IsSchemaOfData, IsRefusedData};
 ghost use Rattle.schema_core.specs.Declarations.{IsSchemaOf, IsRefused};
 ghost use Rattle.schema_core.specs.Listing.{listed_outline, IsListing};
 
@@ -20,7 +20,8 @@ pub fn schema_parts(
     action_ids: Vec<ValidatorActionId>,
 ) -> Result<SchemaParts, SchemaFault>
     requires { IsOnce (map (λ t. t.name) entity_types.items) }
-    ensures { MatchResult result (λ parts. IsSchema (made_of parts.0.items parts.1.items) × (outline_of (made_of parts.0.items parts.1.items) ≡ outline_of (made_of entity_types.items action_ids.items)))
+    ensures { MatchResult result
+        (λ p. IsSchemaOfData (made_of entity_types.items action_ids.items) (made_of p.0.items p.1.items))
         (IsRefusedData (made_of entity_types.items action_ids.items)) }
 {
     let ids = ids_of(alloc, &action_ids)?;

@@ -48,9 +48,8 @@ ghost use Rattle.std.specs.Option.{option_copied};
 ghost use Rattle.std.specs.BTreeSet.{IsOrdered};
 ghost use Rattle.policy_values.specs.declared.entity_uid.EntityUID.{EntityUID};
 ghost use Rattle.policy_values.specs.Uid.{text_cmp, uid_cmp};
-ghost use Rattle.schema_core.specs.Schema.{SchemaData, type_at, action_at, IsKnownType, IsDeclaredAction, HasTypeDescendant, HasActionDescendant};
-ghost use Rattle.schema_core.specs.Outline.{outline_of};
-ghost use Rattle.schema_core.specs.Faults.{IsOnce, IsSchema, IsRefusedData};
+ghost use Rattle.schema_core.specs.Schema.{made_of, type_at, action_at, IsKnownType, IsDeclaredAction, HasTypeDescendant, HasActionDescendant, HasUndeclaredAction, AreActionsInSet};
+ghost use Rattle.schema_core.specs.Faults.{IsOnce, IsSchema, IsSchemaOfData, IsRefusedData};
 ghost use Rattle.schema_core.specs.Declarations.{IsSchemaOf, IsRefused};
 ghost use Rattle.schema_core.specs.EnvData.{unlinked_envs};
 ghost use Rattle.schema_core.specs.RequestEnvs.{env_data_of};
@@ -63,8 +62,8 @@ impl ValidatorSchema {
         action_ids: Vec<ValidatorActionId>,
     ) -> Result<ValidatorSchema, SchemaFault>
         requires { IsOnce (map (λ t. t.name) entity_types.items) }
-        ensures { let given : SchemaData = record { entity_types = entity_types.items; action_ids = action_ids.items } in
-            MatchResult result (λ schema. IsSchema schema × (outline_of schema ≡ outline_of given)) (IsRefusedData given) }
+        ensures { MatchResult result (IsSchemaOfData (made_of entity_types.items action_ids.items))
+            (IsRefusedData (made_of entity_types.items action_ids.items)) }
     {
         match schema_parts(alloc, entity_types, action_ids) {
             Ok((entity_types, action_ids)) => Ok(ValidatorSchema {
@@ -185,9 +184,8 @@ impl ValidatorSchema {
         alloc: Global,
         uids: &[EntityUID],
     ) -> Result<Option<BTreeSet<EntityUID>>, AllocError>
-        ensures actions { IfOk result (λ found. MatchOption found
-            ((u : EntityUID) × Contains uids.now u × (¬ IsDeclaredAction self.now u))
-            (λ actions. ((u : EntityUID) → Contains uids.now u → IsDeclaredAction self.now u) × ((q : EntityUID) → Contains actions.keys q ↔ (Contains uids.now q ⊎ ((u : EntityUID) × Contains uids.now u × HasActionDescendant self.now u q))))) }
+        ensures actions { IfOk result (λ found.
+            MatchOption found (HasUndeclaredAction self.now uids.now) (AreActionsInSet self.now uids.now)) }
         ensures ascending { IfOk result (λ found. IfSome found (IsOrdered uid_cmp)) }
     {
         let mut actions = BTreeSet::new(alloc);

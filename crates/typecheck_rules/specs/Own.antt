@@ -114,9 +114,14 @@ binary_found schema ContainsAny known k type l r m t u = of_both (no_join contex
 binary_found schema GetTag known k type l r m t u = option_map_or (tag_found schema known k m) t []
 binary_found schema o known k type l r m t u = []
 
+-- an attribute that is not declared
+abbrev pub undeclared_found : SchemaData → AttributeAccess → List ℕ → Option Loc → Ty → List Finding
+undeclared_found schema access n l t =
+    one (UnsafeAttributeAccess access (may_have (declared_attributes schema) t n)) l
+
 -- `.`: an attribute that is not declared, or that may be absent
 abbrev pub attribute_found : SchemaData → AttributeAccess → Bool → List ℕ → Option Loc → Ty → Option AttributeType → List Finding
-attribute_found schema access known n l t None = one (UnsafeAttributeAccess access (may_have (declared_attributes schema) t n)) l
+attribute_found schema access known n l t None = undeclared_found schema access n l t
 attribute_found schema access known n l t (Some a) = if_none (safe_type known a) (one (UnsafeOptionalAttributeAccess access) l)
 
 -- a set literal: without elements, or without a join of their types, where each has one
@@ -133,9 +138,14 @@ abbrev pub text_found : ExtensionFunction → Option Loc → Option (List ℕ) �
 text_found f l None = []
 text_found f l (Some text) = one (unreadable f text) l
 
+-- a call of another number of arguments
+abbrev pub count_found : {A : Type 0} → ExtensionFunction → Trees A → Option Loc → List Finding
+count_found f xs l =
+    if_not (has_count f xs) (one (WrongNumberArguments (length (signature_of f).arguments) (count_of xs)) l)
+
 -- a call, before its arguments are looked at: their number, a text that can't be read, arguments of a constructor that are no literals
 abbrev pub call_found : {A : Type 0} → ExtensionFunction → Trees A → Option Loc → List Finding
 call_found f xs l =
-    if_not (has_count f xs) (one (WrongNumberArguments (length (signature_of f).arguments) (count_of xs)) l) ++
+    count_found f xs l ++
     (if_not (has_readable f xs) (text_found f l (only_text xs)) ++
     if_not (has_literals f xs) (one NonLitExtConstructor l))

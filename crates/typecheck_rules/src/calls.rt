@@ -1,11 +1,11 @@
 //! Calls of extension functions.
 
-ghost use Rattle.std.specs.Prelude.{◌≡◌, ◌&&◌, ℕ, List, IfOk, Some, length, option_map};
+ghost use Rattle.std.specs.Prelude.{◌≡◌, ℕ, List, IfOk, Some, option_map};
 ghost use Rattle.std.specs.Coded.{Coded-set, coded_list};
 ghost use Rattle.schema_types.specs.TyCode.{coded_ty};
 ghost use Rattle.policy_expressions.specs.Functions.{function_of};
 ghost use Rattle.policy_expressions.specs.Tree.{trees_of};
-ghost use Rattle.typing_spec.specs.Signatures.{signature_of, is_constructor, are_literals, is_literal, same_types, has_count, has_literals, has_readable, only_text, count_of};
+ghost use Rattle.typing_spec.specs.Signatures.{signature_of, is_constructor, are_literals, is_literal, same_types, has_count, has_literals, has_readable, is_formed, only_text};
 ghost use Rattle.typing_spec.specs.Signatures as definition;
 ghost use Rattle.typing_spec.specs.Table.{check_of, function_at, typed};
 ghost use Rattle.findings.specs.Finding as finding;
@@ -92,7 +92,7 @@ fn is_formed(
     f: CalledFunction<'_>,
     arguments: &[Expr<()>],
 ) -> Result<bool, AllocError>
-    ensures { IfOk result (λ b. b ≡ (has_count f.entry.function (trees_of arguments.now) && (has_literals f.entry.function (trees_of arguments.now) && has_readable f.entry.function (trees_of arguments.now)))) }
+    ensures { IfOk result (λ b. b ≡ is_formed f.entry.function (trees_of arguments.now)) }
 {
     if has_count(f, arguments) && has_literals(f.function, arguments) {
         has_readable(alloc, f, arguments)
@@ -205,7 +205,8 @@ fn count_found(
     arguments: &[Expr<()>],
     loc: Option<Loc>,
 ) -> Result<Vec<Finding>, AllocError>
-    ensures { IfOk result (λ r. findings_from r.items ≡ if_not (has_count f.entry.function (trees_of arguments.now)) (walked.one (finding.WrongNumberArguments (length (signature_of f.entry.function).arguments) (count_of (trees_of arguments.now))) loc)) }
+    ensures { IfOk result (λ r. findings_from r.items ≡
+        own.count_found f.entry.function (trees_of arguments.now) loc) }
 {
     if has_count(f, arguments) {
         Ok(Vec::new(alloc))

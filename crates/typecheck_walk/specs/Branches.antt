@@ -1,20 +1,29 @@
 -- `if`, by its test and its branches taken apart.
 use Rattle.std.specs.Prelude.{Bool, true, false, ◌&&◌, List, ◌++◌, Option, None, option_map}
 use Rattle.std.specs.Option.{option_and_then}
+use Rattle.schema_core.specs.Schema.{SchemaData}
+use Rattle.schema_core.specs.EnvData.{EnvData}
 use Rattle.schema_types.specs.declared.kinds.Primitive.TheVariants.{Bool as BoolType}
 use Rattle.schema_types.specs.Ty.{Ty, true_type, false_type, primitive}
 use Rattle.typing_spec.specs.Capability.{Capability, common}
+use Rattle.policy_expressions.specs.Plain.{Plain}
 use Rattle.policy_expressions.specs.Tree.{ite, Mark}
 use Rattle.typing_spec.specs.Rules.{strict_join}
 use Rattle.typing_spec.specs.Typing.{Typed, Typing, typing, at, if_typing}
 use Rattle.findings.specs.Finding.{Finding}
 use Rattle.typecheck_rules.specs.Walked.{Walked, ended, lends}
-use Rattle.typecheck_rules.specs.Operators.{branches_found}
+use Rattle.typecheck_rules.specs.Operators.{branches_found, reached_after}
+use Rattle.typecheck_rules.specs.Walk.{walked}
 use Rattle.typecheck_rules.specs.Found.{findings_from}
 use Rattle.typecheck_operators.specs.Told.{Operand, lent}
 use Rattle.typecheck_walk.specs.Sides.{reached}
 use Rattle.typecheck_walk.specs.declared.conditional.Test.{Test}
 use Rattle.typecheck_walk.specs.declared.conditional.Chosen.{Chosen}
+
+-- the walk through the first branch, with what the test makes known, unless that failed
+abbrev pub first_branch_walked : SchemaData → EnvData → List Capability → Walked → Plain → Walked
+first_branch_walked schema env cs u y =
+    reached_after u (λ ds. walked schema env (cs ++ ds) y) (walked schema env cs y)
 
 -- a test taken apart: one that lends no type is one of which nothing is known
 pub record Tested : Type 0 where

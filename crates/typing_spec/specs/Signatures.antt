@@ -133,7 +133,13 @@ module _ {A : Type 0} where
   abbrev pub has_readable : ExtensionFunction → Trees A → Bool
   has_readable f xs = option_map_or (is_readable f) (only_text xs) true
 
+  -- whether a call keeps all three
+  abbrev pub is_formed : ExtensionFunction → Trees A → Bool
+  is_formed f xs = has_count f xs && (has_literals f xs && has_readable f xs)
+
   -- the type of a call, by the function of its name, where there is one, its arguments and their types
   abbrev pub call_type : Option ExtensionFunction → Trees A → List Ty → Option Ty
   call_type None xs ts = None
-  call_type (Some f) xs ts = if (has_count f xs && (has_literals f xs && has_readable f xs)) && same_types ts (signature_of f).arguments then Some (signature_of f).result else None
+  call_type (Some f) xs ts =
+      if is_formed f xs && same_types ts (signature_of f).arguments
+      then Some (signature_of f).result else None
