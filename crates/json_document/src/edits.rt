@@ -14,7 +14,7 @@ use std::alloc::{AllocError, Global};
 use std::marker::Model;
 
 /// Edits, in their order; contracts see them as their list.
-#[derive(Drop)]
+#[derive(Debug, Drop)]
 pub struct Edits {
     items: Vec<Edit>,
 }

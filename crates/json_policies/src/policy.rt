@@ -20,7 +20,7 @@ use serde_json::Value;
 use std::alloc::{AllocError, Global};
 
 /// What is read where a document has a policy.
-#[derive(Drop)]
+#[derive(Debug, Drop)]
 pub enum PolicyRead {
     /// A policy, or a template where slots stand in its scope.
     Policy(Template),
@@ -31,7 +31,7 @@ pub enum PolicyRead {
 }
 
 /// The parts of a policy but for its body, as a document gives them.
-#[derive(Drop)]
+#[derive(Debug, Drop)]
 pub struct PolicyParts {
     /// Its id.
     pub id: Text,

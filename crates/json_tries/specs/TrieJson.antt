@@ -1,7 +1,6 @@
 -- Tries as JSON.
 use Rattle.std.specs.Prelude.{ℕ, Bool, List, [], ◌∷◌, ◌++◌, codes}
-use Rattle.policy_expressions.specs.declared.kinds.Var.{Var}
-use Rattle.policy_expressions.specs.declared.kinds.Var.TheVariants.{Principal, Action, Resource, Context}
+use Rattle.policy_expressions.specs.Show.{variable_text}
 use Rattle.serde_json.specs.Data.{Data, string, boolean, array, object, no_items, item, Members, no_members, member, put}
 use Rattle.serde_json.specs.View.{items_of}
 use Rattle.json_response.specs.ValueJson.{uid_data, alone}
@@ -11,12 +10,6 @@ use Rattle.access_tries.specs.declared.edge.Edge.{Edge}
 use Rattle.access_tries.specs.declared.edge.Edge.TheVariants.{Field, AnyTag, Root}
 use Rattle.access_tries.specs.Table.{Table}
 use Rattle.access_tries.specs.Trees.{Branch, branch, Branches, no_branches, leading, branches_of}
-
-abbrev pub variable_text : Var → List ℕ
-variable_text Principal = codes "principal"
-variable_text Action = codes "action"
-variable_text Resource = codes "resource"
-variable_text Context = codes "context"
 
 -- a root: an id, or an entry of the request
 abbrev pub key_data : EntityRoot → Data

@@ -4,11 +4,10 @@ ghost use Rattle.std.specs.Prelude.{◌≡◌, [], ◌++◌, IfOk, OnOk, map};
 ghost use Rattle.serde_json.specs.View.{view, members_view};
 ghost use Rattle.access_tries.specs.Table.{IsTable, links_at};
 ghost use Rattle.access_tries.specs.Trees.{branches_by, branch_at};
-ghost use Rattle.json_tries.specs.TrieJson.{variable_text, key_data, entry_data, field_part, tag_part, root_part, trie_data, with_tags, node_data, fields_data, tags_data, roots_data, root_trie_data};
+ghost use Rattle.json_tries.specs.TrieJson.{key_data, entry_data, field_part, tag_part, root_part, trie_data, with_tags, node_data, fields_data, tags_data, roots_data, root_trie_data};
 
 use access_tries::{Edge, EntityRoot, Node, RootAccessTrie, links_of, mark_of};
 use json_response::write_uid;
-use policy_expressions::Var;
 use serde_json::{Map, Value, put};
 use std::alloc::{AllocError, Global};
 
@@ -118,22 +117,11 @@ fn write_key(alloc: Global, root: &EntityRoot) -> Result<Value, AllocError>
 {
     let (name, key) = match root {
         EntityRoot::Literal(uid) => ("literal", write_uid(alloc, uid)?),
-        EntityRoot::Var(var) => ("var", Value::try_from_str(alloc, var_text(*var))?),
+        EntityRoot::Var(var) => ("var", Value::try_from_str(alloc, var.text())?),
     };
     let mut members = Map::new(alloc);
     put(&mut members, alloc, name, key)?;
     Ok(Value::Object(members))
-}
-
-fn var_text(var: Var) -> &'static str
-    ensures { result.now ≡ variable_text var }
-{
-    match var {
-        Var::Principal => "principal",
-        Var::Action => "action",
-        Var::Resource => "resource",
-        Var::Context => "context",
-    }
 }
 
 // Where a node leads.

@@ -9,6 +9,7 @@ use policy_values::{EntityUID, Text};
 use std::marker::Model;
 
 // The id of the template that is linked, and the ids that the link gives for its slots.
+#[derive(Debug)]
 pub(crate) struct Link {
     pub(crate) template: Text,
     pub(crate) values: SlotValues,

@@ -12,6 +12,7 @@ use std::collections::btree_map::Values;
 use std::marker::Model;
 
 /// Templates and policies under their ids, in the order of the ids. An id stands once among all of them.
+#[derive(Debug)]
 pub struct PolicySet {
     templates: BTreeMap<Text, Template>,
     policies: BTreeMap<Text, Policy>,

@@ -17,6 +17,7 @@ use std::marker::Model;
 const MOST_BODY_DEPTH: u32 = 400;
 
 /// A policy as it is written. Where slots stand in its scope, it is to be linked.
+#[derive(Debug)]
 pub struct Template {
     id: Text,
     effect: Effect,

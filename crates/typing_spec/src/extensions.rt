@@ -50,7 +50,7 @@ impl<T: Drop> From<AllocFailed<T>> for ExtensionInitializationError {
 }
 
 /// Extensions that are used together, no two of whose functions have one name.
-#[derive(Drop)]
+#[derive(Debug, Drop)]
 pub struct ExtensionSchemas<'a> {
     extension_schemas: &'a [ExtensionSchema],
     function_types: BTreeMap<Name, &'a ExtensionFunctionType>,
