@@ -60,8 +60,9 @@ fn is_place(first: &str, second: &str) -> bool
     first == "at" && second == "of"
 }
 
-/// The expression that a JSON value says, where it says one; `Nested`, where that is nested deeper than 400. What an
-/// object holds is looked at to its end also where it is nested too deep, since a fault of the form comes first.
+/// The expression that a JSON value says, where it says one; `Nested`, where that is nested deeper than 400.
+/// What an object holds is looked at to its end also where it is nested too deep, since a fault of the form
+/// comes first.
 #[cycle(expr)]
 pub fn read_expr(alloc: Global, value: &Value) -> Result<Option<Bounded<Expr<()>>>, AllocError>
     ensures { IfOk result (λ o. o ≡ option_map bounded (expr_of (view value.now))) }
@@ -82,7 +83,8 @@ pub fn read_expr(alloc: Global, value: &Value) -> Result<Option<Bounded<Expr<()>
 #[cycle(expr)]
 #[tactic(auto, using(crate::proofs::Bounds::set_reads))]
 fn read_set(alloc: Global, items: &Vec<Value>) -> Result<Option<Bounded<Expr<()>>>, AllocError>
-    ensures { IfOk result (λ o. o ≡ option_map bounded (option_map set_tree (exprs_of (items_view items.now.items)))) }
+    ensures { IfOk result
+        (λ o. o ≡ option_map bounded (option_map set_tree (exprs_of (items_view items.now.items)))) }
 {
     let reads = read_items(alloc, items.as_slice())?;
     set(alloc, reads)
@@ -90,7 +92,8 @@ fn read_set(alloc: Global, items: &Vec<Value>) -> Result<Option<Bounded<Expr<()>
 
 #[cycle(expr)]
 fn read_items(alloc: Global, items: &[Value]) -> Result<Option<Vec<Bounded<Expr<()>>>>, AllocError>
-    ensures { IfOk result (λ o. option_map (λ v. v.items) o ≡ option_map (map bounded) (exprs_of (items_view items.now))) }
+    ensures { IfOk result (λ o. option_map (λ v. v.items) o ≡
+        option_map (map bounded) (exprs_of (items_view items.now))) }
 {
     let mut all = Vec::new(alloc);
     for item in items {
@@ -136,7 +139,8 @@ fn read_placed(
     first: &str,
     loc: &Value,
 ) -> Result<Option<Bounded<Expr<()>>>, AllocError>
-    ensures { IfOk result (λ o. o ≡ option_map bounded (placed_tree first.now (view loc.now) second.now (expr_of (view inner.now)))) }
+    ensures { IfOk result (λ o. o ≡
+        option_map bounded (placed_tree first.now (view loc.now) second.now (expr_of (view inner.now)))) }
 {
     if !is_place(first, second) {
         return Ok(None);
@@ -202,7 +206,8 @@ fn read_unary(
     value: &Value,
     op: UnaryOp,
 ) -> Result<Option<Bounded<Expr<()>>>, AllocError>
-    ensures { IfOk result (λ o. o ≡ option_map bounded (option_map (unary_tree op) (expr_of (view value.now)))) }
+    ensures { IfOk result
+        (λ o. o ≡ option_map bounded (option_map (unary_tree op) (expr_of (view value.now)))) }
 {
     let read = read_expr(alloc, value)?;
     unary(alloc, op, read)
@@ -214,7 +219,8 @@ fn read_list(
     value: &Value,
     form: ListForm,
 ) -> Result<Option<Bounded<Expr<()>>>, AllocError>
-    ensures { IfOk result (λ o. o ≡ option_map bounded (option_and_then (listed_tree form) (operands_all (view value.now)))) }
+    ensures { IfOk result (λ o. o ≡
+        option_map bounded (option_and_then (listed_tree form) (operands_all (view value.now)))) }
 {
     match value {
         Value::Array(items) => read_operands(alloc, items.as_slice(), form),
@@ -229,7 +235,8 @@ fn read_operands(
     items: &[Value],
     form: ListForm,
 ) -> Result<Option<Bounded<Expr<()>>>, AllocError>
-    ensures { IfOk result (λ o. o ≡ option_map bounded (option_and_then (listed_tree form) (exprs_of (items_view items.now)))) }
+    ensures { IfOk result (λ o. o ≡
+        option_map bounded (option_and_then (listed_tree form) (exprs_of (items_view items.now)))) }
 {
     let reads = read_items(alloc, items)?;
     list_form(alloc, form, reads)
@@ -250,7 +257,8 @@ fn read_first(alloc: Global, value: &Value) -> Result<Option<Bounded<Expr<()>>>,
 
 #[cycle(expr)]
 fn read_get(alloc: Global, value: &Value) -> Result<Option<Bounded<Expr<()>>>, AllocError>
-    ensures { IfOk result (λ o. o ≡ option_map bounded (named_tree (attr_names_of (view value.now)) (in_turn get_tree) (operands_first (view value.now)))) }
+    ensures { IfOk result (λ o. o ≡ option_map bounded (named_tree
+        (attr_names_of (view value.now)) (in_turn get_tree) (operands_first (view value.now)))) }
 {
     let Some(names) = read_names(alloc, value)? else {
         return Ok(None);
@@ -261,7 +269,8 @@ fn read_get(alloc: Global, value: &Value) -> Result<Option<Bounded<Expr<()>>>, A
 
 #[cycle(expr)]
 fn read_has(alloc: Global, value: &Value) -> Result<Option<Bounded<Expr<()>>>, AllocError>
-    ensures { IfOk result (λ o. o ≡ option_map bounded (named_tree (attr_names_of (view value.now)) (of_one has_tree) (operands_first (view value.now)))) }
+    ensures { IfOk result (λ o. o ≡ option_map bounded (named_tree
+        (attr_names_of (view value.now)) (of_one has_tree) (operands_first (view value.now)))) }
 {
     let Some(names) = read_names(alloc, value)? else {
         return Ok(None);
@@ -272,7 +281,8 @@ fn read_has(alloc: Global, value: &Value) -> Result<Option<Bounded<Expr<()>>>, A
 
 #[cycle(expr)]
 fn read_like(alloc: Global, value: &Value) -> Result<Option<Bounded<Expr<()>>>, AllocError>
-    ensures { IfOk result (λ o. o ≡ option_map bounded (with_part like_tree (pattern_of (view value.now)) (operands_first (view value.now)))) }
+    ensures { IfOk result (λ o. o ≡ option_map bounded
+        (with_part like_tree (pattern_of (view value.now)) (operands_first (view value.now)))) }
 {
     match read_pattern(alloc, value)? {
         Some(pattern) => read_matched(alloc, value, pattern),
@@ -287,7 +297,8 @@ fn read_matched(
     value: &Value,
     pattern: Pattern,
 ) -> Result<Option<Bounded<Expr<()>>>, AllocError>
-    ensures { IfOk result (λ o. o ≡ option_map bounded (option_map (like_tree pattern) (operands_first (view value.now)))) }
+    ensures { IfOk result (λ o. o ≡
+        option_map bounded (option_map (like_tree pattern) (operands_first (view value.now)))) }
 {
     let read = read_first(alloc, value)?;
     like(alloc, pattern, read)
@@ -295,7 +306,8 @@ fn read_matched(
 
 #[cycle(expr)]
 fn read_is(alloc: Global, value: &Value) -> Result<Option<Bounded<Expr<()>>>, AllocError>
-    ensures { IfOk result (λ o. o ≡ option_map bounded (with_part type_test_tree (tested_type_of (view value.now)) (operands_first (view value.now)))) }
+    ensures { IfOk result (λ o. o ≡ option_map bounded
+        (with_part type_test_tree (tested_type_of (view value.now)) (operands_first (view value.now)))) }
 {
     match read_type(alloc, value)? {
         Some(entity_type) => read_typed(alloc, value, entity_type),
@@ -310,7 +322,8 @@ fn read_typed(
     value: &Value,
     entity_type: EntityType,
 ) -> Result<Option<Bounded<Expr<()>>>, AllocError>
-    ensures { IfOk result (λ o. o ≡ option_map bounded (option_map (type_test_tree entity_type) (operands_first (view value.now)))) }
+    ensures { IfOk result (λ o. o ≡
+        option_map bounded (option_map (type_test_tree entity_type) (operands_first (view value.now)))) }
 {
     let read = read_first(alloc, value)?;
     is_of_type(alloc, entity_type, read)
@@ -318,7 +331,8 @@ fn read_typed(
 
 #[cycle(expr)]
 fn read_call(alloc: Global, value: &Value) -> Result<Option<Bounded<Expr<()>>>, AllocError>
-    ensures { IfOk result (λ o. o ≡ option_map bounded (with_part call_tree (called_name_of (view value.now)) (operands_behind (view value.now)))) }
+    ensures { IfOk result (λ o. o ≡ option_map bounded
+        (with_part call_tree (called_name_of (view value.now)) (operands_behind (view value.now)))) }
 {
     match read_function(alloc, value)? {
         Some(name) => read_called(alloc, value, name),
@@ -332,7 +346,8 @@ fn read_called(
     value: &Value,
     name: Name,
 ) -> Result<Option<Bounded<Expr<()>>>, AllocError>
-    ensures { IfOk result (λ o. o ≡ option_map bounded (option_map (call_tree name) (operands_behind (view value.now)))) }
+    ensures { IfOk result
+        (λ o. o ≡ option_map bounded (option_map (call_tree name) (operands_behind (view value.now)))) }
 {
     let reads = read_behind_first(alloc, value)?;
     call(alloc, name, reads)
@@ -343,7 +358,8 @@ fn read_behind_first(
     alloc: Global,
     value: &Value,
 ) -> Result<Option<Vec<Bounded<Expr<()>>>>, AllocError>
-    ensures { IfOk result (λ o. option_map (λ v. v.items) o ≡ option_map (map bounded) (operands_behind (view value.now))) }
+    ensures { IfOk result (λ o. option_map (λ v. v.items) o ≡
+        option_map (map bounded) (operands_behind (view value.now))) }
 {
     let Value::Array(items) = value else {
         return Ok(None);
@@ -356,7 +372,8 @@ fn read_behind_first(
 
 #[cycle(expr)]
 fn read_record(alloc: Global, value: &Value) -> Result<Option<Bounded<Expr<()>>>, AllocError>
-    ensures { IfOk result (λ o. o ≡ option_map bounded (option_map record_tree (operands_fields (view value.now)))) }
+    ensures { IfOk result
+        (λ o. o ≡ option_map bounded (option_map record_tree (operands_fields (view value.now)))) }
 {
     match value {
         Value::Object(members) => read_named(alloc, members),
@@ -370,7 +387,8 @@ fn read_named(
     alloc: Global,
     members: &Map<String, Value>,
 ) -> Result<Option<Bounded<Expr<()>>>, AllocError>
-    ensures { IfOk result (λ o. o ≡ option_map bounded (option_map record_tree (named_exprs_of (members_view members.now.entries)))) }
+    ensures { IfOk result (λ o. o ≡
+        option_map bounded (option_map record_tree (named_exprs_of (members_view members.now.entries)))) }
 {
     let reads = read_fields(alloc, members)?;
     record(alloc, reads)
@@ -381,7 +399,8 @@ fn read_fields(
     alloc: Global,
     members: &Map<String, Value>,
 ) -> Result<Option<BTreeMap<Text, Bounded<Expr<()>>>>, AllocError>
-    ensures { IfOk result (λ o. option_map (λ m. m.entries) o ≡ option_map (map bounded_field) (named_exprs_of (members_view members.now.entries))) }
+    ensures { IfOk result (λ o. option_map (λ m. m.entries) o ≡
+        option_map (map bounded_field) (named_exprs_of (members_view members.now.entries))) }
 {
     let mut fields = BTreeMap::new(alloc);
     for (key, member) in members.iter() {

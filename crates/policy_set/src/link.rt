@@ -38,7 +38,8 @@ pub(crate) fn check_slots(
     template: &Template,
     values: &[(SlotId, EntityUID)],
 ) -> Result<(), PolicySetError>
-    ensures { MatchResult result (λ _. slot_fault template.now values.now ≡ None) (λ e. slot_fault template.now values.now ≡ Some e) }
+    ensures { MatchResult result (λ _. slot_fault template.now values.now ≡ None)
+        (λ e. slot_fault template.now values.now ≡ Some e) }
 {
     let principal_slots = slot_count(template.principal_constraint());
     let principals = count_given(values, SlotId::Principal);

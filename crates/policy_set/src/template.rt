@@ -55,9 +55,13 @@ impl Model for Template {
 
     ghost coded = { coded_template };
 
-    ghost view = { λ t. template_with t.id t.effect t.principal_constraint t.action_constraint t.resource_constraint t.condition };
+    ghost view = { λ t. template_with t.id t.effect t.principal_constraint
+        t.action_constraint t.resource_constraint t.condition };
 
-    ghost invariant = { λ t. IsTemplate (template_with t.id t.effect t.principal_constraint t.action_constraint t.resource_constraint t.condition) t.condition };
+    ghost invariant = { λ t. IsTemplate
+        (template_with t.id t.effect t.principal_constraint
+        t.action_constraint t.resource_constraint t.condition)
+        t.condition };
 }
 
 /// Why there is no template.
@@ -100,9 +104,9 @@ impl From<BuildError> for TemplateError {
 }
 
 impl Template {
-    /// The template with this id, effect, scope and body. Its condition is `((principal && action) && resource) && body`,
-    /// where an unconstrained part is the literal true. Errs with `SlotInCondition` where the body has a slot, else with
-    /// `Nested` where the condition would be nested deeper than 400.
+    /// The template with this id, effect, scope and body. Its condition is `((principal && action) &&
+    /// resource) && body`, where an unconstrained part is the literal true. Errs with `SlotInCondition` where
+    /// the body has a slot, else with `Nested` where the condition would be nested deeper than 400.
     pub fn new(
         alloc: Global,
         id: Text,
@@ -252,7 +256,8 @@ fn whole_condition(
     resource: &PrincipalOrResourceConstraint,
     body: Expr<()>,
 ) -> Result<Expr<()>, TemplateError>
-    ensures ok { IfOk result (λ e. (e ≡ conj (scope_of principal.now action.now resource.now) body unmarked) × (has_slot body ≡ false)) }
+    ensures ok { IfOk result (λ e. (e ≡ conj (scope_of principal.now action.now resource.now) body unmarked) ×
+        (has_slot body ≡ false)) }
     ensures slot { (result ≡ Err TemplateError.SlotInCondition) ↔ (has_slot body ≡ true) }
     ensures nested { (result ≡ Err TemplateError.Nested) ↔ ((has_slot body ≡ false) × (400 ≤ depth_of body)) }
 {
@@ -277,7 +282,8 @@ fn whole_condition(
     }
 }
 
-// The scope's part of the condition. An expression that is not needed is let go by a call, which keeps proofs short.
+// The scope's part of the condition. An expression that is not needed is let go by a call, which keeps
+// proofs short.
 fn scope_condition(
     alloc: Global,
     principal: &PrincipalOrResourceConstraint,
@@ -426,7 +432,8 @@ fn of_type_in(
     entity_type: &EntityType,
     entity: &EntityReference,
 ) -> Result<Expr<()>, BuildError>
-    ensures ok { IfOk result (λ e. e ≡ conj (of_type slot entity_type.now) (compared In slot entity.now) unmarked) }
+    ensures ok { IfOk result
+        (λ e. e ≡ conj (of_type slot entity_type.now) (compared In slot entity.now) unmarked) }
     ensures depth { IfOk result (λ e. depth_of e ≤ 3) }
     ensures shallow { result ≡ Err BuildError.Nested → ⊥ }
 {

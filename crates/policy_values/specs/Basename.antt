@@ -7,7 +7,8 @@ use Rattle.std.specs.Str.{bytes_eq}
 -- what stands behind the last two colons, where there are two
 abbrev pub behind_colons : List ℕ → Option (List ℕ)
 behind_colons [] = None
-behind_colons (c ∷ cs) = option_or (behind_colons cs) (if starts_with eqb (c ∷ cs) (codes "::") then Some (drop 1 cs) else None)
+behind_colons (c ∷ cs) =
+    option_or (behind_colons cs) (if starts_with eqb (c ∷ cs) (codes "::") then Some (drop 1 cs) else None)
 
 -- the last component of a name
 abbrev pub basename_of : List ℕ → List ℕ

@@ -21,7 +21,8 @@ pub fn least_outside<'a, A: Key, K: Key>(
     steps: &SharedSteps<K>,
     sets: &'a BTreeMap<A, SharedSet<K>>,
 ) -> Option<&'a K>
-    ensures { IsLeastIfAny K.cmp (IsOutside A.cmp K.cmp steps.now.entries sets.now.entries) (option_copied result) }
+    ensures { IsLeastIfAny K.cmp (IsOutside A.cmp K.cmp steps.now.entries sets.now.entries)
+        (option_copied result) }
 {
     let mut least = None;
     for (_, set) in sets {
@@ -32,7 +33,8 @@ pub fn least_outside<'a, A: Key, K: Key>(
 
 // The least key of the set that has no entry.
 fn first_unlisted<'a, K: Key>(steps: &SharedSteps<K>, next: &'a BTreeSet<K>) -> Option<&'a K>
-    ensures { IsLeastIfAny K.cmp (λ q. (is_some (get K.cmp steps.now q) ≡ false) × Contains next.now.keys q) (option_copied result) }
+    ensures { IsLeastIfAny K.cmp (λ q. (is_some (get K.cmp steps.now q) ≡ false) × Contains next.now.keys q)
+        (option_copied result) }
 {
     for key in next {
         if !steps.contains_key(key) {

@@ -18,7 +18,8 @@ pub type Steps<K> = BTreeMap<K, BTreeSet<K>>;
 /// The same, in sets that keys may share.
 pub type SharedSteps<K> = BTreeMap<K, SharedSet<K>>;
 
-/// The steps, with each key that is reached by one or more of them as one step. Keys with the same steps share a set.
+/// The steps, with each key that is reached by one or more of them as one step. Keys with the same steps
+/// share a set.
 pub fn closure_of<K: Key>(alloc: Global, steps: &Steps<K>) -> Result<SharedSteps<K>, AllocError>
     ensures { IfOk result (λ closed. IsClosure K.cmp steps.now.entries closed.entries) }
 {
@@ -68,7 +69,8 @@ fn reached_once<K: Key>(
     requires closed { AreWhole K.cmp steps.now.entries closed.now.entries }
     requires known { AreReached K.cmp steps.now.entries known.old.entries }
     requires here { tree.get K.cmp steps.now key.now ≡ Some next.now }
-    ensures reached { IfOk result (λ reached. (y : K) → Contains reached.keys y ↔ Reaches (Leads K.cmp steps.now.entries) key.now y) }
+    ensures reached { IfOk result (λ reached. (y : K) →
+        Contains reached.keys y ↔ Reaches (Leads K.cmp steps.now.entries) key.now y) }
     ensures ordered { IfOk result (IsOrdered K.cmp) }
     ensures known { OnOk result (AreReached K.cmp steps.now.entries known.new.entries) }
 {

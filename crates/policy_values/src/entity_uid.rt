@@ -145,7 +145,8 @@ impl Clone for Eid {
     }
 }
 
-/// The id of an entity: its type and its eid. Ids are ordered by type and then by eid; one prints as `Type::"eid"`.
+/// The id of an entity: its type and its eid. Ids are ordered by type and then by eid; one prints as
+/// `Type::"eid"`.
 #[derive(Clone, Debug, PartialEq, Eq, PartialOrd, Ord, Hash)]
 pub struct EntityUID {
     /// The type of the entity.

@@ -10,8 +10,8 @@ enum Turn<'a, K> {
     Leave(&'a K),
 }
 
-/// The keys of the steps in depth-first post-order: each after those that it leads to, unless steps go in a circle. Who
-/// takes them in this order finds the most done already; what is found does not depend on it.
+/// The keys of the steps in depth-first post-order: each after those that it leads to, unless steps go in a
+/// circle. Who takes them in this order finds the most done already; what is found does not depend on it.
 pub fn post_order<K: Key>(alloc: Global, steps: &Steps<K>) -> Result<Vec<K>, AllocError> {
     let mut order = Vec::new(alloc);
     let mut entered = BTreeSet::new(alloc);

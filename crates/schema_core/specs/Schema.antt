@@ -19,8 +19,8 @@ pub record TypeData : Type 0 where
   pub descendants : List (List ℕ)
   pub kind : Kind
 
--- an action: its id, the types of the principals and of the resources that it applies to, the actions that are in it, and the attributes of the
--- context that it is asked for in
+-- an action: its id, the types of the principals and of the resources that it applies to, the actions that
+-- are in it, and the attributes of the context that it is asked for in
 pub record ActionData : Type 0 where
   pub name : EntityUID
   pub principals : List (List ℕ)
@@ -50,7 +50,13 @@ coded_action =
     code_by (EntityUID × (List (List ℕ) × (List (List ℕ) × (List EntityUID × Attrs))))
     (coded× coded_uid (coded× coded_names (coded× coded_names (coded× (coded_list coded_uid) coded_attrs))))
     (λ a. (a.name, (a.principals, (a.resources, (a.descendants, a.context)))))
-    (λ p. record { name = p.0; principals = p.1.0; resources = p.1.1.0; descendants = p.1.1.1.0; context = p.1.1.1.1 })
+    (λ p. record {
+      name = p.0;
+      principals = p.1.0;
+      resources = p.1.1.0;
+      descendants = p.1.1.1.0;
+      context = p.1.1.1.1;
+    })
     (λ _. refl)
 
 abbrev pub coded_schema : Coded SchemaData

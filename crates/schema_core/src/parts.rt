@@ -46,14 +46,15 @@ pub fn schema_parts(
     Ok(listing.arranged(alloc)?)
 }
 
-/// The types and actions that a document declares, where they keep the rules: descendants are all members, by one or more
-/// steps.
+/// The types and actions that a document declares, where they keep the rules: descendants are all members, by
+/// one or more steps.
 pub fn declared_parts(
     alloc: Global,
     declarations: SchemaDeclarations,
 ) -> Result<SchemaParts, SchemaFault>
     requires { IsOnce (map (λ t. t.name) declarations.entity_types) }
-    ensures { MatchResult result (λ parts. IsSchemaOf declarations (made_of parts.0.items parts.1.items)) (IsRefused declarations) }
+    ensures { MatchResult result (λ parts. IsSchemaOf declarations (made_of parts.0.items parts.1.items))
+        (IsRefused declarations) }
 {
     let ids = declared_ids(alloc, &declarations)?;
     if let Some(uid) = least_repeated(alloc, &ids)? {
@@ -101,7 +102,8 @@ fn declared_ids(
 fn with_descendants(alloc: Global, listing: Listing) -> Result<Listing, AllocError>
     requires names { HasSoundNames (listed_outline listing) }
     requires listing { IsListing listing }
-    ensures descendants { IfOk result (λ members. HasDescendants (listed_outline listing) (listed_outline members)) }
+    ensures descendants { IfOk result
+        (λ members. HasDescendants (listed_outline listing) (listed_outline members)) }
     ensures listing { IfOk result IsListing }
 {
     let types = descendants_of(alloc, &listing.types)?;

@@ -40,7 +40,8 @@ impl Model for ValidatorSchema {
 
     ghost view = { λ s. record { entity_types = s.entity_types.items; action_ids = s.action_ids.items } };
 
-    ghost invariant = { λ s. IsSchema record { entity_types = s.entity_types.items; action_ids = s.action_ids.items } };
+    ghost invariant = { λ s. IsSchema
+        record { entity_types = s.entity_types.items; action_ids = s.action_ids.items } };
 }
 
 ghost use Rattle.std.specs.Prelude.{◌≡◌, ◌↔◌, ◌⊎◌, ℕ, List, map, option_map, IfOk, IfSome, IsTrue, MatchResult, MatchOption, Contains};
@@ -127,7 +128,8 @@ impl ValidatorSchema {
         }
     }
 
-    /// The attributes of the contexts in which the action is asked for; none exactly where the action is not declared.
+    /// The attributes of the contexts in which the action is asked for; none exactly where the action is not
+    /// declared.
     pub fn context_type(&self, uid: &EntityUID) -> Option<&Attributes>
         ensures { option_copied result ≡ option_map (λ a. a.context) (action_at self.now uid.now) }
     {
@@ -167,7 +169,8 @@ impl ValidatorSchema {
         alloc: Global,
         entity: &EntityUID,
     ) -> Result<BTreeSet<EntityType>, AllocError>
-        ensures types { IfOk result (λ types. (q : List ℕ) → Contains types.keys q ↔ ((q ≡ entity.now.entity_type) ⊎ HasTypeDescendant self.now entity.now.entity_type q)) }
+        ensures types { IfOk result (λ types. (q : List ℕ) → Contains types.keys q ↔
+            ((q ≡ entity.now.entity_type) ⊎ HasTypeDescendant self.now entity.now.entity_type q)) }
         ensures ascending { IfOk result (IsOrdered text_cmp) }
     {
         let mut types = match self.get_entity_type(&entity.entity_type) {
@@ -205,7 +208,8 @@ impl ValidatorSchema {
         alloc: Global,
         uid: &EntityUID,
     ) -> Result<BTreeSet<EntityUID>, AllocError>
-        ensures actions { IfOk result (λ actions. (q : EntityUID) → Contains actions.keys q ↔ HasActionDescendant self.now q uid.now) }
+        ensures actions { IfOk result (λ actions. (q : EntityUID) →
+            Contains actions.keys q ↔ HasActionDescendant self.now q uid.now) }
         ensures ascending { IfOk result (IsOrdered uid_cmp) }
     {
         let mut ancestors = BTreeSet::new(alloc);
@@ -217,8 +221,8 @@ impl ValidatorSchema {
         Ok(ancestors)
     }
 
-    /// Every action with each of its principal types and each of its resource types, ascending in this order, each with the
-    /// action's context and without slots.
+    /// Every action with each of its principal types and each of its resource types, ascending in this order,
+    /// each with the action's context and without slots.
     pub fn unlinked_request_envs(&self, alloc: Global) -> Result<Vec<RequestEnv<'_>>, AllocError>
         ensures { IfOk result (λ envs. map env_data_of envs.items ≡ unlinked_envs self.now) }
     {
