@@ -15,8 +15,8 @@ abbrev pub Keeps : ℕ → Table → Table → Type 0
 Keeps n old new = (k : ℕ) → k < n → slice_get new k ≡ slice_get old k
 
 -- the next link is this one, or the list stays where it is and there is nothing
-abbrev pub Takes : List Link → ℕ → ℕ → Edge → ℕ → ℕ → Type 0
-Takes ls p none e number next =
+abbrev pub TakesLink : List Link → ℕ → ℕ → Edge → ℕ → ℕ → Type 0
+TakesLink ls p none e number next =
     ((next ≡ p) × (number ≡ none))
     ⊎ ((p < length ls) × (next ≡ p + 1) × (drop p ls ≡ record { edge = e; number = number } ∷ drop next ls))
 

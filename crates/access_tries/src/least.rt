@@ -1,7 +1,7 @@
 //! The least trie that has given paths and demands.
 
 ghost use Rattle.std.specs.Prelude.{◌≡◌, ◌<◌, ◌+◌, ◌++◌, [], ◌∷◌, map, drop, true, false, length, IfOk, OnOk};
-ghost use Rattle.access_tries.specs.Table.{IsClosed, IsOrdered};
+ghost use Rattle.access_tries.specs.Table.{IsClosed, IsTableOrdered};
 ghost use Rattle.access_tries.specs.Walks.{HaveSameFronts, Keeps, IsChain, IsOf, addresses_in};
 ghost use Rattle.access_tries.specs.Paths.{address_of, demand_of, IsLeast};
 
@@ -128,7 +128,7 @@ fn chain(alloc: Global, nodes: &mut Vec<Node>, edges: &[Edge], mark: bool) -> Re
     ensures kept { OnOk result (Keeps (length nodes.old.items) nodes.old.items nodes.new.items) }
     ensures longer { OnOk result (length nodes.old.items < length nodes.new.items) }
     ensures closed { OnOk result (IsClosed (length nodes.old.items) nodes.new.items) }
-    ensures ordered { OnOk result (IsOrdered (length nodes.old.items) nodes.new.items) }
+    ensures ordered { OnOk result (IsTableOrdered (length nodes.old.items) nodes.new.items) }
     ensures chain { OnOk result (IsChain nodes.new.items (length nodes.old.items) edges.now mark) }
 {
     match edges {

@@ -118,6 +118,6 @@ abbrev pub lacks : List ActionData → Store → EntityUID → Bool
 lacks actions s uid = option_map_or (λ e. is_action_type uid.entity_type && not (list_all (is_ancestor_if_above e) actions)) (entity_at s uid) false
 
 -- the error names this entity and this rule. Memory is wanted only where there is a fault
-abbrev pub IsStoreFault : Option (EntityUID × StoreRule) → ConformanceError → Type 0
-IsStoreFault fault (refused.EntityDoesNotConform e) = fault ≡ Some (e.uid, e.rule)
-IsStoreFault fault refused.OutOfMemory = IsSome fault
+abbrev pub IsConformanceFault : Option (EntityUID × StoreRule) → ConformanceError → Type 0
+IsConformanceFault fault (refused.EntityDoesNotConform e) = fault ≡ Some (e.uid, e.rule)
+IsConformanceFault fault refused.OutOfMemory = IsSome fault

@@ -16,12 +16,12 @@ use Rattle.directory_service.specs.Run.{IsRefusal}
 use Rattle.directory_service.specs.declared.reply.Reply.{Reply}
 
 -- the next line that is left is the document, and this is left behind it
-abbrev pub IsFirst : Option (List ℕ) → Option (List ℕ) → Document → Type 0
-IsFirst left rest d = (line : List ℕ) × TakesLine left rest line × IsReading line (Ok d)
+abbrev pub IsFirstDocument : Option (List ℕ) → Option (List ℕ) → Document → Type 0
+IsFirstDocument left rest d = (line : List ℕ) × TakesLine left rest line × IsReading line (Ok d)
 
 -- a document that was read is that of the first line; else the work is not done
 abbrev pub IsReadFirst : Option (List ℕ) → Option (List ℕ) → Result Document Reply → Type 0
-IsReadFirst left rest (Ok d) = IsFirst left rest d
+IsReadFirst left rest (Ok d) = IsFirstDocument left rest d
 IsReadFirst left rest (Err r) = IsRefusal r
 
 -- Each line that is left has its answer, by the store of the rows that are told at the end, and were told at
@@ -35,4 +35,5 @@ AreDecided d first last left sink sink' =
 
 -- the first line is a document whose policies are accepted
 abbrev pub Decides : Option (List ℕ) → Type 0
-Decides left = (d : Document) × (rest : Option (List ℕ)) × IsFirst left rest d × IsAccepted d.schema d.policies
+Decides left =
+    (d : Document) × (rest : Option (List ℕ)) × IsFirstDocument left rest d × IsAccepted d.schema d.policies

@@ -42,6 +42,6 @@ abbrev pub told_store : State → Option Store
 told_store s = option_map rows_store (told_rows s)
 
 -- what was found by an id: no row, or one, whose text spells the entity with this id
-abbrev pub IsFound : List Row → EntityUID → Option StoredEntity → Type 0
-IsFound rows u None = rows ≡ []
-IsFound rows u (Some e) = (c : Row) × (rows ≡ c ∷ []) × (cell_entity (column c 0) ≡ Some e) × (e.uid ≡ u)
+abbrev pub IsRowFound : List Row → EntityUID → Option StoredEntity → Type 0
+IsRowFound rows u None = rows ≡ []
+IsRowFound rows u (Some e) = (c : Row) × (rows ≡ c ∷ []) × (cell_entity (column c 0) ≡ Some e) × (e.uid ≡ u)

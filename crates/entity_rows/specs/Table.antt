@@ -62,16 +62,16 @@ abbrev pub AreCells : List Row → List ℕ → List ℕ → List Row → Type 0
 AreCells table kind eid rows = IsPermutation (map cell (filter (is_of kind eid) table)) rows
 
 -- the connection is open, and the disk has returned what was written
-abbrev pub IsSound : State → Type 0
-IsSound s = HasCleanDisk s × IsTrue s.is_open
+abbrev pub IsConnectionSound : State → Type 0
+IsConnectionSound s = HasCleanDisk s × IsTrue s.is_open
 
 -- as long as that is so, the database is the table, and all of it is committed
 abbrev pub IsReady : State → Type 0
-IsReady s = IsSound s → (s.now.schema ≡ entity_schema) × (s.committed ≡ s.now)
+IsReady s = IsConnectionSound s → (s.now.schema ≡ entity_schema) × (s.committed ≡ s.now)
 
 -- where it is so after a call it was so before, and the rows are the same
-abbrev pub GoesOn : State → State → Type 0
-GoesOn old new = IsSound new → IsSound old × (new.now.trees 0 ≡ old.now.trees 0)
+abbrev pub RowsStay : State → State → Type 0
+RowsStay old new = IsConnectionSound new → IsConnectionSound old × (new.now.trees 0 ≡ old.now.trees 0)
 
 -- the rows, where they are told: while the connection is open and clean
 abbrev pub told_rows : State → Option (List Row)

@@ -82,7 +82,7 @@ module _ (s : SchemaData) (t : RequestType) where
   is_declared_address u (e ∷ es) = option_map_or (λ v. is_declared_address v es) (type_behind u e) false
 
   -- exactly the paths that are declared, with their marks; what leads to the roots is no value
-  pub record IsTyped (a b : Table) : Type 0 where
+  pub record KeepsDeclared (a b : Table) : Type 0 where
     pub paths : (es : Address) → leads b es ≡ (leads a es && is_declared_address never es)
     pub marks : (es : Address) → is_marked b es ≡ (is_marked a es && is_declared_address never es)
 
@@ -99,5 +99,5 @@ module _ (s : SchemaData) where
   -- each request type with what is declared of its trie
   abbrev pub AreTyped : Manifest → Manifest → Type 0
   AreTyped [] [] = Unit {0}
-  AreTyped (a ∷ ms) (b ∷ ns) = (a.0 ≡ b.0) × IsTyped s a.0 a.1 b.1 × AreTyped ms ns
+  AreTyped (a ∷ ms) (b ∷ ns) = (a.0 ≡ b.0) × KeepsDeclared s a.0 a.1 b.1 × AreTyped ms ns
   AreTyped ms ns = ⊥

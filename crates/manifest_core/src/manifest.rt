@@ -9,7 +9,7 @@ ghost use Rattle.manifest_core.specs.Mismatches.{first_mismatch, AreTyped};
 ghost use Rattle.manifest_core.specs.Refusals.{IsMismatch};
 ghost use Rattle.manifest_core.specs.Reading.{entries_of};
 ghost use Rattle.manifest_core.specs.Placed.{entries_fault};
-ghost use Rattle.manifest_core.specs.Said.{AreTypedOf, IsSaid, IsRefused};
+ghost use Rattle.manifest_core.specs.Said.{AreTypedOf, IsSaid, IsManifestRefused};
 
 use crate::declared::declared_tries;
 use crate::error::EntityManifestFromJsonError;
@@ -70,7 +70,7 @@ impl EntityManifest {
         schema: &ValidatorSchema,
     ) -> Result<EntityManifest, EntityManifestFromJsonError>
         ensures { MatchResult result (IsSaid schema.now (entries_of (view value.now)))
-            (IsRefused schema.now (entries_of (view value.now))) }
+            (IsManifestRefused schema.now (entries_of (view value.now))) }
     {
         let Some(entries) = read_entries(alloc, value)? else {
             return Err(EntityManifestFromJsonError::SerdeJsonParseError);
@@ -92,7 +92,7 @@ impl EntityManifest {
     ) -> Result<EntityManifest, EntityManifestFromJsonError>
         ensures { MatchResult result
             (IsSaid schema.now (option_and_then entries_of (json_of text.now)))
-            (IsRefused schema.now (option_and_then entries_of (json_of text.now))) }
+            (IsManifestRefused schema.now (option_and_then entries_of (json_of text.now))) }
     {
         let Some(value) = parse_json(alloc, text.as_bytes())? else {
             return Err(EntityManifestFromJsonError::SerdeJsonParseError);

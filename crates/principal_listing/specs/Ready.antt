@@ -30,7 +30,7 @@ is_listed_after l q x u =
 
 -- every rule holds that does not speak of the principal, the manifest is that of the policies, and all is in
 -- order
-pub record IsReady (l : Listing) (q : Request) : Type 0 where
+pub record IsListingReady (l : Listing) (q : Request) : Type 0 where
   pub rules : KeepOtherRules l.schema.now l.policies.now q l.entities.now
   pub action : option_copied l.action ≡ action_at l.schema.now (action_of q)
   pub manifest : IsManifestOf l.schema.now l.policies.now.policies l.manifest.now

@@ -10,7 +10,7 @@ ghost use Rattle.manifest_loading.specs.declared.error.EntitySliceError.TheVaria
 ghost use Rattle.entity_manifest.specs.Loaded.{AreDecidedAlike};
 ghost use Rattle.principal_listing.specs.Allowed.{passed_over, is_allow};
 ghost use Rattle.principal_listing.specs.Pages.{comes_after};
-ghost use Rattle.principal_listing.specs.Ready.{IsReady, takes, is_candidate, is_listed_after};
+ghost use Rattle.principal_listing.specs.Ready.{IsListingReady, takes, is_candidate, is_listed_after};
 
 use crate::laws::candidates_keep_rules;
 use crate::scopes::some_lets_in;
@@ -51,7 +51,7 @@ pub(crate) fn is_listed<L: Ledger>(
     entity: &Entity,
     steps: &mut Steps<L>,
 ) -> Result<bool, AllocError>
-    requires ready { IsReady listing.now (passed_over asked.old) }
+    requires ready { IsListingReady listing.now (passed_over asked.old) }
     requires entity { IsIn entity.now listing.now.entities.now }
     ensures listed { IfOk result (λ b. b ≡
         is_listed_after listing.now asked.old (option_copied after.entry) entity.now.uid) }
@@ -108,7 +108,7 @@ fn is_allowed<L: Ledger>(
     asked: &Request,
     steps: &mut Steps<L>,
 ) -> Result<bool, AllocError>
-    requires ready { IsReady listing.now (passed_over asked.now) }
+    requires ready { IsListingReady listing.now (passed_over asked.now) }
     requires rules { KeepRules listing.now.schema.now listing.now.policies.now asked.now
         listing.now.entities.now }
     ensures { IfOk result (λ b. b ≡
@@ -144,7 +144,7 @@ fn load_candidate<L: Ledger>(
     asked: &Request,
     steps: &mut Steps<L>,
 ) -> Result<Entities, EntitySliceError>
-    requires ready { IsReady listing.now (passed_over asked.now) }
+    requires ready { IsListingReady listing.now (passed_over asked.now) }
     requires rules { KeepRules listing.now.schema.now listing.now.policies.now asked.now
         listing.now.entities.now }
     ensures decided { IfOk result

@@ -80,10 +80,10 @@ module _ (q : Request) (s : Store) {A B : Type 0} where
     PrunesNamed xs ys = ⊥
 
 -- a boolean, or an error
-abbrev pub IsDecided : Outcome → Type 0
-IsDecided (Value (truth b)) = Unit {0}
-IsDecided (Value v) = ⊥
-IsDecided (Error e) = Unit {0}
+abbrev pub IsBooleanOrError : Outcome → Type 0
+IsBooleanOrError (Value (truth b)) = Unit {0}
+IsBooleanOrError (Value v) = ⊥
+IsBooleanOrError (Error e) = Unit {0}
 
 -- the store restricted to what typed conditions read on the request, in an environment
 abbrev pub restricted : {B : Type 0} → SchemaData → EnvData → List (Tree B) → Request → Store → Store
@@ -95,7 +95,7 @@ IsPartOf a b = (keep : Keep) × (a ≡ part keep b)
 
 -- a condition as it is written, and as it is typed
 abbrev pub IsTypedOn : {A B : Type 0} → Request → Store → Tree A × Tree B → Type 0
-IsTypedOn q s c = Prunes q s c.0 c.1 × IsDecided (eval c.0 q s)
+IsTypedOn q s c = Prunes q s c.0 c.1 × IsBooleanOrError (eval c.0 q s)
 
 -- where request and store keep to the types, each condition has, on each store between the one restricted to what its typed form reads and the whole one, the
 -- outcome that it has on the whole one

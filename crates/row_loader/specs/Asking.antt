@@ -9,7 +9,7 @@ use Rattle.policy_values.specs.Uid.{text_cmp}
 use Rattle.policy_values.specs.Value.{Val}
 use Rattle.entity_loader.specs.declared.loader.LoadError.{LoadError}
 use Rattle.entity_loader.specs.declared.loader.LoadError.TheVariants.{Failed}
-use Rattle.table_loader.specs.State.{RowsState, HasAncestor}
+use Rattle.table_loader.specs.State.{RowsState, TablesHaveAncestor}
 use Rattle.table_loader.specs.Tables.{Tables}
 
 -- a failure is one that the rows counted
@@ -26,5 +26,5 @@ PutsIfAny old new key value =
 
 -- of the ids, those that are ancestors of the entity in the store of the tables
 pub record AreFound (t : Tables) (u : EntityUID) (ids found : List EntityUID) : Type 0 where
-  pub enough : (y : EntityUID) → Contains ids y → HasAncestor t u y → Contains found y
-  pub given : (y : EntityUID) → Contains found y → HasAncestor t u y
+  pub enough : (y : EntityUID) → Contains ids y → TablesHaveAncestor t u y → Contains found y
+  pub given : (y : EntityUID) → Contains found y → TablesHaveAncestor t u y

@@ -28,18 +28,18 @@ is_long (primitive Long) = true
 is_long t = false
 
 -- it may stand where the other type is expected exactly where the test passes
-abbrev pub Tests : Ty → Ty → Bool → Type 0
-Tests t expected test = Subtype Permissive t expected ↔ IsTrue test
+abbrev pub IsTestOf : Ty → Ty → Bool → Type 0
+IsTestOf t expected test = Subtype Permissive t expected ↔ IsTrue test
 
 pub record HasTests (t : Ty) : Type 0 where
-  pub boolean : Tests t bool_type (is_boolean t)
-  pub long : Tests t long_type (is_long t)
-  pub string : Tests t string_type (is_string t)
-  pub set : Tests t any_set (is_set t)
-  pub entity : Tests t any_entity (is_entity t)
-  pub entity_set : Tests t (set_of any_entity) (is_entity_set t)
-  pub rec : Tests t (record_of no_attrs OpenAttributes) (is_record t)
-  pub extension : (n : List ℕ) → Tests t (extension n) (same_type t (extension n))
+  pub boolean : IsTestOf t bool_type (is_boolean t)
+  pub long : IsTestOf t long_type (is_long t)
+  pub string : IsTestOf t string_type (is_string t)
+  pub set : IsTestOf t any_set (is_set t)
+  pub entity : IsTestOf t any_entity (is_entity t)
+  pub entity_set : IsTestOf t (set_of any_entity) (is_entity_set t)
+  pub rec : IsTestOf t (record_of no_attrs OpenAttributes) (is_record t)
+  pub extension : (n : List ℕ) → IsTestOf t (extension n) (same_type t (extension n))
 
 -- of a type that has values, or of sets of such
 abbrev pub IsInhabited : Ty → Type 0

@@ -81,7 +81,7 @@ impl<'a> ExtensionSchemas<'a> {
     ghost use Rattle.policy_values.specs.Uid.{text_cmp};
     ghost use Rattle.policy_expressions.specs.Functions.{function_of};
     ghost use Rattle.typing_spec.specs.Table.{all_extensions, functions_in, overloading_in, function_at, is_function, typed, names_of, AreOnce};
-    ghost use Rattle.typing_spec.specs.Refused.{IsRefused};
+    ghost use Rattle.typing_spec.specs.Refused.{IsInitializationRefused};
 
     /// These extensions. Errs with `FuncMultiplyDefined` exactly where a function has the name of an earlier one, and
     /// names the first that has.
@@ -91,7 +91,7 @@ impl<'a> ExtensionSchemas<'a> {
     ) -> Result<ExtensionSchemas<'a>, ExtensionInitializationError>
         ensures functions { IfOk result (λ s. s.function_types ≡ functions_in extension_schemas.now) }
         ensures overloading { IfOk result (λ s. s.overloading ≡ overloading_in extension_schemas.now) }
-        ensures repeated { MatchResult result (λ _. AreOnce (names_of (functions_in extension_schemas.now))) (IsRefused (names_of (functions_in extension_schemas.now))) }
+        ensures repeated { MatchResult result (λ _. AreOnce (names_of (functions_in extension_schemas.now))) (IsInitializationRefused (names_of (functions_in extension_schemas.now))) }
     {
         let functions = functions_of(alloc, extension_schemas)?;
         let function_types = by_name(alloc, &functions)?;
