@@ -16,7 +16,7 @@ Fits r None = Unit {0}
 Fits r (Some e) = e.uid ≡ r.entity_id
 
 -- what some choice leaves of the entity of the store, that has at least what is asked; where the loader is exact, just that
-pub record IsGiven (exact : Bool) (s : Store) (r : EntityRequest) (e : StoredEntity) : Type 0 where
+pub record IsHonestEntity (exact : Bool) (s : Store) (r : EntityRequest) (e : StoredEntity) : Type 0 where
   pub stored : StoredEntity
   pub at : entity_at s r.entity_id ≡ Some stored
   pub keep : Keep
@@ -28,7 +28,7 @@ pub record IsGiven (exact : Bool) (s : Store) (r : EntityRequest) (e : StoredEnt
 -- absent where the store has no such entity
 abbrev pub IsHonest : Bool → Store → EntityRequest → Option StoredEntity → Type 0
 IsHonest exact s r None = entity_at s r.entity_id ≡ None
-IsHonest exact s r (Some e) = IsGiven exact s r e
+IsHonest exact s r (Some e) = IsHonestEntity exact s r e
 
 -- the entity x of the store has the ancestor y
 abbrev pub HasAncestor : Store → EntityUID → EntityUID → Type 0

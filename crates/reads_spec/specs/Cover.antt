@@ -24,27 +24,27 @@ use Rattle.reads_spec.specs.Reads.{declared_reads, declared_demands}
 use Rattle.reads_spec.specs.Restrict.{Keep, part, restrict}
 
 -- there is a type, and the value is a member of it
-abbrev pub IsOf : Option Ty → Val → Type 0
-IsOf None v = ⊥
-IsOf (Some t) v = Member t v
+abbrev pub IsMemberOf : Option Ty → Val → Type 0
+IsMemberOf None v = ⊥
+IsMemberOf (Some t) v = Member t v
 
 -- so is each value of the fields
-abbrev pub AreOf : Option Ty → Fields → Type 0
-AreOf o no_fields = Unit {0}
-AreOf o (field k v fs) = IsOf o v × AreOf o fs
+abbrev pub AreMembersOf : Option Ty → Fields → Type 0
+AreMembersOf o no_fields = Unit {0}
+AreMembersOf o (field k v fs) = IsMemberOf o v × AreMembersOf o fs
 
 -- an entity has no attributes but those that its type declares, each of its type, and tags of the type of tags; of a type
 -- that is not declared it has neither
 pub record HasTypes (schema : SchemaData) (e : StoredEntity) : Type 0 where
   pub attributes : Typed ClosedAttributes (or_none (declared_attributes schema e.uid.entity_type)) e.attrs
-  pub tags : AreOf (declared_tags schema e.uid.entity_type) e.tags
+  pub tags : AreMembersOf (declared_tags schema e.uid.entity_type) e.tags
 
 -- what is read of a request and a store is of the types that the schema has for it in an environment; what is required plays
 -- no part
 pub record KeepsTypes (schema : SchemaData) (env : EnvData) (q : Request) (s : Store) : Type 0 where
   pub valid : IsSchema schema
   pub closed : IsTrue (is_held (context_type_in env))
-  pub entries : (v : Var) → IsOf (root_type schema env (variable v)) (variable_value v q)
+  pub entries : (v : Var) → IsMemberOf (root_type schema env (variable v)) (variable_value v q)
   pub entities : AllByRecursion (HasTypes schema) s
 
 module _ (q : Request) (s : Store) {A B : Type 0} where

@@ -6,7 +6,7 @@ use Rattle.access_tries.specs.Views.{ViewData}
 use Rattle.entity_store.specs.Store.{StoredEntity}
 use Rattle.store_order.specs.Laws.{KeysAscend}
 use Rattle.reads_spec.specs.Paths.{along, any_tag}
-use Rattle.entity_loader.specs.Answers.{IsGiven}
+use Rattle.entity_loader.specs.Answers.{IsHonestEntity}
 use Rattle.entity_loader.specs.Asked.{asks}
 use Rattle.entity_loader.specs.declared.loader.EntityRequest.{EntityRequest}
 use Rattle.table_loader.specs.Tables.{Tables, AreInOrder, store_of}
@@ -30,4 +30,4 @@ pub record IsFromRows (t : Tables) (r : EntityRequest) (e : StoredEntity) : Type
 abbrev pub EntitiesFromRowsAreHonest : Type 0
 EntitiesFromRowsAreHonest =
     (t : Tables) (r : EntityRequest) (e : StoredEntity) → AreInOrder t →
-    has_entity t r.entity_id ≡ true → IsFromRows t r e → IsGiven false (store_of t) r e
+    has_entity t r.entity_id ≡ true → IsFromRows t r e → IsHonestEntity false (store_of t) r e
