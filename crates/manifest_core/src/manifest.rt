@@ -11,6 +11,7 @@ ghost use Rattle.manifest_core.specs.Reading.{entries_of};
 ghost use Rattle.manifest_core.specs.Placed.{entries_fault};
 ghost use Rattle.manifest_core.specs.Said.{AreTypedOf, IsSaid, IsManifestRefused};
 
+use crate::copies::copied_tries;
 use crate::declared::declared_tries;
 use crate::error::EntityManifestFromJsonError;
 use crate::faults::first_mismatch;
@@ -49,6 +50,14 @@ impl EntityManifest {
         ensures { result ≡ per_action.entries }
     {
         EntityManifest { per_action }
+    }
+
+    /// An equal manifest.
+    pub fn try_clone(&self, alloc: Global) -> Result<EntityManifest, AllocError>
+        ensures { IfOk result (λ m. m ≡ self.now) }
+    {
+        let per_action = copied_tries(alloc, self.per_action())?;
+        Ok(EntityManifest { per_action })
     }
 
     /// The tries by their request types.
@@ -140,4 +149,24 @@ impl EntityManifest {
     {
         write_per_action(alloc, self.per_action())
     }
+}
+
+impl PartialEq for EntityManifest {
+    ghost use Rattle.std.specs.Cmp.{partial_equiv_from_equiv};
+    ghost use Rattle.manifest_core.specs.Same.{same_manifests, same_manifests_equiv};
+
+    ghost eq = { same_manifests };
+
+    ghost laws = { partial_equiv_from_equiv same_manifests_equiv };
+
+    /// Whether both have the same request types, with equal tries.
+    fn eq(&self, other: &EntityManifest) -> bool {
+        self.per_action == other.per_action
+    }
+}
+
+impl Eq for EntityManifest {
+    ghost use Rattle.manifest_core.specs.Same.{same_manifests_equiv};
+
+    ghost laws = { same_manifests_equiv };
 }
