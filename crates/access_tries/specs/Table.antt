@@ -14,7 +14,8 @@ pub record NodeData : Type 0 where
   pub mark : Bool
 
 abbrev pub coded_node : Coded NodeData
-coded_node = code_by (List Link × Bool) (coded× (coded_list link_row.coded) coded_bool) (λ n. (n.links, n.mark)) (λ p. record { links = p.0; mark = p.1 }) (λ _. refl)
+coded_node = code_by (List Link × Bool) (coded× (coded_list link_row.coded) coded_bool)
+    (λ n. (n.links, n.mark)) (λ p. record { links = p.0; mark = p.1 }) (λ _. refl)
 
 abbrev pub Table : Type 0
 Table = List NodeData

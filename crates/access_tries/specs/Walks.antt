@@ -43,7 +43,9 @@ pub record IsOf (addresses : List Address) (mark : Bool) (t : Table) : Type 0 wh
 
 -- from this number on each node leads by one edge to the next, and the last one nowhere
 abbrev pub IsChain : Table → ℕ → Address → Bool → Type 0
-IsChain ns k [] mark = (is_some (slice_get ns k) ≡ true) × (links_at ns k ≡ []) × (has_mark (slice_get ns k) ≡ mark)
+IsChain ns k [] mark =
+    (is_some (slice_get ns k) ≡ true) × (links_at ns k ≡ []) × (has_mark (slice_get ns k) ≡ mark)
 IsChain ns k (e ∷ es) mark =
-    (is_some (slice_get ns k) ≡ true) × (links_at ns k ≡ record { edge = e; number = k + 1 } ∷ []) × (has_mark (slice_get ns k) ≡ false)
+    (is_some (slice_get ns k) ≡ true) × (links_at ns k ≡ record { edge = e; number = k + 1 } ∷ []) ×
+    (has_mark (slice_get ns k) ≡ false)
     × IsChain ns (k + 1) es mark

@@ -143,8 +143,8 @@ fn steps_of(alloc: Global, steps: &[Step]) -> Result<Vec<Step>, AllocError>
     Ok(copies)
 }
 
-/// What leads from a node to another: a step, or a root of what is asked of its ancestors. Fields come first, then any tag,
-/// then roots: ids before entries of the request.
+/// What leads from a node to another: a step, or a root of what is asked of its ancestors. Fields come first,
+/// then any tag, then roots: ids before entries of the request.
 #[derive(Debug, Drop)]
 pub enum Edge {
     /// To what an attribute of an entity, or a field of a record, holds.

@@ -199,8 +199,8 @@ fn turn_of<'a>(xs: &'a [Link], p: usize, nx: usize, ys: &'a [Link], q: usize, ny
     }
 }
 
-// Appends what both nodes hold, as one node with all below it, and answers its number. A number past the end stands for
-// no node.
+// Appends what both nodes hold, as one node with all below it, and answers its number. A number past the end
+// stands for no node.
 pub(crate) fn unite(
     alloc: Global,
     nodes: &mut Vec<Node>,
@@ -218,8 +218,10 @@ pub(crate) fn unite(
     ensures kept { OnOk result (Keeps (length nodes.old.items) nodes.old.items nodes.new.items) }
     ensures closed { OnOk result (IsClosed (length nodes.old.items) nodes.new.items) }
     ensures ordered { OnOk result (IsTableOrdered (length nodes.old.items) nodes.new.items) }
-    ensures present { IfOk result (λ n. (a : Address) → at_path is_some nodes.new.items n a ≡ (at_path is_some x.now i a || at_path is_some y.now j a)) }
-    ensures marked { IfOk result (λ n. (a : Address) → at_path has_mark nodes.new.items n a ≡ (at_path has_mark x.now i a || at_path has_mark y.now j a)) }
+    ensures present { IfOk result (λ n. (a : Address) → at_path is_some nodes.new.items n a ≡
+        (at_path is_some x.now i a || at_path is_some y.now j a)) }
+    ensures marked { IfOk result (λ n. (a : Address) → at_path has_mark nodes.new.items n a ≡
+        (at_path has_mark x.now i a || at_path has_mark y.now j a)) }
 {
     let at = nodes.len();
     let mark = either(mark_of(x, i), mark_of(y, j));

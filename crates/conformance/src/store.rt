@@ -25,10 +25,11 @@ use std::collections::{BTreeMap, BTreeSet};
 use type_relations::has_value;
 
 /// Whether the store conforms to the schema. The entity of an action has to be declared as an action, without
-/// attributes and tags, and with exactly the ancestors that the schema gives the action. Any other entity has to be
-/// of a declared type that lists it where it is enumerated; its attributes are declared, of their types, and none that is
-/// required is missing; its tags are of the type of tags, if there is one; its ancestors are of types that it may be in.
-/// Ids in attributes and tags, and ancestors, are listed where their types are enumerated.
+/// attributes and tags, and with exactly the ancestors that the schema gives the action. Any other entity has
+/// to be of a declared type that lists it where it is enumerated; its attributes are declared, of their
+/// types, and none that is required is missing; its tags are of the type of tags, if there is one; its
+/// ancestors are of types that it may be in. Ids in attributes and tags, and ancestors, are listed where
+/// their types are enumerated.
 ///
 /// Errs with the first entity that breaks a rule, in the order of the ids, and the first rule that it breaks.
 pub fn conforms(schema: &ValidatorSchema, entities: &Entities) -> Result<(), ConformanceError>
@@ -62,7 +63,8 @@ fn same_id(one: &EntityUID, other: &EntityUID) -> bool
     one.cmp(other) == Ordering::Equal
 }
 
-// The first rule that the entity breaks, where it is known whether an ancestor of its action is missing in it.
+// The first rule that the entity breaks, where it is known whether an ancestor of its action is missing
+// in it.
 fn broken_rule(
     schema: &ValidatorSchema,
     entity: &Entity,

@@ -61,7 +61,8 @@ context_of a = record_of a.context ClosedAttributes
 abbrev pub coded_description : Coded TypeDescription
 coded_description =
     code_by (List ℕ × (Option (List (List ℕ)) × (Attrs × (Option Ty × List (List ℕ)))))
-    (coded× (coded_list coded_ℕ) (coded× (coded_option (coded_list (coded_list coded_ℕ))) (coded× coded_attrs (coded× (coded_option coded_ty) (coded_list (coded_list coded_ℕ))))))
+    (coded× (coded_list coded_ℕ) (coded× (coded_option (coded_list (coded_list coded_ℕ)))
+    (coded× coded_attrs (coded× (coded_option coded_ty) (coded_list (coded_list coded_ℕ))))))
     (λ d. (d.name, (d.eids, (d.attrs, (d.tags, d.parents)))))
     (λ p. record { name = p.0; eids = p.1.0; attrs = p.1.1.0; tags = p.1.1.1.0; parents = p.1.1.1.1 })
     (λ _. refl)

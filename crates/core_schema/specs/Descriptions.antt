@@ -10,8 +10,8 @@ use Rattle.policy_values.specs.Uid.{text_cmp, uid_cmp}
 use Rattle.schema_types.specs.Attrs.{attr_at}
 use Rattle.schema_types.specs.Ty.{Ty, Attrs, no_attrs, attr}
 
--- an entity type: its name; the eids that it lists, where it is enumerated; its attributes, and the type of its tags,
--- where it has tags; the types whose entities may be ancestors of its own
+-- an entity type: its name; the eids that it lists, where it is enumerated; its attributes, and the type of
+-- its tags, where it has tags; the types whose entities may be ancestors of its own
 pub record TypeDescription : Type 0 where
   pub name : List ℕ
   pub eids : Option (List (List ℕ))

@@ -12,7 +12,8 @@ use schema_core::{Attributes, SchemaType, ValidatorSchema};
 use std::alloc::{AllocError, Global};
 use std::marker::Model;
 
-/// What a schema tells of the contexts of an action: their attributes, which are the schema's own. They have no others.
+/// What a schema tells of the contexts of an action: their attributes, which are the schema's own. They have
+/// no others.
 #[derive(Debug, Drop)]
 pub struct ContextSchema<'a> {
     attributes: &'a Attributes,

@@ -32,7 +32,13 @@ impl Model for EntityTypeDescription {
 
     ghost coded = { coded_description };
 
-    ghost view = { λ d. record { name = d.described.name; eids = option_map (λ v. v.items) d.described.eids; attrs = d.described.attrs; tags = d.described.tags; parents = d.described.parents.keys } };
+    ghost view = { λ d. record {
+      name = d.described.name;
+      eids = option_map (λ v. v.items) d.described.eids;
+      attrs = d.described.attrs;
+      tags = d.described.tags;
+      parents = d.described.parents.keys;
+    } };
 }
 
 impl EntityTypeDescription {

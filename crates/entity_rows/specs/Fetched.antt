@@ -9,10 +9,13 @@ use Rattle.entity_rows.specs.declared.fetched.Fetched.{Fetched}
 
 -- of the ids that were looked up, the entities that were found are those of the store, where one is told
 abbrev pub AreFetchedOf : Option Store → BTreeSet EntityUID → Store → Type 0
-AreFetchedOf told seen found = (w : Store) → told ≡ Some w → (u : EntityUID) → contains uid_cmp seen u ≡ true → entity_at found u ≡ entity_at w u
+AreFetchedOf told seen found = (w : Store) → told ≡ Some w →
+    (u : EntityUID) → contains uid_cmp seen u ≡ true → entity_at found u ≡ entity_at w u
 
-pub AreFetchedOf-prop : (told : Option Store) (seen : BTreeSet EntityUID) (found : Store) → IsProp (AreFetchedOf told seen found)
-AreFetchedOf-prop told seen found = Π_prop (λ w. →_prop (Π_prop (λ u. →_prop (Coded-set (coded_option coded_entity) (entity_at found u) (entity_at w u)))))
+pub AreFetchedOf-prop : (told : Option Store) (seen : BTreeSet EntityUID) (found : Store) →
+    IsProp (AreFetchedOf told seen found)
+AreFetchedOf-prop told seen found = Π_prop (λ w. →_prop
+    (Π_prop (λ u. →_prop (Coded-set (coded_option coded_entity) (entity_at found u) (entity_at w u)))))
 
 -- and of no other id
 pub record AreFetched (told : Option Store) (f : Fetched) : Type 0 where

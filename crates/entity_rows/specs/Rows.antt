@@ -21,7 +21,8 @@ cell_entity (Blob b) = None
 
 -- the entity that the row's text spells, where its id is the row's type and eid
 abbrev pub row_entity : Row → Option StoredEntity
-row_entity r = option_and_then (λ e. if is_of e.uid.entity_type e.uid.eid r then Some e else None) (cell_entity (column r 4))
+row_entity r = option_and_then (λ e. if is_of e.uid.entity_type e.uid.eid r then Some e else None)
+    (cell_entity (column r 4))
 
 -- the store with the entity in its place, in that of another one with its id
 abbrev pub put : StoredEntity → Store → Store

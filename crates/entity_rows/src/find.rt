@@ -67,7 +67,8 @@ fn ask<S: Alter>(
     conn.query_all(sql, params![kind, eid])
 }
 
-// The texts of the rows with a type and an eid: while the connection is open and its disk clean, they are those of the table.
+// The texts of the rows with a type and an eid: while the connection is open and its disk clean, they are
+// those of the table.
 fn look_up<S: Alter>(conn: &mut Connection<S>, kind: &str, eid: &str) -> Result<Vec<Row>, Error>
     requires { IsReady (state S.Store conn.old) }
     ensures ready { IsReady (state S.Store conn.new) }
@@ -84,8 +85,8 @@ fn look_up<S: Alter>(conn: &mut Connection<S>, kind: &str, eid: &str) -> Result<
     )
 }
 
-/// The entity with the id, where the table has a row for it. While the connection is open and its disk has returned what
-/// was written, it is that of the rows' store.
+/// The entity with the id, where the table has a row for it. While the connection is open and its disk has
+/// returned what was written, it is that of the rows' store.
 ///
 /// Errs with `NoEntity` where two rows have the id, or the row's text does not spell the entity.
 pub fn find_entity<S: Alter>(

@@ -17,10 +17,11 @@ use sqlite::{Alter, Connection};
 use std::alloc::{AllocError, Global};
 use std::collections::BTreeSet;
 
-/// A loader of what was looked up in a database, which answers just what is asked. A call that asks for an id that was not
-/// looked up fails, is counted, and leaves the id among the missing ones.
+/// A loader of what was looked up in a database, which answers just what is asked. A call that asks for an id
+/// that was not looked up fails, is counted, and leaves the id among the missing ones.
 ///
-/// It tells the store of the database's rows, where the database is open and its disk has returned what was written.
+/// It tells the store of the database's rows, where the database is open and its disk has returned what was
+/// written.
 #[derive(Drop)]
 pub struct FetchedLoader<'a, S: Alter> {
     /// The database, which stays as it is while there is the loader.

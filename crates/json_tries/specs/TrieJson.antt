@@ -42,7 +42,8 @@ abbrev pub with_tags : List Data → Members → Members
 with_tags [] ms = ms
 with_tags (t ∷ ts) ms = put (codes "tags") (array (items_of (t ∷ ts))) ms
 
--- a node: the trie that names the ancestors that are asked for, its fields, whether it is itself asked for, and its tags
+-- a node: the trie that names the ancestors that are asked for, its fields, whether it is itself asked for,
+-- and its tags
 abbrev pub node_data : Bool → List Data → List Data → List Data → Data
 node_data mark fields tags roots = object (with_tags tags (member (codes "ancestorsTrie") (trie_data roots)
     (member (codes "children") (array (items_of fields))

@@ -19,5 +19,6 @@ AreSameEntries ms ns = ⊥
 
 -- what is typed has no mismatch where the manifest that it is of has none, and typed again it stays the same
 pub record TypedStays : Type 0 where
-  pub fits : (s : SchemaData) (m n : Manifest) → AreTables m → AreTables n → first_mismatch s m ≡ None → AreTyped s m n → first_mismatch s n ≡ None
+  pub fits : (s : SchemaData) (m n : Manifest) → AreTables m → AreTables n →
+      first_mismatch s m ≡ None → AreTyped s m n → first_mismatch s n ≡ None
   pub stays : (s : SchemaData) (m n o : Manifest) → AreTyped s m n → AreTyped s n o → AreSameEntries n o

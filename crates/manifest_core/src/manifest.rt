@@ -69,10 +69,10 @@ impl EntityManifest {
 
     /// The manifest that a JSON value says, with exactly the paths whose steps the schema declares.
     ///
-    /// Errors: `SerdeJsonParseError` exactly where the value says no manifest (a request type, root or field that is listed
-    /// twice makes it none); `MismatchedEntityManifest` exactly where the manifest does not fit the schema, with what is wrong
-    /// first in the order of the document: lists in their order; of one node first `children`, then `tags`, then
-    /// `ancestorsTrie`.
+    /// Errors: `SerdeJsonParseError` exactly where the value says no manifest (a request type, root or field
+    /// that is listed twice makes it none); `MismatchedEntityManifest` exactly where the manifest does not
+    /// fit the schema, with what is wrong first in the order of the document: lists in their order; of one
+    /// node first `children`, then `tags`, then `ancestorsTrie`.
     pub fn from_json_value(
         alloc: Global,
         value: &Value,
@@ -92,8 +92,8 @@ impl EntityManifest {
 
     /// The manifest that a text of JSON says, as of [`EntityManifest::from_json_value`].
     ///
-    /// Errors: those of [`EntityManifest::from_json_value`], and `SerdeJsonParseError` where the text is no JSON; `serde_json`
-    /// reads no text that nests deeper than 127.
+    /// Errors: those of [`EntityManifest::from_json_value`], and `SerdeJsonParseError` where the text is no
+    /// JSON; `serde_json` reads no text that nests deeper than 127.
     pub fn from_json_str(
         alloc: Global,
         text: &str,
@@ -126,8 +126,9 @@ impl EntityManifest {
         Ok(EntityManifest { per_action })
     }
 
-    /// The manifest with exactly the paths whose steps the schema declares, with their marks. It is refused where it does not fit
-    /// the schema: with what is wrong first, in the order of request types, and then of edges.
+    /// The manifest with exactly the paths whose steps the schema declares, with their marks. It is refused
+    /// where it does not fit the schema: with what is wrong first, in the order of request types, and then
+    /// of edges.
     pub fn to_typed(
         &self,
         alloc: Global,
@@ -143,7 +144,8 @@ impl EntityManifest {
         Ok(EntityManifest { per_action })
     }
 
-    /// The manifest as JSON: the object whose member `perAction` lists request types, ascending, each with its trie.
+    /// The manifest as JSON: the object whose member `perAction` lists request types, ascending, each with
+    /// its trie.
     pub fn to_json(&self, alloc: Global) -> Result<Value, AllocError>
         ensures { IfOk result (λ v. view v ≡ manifest_data self.now) }
     {

@@ -20,8 +20,8 @@ use schema_types::Type;
 use std::alloc::{AllocError, Global};
 use std::collections::{BTreeMap, BTreeSet};
 
-// Adds what an expression reads and demands, and says where its result comes from. Parts that are not reached stand as
-// literals in a typed expression, and read nothing.
+// Adds what an expression reads and demands, and says where its result comes from. Parts that are not reached
+// stand as literals in a typed expression, and read nothing.
 #[cycle(analyze)]
 #[tactic(auto, using(crate::proofs::Covers::adds_none))]
 pub(crate) fn analyze(

@@ -17,11 +17,13 @@ pub record WalkAgrees (w : Walked) (t : Option Typing) (fs : List Finding) : Typ
   pub told : (f : Finding) → Contains fs f → Contains (findings_of w) f
 
 abbrev pub WalkIsExact : Type 0
-WalkIsExact = (schema : SchemaData) (env : EnvData) (cs : List Capability) (e : Plain) → WalkAgrees (walked schema env cs e) (types schema env cs e) (faults schema env cs e)
+WalkIsExact = (schema : SchemaData) (env : EnvData) (cs : List Capability) (e : Plain) →
+    WalkAgrees (walked schema env cs e) (types schema env cs e) (faults schema env cs e)
 
 -- an expression that has a type has no faults
 abbrev pub TypedHasNoFaults : Type 0
-TypedHasNoFaults = (schema : SchemaData) (env : EnvData) (cs : List Capability) (e : Plain) → IfSome (types schema env cs e) (λ a. faults schema env cs e ≡ [])
+TypedHasNoFaults = (schema : SchemaData) (env : EnvData) (cs : List Capability) (e : Plain) →
+    IfSome (types schema env cs e) (λ a. faults schema env cs e ≡ [])
 
 -- there is a typing or a finding
 abbrev pub HasTypingOrFinding : Option Typing → List Finding → Type 0
@@ -29,8 +31,10 @@ HasTypingOrFinding (Some a) fs = ⊤
 HasTypingOrFinding None [] = ⊥
 HasTypingOrFinding None (f ∷ fs) = ⊤
 
--- where each name is known and the environment's action is declared, an expression without a type has a finding
+-- where each name is known and the environment's action is declared, an expression without a type has
+-- a finding
 abbrev pub FailureIsTold : Type 0
 FailureIsTold =
-    (schema : SchemaData) (env : EnvData) → IsSome (action_type_in schema env) → (cs : List Capability) (e : Plain) → IsTrue (has_known_names schema e) →
+    (schema : SchemaData) (env : EnvData) → IsSome (action_type_in schema env) →
+    (cs : List Capability) (e : Plain) → IsTrue (has_known_names schema e) →
     HasTypingOrFinding (types schema env cs e) (findings_of (walked schema env cs e))

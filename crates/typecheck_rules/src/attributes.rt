@@ -79,7 +79,8 @@ fn copied(
     }
 }
 
-/// The type of `has`, by whether the attribute is known to be there, and by the attribute that the operand's type declares.
+/// The type of `has`, by whether the attribute is known to be there, and by the attribute that the operand's
+/// type declares.
 pub fn has_type(
     schema: &ValidatorSchema,
     known: bool,
@@ -172,7 +173,9 @@ pub fn optional_found(
     n: &Text,
     loc: Option<Loc>,
 ) -> Result<Vec<Finding>, AllocError>
-    ensures { IfOk result (λ r. findings_from r.items ≡ walked.one (finding.UnsafeOptionalAttributeAccess (access.attribute_access (env_data_of env.now) tree.now n.now)) loc) }
+    ensures { IfOk result (λ r. findings_from r.items ≡ walked.one
+        (finding.UnsafeOptionalAttributeAccess (access.attribute_access (env_data_of env.now) tree.now n.now))
+        loc) }
 {
     let access = AttributeAccess::from_expr(alloc, env, tree, n.try_clone()?)?;
     one(

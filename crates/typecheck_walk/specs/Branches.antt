@@ -34,7 +34,8 @@ pub record Tested : Type 0 where
   pub found : List Finding
 
 abbrev pub tested_of : Test → Tested
-tested_of u = record { ok = u.ok; of = u.of; caps = u.caps; tree = u.tree; found = findings_from u.found.items }
+tested_of u =
+    record { ok = u.ok; of = u.of; caps = u.caps; tree = u.tree; found = findings_from u.found.items }
 
 abbrev pub chosen : Ty → List Capability → Bool → Bool → Chosen
 chosen t cs b c = record { of = t; caps = cs; has_first = b; has_second = c }
@@ -49,7 +50,10 @@ second_own b = option_map (λ t. chosen t b.caps false true) b.of
 -- both branches, whose types have a join
 abbrev pub joined_own : List Capability → Operand → Operand → Option Chosen
 joined_own cs a b =
-    option_and_then (λ t. option_and_then (λ u. option_map (λ w. chosen w (common b.caps (a.caps ++ cs)) true true) (strict_join t u)) b.of) a.of
+    option_and_then
+    (λ t. option_and_then
+    (λ u. option_map (λ w. chosen w (common b.caps (a.caps ++ cs)) true true) (strict_join t u)) b.of)
+    a.of
 
 -- the type of the branches that are reached, what is known, and which are reached
 abbrev pub own_behind : Ty → List Capability → Operand → Operand → Option Chosen
@@ -75,5 +79,6 @@ all_found u a b fs = u.found ++ (a.found ++ (b.found ++ fs))
 
 abbrev pub if_of : Mark (Unit {0}) → Tested → Operand → Operand → Walked
 if_of m u a b =
-    ended (all_ok u a b) (if_typing u.of u.caps u.tree m (lent a) (lent b)) (ite u.tree a.tree b.tree (lends None m))
+    ended (all_ok u a b) (if_typing u.of u.caps u.tree m (lent a) (lent b))
+    (ite u.tree a.tree b.tree (lends None m))
     (all_found u a b (branches_found m u.of a.of b.of))

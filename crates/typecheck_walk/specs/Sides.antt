@@ -1,5 +1,5 @@
--- `&&` and `||`, by their sides taken apart: each has a type of its own or none, what it makes known, and whether its right side
--- is reached.
+-- `&&` and `||`, by their sides taken apart: each has a type of its own or none, what it makes known, and
+-- whether its right side is reached.
 use Rattle.std.specs.Prelude.{Bool, true, false, ◌&&◌, List, [], ◌++◌, Option, Some, option_map}
 use Rattle.std.specs.Option.{option_and_then}
 use Rattle.schema_core.specs.Schema.{SchemaData}
@@ -33,7 +33,8 @@ reached false t = unreached
 
 -- `&&`, whose left side is not false
 abbrev pub and_reached : Ty → List Capability → Operand → Option Own
-and_reached t cs b = option_and_then (λ u. option_map (λ w. own w (and_caps u cs b.caps) true) (and_type t u)) b.of
+and_reached t cs b =
+    option_and_then (λ u. option_map (λ w. own w (and_caps u cs b.caps) true) (and_type t u)) b.of
 
 abbrev pub and_own_of : Ty → List Capability → Operand → Option Own
 and_own_of false_type cs b = Some (own false_type [] false)
@@ -57,7 +58,8 @@ and_of m a b =
 
 -- `||`, whose left side is not true
 abbrev pub or_reached : Ty → List Capability → Operand → Option Own
-or_reached t cs b = option_and_then (λ u. option_map (λ w. own w (or_caps t u cs b.caps) true) (or_type t u)) b.of
+or_reached t cs b =
+    option_and_then (λ u. option_map (λ w. own w (or_caps t u cs b.caps) true) (or_type t u)) b.of
 
 abbrev pub or_own_of : Ty → List Capability → Operand → Option Own
 or_own_of true_type cs b = Some (own true_type cs false)

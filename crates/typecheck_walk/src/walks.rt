@@ -27,8 +27,8 @@ use typecheck_operators::{
 use typecheck_rules::Expected;
 use typing_spec::CapabilitySet;
 
-// The walk through an expression: its typing, or what is found. Each kind has a function of its own, which keeps proofs short;
-// so does dropping by a call what was told of one part when the walk of the next fails.
+// The walk through an expression: its typing, or what is found. Each kind has a function of its own, which
+// keeps proofs short; so does dropping by a call what was told of one part when the walk of the next fails.
 #[cycle(walk)]
 pub(crate) fn walk<'a>(
     at: &Setting<'a, '_, '_, '_>,

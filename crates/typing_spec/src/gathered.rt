@@ -35,7 +35,8 @@ fn add_functions<'a>(
     functions: &mut Vec<&'a ExtensionFunctionType>,
     schema: &'a ExtensionSchema,
 ) -> Result<(), AllocError>
-    ensures { OnOk result (pointed functions.new.items ≡ pointed functions.old.items ++ schema.now.function_types) }
+    ensures { OnOk result
+        (pointed functions.new.items ≡ pointed functions.old.items ++ schema.now.function_types) }
 {
     let added = schema.function_types();
     for function in added {
@@ -77,7 +78,8 @@ pub(crate) fn by_name<'a>(
     functions: &[&'a ExtensionFunctionType],
 ) -> Result<BTreeMap<Name, &'a ExtensionFunctionType>, ExtensionInitializationError>
     ensures found { IfOk result (AreByName (pointed functions.now)) }
-    ensures repeated { MatchResult result (λ _. AreOnce (names_of (pointed functions.now))) (IsInitializationRefused (names_of (pointed functions.now))) }
+    ensures repeated { MatchResult result (λ _. AreOnce (names_of (pointed functions.now)))
+        (IsInitializationRefused (names_of (pointed functions.now))) }
 {
     let mut by_name = BTreeMap::new(alloc);
     for function in functions {
