@@ -86,14 +86,18 @@ fn sliced(alloc: Global, document: &Document) -> Result<String, Fail> {
     Ok(format!(in alloc; "{kept} level {}", cut.len())?)
 }
 
-// How many types of requests the manifest has, and how many entities it keeps.
+// How many types of requests the manifest has, and how many entities an equal copy keeps.
 fn by_manifest(alloc: Global, document: &Document) -> Result<(usize, usize), Fail> {
     match compute_entity_manifest(alloc, &document.schema, &document.policies) {
         Ok(manifest) => {
-            let counted = (
-                manifest.per_action().len(),
-                kept_by(alloc, &manifest, document),
-            );
+            let copy = manifest.try_clone(alloc)?;
+            let kept = if copy == manifest {
+                kept_by(alloc, &copy, document)
+            } else {
+                0
+            };
+            let counted = (manifest.per_action().len(), kept);
+            drop(copy);
             drop(manifest);
             Ok(counted)
         }

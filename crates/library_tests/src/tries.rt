@@ -1,8 +1,8 @@
-//! Tries of paths: how many nodes they have, which are equal, and their copies.
+//! Tries of paths: how many nodes they have, which are equal, and their copies; and what their roots are called.
 
 use access_tries::{AccessPath, AccessTrie, Edge, EntityRoot, RootAccessTrie, Step, all_of};
 use policy_expressions::Var;
-use policy_values::Text;
+use policy_values::{EntityType, Name, Text};
 use std::alloc::{AllocError, Global};
 use std::test::Fail;
 
@@ -87,6 +87,36 @@ fn tries_are_equal_by_their_marks(rt: HostRuntime) -> Result<(), Fail> {
         assert_eq!(rt; trie == plain, !mark, "{mark}");
         let copy = trie.try_clone(rt.alloc())?;
         assert!(rt; copy == trie);
+    }
+    Ok(())
+}
+
+#[test]
+fn roots_are_shown(rt: HostRuntime) -> Result<(), Fail> {
+    let rows = [
+        (Var::Principal, "principal"),
+        (Var::Action, "action"),
+        (Var::Resource, "resource"),
+        (Var::Context, "context"),
+    ];
+    for (var, wanted) in rows {
+        let shown = format!(in rt.alloc(); "{}", EntityRoot::Var(var))?;
+        assert_eq!(rt; shown.as_str(), wanted);
+    }
+    Ok(())
+}
+
+#[test]
+fn basenames_are_last_components(rt: HostRuntime) -> Result<(), Fail> {
+    for (name, wanted) in [("User", "User"), ("A::User", "User"), ("A::B::C", "C")] {
+        match Name::parse(rt.alloc(), name)? {
+            Some(name) => {
+                let entity_type = EntityType::new(name);
+                assert_eq!(rt; entity_type.basename(), wanted);
+                drop(entity_type);
+            }
+            None => assert!(rt; false),
+        }
     }
     Ok(())
 }
