@@ -4,7 +4,7 @@
 -- status (`usage_for`, `too_long_for`, `exact_for`), and from 0, 1 and 12 to what is written.
 use Rattle.std.proofs.Common.{◌≡◌, ℕ, ◌+◌, ◌<◌, ◌≤◌, List, ◌++◌, length, true≢false, ◌⊎◌, inl, inr, Option, Some, None, append-nil, length-append, sym, ap, ◌∙◌, refl, subst, arith}
 use Rattle.std.specs.Io.KnownBytes.{Appends, Consumes, IsAtEnd}
-use Rattle.byte_streams.specs.Document.{document_limit, WasRead}
+use Rattle.byte_streams.specs.Document.{document_limit}
 use Rattle.byte_streams.specs.State.{SinkState, SourceState}
 use Rattle.byte_streams.specs.Steps.{IsQuiet, Rose}
 use Rattle.policy_gate.specs.Answer.{IsAnswer}
