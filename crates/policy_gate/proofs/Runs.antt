@@ -14,10 +14,11 @@ use Rattle.policy_gate.specs.Laws.{Laws}
 use Rattle.policy_gate.specs.Run.{Cause, Gives, GivesWhole, IsDocumentDue, IsDue, IsDueAfterReading, IsDueFor, IsGiven, IsGivenBy, IsReader, IsToReadBy, IsToWorkOn, Run, Runs}
 use Rattle.policy_gate.specs.Status.{IsAfterEnd, IsOfDocument, IsUnlessOutOfMemory, after_fault}
 use Rattle.policy_gate.specs.declared.command.Command.{Command}
-use Rattle.policy_gate.specs.declared.command.Command.TheVariants.{Live}
+use Rattle.policy_gate.specs.declared.command.Command.TheVariants.{Live, Sample}
 use Rattle.policy_gate.specs.declared.status.Status.{Status}
 use Rattle.policy_gate.specs.declared.status.Status.TheVariants.{Done, Findings, Usage, Document, Request, Store, PartialRequest, ReadFault, WriteFault, OutOfMemory, TooLong, Edit}
-use Rattle.policy_gate.specs.Headline.{HasDocument, HasPoliciesFor, IsRefusedEdit, KeepsAllRules, Says, WorkedOn}
+use Rattle.json_samples.specs.Sample.{sample_document}
+use Rattle.policy_gate.specs.Headline.{HasDocument, HasPoliciesFor, IsRefusedEdit, IsSampled, KeepsAllRules, OwnSays, Says, WorkedOn}
 use Rattle.policy_gate.proofs.Answers.{status_of_document}
 use Rattle.policy_gate.proofs.Says.{says_done, says_edit, says_refused, kept_is_done}
 
@@ -192,6 +193,13 @@ module _ (laws : Laws) (run : Run) (runs : Runs run.command run.source run.sourc
     where
       at : Cause (Some c) run.source run.source' run.sink run.sink' Done → (bytes : List ℕ) × (text : List ℕ) × IsGiven c run.source run.source' bytes × HasDocument c bytes (λ d. Says c d text) × Appends run.sink.holds run.sink'.holds text
       at (text, (bytes, read, answer), written) = (bytes, text, read, says_done laws c bytes text answer, written)
+
+  pub sampled_for : (seed size : ℕ) → OwnSays (sample_document seed size) (Sample seed size) (IsSampled size) run
+  sampled_for seed size is ends = at (done_for (Sample seed size) is ends)
+    where
+      at : ((bytes : List ℕ) × (text : List ℕ) × ((bytes ≡ sample_document seed size) × (run.source' ≡ run.source)) × HasDocument (Sample seed size) bytes (λ d. IsSampled size d text) × Appends run.sink.holds run.sink'.holds text)
+          → (text : List ℕ) × (run.source' ≡ run.source) × HasDocument (Sample seed size) (sample_document seed size) (λ d. IsSampled size d text) × Appends run.sink.holds run.sink'.holds text
+      at (bytes, text, (same, alone), has, written) = (text, alone, subst (λ b. HasDocument (Sample seed size) b (λ d. IsSampled size d text)) same has, written)
 
   pub refused_for : run.status ≡ Findings → (c : Command) × WorkedOn c (λ d. ¬ HasPoliciesFor c d) run
   refused_for ends = at run.command refl (why Findings ends)

@@ -1,6 +1,7 @@
 -- What status 0 says of each command.
 use Rattle.std.specs.Prelude.{◌≡◌, ℕ, List, Option, Some, None, Ok, codes}
 use Rattle.std.specs.Io.KnownBytes.{Appends}
+use Rattle.byte_streams.specs.Document.{WasRead}
 use Rattle.policy_set.specs.Allowed.{AreAllowed}
 use Rattle.policy_set.specs.Response.{response}
 use Rattle.json_document.specs.Reading.{IsRead}
@@ -29,7 +30,7 @@ use Rattle.policy_gate.specs.Listing.{list_text}
 use Rattle.policy_gate.specs.Live.{edit_text, policies_after, refused_edit}
 use Rattle.policy_gate.specs.Answer.{batch_text, found_in, found_at, manifest_text, request_fault, request_line, review_text, sample_line, slice_of}
 use Rattle.policy_gate.specs.Command.{shape_of}
-use Rattle.policy_gate.specs.Run.{IsGiven, IsRunOn, IsUndisturbed, Run}
+use Rattle.policy_gate.specs.Run.{IsRunOn, IsUndisturbed, Run}
 use Rattle.policy_gate.specs.declared.command.Command.{Command}
 use Rattle.policy_gate.specs.declared.command.Command.TheVariants.{Check, Level, Request, Manifest, Slice, Decide, Sample, Batch, Live, Review, List as Page}
 use Rattle.policy_gate.specs.declared.status.Status.TheVariants.{Done}
@@ -213,11 +214,17 @@ Says Live d text = IsLive d text
 Says Review d text = IsReviewed d text
 Says (Page limit after) d text = IsListed limit after d text
 
--- where a run of the command ends with 0, the bytes that it works on (all of its source, or those of its own
--- document, with the source left alone) are a document, of which the text that it writes says what it should
+-- where a run of the command ends with 0, all bytes of its source were read and are a document, and the text
+-- that is written is so for that
 abbrev pub DoneSays : Command → (Document → List ℕ → Type 0) → Run → Type 0
 DoneSays command Is run = run.command ≡ Some command → run.status ≡ Done
-    → (bytes : List ℕ) × (text : List ℕ) × IsGiven command run.source run.source' bytes
+    → (bytes : List ℕ) × (text : List ℕ) × WasRead run.source run.source' bytes
+    × HasDocument command bytes (λ d. Is d text) × Appends run.sink.holds run.sink'.holds text
+
+-- the same of a command with a document of its own, which these bytes are: its source is left alone
+abbrev pub OwnSays : List ℕ → Command → (Document → List ℕ → Type 0) → Run → Type 0
+OwnSays bytes command Is run = run.command ≡ Some command → run.status ≡ Done
+    → (text : List ℕ) × (run.source' ≡ run.source)
     × HasDocument command bytes (λ d. Is d text) × Appends run.sink.holds run.sink'.holds text
 
 -- the run is of the command, and the document that it works on is so

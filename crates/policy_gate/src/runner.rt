@@ -1,8 +1,9 @@
 //! The whole run, from a source to a sink.
 ghost use Rattle.std.specs.Prelude.{◌≡◌, ◌+◌, ◌<◌, ℕ, List, Option, Some, None, IfOk, map, string_bytes};
 ghost use Rattle.byte_streams.specs.Document.{document_limit, TakesFew};
+ghost use Rattle.json_samples.specs.Sample.{sample_document};
 ghost use Rattle.policy_gate.specs.Command.{command_of, own_document};
-ghost use Rattle.policy_gate.specs.Headline.{DoneSays, HasPoliciesFor, IsBatch, IsChecked, IsCheckedAt, IsConforming, IsDecided, IsListed, IsLive, IsManifested, IsRefusedEdit, IsReviewed, IsSampled, IsSliced, KeepsAllRules, WorkedOn};
+ghost use Rattle.policy_gate.specs.Headline.{DoneSays, HasPoliciesFor, IsBatch, IsChecked, IsCheckedAt, IsConforming, IsDecided, IsListed, IsLive, IsManifested, IsRefusedEdit, IsReviewed, IsSampled, IsSliced, KeepsAllRules, OwnSays, WorkedOn};
 ghost use Rattle.policy_gate.specs.Reply.{answer, reply_view};
 ghost use Rattle.policy_gate.specs.Run.{Cause, Gives, HasTooMany, IsDueAfterReading, IsDueFor, IsExact, IsReader, IsRunOn, Runs, run_of};
 ghost use Rattle.policy_gate.specs.Status.{IsAfterEnd, IsUnlessOutOfMemory};
@@ -190,7 +191,8 @@ pub fn run<S: Source, K: Sink>(
 
     // Where `sample` ends with 0 the source is left alone, and the document that the seed and the size make
     // keeps every rule; the text is the line on its slice, which is enough as that of `slice` is.
-    ensures sampled { (seed size : ℕ) → DoneSays (Command.Sample seed size) (IsSampled size)
+    ensures sampled { (seed size : ℕ) →
+        OwnSays (sample_document seed size) (Command.Sample seed size) (IsSampled size)
         (run_of S.state K.state words.now source.old source.new sink.old sink.new result) }
 
     // Where `batch` ends with 0 the document's store conforms and its policies are accepted, and the text has

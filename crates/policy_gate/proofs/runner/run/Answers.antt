@@ -1,6 +1,6 @@
-use Rattle.policy_gate.proofs.Runs.{causes, complete_for, done_for, edit_for, exact_for, read_for, refused_for, too_long_for, too_long_told, usage_for}
+use Rattle.policy_gate.proofs.Runs.{causes, complete_for, done_for, edit_for, exact_for, read_for, refused_for, sampled_for, too_long_for, too_long_told, usage_for}
 use Rattle.policy_gate.specs.Run.{Run, run_of}
-use Rattle.policy_gate.specs.declared.command.Command.TheVariants.{Check, Level, Request, Manifest, Slice, Decide, Sample, Batch, Live, Review, List as Page}
+use Rattle.policy_gate.specs.declared.command.Command.TheVariants.{Check, Level, Request, Manifest, Slice, Decide, Batch, Live, Review, List as Page}
 use Rattle.policy_gate.proofs.runner.run.Given as given
 use Rattle.policy_gate.proofs.runner.run.Goals as goal
 
@@ -47,7 +47,7 @@ pub returns-clause-decided : goal.returns-clause-decided
 returns-clause-decided g c = done_for c.laws.ensures (this g c) c.outcome.ensures.runs Decide
 
 pub returns-clause-sampled : goal.returns-clause-sampled
-returns-clause-sampled g c seed size = done_for c.laws.ensures (this g c) c.outcome.ensures.runs (Sample seed size)
+returns-clause-sampled g c seed size = sampled_for c.laws.ensures (this g c) c.outcome.ensures.runs seed size
 
 pub returns-clause-batched : goal.returns-clause-batched
 returns-clause-batched g c = done_for c.laws.ensures (this g c) c.outcome.ensures.runs Batch
