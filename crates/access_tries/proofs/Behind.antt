@@ -9,7 +9,7 @@ use Rattle.policy_values.specs.Ties.{equal_of}
 use Rattle.access_tries.specs.declared.edge.Edge.{Edge}
 use Rattle.access_tries.specs.declared.table.Link.{Link}
 use Rattle.access_tries.specs.Edges.{Address, edge_cmp, edge_eq}
-use Rattle.access_tries.specs.Table.{Table, NodeData, at_path, has_mark, links_at, IsBefore, Ascend, IsTable}
+use Rattle.access_tries.specs.Table.{Table, NodeData, at_path, has_mark, links_at, IsLinkBefore, Ascend, IsTable}
 use Rattle.access_tries.specs.Views.{LeadsNowhere, LeadsTo, number_at}
 use Rattle.access_tries.specs.Walks.{any_link}
 use Rattle.access_tries.specs.EdgeLaws.{edge_total, exact_edge}
@@ -17,12 +17,12 @@ use Rattle.plain_lemmas.proofs.Lists.{is_some_within}
 use Rattle.plain_lemmas.proofs.Booleans.{or_false}
 
 -- behind an edge there is no other link with it
-other : (e : Edge) (l m : Link) → edge_eq l.edge e ≡ true → IsBefore l m → edge_eq m.edge e ≡ false
+other : (e : Edge) (l m : Link) → edge_eq l.edge e ≡ true → IsLinkBefore l m → edge_eq m.edge e ≡ false
 other e l m same before =
     let is : l.edge ≡ e = exact_edge l.edge e (equal_of (edge_cmp l.edge e) same) in
     ap is_eq (edge_total.antisymm m.edge e ∙ ap ordering_reverse (subst (λ a. edge_cmp a m.edge ≡ Less) is before))
 
-pub none_behind : (f : Option NodeData → Bool) (ns : Table) (e : Edge) (es : Address) (l : Link) (ls : List Link) → edge_eq l.edge e ≡ true → AllByRecursion (IsBefore l) ls → any_link f ns e es ls ≡ false
+pub none_behind : (f : Option NodeData → Bool) (ns : Table) (e : Edge) (es : Address) (l : Link) (ls : List Link) → edge_eq l.edge e ≡ true → AllByRecursion (IsLinkBefore l) ls → any_link f ns e es ls ≡ false
 none_behind f ns e es l [] same all = refl
 none_behind f ns e es l (m ∷ ms) same all =
     ap (λ b. (b && at_path f ns m.number es) || any_link f ns e es ms) (other e l m same all.0) ∙ none_behind f ns e es l ms same all.1

@@ -8,7 +8,7 @@ use Rattle.std.proofs.lemmas.Option.{slice_get_past}
 use Rattle.access_tries.specs.declared.edge.Edge.{Edge}
 use Rattle.access_tries.specs.declared.table.Link.{Link}
 use Rattle.access_tries.specs.Edges.{Address, edge_eq}
-use Rattle.access_tries.specs.Table.{Table, NodeData, links_at, has_mark, at_path, IsClosed, IsOrdered, Ascend}
+use Rattle.access_tries.specs.Table.{Table, NodeData, links_at, has_mark, at_path, IsClosed, IsTableOrdered, Ascend}
 use Rattle.access_tries.specs.Walks.{any_link, Keeps, IsChain}
 use Rattle.access_tries.specs.Paths.{is_front, is_same}
 use Rattle.plain_lemmas.proofs.Booleans.{and_exchange, and_false, or_false}
@@ -83,7 +83,7 @@ closed_last old n l = record { each = λ i h. here i h (cases_lt (length old) i)
         let same : i ≡ length old = omega (arith, h, below) in
         rw same (rw (links_of_some (old ++ n ∷ []) (length old) n [] (slot_end old n) l) tt)
 
-pub ordered_more : (old new : Table) (n : NodeData) (e : Edge) (number : ℕ) → n.links ≡ record { edge = e; number = number } ∷ [] → Keeps (length (old ++ n ∷ [])) (old ++ n ∷ []) new → IsOrdered (length (old ++ n ∷ [])) new → IsOrdered (length old) new
+pub ordered_more : (old new : Table) (n : NodeData) (e : Edge) (number : ℕ) → n.links ≡ record { edge = e; number = number } ∷ [] → Keeps (length (old ++ n ∷ [])) (old ++ n ∷ []) new → IsTableOrdered (length (old ++ n ∷ [])) new → IsTableOrdered (length old) new
 ordered_more old new n e number l k o = record { each = λ i h. here i h (cases_lt (length old) i) }
   where
     here : (i : ℕ) → length old ≤ i → (length old < i) ⊎ (i ≤ length old) → Ascend (links_at new i)
@@ -92,7 +92,7 @@ ordered_more old new n e number l k o = record { each = λ i h. here i h (cases_
         let same : i ≡ length old = omega (arith, h, below) in
         rw same (rw (links_of_some new (length old) n _ (slot_now old new n k) l) (tt, tt))
 
-pub ordered_last : (old : Table) (n : NodeData) → n.links ≡ [] → IsOrdered (length old) (old ++ n ∷ [])
+pub ordered_last : (old : Table) (n : NodeData) → n.links ≡ [] → IsTableOrdered (length old) (old ++ n ∷ [])
 ordered_last old n l = record { each = λ i h. here i h (cases_lt (length old) i) }
   where
     here : (i : ℕ) → length old ≤ i → (length old < i) ⊎ (i ≤ length old) → Ascend (links_at (old ++ n ∷ []) i)

@@ -12,7 +12,7 @@ use Rattle.access_tries.specs.declared.edge.Edge.{Edge}
 use Rattle.access_tries.specs.declared.edge.Edge.TheVariants.{Field, AnyTag, Root}
 use Rattle.access_tries.specs.declared.table.Link.{Link}
 use Rattle.access_tries.specs.Edges.{edge_cmp, edge_eq, root_cmp}
-use Rattle.access_tries.specs.Table.{Table, IsTable, IsBefore, Ascend, links_at}
+use Rattle.access_tries.specs.Table.{Table, IsTable, IsLinkBefore, Ascend, links_at}
 use Rattle.access_tries.specs.Views.{ViewData, LeadsTo, number_at, with_child, with_root, children_in, roots_in, children_of, roots_of, AreChildren, AreRoots}
 use Rattle.access_tries.proofs.Behind.{found}
 use Rattle.access_tries.specs.EdgeLaws.{edge_total, then_end}
@@ -26,7 +26,7 @@ all_found (l ∷ ls) up = (
   behind ls ls up.0 (all_found ls up.1),
 )
   where
-    behind : (ms ns : List Link) → AllByRecursion (IsBefore l) ms → AllByRecursion (λ m. number_at m.edge ns ≡ Some m.number) ms → AllByRecursion (λ m. number_at m.edge (l ∷ ns) ≡ Some m.number) ms
+    behind : (ms ns : List Link) → AllByRecursion (IsLinkBefore l) ms → AllByRecursion (λ m. number_at m.edge ns ≡ Some m.number) ms → AllByRecursion (λ m. number_at m.edge (l ∷ ns) ≡ Some m.number) ms
     behind [] ns before h = tt
     behind (m ∷ ms) ns before h = (ap (λ b. option_map (λ m. m.number) (cond b (Some l) (find (λ k. edge_eq k.edge m.edge) ns))) (ap is_eq before.0) ∙ h.0, behind ms ns before.1 h.1)
 

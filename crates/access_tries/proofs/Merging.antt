@@ -7,8 +7,8 @@ use Rattle.access_tries.specs.EdgeLaws.{edge_total, exact_edge}
 use Rattle.access_tries.specs.declared.edge.Edge.{Edge}
 use Rattle.access_tries.specs.declared.table.Link.{Link}
 use Rattle.access_tries.specs.Edges.{edge_cmp}
-use Rattle.access_tries.specs.Table.{Ascend, IsBefore}
-use Rattle.access_tries.specs.Walks.{Takes, IsBeforeAll}
+use Rattle.access_tries.specs.Table.{Ascend, IsLinkBefore}
+use Rattle.access_tries.specs.Walks.{TakesLink, IsBeforeAll}
 
 -- the links so far ascend, and come before what is left of both lists, which ascends too
 pub record IsMerging (links left right : List Link) : Type 0 where
@@ -26,9 +26,9 @@ each_more : (P : Link → Type 0) (ls : List Link) (m : Link) → AllByRecursion
 each_more P [] m h k = (k, tt)
 each_more P (l ∷ ls) m h k = (h.0, each_more P ls m h.1 k)
 
-ascend_more : (ls : List Link) (m : Link) → Ascend ls → AllByRecursion (λ l. IsBefore l m) ls → Ascend (ls ++ m ∷ [])
+ascend_more : (ls : List Link) (m : Link) → Ascend ls → AllByRecursion (λ l. IsLinkBefore l m) ls → Ascend (ls ++ m ∷ [])
 ascend_more [] m up h = (tt, tt)
-ascend_more (l ∷ ls) m up h = (each_more (IsBefore l) ls m up.0 h.0, ascend_more ls m up.1 h.1)
+ascend_more (l ∷ ls) m up h = (each_more (IsLinkBefore l) ls m up.0 h.0, ascend_more ls m up.1 h.1)
 
 -- the first of what is left
 head_next : (ls : List Link) (p : ℕ) (d : Link) → p < length ls → drop p ls ≡ slice_index_or ls p d ∷ drop (suc p) ls
@@ -39,7 +39,7 @@ head_next (l ∷ ls) (suc p) d h = head_next ls p d (omega (arith, h))
 head_at : (ls : List Link) (p : ℕ) (d : Link) → p < length ls → drop p ls ≡ slice_index_or ls p d ∷ drop (p + 1) ls
 head_at ls p d h = let e : suc p ≡ p + 1 = omega arith in head_next ls p d h ∙ ap (λ k. slice_index_or ls p d ∷ drop k ls) e
 
-pub all_behind : (e : Edge) (l : Link) (ls : List Link) → edge_cmp e l.edge ≡ Less → AllByRecursion (IsBefore l) ls → IsBeforeAll e ls
+pub all_behind : (e : Edge) (l : Link) (ls : List Link) → edge_cmp e l.edge ≡ Less → AllByRecursion (IsLinkBefore l) ls → IsBeforeAll e ls
 all_behind e l ls h up = each_so (λ m k. edge_total.trans e l.edge m.edge h k) ls up
 
 module _ (ls : List Link) (p : ℕ) (m : Link) (h : p < length ls) (is : m ≡ slice_index_or ls p m) where
@@ -55,7 +55,7 @@ module _ (ls : List Link) (p : ℕ) (m : Link) (h : p < length ls) (is : m ≡ s
   before_rest e up k = subst (IsBeforeAll e) (sym head_is) (k, all_behind e m (drop (p + 1) ls) k (before_own up))
 
   -- the first of what is left, where it compares equal
-  pub takes_equal : (e : Edge) (none : ℕ) → edge_cmp e m.edge ≡ Equal → Takes ls p none e m.number (p + 1)
+  pub takes_equal : (e : Edge) (none : ℕ) → edge_cmp e m.edge ≡ Equal → TakesLink ls p none e m.number (p + 1)
   takes_equal e none k = inr (h, refl, head_is ∙ ap (λ a. record { edge = a; number = m.number } ∷ drop (p + 1) ls) (sym (exact_edge e m.edge k)))
 
   pub before_equal : (e : Edge) → Ascend (drop p ls) → edge_cmp e m.edge ≡ Equal → IsBeforeAll e (drop (p + 1) ls)
@@ -65,25 +65,25 @@ pub other_way : (a b : Edge) → edge_cmp a b ≡ Greater → edge_cmp b a ≡ L
 other_way a b h = edge_total.antisymm b a ∙ ap ordering_reverse h
 
 -- what is left after a turn
-left_up : (ls : List Link) (p none : ℕ) (e : Edge) (number next : ℕ) → Takes ls p none e number next → Ascend (drop p ls) → Ascend (drop next ls)
+left_up : (ls : List Link) (p none : ℕ) (e : Edge) (number next : ℕ) → TakesLink ls p none e number next → Ascend (drop p ls) → Ascend (drop next ls)
 left_up ls p none e number next (inl t) up = subst (λ k. Ascend (drop k ls)) (sym t.0) up
 left_up ls p none e number next (inr t) up = (subst Ascend t.2 up).1
 
-left_before : (ls : List Link) (p none : ℕ) (e : Edge) (number next : ℕ) → Takes ls p none e number next → (a : Edge) → IsBeforeAll a (drop p ls) → IsBeforeAll a (drop next ls)
+left_before : (ls : List Link) (p none : ℕ) (e : Edge) (number next : ℕ) → TakesLink ls p none e number next → (a : Edge) → IsBeforeAll a (drop p ls) → IsBeforeAll a (drop next ls)
 left_before ls p none e number next (inl t) a h = subst (λ k. IsBeforeAll a (drop k ls)) (sym t.0) h
 left_before ls p none e number next (inr t) a h = (subst (IsBeforeAll a) t.2 h).1
 
 -- what is taken comes behind the links so far
-taken_behind : (ls : List Link) (p none : ℕ) (e : Edge) (number next : ℕ) → Takes ls p none e number next → p < next → (a : Edge) → IsBeforeAll a (drop p ls) → edge_cmp a e ≡ Less
+taken_behind : (ls : List Link) (p none : ℕ) (e : Edge) (number next : ℕ) → TakesLink ls p none e number next → p < next → (a : Edge) → IsBeforeAll a (drop p ls) → edge_cmp a e ≡ Less
 taken_behind ls p none e number next (inl t) lt a h = absurd (omega (arith, t.0, lt))
 taken_behind ls p none e number next (inr t) lt a h = (subst (IsBeforeAll a) t.2 h).0
 
-further_one : (ls : List Link) (p none : ℕ) (e : Edge) (number next : ℕ) → Takes ls p none e number next → (next ≡ p) ⊎ (p < next)
+further_one : (ls : List Link) (p none : ℕ) (e : Edge) (number next : ℕ) → TakesLink ls p none e number next → (next ≡ p) ⊎ (p < next)
 further_one ls p none e number next (inl t) = inl t.0
 further_one ls p none e number next (inr t) = inr (omega (arith, t.1))
 
 pub merging_step : (links xs ys : List Link) (p q nx ny left right p2 q2 n : ℕ) (e : Edge) → IsMerging links (drop p xs) (drop q ys) →
-    Takes xs p nx e left p2 → Takes ys q ny e right q2 → p + q < p2 + q2 → IsBeforeAll e (drop p2 xs) → IsBeforeAll e (drop q2 ys) →
+    TakesLink xs p nx e left p2 → TakesLink ys q ny e right q2 → p + q < p2 + q2 → IsBeforeAll e (drop p2 xs) → IsBeforeAll e (drop q2 ys) →
     IsMerging (links ++ record { edge = e; number = n } ∷ []) (drop p2 xs) (drop q2 ys)
 merging_step links xs ys p q nx ny left right p2 q2 n e m t v lt bx by = record {
   up = ascend_more links (record { edge = e; number = n }) m.up (all_before (further_one xs p nx e left p2 t));

@@ -9,7 +9,7 @@ use Rattle.std.specs.declared.cmp.Ordering.TheVariants.{Less, Equal, Greater}
 use Rattle.access_tries.specs.declared.edge.Edge.{Edge}
 use Rattle.access_tries.specs.declared.table.Link.{Link}
 use Rattle.access_tries.specs.Edges.{Address, edge_cmp, edge_eq}
-use Rattle.access_tries.specs.Table.{Table, NodeData, IsTable, IsBefore, Ascend, at_path, has_mark, links_at}
+use Rattle.access_tries.specs.Table.{Table, NodeData, IsTable, IsLinkBefore, Ascend, at_path, has_mark, links_at}
 use Rattle.access_tries.specs.Trees.{Branch, branch, Branches, leading, branches_by, branch_within, branch_at}
 use Rattle.access_tries.specs.Laws.{SameTriesAreEqual}
 use Rattle.access_tries.specs.Walks.{any_link, IsBeforeAll}
@@ -49,13 +49,13 @@ there a x xs h =
     ∙ ap (λ t. t || any_link is_some a x.edge [] xs) (is_some_within a x.number h)
 
 -- along its edge only the first link leads
-only_first : (f : Option NodeData → Bool) (a : Table) (x : Link) (xs : List Link) (es : Address) → AllByRecursion (IsBefore x) xs → any_link f a x.edge es (x ∷ xs) ≡ at_path f a x.number es
+only_first : (f : Option NodeData → Bool) (a : Table) (x : Link) (xs : List Link) (es : Address) → AllByRecursion (IsLinkBefore x) xs → any_link f a x.edge es (x ∷ xs) ≡ at_path f a x.number es
 only_first f a x xs es up =
     ap (λ t. (t && at_path f a x.number es) || any_link f a x.edge es xs) (own x.edge)
     ∙ ap (λ t. at_path f a x.number es || t) (none_behind f a x.edge es x xs (own x.edge) up) ∙ or_false (at_path f a x.number es)
 
 -- along other edges the others lead
-rest : (f : Option NodeData → Bool) (a b : Table) (x y : Link) (xs ys : List Link) (e : Edge) (es : Address) → x.edge ≡ y.edge → AllByRecursion (IsBefore x) xs → AllByRecursion (IsBefore y) ys →
+rest : (f : Option NodeData → Bool) (a b : Table) (x y : Link) (xs ys : List Link) (e : Edge) (es : Address) → x.edge ≡ y.edge → AllByRecursion (IsLinkBefore x) xs → AllByRecursion (IsLinkBefore y) ys →
     any_link f a e es (x ∷ xs) ≡ any_link f b e es (y ∷ ys) → any_link f a e es xs ≡ any_link f b e es ys
 rest f a b x y xs ys e es same up down h = by (edge_eq x.edge e) refl
   where

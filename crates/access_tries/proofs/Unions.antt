@@ -8,8 +8,8 @@ use Rattle.std.proofs.lemmas.List.Folds.{list_any-append}
 use Rattle.access_tries.specs.declared.edge.Edge.{Edge}
 use Rattle.access_tries.specs.declared.table.Link.{Link}
 use Rattle.access_tries.specs.Edges.{Address, edge_eq}
-use Rattle.access_tries.specs.Table.{Table, NodeData, links_at, at_path, IsClosed, IsOrdered, Ascend}
-use Rattle.access_tries.specs.Walks.{any_link, Keeps, Takes}
+use Rattle.access_tries.specs.Table.{Table, NodeData, links_at, at_path, IsClosed, IsTableOrdered, Ascend}
+use Rattle.access_tries.specs.Walks.{any_link, Keeps, TakesLink}
 use Rattle.plain_lemmas.proofs.Booleans.{and_false, or_false, or_true}
 use Rattle.plain_lemmas.proofs.Lists.{all_push, is_some_within}
 
@@ -21,7 +21,7 @@ IsBetween k n l = (k < l.number) × (l.number < n)
 pub record IsUniting (at : ℕ) (old now : Table) (links : List Link) : Type 0 where
   pub kept : Keeps at old now
   pub closed : IsClosed at now
-  pub ordered : IsOrdered at now
+  pub ordered : IsTableOrdered at now
   pub down : AllByRecursion (IsBetween at (length now)) links
 
 -- what is united, with what is left of both, is all of both
@@ -60,7 +60,7 @@ at_end f ns i [] h = ap f (no_node ns i h)
 at_end f ns i (e ∷ es) h = ap (λ o. any_link f ns e es (option_map_or (λ n. n.links) o [])) (no_node ns i h)
 
 -- what a turn takes of a list
-taken : (f : Option NodeData → Bool) (ns : Table) (ls : List Link) (p : ℕ) (edge : Edge) (number next : ℕ) → f None ≡ false → Takes ls p (length ns) edge number next → (e : Edge) (es : Address) → any_link f ns e es (drop p ls) ≡ ((edge_eq edge e && at_path f ns number es) || any_link f ns e es (drop next ls))
+taken : (f : Option NodeData → Bool) (ns : Table) (ls : List Link) (p : ℕ) (edge : Edge) (number next : ℕ) → f None ≡ false → TakesLink ls p (length ns) edge number next → (e : Edge) (es : Address) → any_link f ns e es (drop p ls) ≡ ((edge_eq edge e && at_path f ns number es) || any_link f ns e es (drop next ls))
 taken f ns ls p edge number next h (inl (same, none)) e es =
     ap (λ k. any_link f ns e es (drop k ls)) (sym same)
     ∙ sym (ap (λ b. b || any_link f ns e es (drop next ls)) (ap (λ b. edge_eq edge e && b) (ap (λ k. at_path f ns k es) none ∙ past f ns es h) ∙ and_false (edge_eq edge e)))
@@ -76,7 +76,7 @@ shuffle false true false false x y = refl
 
 pub split_step : (f : Option NodeData → Bool) (at : ℕ) (old ns ms x y : Table) (links xs ys : List Link) (p q left right p2 q2 n : ℕ) (edge : Edge) →
     f None ≡ false → IsUniting at old ns links → Keeps (length ns) ns ms →
-    Takes xs p (length x) edge left p2 → Takes ys q (length y) edge right q2 →
+    TakesLink xs p (length x) edge left p2 → TakesLink ys q (length y) edge right q2 →
     ((a : Address) → at_path f ms n a ≡ (at_path f x left a || at_path f y right a)) →
     IsSplit f ns links x (drop p xs) xs y (drop q ys) ys →
     IsSplit f ms (links ++ record { edge = edge; number = n } ∷ []) x (drop p2 xs) xs y (drop q2 ys) ys
@@ -103,11 +103,11 @@ lt_or_ge (suc a) (suc b) = shifted (lt_or_ge a b)
 links_same : (ns ms : Table) (i : ℕ) → slice_get ms i ≡ slice_get ns i → links_at ms i ≡ links_at ns i
 links_same ns ms i h = ap (λ o. option_map_or (λ n. n.links) o []) h
 
-pub next_in : (ls : List Link) (p none : ℕ) (edge : Edge) (number next : ℕ) → p ≤ length ls → Takes ls p none edge number next → next ≤ length ls
+pub next_in : (ls : List Link) (p none : ℕ) (edge : Edge) (number next : ℕ) → p ≤ length ls → TakesLink ls p none edge number next → next ≤ length ls
 next_in ls p none edge number next h (inl (same, _)) = omega (arith, h, same)
 next_in ls p none edge number next h (inr (lt, same, _)) = omega (arith, lt, same)
 
-pub nodes_step : (at : ℕ) (old ns ms : Table) (links : List Link) (edge : Edge) (n : ℕ) → at < length ns → IsUniting at old ns links → n ≡ length ns → n < length ms → Keeps (length ns) ns ms → IsClosed (length ns) ms → IsOrdered (length ns) ms → IsUniting at old ms (links ++ record { edge = edge; number = n } ∷ [])
+pub nodes_step : (at : ℕ) (old ns ms : Table) (links : List Link) (edge : Edge) (n : ℕ) → at < length ns → IsUniting at old ns links → n ≡ length ns → n < length ms → Keeps (length ns) ns ms → IsClosed (length ns) ms → IsTableOrdered (length ns) ms → IsUniting at old ms (links ++ record { edge = edge; number = n } ∷ [])
 nodes_step at old ns ms links edge n h u e lt k c o = record {
   kept = λ i j. k i (omega (arith, h, j)) ∙ u.kept i j;
   closed = record { each = λ i j. closed_here i j (lt_or_ge i (length ns)) };
@@ -158,7 +158,7 @@ closed_at_end at old ns node h u = record { each = λ i j. closed_here i j (lt_o
         let same : i ≡ at = omega (arith, below, j) in
         rw (set_length ns at node) (rw same (rw (ap (λ o. option_map_or (λ n. n.links) o []) (set_here ns at node h)) u.down))
 
-pub ordered_at_end : (at : ℕ) (old ns : Table) (node : NodeData) → at < length ns → IsUniting at old ns node.links → Ascend node.links → IsOrdered at (slice_set ns at node)
+pub ordered_at_end : (at : ℕ) (old ns : Table) (node : NodeData) → at < length ns → IsUniting at old ns node.links → Ascend node.links → IsTableOrdered at (slice_set ns at node)
 ordered_at_end at old ns node h u up = record { each = λ i j. ordered_here i j (lt_or_ge at i) }
   where
     ordered_here : (i : ℕ) → at ≤ i → (at < i) ⊎ (i ≤ at) → Ascend (links_at (slice_set ns at node) i)

@@ -19,7 +19,8 @@ then_end Equal = refl
 then_end Greater = refl
 
 pub edge_total : IsTotalOrder edge_cmp
-edge_total = then_total (on_total rank nat_cmp_total) (then_total (on_total first_text nat_list_cmp_total) (on_total second_text nat_list_cmp_total))
+edge_total = then_total (on_total rank nat_cmp_total)
+    (then_total (on_total first_text nat_list_cmp_total) (on_total second_text nat_list_cmp_total))
 
 -- edges that compare equal are equal
 pub exact_edge : (a b : Edge) → edge_cmp a b ≡ Equal → a ≡ b

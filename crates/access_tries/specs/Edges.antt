@@ -1,4 +1,5 @@
--- The order of edges: fields by their names, then any tag, then roots: ids in their order, and then the variables.
+-- The order of edges: fields by their names, then any tag, then roots: ids in their order, and then the
+-- variables.
 use Rattle.std.specs.Prelude.{ℕ, ◌+◌, Bool, List, []}
 use Rattle.std.specs.declared.cmp.Ordering.{Ordering}
 use Rattle.std.specs.Ordering.{nat_cmp, ordering_then, is_eq}
@@ -37,7 +38,8 @@ second_text (Root (Literal u)) = u.eid
 second_text e = []
 
 abbrev pub edge_cmp : Edge → Edge → Ordering
-edge_cmp a b = ordering_then (nat_cmp (rank a) (rank b)) (ordering_then (text_cmp (first_text a) (first_text b)) (text_cmp (second_text a) (second_text b)))
+edge_cmp a b = ordering_then (nat_cmp (rank a) (rank b))
+    (ordering_then (text_cmp (first_text a) (first_text b)) (text_cmp (second_text a) (second_text b)))
 
 -- the two edges are one
 abbrev pub edge_eq : Edge → Edge → Bool

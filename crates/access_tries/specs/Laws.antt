@@ -7,7 +7,8 @@ use Rattle.access_tries.specs.Paths.{IsSame, IsUnion}
 -- unions in any order are the same
 pub record UnionsAgree : Type 0 where
   pub commute : (a b t u : Table) → IsUnion a b t → IsUnion b a u → IsSame t u
-  pub associate : (a b c ab bc t u : Table) → IsUnion a b ab → IsUnion ab c t → IsUnion b c bc → IsUnion a bc u → IsSame t u
+  pub associate : (a b c ab bc t u : Table) → IsUnion a b ab →
+      IsUnion ab c t → IsUnion b c bc → IsUnion a bc u → IsSame t u
   pub repeat : (a t : Table) → IsUnion a a t → IsSame t a
 
 -- tables with the same paths and marks are equal tries

@@ -6,6 +6,7 @@ pub mod PathLaws
 pub mod Paths
 pub mod Same
 pub mod SameLaws
+pub mod Show
 pub mod Table
 pub mod Trees
 pub mod Views

@@ -36,11 +36,13 @@ steps_are [] [] h = refl
 steps_are [] (t ∷ ts) h = cc
 steps_are (s ∷ ss) [] h = cc
 steps_are (s ∷ ss) (t ∷ ts) h =
-    let e = then_equal (edge_cmp (edge_of s) (edge_of t)) (slice_cmp edge_cmp (map edge_of ss) (map edge_of ts)) h in
+    let e = then_equal (edge_cmp (edge_of s) (edge_of t))
+    (slice_cmp edge_cmp (map edge_of ss) (map edge_of ts)) h in
     λ i. step_is s t e.0 i ∷ steps_are ss ts e.1 i
 
 -- paths that compare equal are equal
 pub exact_path : CmpEqualImpliesEq path_cmp
 exact_path p q h =
-    let e = then_equal (edge_cmp (Root p.root) (Root q.root)) (slice_cmp edge_cmp (map edge_of p.steps) (map edge_of q.steps)) h in
+    let e = then_equal (edge_cmp (Root p.root) (Root q.root))
+    (slice_cmp edge_cmp (map edge_of p.steps) (map edge_of q.steps)) h in
     λ i. record { root = root_is p.root q.root e.0 i; steps = steps_are p.steps q.steps e.1 i }

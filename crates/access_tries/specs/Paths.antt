@@ -20,7 +20,8 @@ pub record AccessPath : Type 0 where
   pub steps : List Step
 
 abbrev pub coded_path : Coded AccessPath
-coded_path = code_by (EntityRoot × List Step) (coded× root_row.coded (coded_list step_row.coded)) (λ p. (p.root, p.steps)) (λ q. record { root = q.0; steps = q.1 }) (λ _. refl)
+coded_path = code_by (EntityRoot × List Step) (coded× root_row.coded (coded_list step_row.coded))
+    (λ p. (p.root, p.steps)) (λ q. record { root = q.0; steps = q.1 }) (λ _. refl)
 
 abbrev pub edge_of : Step → Edge
 edge_of (step.Field n) = Field n

@@ -40,17 +40,21 @@ mutual
       let here = first_of_two (edge_eq x y && same_branch b c) (same_branches bs cs) h in
       let edges = edge_is x y (first_of_two (edge_eq x y) (same_branch b c) here) in
       let behind = branch_is b c (second_of_two (edge_eq x y) (same_branch b c) here) in
-      let more = branches_are bs cs (second_of_two (edge_eq x y && same_branch b c) (same_branches bs cs) h) in
+      let more =
+      branches_are bs cs (second_of_two (edge_eq x y && same_branch b c) (same_branches bs cs) h) in
       λ i. leading (edges i) (behind i) (more i)
 
 mutual
   branch_itself : (b : Branch) → same_branch b b ≡ true
-  branch_itself (branch m bs) = two (beq m m) (same_branches bs bs) ((booleans_Decides m m).1 refl) (branches_themselves bs)
+  branch_itself (branch m bs) =
+      two (beq m m) (same_branches bs bs) ((booleans_Decides m m).1 refl) (branches_themselves bs)
 
   branches_themselves : (bs : Branches) → same_branches bs bs ≡ true
   branches_themselves no_branches = refl
   branches_themselves (leading x b bs) =
-      two (edge_eq x x && same_branch b b) (same_branches bs bs) (two (edge_eq x x) (same_branch b b) (ap is_eq (tied_itself edge_total x)) (branch_itself b)) (branches_themselves bs)
+      two (edge_eq x x && same_branch b b) (same_branches bs bs)
+      (two (edge_eq x x) (same_branch b b) (ap is_eq (tied_itself edge_total x)) (branch_itself b))
+      (branches_themselves bs)
 
 pub branch_decides : (b c : Branch) → Decides (same_branch b c) (b ≡ c)
 branch_decides b c = (branch_is b c, λ e. ap (same_branch b) (sym e) ∙ branch_itself b)

@@ -14,7 +14,8 @@ pub record NodeData : Type 0 where
   pub mark : Bool
 
 abbrev pub coded_node : Coded NodeData
-coded_node = code_by (List Link × Bool) (coded× (coded_list link_row.coded) coded_bool) (λ n. (n.links, n.mark)) (λ p. record { links = p.0; mark = p.1 }) (λ _. refl)
+coded_node = code_by (List Link × Bool) (coded× (coded_list link_row.coded) coded_bool)
+    (λ n. (n.links, n.mark)) (λ p. record { links = p.0; mark = p.1 }) (λ _. refl)
 
 abbrev pub Table : Type 0
 Table = List NodeData
@@ -42,23 +43,23 @@ abbrev pub is_marked : Table → Address → Bool
 is_marked ns a = at_path has_mark ns 0 a
 
 -- the edge of the link comes before that of the other
-abbrev pub IsBefore : Link → Link → Type 0
-IsBefore l m = edge_cmp l.edge m.edge ≡ Less
+abbrev pub IsLinkBefore : Link → Link → Type 0
+IsLinkBefore l m = edge_cmp l.edge m.edge ≡ Less
 
 -- edges ascend, so that each stands once
 abbrev pub Ascend : List Link → Type 0
 Ascend [] = Unit {0}
-Ascend (l ∷ ls) = AllByRecursion (IsBefore l) ls × Ascend ls
+Ascend (l ∷ ls) = AllByRecursion (IsLinkBefore l) ls × Ascend ls
 
 -- in each node from this one on the numbers are greater than its own, and numbers of nodes
 pub record IsClosed (k : ℕ) (ns : Table) : Type 0 where
   pub each : (i : ℕ) → k ≤ i → AllByRecursion (λ l. (i < l.number) × (l.number < length ns)) (links_at ns i)
 
 -- in each node from this one on edges ascend
-pub record IsOrdered (k : ℕ) (ns : Table) : Type 0 where
+pub record IsTableOrdered (k : ℕ) (ns : Table) : Type 0 where
   pub each : (i : ℕ) → k ≤ i → Ascend (links_at ns i)
 
 -- what each table of tries keeps
 pub record IsTable (ns : Table) : Type 0 where
   pub closed : IsClosed 0 ns
-  pub ordered : IsOrdered 0 ns
+  pub ordered : IsTableOrdered 0 ns

@@ -22,7 +22,8 @@ branches_by f (l ∷ ls) = leading l.edge (f l.number) (branches_by f ls)
 -- the node with this number, to this depth
 abbrev pub branch_within : ℕ → Table → ℕ → Branch
 branch_within zero ns i = branch false no_branches
-branch_within (suc k) ns i = branch (has_mark (slice_get ns i)) (branches_by (branch_within k ns) (links_at ns i))
+branch_within (suc k) ns i =
+    branch (has_mark (slice_get ns i)) (branches_by (branch_within k ns) (links_at ns i))
 
 -- all of the node: as each link leads to a later node, none is deeper than there are nodes
 unfoldable pub branch_at : Table → ℕ → Branch

@@ -15,7 +15,8 @@ pub record ViewData : Type 0 where
   pub number : ℕ
 
 abbrev pub coded_view : Coded ViewData
-coded_view = code_by (Table × ℕ) (coded× coded_table coded_ℕ) (λ v. (v.nodes, v.number)) (λ p. record { nodes = p.0; number = p.1 }) (λ _. refl)
+coded_view = code_by (Table × ℕ) (coded× coded_table coded_ℕ)
+    (λ v. (v.nodes, v.number)) (λ p. record { nodes = p.0; number = p.1 }) (λ _. refl)
 
 -- the first node of a table
 abbrev pub whole : Table → ViewData

@@ -15,8 +15,8 @@ abbrev pub Keeps : ℕ → Table → Table → Type 0
 Keeps n old new = (k : ℕ) → k < n → slice_get new k ≡ slice_get old k
 
 -- the next link is this one, or the list stays where it is and there is nothing
-abbrev pub Takes : List Link → ℕ → ℕ → Edge → ℕ → ℕ → Type 0
-Takes ls p none e number next =
+abbrev pub TakesLink : List Link → ℕ → ℕ → Edge → ℕ → ℕ → Type 0
+TakesLink ls p none e number next =
     ((next ≡ p) × (number ≡ none))
     ⊎ ((p < length ls) × (next ≡ p + 1) × (drop p ls ≡ record { edge = e; number = number } ∷ drop next ls))
 
@@ -43,7 +43,9 @@ pub record IsOf (addresses : List Address) (mark : Bool) (t : Table) : Type 0 wh
 
 -- from this number on each node leads by one edge to the next, and the last one nowhere
 abbrev pub IsChain : Table → ℕ → Address → Bool → Type 0
-IsChain ns k [] mark = (is_some (slice_get ns k) ≡ true) × (links_at ns k ≡ []) × (has_mark (slice_get ns k) ≡ mark)
+IsChain ns k [] mark =
+    (is_some (slice_get ns k) ≡ true) × (links_at ns k ≡ []) × (has_mark (slice_get ns k) ≡ mark)
 IsChain ns k (e ∷ es) mark =
-    (is_some (slice_get ns k) ≡ true) × (links_at ns k ≡ record { edge = e; number = k + 1 } ∷ []) × (has_mark (slice_get ns k) ≡ false)
+    (is_some (slice_get ns k) ≡ true) × (links_at ns k ≡ record { edge = e; number = k + 1 } ∷ []) ×
+    (has_mark (slice_get ns k) ≡ false)
     × IsChain ns (k + 1) es mark

@@ -7,6 +7,7 @@ ghost use Rattle.access_tries.specs.Paths.{edge_of};
 use policy_expressions::Var;
 use policy_values::{EntityUID, Text};
 use std::alloc::{AllocError, Global};
+use std::fmt;
 use std::marker::Model;
 
 /// Where a path begins.
@@ -26,6 +27,20 @@ impl EntityRoot {
         match self {
             EntityRoot::Literal(uid) => Ok(EntityRoot::Literal(uid.try_clone()?)),
             EntityRoot::Var(var) => Ok(EntityRoot::Var(*var)),
+        }
+    }
+}
+
+impl fmt::Display for EntityRoot {
+    ghost use Rattle.std.specs.Prelude.{Some};
+    ghost use Rattle.access_tries.specs.Show.{root_text};
+
+    ghost output = { λ r. Some (root_text r) };
+
+    fn fmt<W: fmt::Write>(&self, f: &mut fmt::Formatter<W>) -> fmt::Result {
+        match self {
+            EntityRoot::Literal(uid) => uid.fmt(f),
+            EntityRoot::Var(var) => var.fmt(f),
         }
     }
 }
@@ -128,8 +143,8 @@ fn steps_of(alloc: Global, steps: &[Step]) -> Result<Vec<Step>, AllocError>
     Ok(copies)
 }
 
-/// What leads from a node to another: a step, or a root of what is asked of its ancestors. Fields come first, then any tag,
-/// then roots: ids before entries of the request.
+/// What leads from a node to another: a step, or a root of what is asked of its ancestors. Fields come first,
+/// then any tag, then roots: ids before entries of the request.
 #[derive(Debug, Drop)]
 pub enum Edge {
     /// To what an attribute of an entity, or a field of a record, holds.

@@ -2,7 +2,8 @@
 
 ghost use Rattle.access_tries.specs.Laws.{UnionsAgree, SameTriesAreEqual};
 
-/// The union of tries is commutative, associative and idempotent: whichever is made has the same paths and marks.
+/// The union of tries is commutative, associative and idempotent: whichever is made has the same paths
+/// and marks.
 #[tactic(auto, using(crate::proofs::UnionLaws::unions_agree))]
 pub fn unions_agree()
     ensures { UnionsAgree }

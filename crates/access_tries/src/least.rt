@@ -1,7 +1,7 @@
 //! The least trie that has given paths and demands.
 
 ghost use Rattle.std.specs.Prelude.{◌≡◌, ◌<◌, ◌+◌, ◌++◌, [], ◌∷◌, map, drop, true, false, length, IfOk, OnOk};
-ghost use Rattle.access_tries.specs.Table.{IsClosed, IsOrdered};
+ghost use Rattle.access_tries.specs.Table.{IsClosed, IsTableOrdered};
 ghost use Rattle.access_tries.specs.Walks.{HaveSameFronts, Keeps, IsChain, IsOf, addresses_in};
 ghost use Rattle.access_tries.specs.Paths.{address_of, demand_of, IsLeast};
 
@@ -21,8 +21,8 @@ impl AccessPath {
     }
 }
 
-/// The trie with exactly the paths that are read and their fronts, and, in the ancestors' trie of the first path of each
-/// demand, exactly the second one, marked at its end.
+/// The trie with exactly the paths that are read and their fronts, and, in the ancestors' trie of the first
+/// path of each demand, exactly the second one, marked at its end.
 pub fn least_trie(
     alloc: Global,
     reads: &[AccessPath],
@@ -53,7 +53,8 @@ fn addresses_of(alloc: Global, paths: &[AccessPath]) -> Result<Vec<Vec<Edge>>, A
 // Whether the next path goes on from the one at the place.
 fn is_gone_on(paths: &[AccessPath], place: usize) -> bool
     requires { place < length paths.now }
-    ensures { result ≡ true → HaveSameFronts (map address_of (drop (place + 1) paths.now)) (map address_of (drop place paths.now)) }
+    ensures { result ≡ true → HaveSameFronts (map address_of (drop (place + 1) paths.now))
+        (map address_of (drop place paths.now)) }
 {
     place + 1 < paths.len() && goes_on(&paths[place + 1], &paths[place])
 }
@@ -93,8 +94,8 @@ fn add_edges(edges: &mut Vec<Edge>, path: &AccessPath) -> Result<(), AllocError>
     Ok(())
 }
 
-/// The trie of all these addresses and their fronts, marked at all their ends or nowhere. It is made half by half, so that no
-/// trie is copied more often than halves are made.
+/// The trie of all these addresses and their fronts, marked at all their ends or nowhere. It is made half by
+/// half, so that no trie is copied more often than halves are made.
 pub fn all_of(
     alloc: Global,
     addresses: &[Vec<Edge>],
@@ -128,7 +129,7 @@ fn chain(alloc: Global, nodes: &mut Vec<Node>, edges: &[Edge], mark: bool) -> Re
     ensures kept { OnOk result (Keeps (length nodes.old.items) nodes.old.items nodes.new.items) }
     ensures longer { OnOk result (length nodes.old.items < length nodes.new.items) }
     ensures closed { OnOk result (IsClosed (length nodes.old.items) nodes.new.items) }
-    ensures ordered { OnOk result (IsOrdered (length nodes.old.items) nodes.new.items) }
+    ensures ordered { OnOk result (IsTableOrdered (length nodes.old.items) nodes.new.items) }
     ensures chain { OnOk result (IsChain nodes.new.items (length nodes.old.items) edges.now mark) }
 {
     match edges {
@@ -148,7 +149,8 @@ fn chain(alloc: Global, nodes: &mut Vec<Node>, edges: &[Edge], mark: bool) -> Re
 
 // A node that leads along one edge.
 fn one_link(alloc: Global, edge: Edge, number: usize) -> Result<Node, AllocError>
-    ensures { IfOk result (λ n. n ≡ record { links = record { edge = edge; number = number } ∷ []; mark = false }) }
+    ensures { IfOk result
+        (λ n. n ≡ record { links = record { edge = edge; number = number } ∷ []; mark = false }) }
 {
     let mut links = Vec::new(alloc);
     links.push(Link { edge, number })?;

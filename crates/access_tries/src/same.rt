@@ -75,7 +75,8 @@ fn same_nodes(a: &[Node], i: usize, b: &[Node], j: usize) -> bool
 fn leads_alike(a: &[Node], i: usize, b: &[Node], j: usize) -> bool
     requires a_table { IsTable a.now }
     requires b_table { IsTable b.now }
-    ensures { result ≡ same_branches (branches_by (branch_at a.now) (links_at a.now i)) (branches_by (branch_at b.now) (links_at b.now j)) }
+    ensures { result ≡ same_branches (branches_by (branch_at a.now) (links_at a.now i))
+        (branches_by (branch_at b.now) (links_at b.now j)) }
 {
     let xs = links_of(a, i);
     let ys = links_of(b, j);
@@ -93,7 +94,8 @@ fn leads_alike(a: &[Node], i: usize, b: &[Node], j: usize) -> bool
 
 // Whether two links have one edge, and the nodes behind them one mark.
 fn looks_alike(a: &[Node], x: &Link, b: &[Node], y: &Link) -> bool
-    ensures { result ≡ (edge_eq x.now.edge y.now.edge && beq (has_mark (slice_get a.now x.now.number)) (has_mark (slice_get b.now y.now.number))) }
+    ensures { result ≡ (edge_eq x.now.edge y.now.edge &&
+        beq (has_mark (slice_get a.now x.now.number)) (has_mark (slice_get b.now y.now.number))) }
 {
     compare(&x.edge, &y.edge) == Ordering::Equal
         && same_marks(mark_of(a, x.number), mark_of(b, y.number))

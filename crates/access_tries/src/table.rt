@@ -2,8 +2,8 @@
 
 ghost use Rattle.std.specs.Prelude.{◌≡◌, ◌<◌, ◌≤◌, ◌+◌, ◌||◌, IfOk, OnOk, length, drop, slice_get, is_some};
 ghost use Rattle.access_tries.specs.Edges.{Address};
-ghost use Rattle.access_tries.specs.Table.{IsTable, IsClosed, IsOrdered, Ascend, at_path, has_mark, links_at};
-ghost use Rattle.access_tries.specs.Walks.{Keeps, Takes, IsBeforeAll};
+ghost use Rattle.access_tries.specs.Table.{IsTable, IsClosed, IsTableOrdered, Ascend, at_path, has_mark, links_at};
+ghost use Rattle.access_tries.specs.Walks.{Keeps, TakesLink, IsBeforeAll};
 
 use crate::edge::Edge;
 use crate::order::compare;
@@ -147,8 +147,8 @@ fn turn_of<'a>(xs: &'a [Link], p: usize, nx: usize, ys: &'a [Link], q: usize, ny
     requires some { p + q < length xs.now + length ys.now }
     requires xs_ascend { Ascend (drop p xs.now) }
     requires ys_ascend { Ascend (drop q ys.now) }
-    ensures left { Takes xs.now p nx result.edge.now result.left result.p }
-    ensures right { Takes ys.now q ny result.edge.now result.right result.q }
+    ensures left { TakesLink xs.now p nx result.edge.now result.left result.p }
+    ensures right { TakesLink ys.now q ny result.edge.now result.right result.q }
     ensures further { p + q < result.p + result.q }
     ensures before_xs { IsBeforeAll result.edge.now (drop result.p xs.now) }
     ensures before_ys { IsBeforeAll result.edge.now (drop result.q ys.now) }
@@ -199,8 +199,8 @@ fn turn_of<'a>(xs: &'a [Link], p: usize, nx: usize, ys: &'a [Link], q: usize, ny
     }
 }
 
-// Appends what both nodes hold, as one node with all below it, and answers its number. A number past the end stands for
-// no node.
+// Appends what both nodes hold, as one node with all below it, and answers its number. A number past the end
+// stands for no node.
 pub(crate) fn unite(
     alloc: Global,
     nodes: &mut Vec<Node>,
@@ -217,9 +217,11 @@ pub(crate) fn unite(
     ensures number { IfOk result (λ n. (n ≡ length nodes.old.items) × (n < length nodes.new.items)) }
     ensures kept { OnOk result (Keeps (length nodes.old.items) nodes.old.items nodes.new.items) }
     ensures closed { OnOk result (IsClosed (length nodes.old.items) nodes.new.items) }
-    ensures ordered { OnOk result (IsOrdered (length nodes.old.items) nodes.new.items) }
-    ensures present { IfOk result (λ n. (a : Address) → at_path is_some nodes.new.items n a ≡ (at_path is_some x.now i a || at_path is_some y.now j a)) }
-    ensures marked { IfOk result (λ n. (a : Address) → at_path has_mark nodes.new.items n a ≡ (at_path has_mark x.now i a || at_path has_mark y.now j a)) }
+    ensures ordered { OnOk result (IsTableOrdered (length nodes.old.items) nodes.new.items) }
+    ensures present { IfOk result (λ n. (a : Address) → at_path is_some nodes.new.items n a ≡
+        (at_path is_some x.now i a || at_path is_some y.now j a)) }
+    ensures marked { IfOk result (λ n. (a : Address) → at_path has_mark nodes.new.items n a ≡
+        (at_path has_mark x.now i a || at_path has_mark y.now j a)) }
 {
     let at = nodes.len();
     let mark = either(mark_of(x, i), mark_of(y, j));

@@ -58,7 +58,8 @@ impl RootAccessTrie {
 
     /// What is read from a root, where something is.
     pub fn trie(&self, root: &EntityRoot) -> Option<TrieRef<'_>>
-        ensures { MatchOption result (LeadsNowhere (Root root.now) (whole self.now)) (LeadsTo (Root root.now) (whole self.now)) }
+        ensures { MatchOption result (LeadsNowhere (Root root.now) (whole self.now))
+            (LeadsTo (Root root.now) (whole self.now)) }
     {
         TrieRef::new(&self.nodes, 0).ancestors_from(root)
     }
@@ -105,7 +106,8 @@ impl RootAccessTrie {
     }
 }
 
-/// What is read of a value: its fields and tags with what is read of these, and which ancestors are asked for.
+/// What is read of a value: its fields and tags with what is read of these, and which ancestors are
+/// asked for.
 #[derive(Debug)]
 pub struct AccessTrie {
     // The first node is the value's own; without nodes nothing more than the value is read.

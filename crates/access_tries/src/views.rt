@@ -69,7 +69,8 @@ impl<'a> TrieRef<'a> {
 
     /// What is read of a field, where it is read.
     pub fn field(&self, name: &Text) -> Option<TrieRef<'a>>
-        ensures { MatchOption result (LeadsNowhere (Field name.now) self.now) (LeadsTo (Field name.now) self.now) }
+        ensures { MatchOption result (LeadsNowhere (Field name.now) self.now)
+            (LeadsTo (Field name.now) self.now) }
     {
         self.behind(&EdgeRef::Field(name))
     }
@@ -83,7 +84,8 @@ impl<'a> TrieRef<'a> {
 
     /// What names the ancestors that are asked for of this value, where paths from this root name some.
     pub fn ancestors_from(&self, root: &EntityRoot) -> Option<TrieRef<'a>>
-        ensures { MatchOption result (LeadsNowhere (Root root.now) self.now) (LeadsTo (Root root.now) self.now) }
+        ensures { MatchOption result (LeadsNowhere (Root root.now) self.now)
+            (LeadsTo (Root root.now) self.now) }
     {
         self.behind(&EdgeRef::Root(root))
     }
@@ -131,7 +133,8 @@ impl<'a> TrieRef<'a> {
 
     // The node to which an edge leads.
     fn behind(&self, edge: &EdgeRef<'_>) -> Option<TrieRef<'a>>
-        ensures { MatchOption result (LeadsNowhere (edge_in edge.now) self.now) (LeadsTo (edge_in edge.now) self.now) }
+        ensures { MatchOption result (LeadsNowhere (edge_in edge.now) self.now)
+            (LeadsTo (edge_in edge.now) self.now) }
     {
         match number_at(edge, links_of(self.nodes, self.number)) {
             Some(number) => Some(TrieRef {
@@ -162,7 +165,8 @@ impl<'a> Model for RootTrieRef<'a> {
 impl<'a> RootTrieRef<'a> {
     /// What is read from a root, where something is.
     pub fn trie(&self, root: &EntityRoot) -> Option<TrieRef<'a>>
-        ensures { MatchOption result (LeadsNowhere (Root root.now) self.now) (LeadsTo (Root root.now) self.now) }
+        ensures { MatchOption result (LeadsNowhere (Root root.now) self.now)
+            (LeadsTo (Root root.now) self.now) }
     {
         self.node.ancestors_from(root)
     }

@@ -12,7 +12,7 @@ use Rattle.entity_manifest.specs.declared.EntitySliceError.{EntitySliceError}
 use Rattle.entity_manifest.specs.declared.EntitySliceError.TheVariants as error
 use Rattle.entity_manifest.specs.Loaded.{AreDecidedAlike, OfToldStores, WhyNotLoaded}
 use Rattle.batch_decisions.specs.declared.answer.BatchAnswer.{BatchAnswer}
-use Rattle.batch_decisions.specs.Answers.{IsAnswerTo}
+use Rattle.batch_decisions.specs.Answers.{IsLoaderAnswer}
 use Rattle.batch_decisions.specs.Loaded.{answer_of}
 
 -- an answer that is this one, unless memory ran out
@@ -25,6 +25,6 @@ pub answered : (schema : SchemaData) (policies : PolicySetData) (q : Request) �
     (result : Result Store EntitySliceError) →
     OfToldStores schema old (λ w. IfOk result (λ s. AreDecidedAlike policies.policies q s w)) →
     IfErr result (λ e. e ≢ error.OutOfMemory → WhyNotLoaded schema old new e) → (result ≡ Err error.OutOfMemory → ⊥) →
-    IsAnswerTo schema policies.policies old new q (answer_of policies.policies q result)
+    IsLoaderAnswer schema policies.policies old new q (answer_of policies.policies q result)
 answered schema policies q whole conforms old new (Ok s) alike why not_memory = (whole, conforms, λ w told stored. (alike w told stored).response)
 answered schema policies q whole conforms old new (Err e) alike why not_memory = (whole, conforms, why (λ h. not_memory (ap Err h)))

@@ -17,7 +17,7 @@ use Rattle.row_loader.specs.Laws.{IsStoreOrdered}
 use Rattle.batch_decisions.specs.declared.answer.BatchAnswer.{BatchAnswer}
 use Rattle.batch_decisions.specs.declared.answer.BatchAnswer.TheVariants.{Partial, Refused, Loading, Decided}
 use Rattle.entity_manifest.specs.Loaded.{IsTold}
-use Rattle.batch_decisions.specs.Answers.{IsAnswerTo, AreAnswers, IsStoreAnswer, IsRowAnswer, is_fault, faults_in, AreCounted}
+use Rattle.batch_decisions.specs.Answers.{IsLoaderAnswer, AreLoaderAnswers, IsStoreAnswer, IsRowAnswer, is_fault, faults_in, AreCounted}
 use Rattle.batch_decisions.proofs.OneAfterAnother.{goes_on}
 
 -- a loader that never strayed did not stray before
@@ -34,7 +34,7 @@ module _ (schema : SchemaData) (ps : List PolicyData) (o : Option Store) (ordere
     told : (w : Store) → o ≡ Some w → IsTold old w
     told w is = record { told = tells w is; order = ordered w is }
 
-    row_answer : (a : BatchAnswer) → IsAnswerTo schema ps old mid q a → IsRowAnswer schema ps o q a
+    row_answer : (a : BatchAnswer) → IsLoaderAnswer schema ps old mid q a → IsRowAnswer schema ps o q a
     row_answer Partial h = h
     row_answer (Refused e) h = h
     row_answer (Decided r) h = (h.0, h.1, by o refl)
@@ -59,7 +59,7 @@ module _ (schema : SchemaData) (ps : List PolicyData) (o : Option Store) (ordere
     row_answer (Loading error.OutOfMemory) h = absurd h.2
 
   pub row_answers : (old new : LoaderState) (qs : List Request) (answers : List BatchAnswer) → Tells old → new.strays ≡ 0 →
-      AreAnswers schema ps old qs answers new → AllZip (IsRowAnswer schema ps o) qs answers
+      AreLoaderAnswers schema ps old qs answers new → AllZip (IsRowAnswer schema ps o) qs answers
   row_answers old new [] [] tells none h = tt
   row_answers old new (q ∷ qs) (a ∷ answers) tells none h = (
     row_answer old h.0 new tells none (goes_on schema ps h.0 new qs answers h.3) q a h.2,

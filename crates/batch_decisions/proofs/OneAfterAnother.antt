@@ -7,7 +7,7 @@ use Rattle.entity_loader.specs.State.{LoaderState, Continues}
 use Rattle.entity_manifest.specs.declared.EntitySliceError.TheVariants as error
 use Rattle.batch_decisions.specs.declared.answer.BatchAnswer.{BatchAnswer}
 use Rattle.batch_decisions.specs.declared.answer.BatchAnswer.TheVariants.{Partial, Refused, Loading, Decided}
-use Rattle.batch_decisions.specs.Answers.{IsAnswerTo, AreAnswers, is_fault, AreCounted}
+use Rattle.batch_decisions.specs.Answers.{IsLoaderAnswer, AreLoaderAnswers, is_fault, AreCounted}
 use Rattle.batch_decisions.specs.Laws.{FaultsAreCounted}
 
 pub goes_on_here : (l : LoaderState) → Continues l l
@@ -25,24 +25,24 @@ goes_on_later a b c f g = record {
 module _ (schema : SchemaData) (ps : List PolicyData) where
   -- one answer more
   pub answers_more : (old mid new : LoaderState) (qs : List Request) (answers : List BatchAnswer) (q : Request) (a : BatchAnswer) →
-      AreAnswers schema ps old qs answers mid → Continues mid new → IsAnswerTo schema ps mid new q a →
-      AreAnswers schema ps old (qs ++ q ∷ []) (answers ++ a ∷ []) new
+      AreLoaderAnswers schema ps old qs answers mid → Continues mid new → IsLoaderAnswer schema ps mid new q a →
+      AreLoaderAnswers schema ps old (qs ++ q ∷ []) (answers ++ a ∷ []) new
   answers_more old mid new [] [] q a h on is =
-      subst (λ (l : LoaderState). AreAnswers schema ps l (q ∷ []) (a ∷ []) new) (sym h) (new, on, is, refl)
+      subst (λ (l : LoaderState). AreLoaderAnswers schema ps l (q ∷ []) (a ∷ []) new) (sym h) (new, on, is, refl)
   answers_more old mid new (p ∷ qs) (b ∷ answers) q a h on is =
       (h.0, h.1, h.2, answers_more h.0 mid new qs answers q a h.3 on is)
   answers_more old mid new [] (b ∷ answers) q a h on is = absurd h
   answers_more old mid new (p ∷ qs) [] q a h on is = absurd h
 
   pub goes_on : (old new : LoaderState) (qs : List Request) (answers : List BatchAnswer) →
-      AreAnswers schema ps old qs answers new → Continues old new
+      AreLoaderAnswers schema ps old qs answers new → Continues old new
   goes_on old new [] [] h = subst (Continues old) h (goes_on_here old)
   goes_on old new (q ∷ qs) (a ∷ answers) h = goes_on_later old h.0 new h.1 (goes_on h.0 new qs answers h.3)
   goes_on old new [] (a ∷ answers) h = absurd h
   goes_on old new (q ∷ qs) [] h = absurd h
 
   -- a fault that is answered is one that rose
-  rose : (old mid : LoaderState) → Continues old mid → (q : Request) (a : BatchAnswer) → IsAnswerTo schema ps old mid q a →
+  rose : (old mid : LoaderState) → Continues old mid → (q : Request) (a : BatchAnswer) → IsLoaderAnswer schema ps old mid q a →
       (is_fault a + old.faults ≤ mid.faults) ⊎ (2 ^ 64 ≤ mid.faults + 1)
   rose old mid on q Partial h = inl (omega (arith, on.faults))
   rose old mid on q (Refused e) h = inl (omega (arith, on.faults))

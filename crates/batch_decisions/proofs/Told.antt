@@ -11,14 +11,14 @@ use Rattle.entity_manifest.specs.declared.EntitySliceError.TheVariants as error
 use Rattle.batch_decisions.specs.declared.answer.BatchAnswer.{BatchAnswer}
 use Rattle.batch_decisions.specs.declared.answer.BatchAnswer.TheVariants.{Partial, Refused, Loading, Decided}
 use Rattle.entity_manifest.specs.Loaded.{IsTold}
-use Rattle.batch_decisions.specs.Answers.{IsAnswerTo, AreAnswers, IsAnswerOrFault}
+use Rattle.batch_decisions.specs.Answers.{IsLoaderAnswer, AreLoaderAnswers, IsAnswerOrFault}
 use Rattle.batch_decisions.specs.Laws.{AnswersAreWhole}
 
 pub still_told : (old mid : LoaderState) (w : Store) → Continues old mid → IsTold old w → IsTold mid w
 still_told old mid w on told = record { told = on.told w told.told; order = told.order }
 
 module _ (schema : SchemaData) (ps : List PolicyData) (w : Store) (stored : StoreConforms schema w) where
-  whole_answer : (old mid : LoaderState) → IsTold old w → (q : Request) (a : BatchAnswer) → IsAnswerTo schema ps old mid q a →
+  whole_answer : (old mid : LoaderState) → IsTold old w → (q : Request) (a : BatchAnswer) → IsLoaderAnswer schema ps old mid q a →
       IsAnswerOrFault schema ps w q a
   whole_answer old mid told q Partial h = h
   whole_answer old mid told q (Refused e) h = h
@@ -31,7 +31,7 @@ module _ (schema : SchemaData) (ps : List PolicyData) (w : Store) (stored : Stor
   whole_answer old mid told q (Loading (error.PartialRequest e)) h = absurd h.2
   whole_answer old mid told q (Loading error.OutOfMemory) h = absurd h.2
 
-  all_whole : (old new : LoaderState) (qs : List Request) (answers : List BatchAnswer) → AreAnswers schema ps old qs answers new →
+  all_whole : (old new : LoaderState) (qs : List Request) (answers : List BatchAnswer) → AreLoaderAnswers schema ps old qs answers new →
       IsTold old w → AllZip (IsAnswerOrFault schema ps w) qs answers
   all_whole old new [] [] h told = tt
   all_whole old new (q ∷ qs) (a ∷ answers) h told =

@@ -19,19 +19,20 @@ use Rattle.batch_decisions.specs.declared.answer.BatchAnswer.TheVariants.{Partia
 module _ (schema : SchemaData) (ps : List PolicyData) where
   -- the answer to a request, for which the loader goes from one state to another; where it tells a store that
   -- conforms, the decision is the response on that store
-  abbrev pub IsAnswerTo : LoaderState → LoaderState → Request → BatchAnswer → Type 0
-  IsAnswerTo old new q Partial = ¬ IsWhole q
-  IsAnswerTo old new q (Refused e) = IsWhole q × (first_request_fault schema (λ _. true) q ≡ Some e)
-  IsAnswerTo old new q (Loading e) = IsWhole q × RequestConforms schema q × WhyNotLoaded schema old new e
-  IsAnswerTo old new q (Decided r) =
+  abbrev pub IsLoaderAnswer : LoaderState → LoaderState → Request → BatchAnswer → Type 0
+  IsLoaderAnswer old new q Partial = ¬ IsWhole q
+  IsLoaderAnswer old new q (Refused e) = IsWhole q × (first_request_fault schema (λ _. true) q ≡ Some e)
+  IsLoaderAnswer old new q (Loading e) = IsWhole q × RequestConforms schema q × WhyNotLoaded schema old new e
+  IsLoaderAnswer old new q (Decided r) =
       IsWhole q × RequestConforms schema q × OfToldStores schema old (λ w. r ≡ response ps q w)
 
   -- the answers to requests, one after another
-  abbrev pub AreAnswers : LoaderState → List Request → List BatchAnswer → LoaderState → Type 0
-  AreAnswers old [] [] new = old ≡ new
-  AreAnswers old (q ∷ qs) (a ∷ answers) new =
-      (mid : LoaderState) × Continues old mid × IsAnswerTo old mid q a × AreAnswers mid qs answers new
-  AreAnswers old qs answers new = ⊥
+  abbrev pub AreLoaderAnswers : LoaderState → List Request → List BatchAnswer → LoaderState → Type 0
+  AreLoaderAnswers old [] [] new = old ≡ new
+  AreLoaderAnswers old (q ∷ qs) (a ∷ answers) new =
+      (mid : LoaderState) × Continues old mid × IsLoaderAnswer old mid q a
+      × AreLoaderAnswers mid qs answers new
+  AreLoaderAnswers old qs answers new = ⊥
 
   -- the answer to a request on a store: the response on it where the request is whole and conforms
   abbrev pub IsStoreAnswer : Store → Request → BatchAnswer → Type 0

@@ -9,14 +9,14 @@ use Rattle.typing_spec.specs.Conforms.{StoreConforms}
 use Rattle.entity_loader.specs.State.{LoaderState}
 use Rattle.batch_decisions.specs.declared.answer.BatchAnswer.{BatchAnswer}
 use Rattle.entity_manifest.specs.Loaded.{IsTold}
-use Rattle.batch_decisions.specs.Answers.{AreAnswers, IsAnswerOrFault, AreCounted}
+use Rattle.batch_decisions.specs.Answers.{AreLoaderAnswers, IsAnswerOrFault, AreCounted}
 
 -- where the loader tells a store that conforms, each answer is that on this store, or a fault
 abbrev pub AnswersAreWhole : Type 0
 AnswersAreWhole =
     (schema : SchemaData) (ps : List PolicyData) (old new : LoaderState) (qs : List Request)
     (answers : List BatchAnswer) →
-    AreAnswers schema ps old qs answers new → (w : Store) → IsTold old w → StoreConforms schema w →
+    AreLoaderAnswers schema ps old qs answers new → (w : Store) → IsTold old w → StoreConforms schema w →
     AllZip (IsAnswerOrFault schema ps w) qs answers
 
 -- no more faults are answered than are counted
@@ -24,4 +24,4 @@ abbrev pub FaultsAreCounted : Type 0
 FaultsAreCounted =
     (schema : SchemaData) (ps : List PolicyData) (old new : LoaderState) (qs : List Request)
     (answers : List BatchAnswer) →
-    AreAnswers schema ps old qs answers new → AreCounted answers old.faults new.faults
+    AreLoaderAnswers schema ps old qs answers new → AreCounted answers old.faults new.faults

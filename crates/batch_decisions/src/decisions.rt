@@ -7,7 +7,7 @@ ghost use Rattle.typing_spec.specs.Conforms.{RequestConforms};
 ghost use Rattle.entity_manifest.specs.Accepted.{IsAccepted};
 ghost use Rattle.entity_manifest.specs.OfPolicies.{IsManifestOf, WhyNone};
 ghost use Rattle.entity_manifest.specs.declared.EntitySliceError.TheVariants.{OutOfMemory};
-ghost use Rattle.batch_decisions.specs.Answers.{IsAnswerTo, AreAnswers};
+ghost use Rattle.batch_decisions.specs.Answers.{IsLoaderAnswer, AreLoaderAnswers};
 ghost use Rattle.batch_decisions.specs.Loaded.{answer_of};
 
 use crate::BatchAnswer;
@@ -38,7 +38,7 @@ pub fn decide_batch<D: EntityLoader>(
     requests: &Vec<Request>,
     loader: &mut D,
 ) -> Result<Vec<BatchAnswer>, EntityManifestError>
-    ensures answers { IfOk result (λ answers. AreAnswers schema.now policies.now.policies
+    ensures answers { IfOk result (λ answers. AreLoaderAnswers schema.now policies.now.policies
         (D.state loader.old) requests.now.items answers.items (D.state loader.new)) }
     ensures accepted { IfOk result (λ _. IsAccepted schema.now policies.now) }
     ensures refused { IfErr result (WhyNone schema.now policies.now) }
@@ -72,7 +72,7 @@ fn answers_by<D: EntityLoader, L: Ledger>(
     requires one { blank.parts ≡ 1 }
     requires accepted { IsAccepted schema.now policies.now }
     requires manifest { IsManifestOf schema.now policies.now.policies manifest.now }
-    ensures answers { IfOk result (λ answers. AreAnswers schema.now policies.now.policies
+    ensures answers { IfOk result (λ answers. AreLoaderAnswers schema.now policies.now.policies
         (D.state loader.old) requests.now.items answers.items (D.state loader.new)) }
     ensures goes_on { Continues (D.state loader.old) (D.state loader.new) }
 {
@@ -99,7 +99,7 @@ fn answer_to<D: EntityLoader, L: Ledger>(
 ) -> Result<BatchAnswer, AllocError>
     requires accepted { IsAccepted schema.now policies.now }
     requires manifest { IsManifestOf schema.now policies.now.policies manifest.now }
-    ensures answer { IfOk result (IsAnswerTo schema.now policies.now.policies
+    ensures answer { IfOk result (IsLoaderAnswer schema.now policies.now.policies
         (D.state loader.old) (D.state loader.new) request.now) }
     ensures goes_on { Continues (D.state loader.old) (D.state loader.new) }
 {
@@ -130,7 +130,7 @@ fn loaded_answer<D: EntityLoader, L: Ledger>(
     requires manifest { IsManifestOf schema.now policies.now.policies manifest.now }
     requires whole { IsWhole request.now }
     requires conforms { RequestConforms schema.now request.now }
-    ensures answer { IfOk result (IsAnswerTo schema.now policies.now.policies
+    ensures answer { IfOk result (IsLoaderAnswer schema.now policies.now.policies
         (D.state loader.old) (D.state loader.new) request.now) }
     ensures goes_on { Continues (D.state loader.old) (D.state loader.new) }
 {

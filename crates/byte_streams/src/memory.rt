@@ -16,7 +16,7 @@ fn copy_front(bytes: &[u8], piece: &mut [u8]) -> usize
 }
 
 /// The bytes of a slice as a source that never fails.
-#[derive(Clone, Copy)]
+#[derive(Clone, Copy, Debug)]
 pub struct SliceSource<'a> {
     /// All the bytes, also those that were given.
     pub bytes: &'a [u8],
@@ -50,7 +50,7 @@ impl Source for SliceSource<'_> {
 }
 
 /// Bytes in memory as a source whose reads fail where a list says so.
-#[derive(Drop)]
+#[derive(Debug, Drop)]
 pub struct MemorySource {
     /// All the bytes, also those that were given.
     pub bytes: Vec<u8>,
@@ -107,7 +107,7 @@ impl Source for MemorySource {
 }
 
 /// A sink that keeps what is written in memory, and whose writes fail where a list says so.
-#[derive(Drop)]
+#[derive(Debug, Drop)]
 pub struct MemorySink {
     /// What was written.
     pub bytes: Vec<u8>,
@@ -156,7 +156,7 @@ impl Sink for MemorySink {
 }
 
 /// A sink that takes all bytes, keeps none and never fails.
-#[derive(Clone, Copy)]
+#[derive(Clone, Copy, Debug)]
 pub struct NoSink;
 
 impl Sink for NoSink {

@@ -10,7 +10,7 @@ use std::marker::Model;
 ///
 /// Its counts begin at 0. A reader that has given nearly 2^64 bytes fails from then on, so that the
 /// count of bytes is exact.
-#[derive(Drop)]
+#[derive(Debug, Drop)]
 pub struct StdSource<R: Read + Drop> {
     reader: R,
     taken: u64,
@@ -63,7 +63,7 @@ impl<R: Read + Drop> Source for StdSource<R> {
 /// A writer as a sink: it tells the bytes that it holds where the writer tells them.
 ///
 /// Its count of faults begins at 0.
-#[derive(Drop)]
+#[derive(Debug, Drop)]
 pub struct StdSink<W: Write + Drop> {
     writer: W,
     faults: u64,

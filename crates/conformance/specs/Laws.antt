@@ -22,14 +22,18 @@ NothingIsWrongWithMembers = (t : Ty) (v : Val) → (misfit (λ _. true) t v ≡ 
 
 -- a whole request breaks no rule exactly where it conforms
 abbrev pub RequestRulesAreExact : Type 0
-RequestRulesAreExact = (schema : SchemaData) → IsSchema schema → (q : Request) → IsWhole q → (first_request_fault schema (λ _. true) q ≡ None) ↔ RequestConforms schema q
+RequestRulesAreExact = (schema : SchemaData) → IsSchema schema → (q : Request) → IsWhole q →
+    (first_request_fault schema (λ _. true) q ≡ None) ↔ RequestConforms schema q
 
 -- a store breaks no rule exactly where it conforms
 abbrev pub StoreRulesAreExact : Type 0
-StoreRulesAreExact = (schema : SchemaData) → IsSchema schema → (s : Store) → (first_store_fault schema s ≡ None) ↔ StoreConforms schema s
+StoreRulesAreExact = (schema : SchemaData) → IsSchema schema →
+    (s : Store) → (first_store_fault schema s ≡ None) ↔ StoreConforms schema s
 
 -- where each extension function is there under its name, nothing depends on which are there
 abbrev pub AllFunctionsAreKnown : Type 0
 AllFunctionsAreKnown =
-    (e : Extensions) → ((name : List ℕ) → function_at e.function_types name ≡ option_map (typed name) (function_of name)) →
-    (schema : SchemaData) (q : Request) → first_request_fault schema (knows e) q ≡ first_request_fault schema (λ _. true) q
+    (e : Extensions) →
+    ((name : List ℕ) → function_at e.function_types name ≡ option_map (typed name) (function_of name)) →
+    (schema : SchemaData) (q : Request) →
+    first_request_fault schema (knows e) q ≡ first_request_fault schema (λ _. true) q

@@ -51,7 +51,8 @@ earlier (Some m) (Some k) = Some (first_of (text_cmp m.0 k) m.1)
 -- the first required key without a field
 abbrev pub first_missing : Attrs → Fields → Option (List ℕ)
 first_missing no_attrs fs = None
-first_missing (attr k t required xs) fs = if required && not (has_field fs k) then Some k else first_missing xs fs
+first_missing (attr k t required xs) fs =
+    if required && not (has_field fs k) then Some k else first_missing xs fs
 
 -- a field that is declared fits its type; one that is not is of an open record alone
 abbrev pub misfit_field : OpenTag → Option AttributeType → Option Misfit → Option Misfit
@@ -90,4 +91,6 @@ module _ (is_there : Constructor → Bool) where
     -- the first field that is undeclared in a closed record, or does not fit its type, with its key
     pub misfit_fields : OpenTag → Attrs → Fields → Option (List ℕ × Misfit)
     misfit_fields o xs no_fields = None
-    misfit_fields o xs (field k v fs) = option_or (option_map (λ m. (k, m)) (misfit_field o (attr_at xs k) (misfit (type_of (attr_at xs k)) v))) (misfit_fields o xs fs)
+    misfit_fields o xs (field k v fs) = option_or
+        (option_map (λ m. (k, m)) (misfit_field o (attr_at xs k) (misfit (type_of (attr_at xs k)) v)))
+        (misfit_fields o xs fs)

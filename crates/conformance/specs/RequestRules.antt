@@ -23,7 +23,8 @@ abbrev pub unless : {F : Type 0} → Bool → F → Option F
 unless true fault = None
 unless false fault = Some fault
 
--- what is wrong with the context as a whole: it is not of the action's; or it holds a value whose function is not there
+-- what is wrong with the context as a whole: it is not of the action's; or it holds a value whose function is
+-- not there
 abbrev pub context_error : ActionData → Fields → Misfit → RequestValidationError
 context_error a fs (Lacks c) = TypeOfContext (name_of c)
 context_error a fs Other = InvalidContext (record { context = fs; action = a.name })
@@ -31,30 +32,41 @@ context_error a fs Other = InvalidContext (record { context = fs; action = a.nam
 module _ (schema : SchemaData) where
   -- an id of an enumerated type is listed
   abbrev pub listed_fault : EntityUID → Option RequestValidationError
-  listed_fault u = option_map (λ choices. InvalidEnumEntity (record { uid = u; choices = choices })) (choices_without schema u)
+  listed_fault u = option_map (λ choices. InvalidEnumEntity (record { uid = u; choices = choices }))
+      (choices_without schema u)
 
   -- the principal's type is declared, and lists it
   abbrev pub principal_fault : EntityUID → Option RequestValidationError
-  principal_fault p = option_or (unless (is_some (type_at schema p.entity_type)) (UndeclaredPrincipalType (record { principal_ty = p.entity_type }))) (listed_fault p)
+  principal_fault p = option_or
+      (unless (is_some (type_at schema p.entity_type))
+      (UndeclaredPrincipalType (record { principal_ty = p.entity_type })))
+      (listed_fault p)
 
   -- the resource's type is declared, and lists it
   abbrev pub resource_fault : EntityUID → Option RequestValidationError
-  resource_fault r = option_or (unless (is_some (type_at schema r.entity_type)) (UndeclaredResourceType (record { resource_ty = r.entity_type }))) (listed_fault r)
+  resource_fault r = option_or
+      (unless (is_some (type_at schema r.entity_type))
+      (UndeclaredResourceType (record { resource_ty = r.entity_type })))
+      (listed_fault r)
 
 -- the action applies to the principal's type
 abbrev pub principal_type_fault : ActionData → EntityUID → Option RequestValidationError
-principal_type_fault a p = unless (has text_cmp a.principals p.entity_type) (InvalidPrincipalType (record { principal_ty = p.entity_type; action = a.name; valid_principal_tys = a.principals }))
+principal_type_fault a p = unless (has text_cmp a.principals p.entity_type) (InvalidPrincipalType
+    (record { principal_ty = p.entity_type; action = a.name; valid_principal_tys = a.principals }))
 
 -- the action applies to the resource's type
 abbrev pub resource_type_fault : ActionData → EntityUID → Option RequestValidationError
-resource_type_fault a r = unless (has text_cmp a.resources r.entity_type) (InvalidResourceType (record { resource_ty = r.entity_type; action = a.name; valid_resource_tys = a.resources }))
+resource_type_fault a r = unless (has text_cmp a.resources r.entity_type) (InvalidResourceType
+    (record { resource_ty = r.entity_type; action = a.name; valid_resource_tys = a.resources }))
 
 module _ (schema : SchemaData) (is_there : Constructor → Bool) where
   -- the ids in the context are listed, and the context is of the action's
   abbrev pub context_fault : ActionData → Fields → Option RequestValidationError
-  context_fault a fs = option_or (option_and_then (listed_fault schema) (unlisted_in_fields schema fs)) (option_map (context_error a fs) (misfit is_there (record_of a.context ClosedAttributes) (rec fs)))
+  context_fault a fs = option_or (option_and_then (listed_fault schema) (unlisted_in_fields schema fs))
+      (option_map (context_error a fs) (misfit is_there (record_of a.context ClosedAttributes) (rec fs)))
 
-  -- the first rule that the request breaks with a declared action: of the principal, the resource, the context
+  -- the first rule that the request breaks with a declared action: of the principal, the resource,
+  -- the context
   abbrev pub applied_fault : Request → ActionData → Option RequestValidationError
   applied_fault q a =
       option_or (option_and_then (principal_type_fault a) q.principal)
@@ -63,7 +75,8 @@ module _ (schema : SchemaData) (is_there : Constructor → Bool) where
 
   -- the first rule that the request breaks with its action: it is declared, and applies
   abbrev pub action_fault : Request → EntityUID → Option RequestValidationError
-  action_fault q uid = option_map_or (applied_fault q) (action_at schema uid) (Some (UndeclaredAction (record { action = uid })))
+  action_fault q uid = option_map_or (applied_fault q) (action_at schema uid)
+      (Some (UndeclaredAction (record { action = uid })))
 
   -- the first rule that the request breaks. Entries that are not known break none
   abbrev pub first_request_fault : Request → Option RequestValidationError

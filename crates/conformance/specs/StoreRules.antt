@@ -42,14 +42,16 @@ is_ancestor_if_above e a = not (has uid_cmp a.descendants e.uid) || has uid_cmp 
 module _ (schema : SchemaData) where
   -- an attribute is declared, of its type, and holds listed ids alone
   abbrev pub declared_fault : List ℕ → Val → AttributeType → Option StoreRule
-  declared_fault k v a = option_or (unless (is_of a.attr_type v) (AttributeOfAnotherType k)) (unless (lists_ids schema v) (AttributeHoldsUnlistedId k))
+  declared_fault k v a = option_or (unless (is_of a.attr_type v) (AttributeOfAnotherType k))
+      (unless (lists_ids schema v) (AttributeHoldsUnlistedId k))
 
   abbrev pub attribute_fault : Attrs → List ℕ → Val → Option StoreRule
   attribute_fault xs k v = option_map_or (declared_fault k v) (attr_at xs k) (Some (AttributeNotDeclared k))
 
   -- a tag is of the type of tags, and holds listed ids alone
   abbrev pub tag_fault : Ty → List ℕ → Val → Option StoreRule
-  tag_fault t k v = option_or (unless (is_of t v) (TagOfAnotherType k)) (unless (lists_ids schema v) (TagHoldsUnlistedId k))
+  tag_fault t k v =
+      option_or (unless (is_of t v) (TagOfAnotherType k)) (unless (lists_ids schema v) (TagHoldsUnlistedId k))
 
   -- the first rule that tags break: there is a type of tags, and each is of it
   abbrev pub tags_fault : Option Ty → Fields → Option StoreRule
@@ -58,14 +60,17 @@ module _ (schema : SchemaData) where
 
   -- an ancestor is of a type that the entity's may stand below, and is listed
   abbrev pub ancestor_fault : List ℕ → EntityUID → Option StoreRule
-  ancestor_fault ty above = option_or (unless (type_below schema ty above.entity_type) (AncestorNotAllowed above)) (unless (is_listed schema above) (AncestorNotListed above))
+  ancestor_fault ty above =
+      option_or (unless (type_below schema ty above.entity_type) (AncestorNotAllowed above))
+      (unless (is_listed schema above) (AncestorNotListed above))
 
   -- the first ancestor that breaks a rule
   abbrev pub ancestors_fault : List ℕ → List EntityUID → Option StoreRule
   ancestors_fault ty [] = None
   ancestors_fault ty (u ∷ us) = option_or (ancestor_fault ty u) (ancestors_fault ty us)
 
-  -- behind the rules of single attributes: none that is required is missing; then the rules of tags, and of ancestors
+  -- behind the rules of single attributes: none that is required is missing; then the rules of tags, and of
+  -- ancestors
   abbrev pub further_fault : StoredEntity → TypeData → Option StoreRule
   further_fault e t =
       option_or (option_map RequiredAttributeMissing (first_missing (attributes_in t.kind) e.attrs))
@@ -81,7 +86,8 @@ module _ (schema : SchemaData) where
 
   -- the first rule that an entity breaks that is no action's
   abbrev pub typed_entity_fault : StoredEntity → Option StoreRule
-  typed_entity_fault e = option_map_or (declared_entity_fault e) (type_at schema e.uid.entity_type) (Some TypeNotDeclared)
+  typed_entity_fault e =
+      option_map_or (declared_entity_fault e) (type_at schema e.uid.entity_type) (Some TypeNotDeclared)
 
   -- each action of which the entity's action is a descendant is an ancestor of the entity
   abbrev pub has_all_ancestors : StoredEntity → Bool
@@ -91,8 +97,8 @@ module _ (schema : SchemaData) where
   abbrev pub has_its_ancestors : StoredEntity → Bool
   has_its_ancestors e = list_all (action_below schema e.uid) e.ancestors && has_all_ancestors e
 
-  -- the first rule that an action's entity breaks: the action is declared, the entity has no attributes and no tags,
-  -- and its ancestors are those of the action
+  -- the first rule that an action's entity breaks: the action is declared, the entity has no attributes and
+  -- no tags, and its ancestors are those of the action
   abbrev pub action_entity_fault : StoredEntity → Option StoreRule
   action_entity_fault e =
       option_or (unless (is_some (action_at schema e.uid)) ActionNotDeclared)
@@ -107,17 +113,21 @@ module _ (schema : SchemaData) where
   -- the first entity that breaks a rule, and the first rule that it breaks
   abbrev pub first_store_fault : Store → Option (EntityUID × StoreRule)
   first_store_fault [] = None
-  first_store_fault (e ∷ es) = option_or (option_map (λ rule. (e.uid, rule)) (entity_fault e)) (first_store_fault es)
+  first_store_fault (e ∷ es) =
+      option_or (option_map (λ rule. (e.uid, rule)) (entity_fault e)) (first_store_fault es)
 
 -- the entity of an action with the id lacks the action as an ancestor
 abbrev pub lacks_it : Store → ActionData → EntityUID → Bool
-lacks_it s a uid = option_map_or (λ e. is_action_type uid.entity_type && not (has uid_cmp e.ancestors a.name)) (entity_at s uid) false
+lacks_it s a uid = option_map_or
+    (λ e. is_action_type uid.entity_type && not (has uid_cmp e.ancestors a.name)) (entity_at s uid) false
 
 -- the entity of an action with the id lacks one of these actions of which its action is a descendant
 abbrev pub lacks : List ActionData → Store → EntityUID → Bool
-lacks actions s uid = option_map_or (λ e. is_action_type uid.entity_type && not (list_all (is_ancestor_if_above e) actions)) (entity_at s uid) false
+lacks actions s uid =
+    option_map_or (λ e. is_action_type uid.entity_type && not (list_all (is_ancestor_if_above e) actions))
+    (entity_at s uid) false
 
 -- the error names this entity and this rule. Memory is wanted only where there is a fault
-abbrev pub IsStoreFault : Option (EntityUID × StoreRule) → ConformanceError → Type 0
-IsStoreFault fault (refused.EntityDoesNotConform e) = fault ≡ Some (e.uid, e.rule)
-IsStoreFault fault refused.OutOfMemory = IsSome fault
+abbrev pub IsConformanceFault : Option (EntityUID × StoreRule) → ConformanceError → Type 0
+IsConformanceFault fault (refused.EntityDoesNotConform e) = fault ≡ Some (e.uid, e.rule)
+IsConformanceFault fault refused.OutOfMemory = IsSome fault

@@ -169,8 +169,8 @@ fn misfit_in_set(extensions: &ExtensionSchemas<'_>, t: &Type, items: &Vec<Value>
     None
 }
 
-/// What is wrong with the fields of a record, if anything: what comes first in the order of the keys, of a field that is
-/// not declared or does not fit its type, and of a required key that has no field.
+/// What is wrong with the fields of a record, if anything: what comes first in the order of the keys, of a
+/// field that is not declared or does not fit its type, and of a required key that has no field.
 #[cycle(walk)]
 pub(crate) fn record_misfit(
     extensions: &ExtensionSchemas<'_>,

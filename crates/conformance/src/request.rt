@@ -23,15 +23,15 @@ use std::alloc::{AllocError, Global};
 use std::collections::BTreeSet;
 use typing_spec::ExtensionSchemas;
 
-/// Whether the request conforms to the schema: its principal's and its resource's types are declared, and list them
-/// where they are enumerated; its action is declared and applies to both types; each id in its context is listed, where
-/// its type is enumerated, and the context is of the type that the action declares. Entries that are not known are passed
-/// over; where the action is not known, nothing is asked of it.
+/// Whether the request conforms to the schema: its principal's and its resource's types are declared, and
+/// list them where they are enumerated; its action is declared and applies to both types; each id in its
+/// context is listed, where its type is enumerated, and the context is of the type that the action declares.
+/// Entries that are not known are passed over; where the action is not known, nothing is asked of it.
 ///
-/// Errs with the first rule that is broken, in this order. Of what is wrong with the context as a whole, that comes
-/// which stands first in the order of keys and elements: where it is a value of an extension whose function is not among
-/// the extensions, at a place of an extension's type, then `TypeOfContext` with the function's name; else
-/// `InvalidContext`. A request that conforms takes no memory.
+/// Errs with the first rule that is broken, in this order. Of what is wrong with the context as a whole, that
+/// comes which stands first in the order of keys and elements: where it is a value of an extension whose
+/// function is not among the extensions, at a place of an extension's type, then `TypeOfContext` with the
+/// function's name; else `InvalidContext`. A request that conforms takes no memory.
 pub fn validate_request(
     alloc: Global,
     schema: &ValidatorSchema,
@@ -102,7 +102,8 @@ fn check_resource(
     Err(RequestValidationError::UndeclaredResourceType(UndeclaredResourceTypeError { resource_ty }))
 }
 
-// Whether the action is declared, applies to the principal's type and to the resource's type, and takes the context.
+// Whether the action is declared, applies to the principal's type and to the resource's type, and takes the
+// context.
 fn check_action(
     alloc: Global,
     schema: &ValidatorSchema,

@@ -10,7 +10,7 @@ ghost use Rattle.policy_values.specs.Uid.{uid_cmp, uid_eq};
 ghost use Rattle.policy_values.specs.Value.{fields_of};
 ghost use Rattle.schema_core.specs.Schema.{type_below, action_below};
 ghost use Rattle.conformance_errors.specs.declared.store_rule.StoreRule.TheVariants.{TagsNotAllowed};
-ghost use Rattle.conformance.specs.StoreRules.{IsStoreFault, first_store_fault, entity_fault, action_entity_fault, typed_entity_fault, declared_entity_fault, further_fault, first_broken, attribute_fault, declared_fault, tags_fault, tag_fault, ancestors_fault, ancestor_fault, is_of, first_key, has_all_ancestors, lacks, lacks_it};
+ghost use Rattle.conformance.specs.StoreRules.{IsConformanceFault, first_store_fault, entity_fault, action_entity_fault, typed_entity_fault, declared_entity_fault, further_fault, first_broken, attribute_fault, declared_fault, tags_fault, tag_fault, ancestors_fault, ancestor_fault, is_of, first_key, has_all_ancestors, lacks, lacks_it};
 
 use crate::ids::{is_listed, lists_ids};
 use crate::misfits::first_missing;
@@ -25,15 +25,16 @@ use std::collections::{BTreeMap, BTreeSet};
 use type_relations::has_value;
 
 /// Whether the store conforms to the schema. The entity of an action has to be declared as an action, without
-/// attributes and tags, and with exactly the ancestors that the schema gives the action. Any other entity has to be
-/// of a declared type that lists it where it is enumerated; its attributes are declared, of their types, and none that is
-/// required is missing; its tags are of the type of tags, if there is one; its ancestors are of types that it may be in.
-/// Ids in attributes and tags, and ancestors, are listed where their types are enumerated.
+/// attributes and tags, and with exactly the ancestors that the schema gives the action. Any other entity has
+/// to be of a declared type that lists it where it is enumerated; its attributes are declared, of their
+/// types, and none that is required is missing; its tags are of the type of tags, if there is one; its
+/// ancestors are of types that it may be in. Ids in attributes and tags, and ancestors, are listed where
+/// their types are enumerated.
 ///
 /// Errs with the first entity that breaks a rule, in the order of the ids, and the first rule that it breaks.
 pub fn conforms(schema: &ValidatorSchema, entities: &Entities) -> Result<(), ConformanceError>
     ensures { MatchResult result (λ _. first_store_fault schema.now entities.now ≡ None)
-        (IsStoreFault (first_store_fault schema.now entities.now)) }
+        (IsConformanceFault (first_store_fault schema.now entities.now)) }
 {
     let lacking = least_lacking(schema, entities);
     for entity in entities.iter() {
@@ -62,7 +63,8 @@ fn same_id(one: &EntityUID, other: &EntityUID) -> bool
     one.cmp(other) == Ordering::Equal
 }
 
-// The first rule that the entity breaks, where it is known whether an ancestor of its action is missing in it.
+// The first rule that the entity breaks, where it is known whether an ancestor of its action is missing
+// in it.
 fn broken_rule(
     schema: &ValidatorSchema,
     entity: &Entity,

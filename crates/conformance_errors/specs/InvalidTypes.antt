@@ -20,7 +20,11 @@ abbrev parts : Coded (List ℕ × (EntityUID × List (List ℕ)))
 parts = coded× (coded_list coded_ℕ) (coded× coded_uid (coded_list (coded_list coded_ℕ)))
 
 abbrev pub coded_principal_type : Coded InvalidPrincipalType
-coded_principal_type = code_by (List ℕ × (EntityUID × List (List ℕ))) parts (λ e. (e.principal_ty, (e.action, e.valid_principal_tys))) (λ p. record { principal_ty = p.0; action = p.1.0; valid_principal_tys = p.1.1 }) (λ _. refl)
+coded_principal_type = code_by (List ℕ × (EntityUID × List (List ℕ)))
+    parts (λ e. (e.principal_ty, (e.action, e.valid_principal_tys)))
+    (λ p. record { principal_ty = p.0; action = p.1.0; valid_principal_tys = p.1.1 }) (λ _. refl)
 
 abbrev pub coded_resource_type : Coded InvalidResourceType
-coded_resource_type = code_by (List ℕ × (EntityUID × List (List ℕ))) parts (λ e. (e.resource_ty, (e.action, e.valid_resource_tys))) (λ p. record { resource_ty = p.0; action = p.1.0; valid_resource_tys = p.1.1 }) (λ _. refl)
+coded_resource_type = code_by (List ℕ × (EntityUID × List (List ℕ)))
+    parts (λ e. (e.resource_ty, (e.action, e.valid_resource_tys)))
+    (λ p. record { resource_ty = p.0; action = p.1.0; valid_resource_tys = p.1.1 }) (λ _. refl)

@@ -14,8 +14,10 @@ rule_text (RequiredAttributeMissing key) = codes "required attribute `" ++ key +
 rule_text TagsNotAllowed = codes "tags are not allowed"
 rule_text (TagOfAnotherType key) = codes "tag `" ++ key ++ codes "` is not of its type"
 rule_text (TagHoldsUnlistedId key) = codes "tag `" ++ key ++ codes "` holds an unlisted id"
-rule_text (AncestorNotAllowed uid) = codes "ancestor `" ++ uid_text uid.entity_type uid.eid ++ codes "` is not allowed"
-rule_text (AncestorNotListed uid) = codes "ancestor `" ++ uid_text uid.entity_type uid.eid ++ codes "` is not listed"
+rule_text (AncestorNotAllowed uid) =
+    codes "ancestor `" ++ uid_text uid.entity_type uid.eid ++ codes "` is not allowed"
+rule_text (AncestorNotListed uid) =
+    codes "ancestor `" ++ uid_text uid.entity_type uid.eid ++ codes "` is not listed"
 rule_text ActionNotDeclared = codes "action is not declared"
 rule_text ActionHasAttributes = codes "action has attributes"
 rule_text ActionHasTags = codes "action has tags"

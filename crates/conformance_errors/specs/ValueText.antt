@@ -1,5 +1,5 @@
--- How values are written: as in Cedar, but of each set and each record five parts alone, with two points behind them where there
--- are more.
+-- How values are written: as in Cedar, but of each set and each record five parts alone, with two points
+-- behind them where there are more.
 use Rattle.std.specs.Prelude.{ℕ, ◌-◌, Bool, true, false, not, ◌&&◌, ◌||◌, ◌==◌, nat_le, nat_lt, List, [], ◌++◌, length, slice_index, codes, if◌then◌else◌}
 use Rattle.std.specs.Fmt.{signed_decimal}
 use Rattle.std.specs.List.{list_all}
@@ -20,7 +20,8 @@ is_tail c = is_head c || (nat_le 48 c && nat_le c 57)
 
 -- one component of a name
 abbrev pub is_component : List ℕ → Bool
-is_component cs = nat_lt 0 (length cs) && (is_head (slice_index cs 0) && (list_all is_tail cs && not (bytes_eq cs (codes "__cedar"))))
+is_component cs = nat_lt 0 (length cs) && (is_head (slice_index cs 0) &&
+    (list_all is_tail cs && not (bytes_eq cs (codes "__cedar"))))
 
 -- a key stands alone where it is a component of a name, and else as a string literal
 abbrev pub key_text : List ℕ → List ℕ
@@ -59,7 +60,8 @@ abbrev mutual
   -- those behind the first, of which so many more are shown
   pub further_elements : ℕ → Vals → List ℕ
   further_elements n no_vals = []
-  further_elements n (val v vs) = if n == 0 then codes ", .. " else codes ", " ++ (value_text v ++ further_elements (n - 1) vs)
+  further_elements n (val v vs) =
+      if n == 0 then codes ", .. " else codes ", " ++ (value_text v ++ further_elements (n - 1) vs)
 
   -- the fields, of which so many are shown behind the first
   pub fields_text : ℕ → Fields → List ℕ
@@ -69,7 +71,9 @@ abbrev mutual
   -- those behind the first, of which so many more are shown
   pub further_fields : ℕ → Fields → List ℕ
   further_fields n no_fields = []
-  further_fields n (field k v fs) = if n == 0 then codes ", .. " else codes ", " ++ (field_text k (value_text v) ++ further_fields (n - 1) fs)
+  further_fields n (field k v fs) =
+      if n == 0 then codes ", .. "
+      else codes ", " ++ (field_text k (value_text v) ++ further_fields (n - 1) fs)
 
 -- the elements that are left, where it is told whether the first is among them
 abbrev pub elements_left : Bool → ℕ → Vals → List ℕ

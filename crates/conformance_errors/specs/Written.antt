@@ -16,14 +16,21 @@ id_text uid = uid_text uid.entity_type uid.eid
 
 -- which rule the request breaks
 abbrev pub request_message : RequestValidationError → List ℕ
-request_message (UndeclaredAction e) = codes "request's action `" ++ (id_text e.action ++ codes "` is not declared in the schema")
-request_message (UndeclaredPrincipalType e) = codes "principal type `" ++ (e.principal_ty ++ codes "` is not declared in the schema")
-request_message (UndeclaredResourceType e) = codes "resource type `" ++ (e.resource_ty ++ codes "` is not declared in the schema")
-request_message (InvalidPrincipalType e) = codes "principal type `" ++ (e.principal_ty ++ (codes "` is not valid for `" ++ (id_text e.action ++ codes "`")))
-request_message (InvalidResourceType e) = codes "resource type `" ++ (e.resource_ty ++ (codes "` is not valid for `" ++ (id_text e.action ++ codes "`")))
+request_message (UndeclaredAction e) =
+    codes "request's action `" ++ (id_text e.action ++ codes "` is not declared in the schema")
+request_message (UndeclaredPrincipalType e) =
+    codes "principal type `" ++ (e.principal_ty ++ codes "` is not declared in the schema")
+request_message (UndeclaredResourceType e) =
+    codes "resource type `" ++ (e.resource_ty ++ codes "` is not declared in the schema")
+request_message (InvalidPrincipalType e) = codes "principal type `" ++ (e.principal_ty ++
+    (codes "` is not valid for `" ++ (id_text e.action ++ codes "`")))
+request_message (InvalidResourceType e) = codes "resource type `" ++ (e.resource_ty ++
+    (codes "` is not valid for `" ++ (id_text e.action ++ codes "`")))
 request_message (InvalidEnumEntity e) = enum_entity_text e.uid
-request_message (InvalidContext e) = codes "context `" ++ (value_text (rec e.context) ++ (codes "` is not valid for `" ++ (id_text e.action ++ codes "`")))
-request_message (TypeOfContext function) = codes "context is not valid: extension function `" ++ (function ++ codes "` does not exist")
+request_message (InvalidContext e) = codes "context `" ++ (value_text (rec e.context) ++
+    (codes "` is not valid for `" ++ (id_text e.action ++ codes "`")))
+request_message (TypeOfContext function) =
+    codes "context is not valid: extension function `" ++ (function ++ codes "` does not exist")
 request_message OutOfMemory = codes "out of memory"
 
 -- the types behind the first, each in backticks behind a comma
@@ -33,8 +40,11 @@ further_types (ty ∷ types) = codes ", `" ++ (ty ++ (codes "`" ++ further_types
 
 -- the types of principals, or of resources, to which the action applies
 abbrev pub valid_types : List ℕ → EntityUID → List (List ℕ) → List ℕ
-valid_types side action [] = codes "no " ++ (side ++ (codes " types are valid for `" ++ (id_text action ++ codes "`")))
-valid_types side action (ty ∷ types) = codes "valid " ++ (side ++ (codes " types for `" ++ (id_text action ++ (codes "`: `" ++ (ty ++ codes "`"))))) ++ further_types types
+valid_types side action [] =
+    codes "no " ++ (side ++ (codes " types are valid for `" ++ (id_text action ++ codes "`")))
+valid_types side action (ty ∷ types) = codes "valid " ++
+    (side ++ (codes " types for `" ++ (id_text action ++ (codes "`: `" ++ (ty ++ codes "`"))))) ++
+    further_types types
 
 abbrev pub request_help : RequestValidationError → Option (List ℕ)
 request_help (InvalidPrincipalType e) = Some (valid_types (codes "principal") e.action e.valid_principal_tys)

@@ -50,7 +50,11 @@ impl Model for InvalidPrincipalTypeError {
 
     ghost coded = { coded_principal_type };
 
-    ghost view = { λ e. record { principal_ty = e.principal_ty; action = e.action; valid_principal_tys = e.valid_principal_tys.items } };
+    ghost view = { λ e. record {
+      principal_ty = e.principal_ty;
+      action = e.action;
+      valid_principal_tys = e.valid_principal_tys.items;
+    } };
 }
 
 /// The action does not apply to resources of this type.
@@ -72,7 +76,11 @@ impl Model for InvalidResourceTypeError {
 
     ghost coded = { coded_resource_type };
 
-    ghost view = { λ e. record { resource_ty = e.resource_ty; action = e.action; valid_resource_tys = e.valid_resource_tys.items } };
+    ghost view = { λ e. record {
+      resource_ty = e.resource_ty;
+      action = e.action;
+      valid_resource_tys = e.valid_resource_tys.items;
+    } };
 }
 
 /// The context is not of the type that the action declares.

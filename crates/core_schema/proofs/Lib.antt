@@ -1,3 +1,4 @@
+mod Contexts
 mod Found
 mod Kept
 mod LookupSteps

@@ -16,6 +16,16 @@ abbrev pub listed_in : Kind → Option (List (List ℕ))
 listed_in (standard xs t) = None
 listed_in (enumerated ids) = Some ids
 
+-- a type as it is described, with the types whose entities may be ancestors of its own
+abbrev pub description_of : TypeData → List (List ℕ) → TypeDescription
+description_of t parents = record {
+  name = t.name;
+  eids = listed_in t.kind;
+  attrs = attributes_in t.kind;
+  tags = tags_in t.kind;
+  parents = parents;
+}
+
 module _ (s : SchemaData) where
   -- the declared types whose entities may be ancestors of the type's
   abbrev pub parents_of : List ℕ → List (List ℕ)
@@ -27,7 +37,7 @@ module _ (s : SchemaData) where
 
   -- a type, an action, as the schema describes it
   abbrev pub described_type : TypeData → TypeDescription
-  described_type t = record { name = t.name; eids = listed_in t.kind; attrs = attributes_in t.kind; tags = tags_in t.kind; parents = parents_of t.name }
+  described_type t = description_of t (parents_of t.name)
 
   abbrev pub described_action : ActionData → ActionDescription
   described_action a = record { uid = a.name; ancestors = ancestors_of a.name }
@@ -51,7 +61,8 @@ context_of a = record_of a.context ClosedAttributes
 abbrev pub coded_description : Coded TypeDescription
 coded_description =
     code_by (List ℕ × (Option (List (List ℕ)) × (Attrs × (Option Ty × List (List ℕ)))))
-    (coded× (coded_list coded_ℕ) (coded× (coded_option (coded_list (coded_list coded_ℕ))) (coded× coded_attrs (coded× (coded_option coded_ty) (coded_list (coded_list coded_ℕ))))))
+    (coded× (coded_list coded_ℕ) (coded× (coded_option (coded_list (coded_list coded_ℕ)))
+    (coded× coded_attrs (coded× (coded_option coded_ty) (coded_list (coded_list coded_ℕ))))))
     (λ d. (d.name, (d.eids, (d.attrs, (d.tags, d.parents)))))
     (λ p. record { name = p.0; eids = p.1.0; attrs = p.1.1.0; tags = p.1.1.1.0; parents = p.1.1.1.1 })
     (λ _. refl)

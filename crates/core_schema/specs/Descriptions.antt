@@ -1,16 +1,17 @@
 -- What a schema says of entity types, actions and contexts, as plain data.
-use Rattle.std.specs.Prelude.{ℕ, true, false, List, [], ◌∷◌, Option, Some, None, codes, drop, eqb, find, map, if◌then◌else◌}
-use Rattle.std.specs.List.{filter, starts_with}
-use Rattle.std.specs.Option.{option_map, option_or, unwrap_or}
+use Rattle.std.specs.Prelude.{ℕ, true, false, List, [], ◌∷◌, Option, find, map}
+use Rattle.std.specs.List.{filter}
+use Rattle.std.specs.Option.{option_map}
 use Rattle.std.specs.Ordering.{is_eq}
 use Rattle.std.specs.Str.{bytes_eq}
 use Rattle.policy_values.specs.declared.entity_uid.EntityUID.{EntityUID}
+use Rattle.policy_values.specs.Basename.{basename_of}
 use Rattle.policy_values.specs.Uid.{text_cmp, uid_cmp}
 use Rattle.schema_types.specs.Attrs.{attr_at}
 use Rattle.schema_types.specs.Ty.{Ty, Attrs, no_attrs, attr}
 
--- an entity type: its name; the eids that it lists, where it is enumerated; its attributes, and the type of its tags,
--- where it has tags; the types whose entities may be ancestors of its own
+-- an entity type: its name; the eids that it lists, where it is enumerated; its attributes, and the type of
+-- its tags, where it has tags; the types whose entities may be ancestors of its own
 pub record TypeDescription : Type 0 where
   pub name : List ℕ
   pub eids : Option (List (List ℕ))
@@ -39,15 +40,6 @@ type_described ds name = find (λ d. is_eq (text_cmp name d.name)) ds
 
 abbrev pub action_described : List ActionDescription → EntityUID → Option ActionDescription
 action_described ds uid = find (λ d. is_eq (uid_cmp uid d.uid)) ds
-
--- what stands behind the last two colons, where there are two
-abbrev pub behind_colons : List ℕ → Option (List ℕ)
-behind_colons [] = None
-behind_colons (c ∷ cs) = option_or (behind_colons cs) (if starts_with eqb (c ∷ cs) (codes "::") then Some (drop 1 cs) else None)
-
--- the last component of a name
-abbrev pub basename_of : List ℕ → List ℕ
-basename_of name = unwrap_or (behind_colons name) name
 
 -- the names with that basename
 abbrev pub with_basename : List ℕ → List TypeDescription → List (List ℕ)

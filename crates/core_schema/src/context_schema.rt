@@ -1,6 +1,6 @@
 //! What a schema tells of the contexts of an action.
 
-ghost use Rattle.std.specs.Prelude.{◌≡◌};
+ghost use Rattle.std.specs.Prelude.{◌≡◌, IfOk};
 ghost use Rattle.std.specs.Option.{option_map};
 ghost use Rattle.schema_core.specs.Schema.{action_at};
 ghost use Rattle.core_schema.specs.Described.{context_of};
@@ -12,7 +12,8 @@ use schema_core::{Attributes, SchemaType, ValidatorSchema};
 use std::alloc::{AllocError, Global};
 use std::marker::Model;
 
-/// What a schema tells of the contexts of an action: their attributes, which are the schema's own. They have no others.
+/// What a schema tells of the contexts of an action: their attributes, which are the schema's own. They have
+/// no others.
 #[derive(Debug, Drop)]
 pub struct ContextSchema<'a> {
     attributes: &'a Attributes,
@@ -32,6 +33,40 @@ impl<'a> Model for ContextSchema<'a> {
     ghost view = { λ c. record_of c.attributes.now ClosedAttributes };
 
     ghost invariant = { λ c. plain_attrs c.attributes.now ≡ Some c.attributes.now };
+}
+
+impl<'a> ContextSchema<'a> {
+    /// An equal answer, which borrows the same attributes.
+    pub fn try_clone(&self) -> Result<ContextSchema<'a>, AllocError>
+        ensures { IfOk result (λ c. c ≡ self.now) }
+    {
+        let attributes = self.attributes;
+        Ok(ContextSchema { attributes })
+    }
+}
+
+impl<'a> PartialEq for ContextSchema<'a> {
+    ghost use Rattle.std.specs.Ordering.{is_eq};
+    ghost use Rattle.std.specs.Cmp.{partial_equiv_from_equiv};
+    ghost use Rattle.std.proofs.lemmas.Cmp.{eq_by_cmp_equiv};
+    ghost use Rattle.schema_types.specs.TyOrder.{ty_cmp};
+    ghost use Rattle.schema_types.specs.TyLaws.{ty_cmp_total};
+
+    ghost eq = { λ a b. is_eq (ty_cmp a b) };
+
+    ghost laws = { partial_equiv_from_equiv (eq_by_cmp_equiv ty_cmp_total) };
+
+    #[tactic(auto, using(crate::proofs::Contexts::same_contexts))]
+    fn eq(&self, other: &ContextSchema<'a>) -> bool {
+        self.attributes == other.attributes
+    }
+}
+
+impl<'a> Eq for ContextSchema<'a> {
+    ghost use Rattle.std.proofs.lemmas.Cmp.{eq_by_cmp_equiv};
+    ghost use Rattle.schema_types.specs.TyLaws.{ty_cmp_total};
+
+    ghost laws = { eq_by_cmp_equiv ty_cmp_total };
 }
 
 impl<'a> crate::traits::ContextSchema for ContextSchema<'a> {

@@ -6,7 +6,7 @@ ghost use Rattle.schema_types.specs.Plain.{plain, plain_attrs};
 ghost use Rattle.schema_core.specs.Schema.{type_at};
 ghost use Rattle.schema_core.specs.Kinds.{attributes_in, tags_in};
 ghost use Rattle.schema_core.specs.Faults.{IsSchema};
-ghost use Rattle.core_schema.specs.Described.{listed_in, parents_of, described_type};
+ghost use Rattle.core_schema.specs.Described.{listed_in, parents_of, description_of, described_type};
 
 use crate::plain_types::{same_attributes, same_type};
 use crate::traits::DescribedType;
@@ -32,7 +32,13 @@ impl Model for EntityTypeDescription {
 
     ghost coded = { coded_description };
 
-    ghost view = { λ d. record { name = d.described.name; eids = option_map (λ v. v.items) d.described.eids; attrs = d.described.attrs; tags = d.described.tags; parents = d.described.parents.keys } };
+    ghost view = { λ d. record {
+      name = d.described.name;
+      eids = option_map (λ v. v.items) d.described.eids;
+      attrs = d.described.attrs;
+      tags = d.described.tags;
+      parents = d.described.parents.keys;
+    } };
 }
 
 impl EntityTypeDescription {
@@ -66,14 +72,7 @@ fn describe(
     requires attributes { plain_attrs (attributes_in declared.now.kind) ≡
         Some (attributes_in declared.now.kind) }
     requires tags { IfSome (tags_in declared.now.kind) (λ t. plain t ≡ Some t) }
-    ensures { IfOk result (λ d. d ≡
-        record {
-          name = declared.now.name;
-          eids = listed_in declared.now.kind;
-          attrs = attributes_in declared.now.kind;
-          tags = tags_in declared.now.kind;
-          parents = parents.keys;
-        }) }
+    ensures { IfOk result (λ d. d ≡ description_of declared.now parents.keys) }
 {
     let name = declared.name().try_clone()?;
     let eids = listed(alloc, declared)?;

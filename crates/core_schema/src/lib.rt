@@ -2,7 +2,6 @@
 #![tactic(auto)]
 
 mod actions;
-mod basenames;
 mod context_schema;
 mod described;
 mod plain_types;

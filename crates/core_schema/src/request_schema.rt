@@ -17,15 +17,16 @@ pub trait RequestSchema {
 
     /// Whether the request conforms to the schema.
     ///
-    /// Errs with the first rule that is broken, in the order in which [`conformance::validate_request`] tells them. A
-    /// request that conforms takes no memory.
+    /// Errs with the first rule that is broken, in the order in which [`conformance::validate_request`] tells
+    /// them. A request that conforms takes no memory.
     fn validate_request(
         &self,
         alloc: Global,
         request: &Request,
         extensions: &ExtensionSchemas<'_>,
     ) -> Result<(), RequestValidationError>
-        ensures { IsRequestAnswer (first_request_fault (schema_of self.now) (knows extensions.now) request.now) result };
+        ensures { IsRequestAnswer
+            (first_request_fault (schema_of self.now) (knows extensions.now) request.now) result };
 }
 
 impl RequestSchema for ValidatorSchema {

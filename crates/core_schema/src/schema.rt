@@ -6,7 +6,6 @@ ghost use Rattle.core_schema.specs.Described.{described_types, described_actions
 
 use crate::EntityTypeDescription;
 use crate::actions::action_entity;
-use crate::basenames::basename_of;
 use crate::traits::Schema;
 use entity_store::Entity;
 use policy_values::{EntityType, EntityUID};
@@ -83,7 +82,7 @@ impl<'a> Schema for CoreSchema<'a> {
         let types = self.schema.entity_types();
         for declared in types {
             let name = declared.name();
-            if basename.as_bytes() == basename_of(name.as_str().as_bytes()) {
+            if basename == name.basename() {
                 names.push(name.try_clone()?)?;
             }
         }

@@ -17,7 +17,8 @@ pub trait EntityTypeDescription: Drop {
 
     /// The listed eids of an enumerated type; none for a standard type.
     fn enum_entity_eids(&self) -> Option<&[Eid]>
-        ensures { MatchOption result ((description self.now).eids ≡ None) (λ eids. (description self.now).eids ≡ Some eids.now) };
+        ensures { MatchOption result ((description self.now).eids ≡ None)
+            (λ eids. (description self.now).eids ≡ Some eids.now) };
 
     /// The type.
     fn entity_type(&self) -> &EntityType
@@ -63,7 +64,8 @@ pub trait Schema {
         alloc: Global,
         entity_type: &EntityType,
     ) -> Result<Option<Self::EntityTypeDescription>, AllocError>
-        ensures { IfOk result (λ o. option_map Self.EntityTypeDescription.description o ≡ type_described (described_types self.now) entity_type.now) };
+        ensures { IfOk result (λ o. option_map Self.EntityTypeDescription.description o ≡
+            type_described (described_types self.now) entity_type.now) };
 
     /// The entity of an action; none exactly where the action is not declared.
     fn action(
@@ -71,7 +73,8 @@ pub trait Schema {
         alloc: Global,
         action: &EntityUID,
     ) -> Result<Option<Self::ActionEntity>, AllocError>
-        ensures { IfOk result (λ o. option_map action_of o ≡ action_described (described_actions self.now) action.now) };
+        ensures { IfOk result
+            (λ o. option_map action_of o ≡ action_described (described_actions self.now) action.now) };
 
     /// The declared entity types whose last component is this one, ascending.
     fn entity_types_with_basename(
@@ -79,7 +82,8 @@ pub trait Schema {
         alloc: Global,
         basename: &str,
     ) -> Result<Vec<EntityType>, AllocError>
-        ensures { IfOk result (λ names. names.items ≡ with_basename basename.now (described_types self.now)) };
+        ensures { IfOk result
+            (λ names. names.items ≡ with_basename basename.now (described_types self.now)) };
 
     /// The entities of all declared actions, ascending.
     fn action_entities(&self, alloc: Global) -> Result<Vec<Self::ActionEntity>, AllocError>
@@ -111,7 +115,13 @@ pub struct DescribedType {
 }
 
 impl EntityTypeDescription for DescribedType {
-    ghost description = { λ d. record { name = d.name; eids = option_map (λ v. v.items) d.eids; attrs = d.attrs; tags = d.tags; parents = d.parents.keys } };
+    ghost description = { λ d. record {
+      name = d.name;
+      eids = option_map (λ v. v.items) d.eids;
+      attrs = d.attrs;
+      tags = d.tags;
+      parents = d.parents.keys;
+    } };
 
     fn enum_entity_eids(&self) -> Option<&[Eid]> {
         match &self.eids {

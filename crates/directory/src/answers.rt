@@ -1,16 +1,12 @@
 //! The answer to a line.
-ghost use Rattle.std.specs.Prelude.{◌≡◌, ℕ, IfOk, string_bytes};
+ghost use Rattle.std.specs.Prelude.{IfOk};
 ghost use Rattle.byte_streams.specs.Steps.{RoseBy};
 ghost use Rattle.sqlite.specs.Held.{state};
 ghost use Rattle.batch_decisions.specs.Accepted.{IsAccepted};
 ghost use Rattle.batch_decisions.specs.OfPolicies.{IsManifestOf};
 ghost use Rattle.entity_rows.specs.Table.{IsReady, Continues};
 ghost use Rattle.entity_rows.specs.Rows.{told_store};
-ghost use Rattle.directory.specs.Attempts.{OfStore};
-ghost use Rattle.batch_decisions.specs.Answers.{IsAnswerOrFault, is_fault};
-ghost use Rattle.batch_decisions.specs.Lines.{line_on};
-ghost use Rattle.batch_decisions.specs.declared.answer.BatchAnswer.{BatchAnswer};
-ghost use Rattle.directory.specs.Lines.{IsRequestLine, line_request};
+ghost use Rattle.directory.specs.Lines.{IsRequestAnswered, IsLineAnswered, line_request};
 
 use crate::requests::{LineRequest, line_request};
 use crate::{Directory, decide_on};
@@ -42,11 +38,9 @@ fn answer_request<S: Alter + Drop, L: Ledger>(
     ensures ready { IsReady (state S.Store directory.new.conn) }
     ensures goes_on { Continues (told_store (state S.Store directory.old.conn))
         (told_store (state S.Store directory.new.conn)) }
-    ensures answer { IfOk result (λ text. (a : BatchAnswer)
-        × OfStore schema.now (told_store (state S.Store directory.new.conn))
-        (λ w. IsAnswerOrFault schema.now policies.now.policies w request.now a)
-        × RoseBy (is_fault a) directory.old.faults directory.new.faults
-        × (string_bytes text ≡ line_on a)) }
+    ensures answer { IfOk result (IsRequestAnswered schema.now policies.now.policies
+        (told_store (state S.Store directory.new.conn)) request.now
+        directory.old.faults directory.new.faults) }
     ensures kept { RoseBy 0 directory.old.faults directory.new.faults }
 {
     let answer = decide_on(alloc, schema, policies, manifest, request, directory, steps)?;
@@ -74,10 +68,9 @@ pub fn answer_line<S: Alter + Drop, L: Ledger>(
     ensures ready { IsReady (state S.Store directory.new.conn) }
     ensures goes_on { Continues (told_store (state S.Store directory.old.conn))
         (told_store (state S.Store directory.new.conn)) }
-    ensures answer { IfOk result (λ text. (faults : ℕ)
-        × OfStore schema.now (told_store (state S.Store directory.new.conn)) (λ w.
-        IsRequestLine schema.now policies.now.policies w faults (line_request line.now) (string_bytes text))
-        × RoseBy faults directory.old.faults directory.new.faults) }
+    ensures answer { IfOk result (IsLineAnswered schema.now policies.now.policies
+        (told_store (state S.Store directory.new.conn)) (line_request line.now)
+        directory.old.faults directory.new.faults) }
     ensures kept { RoseBy 0 directory.old.faults directory.new.faults }
 {
     let asked = line_request(alloc, line)?;

@@ -3,11 +3,10 @@ ghost use Rattle.std.specs.Prelude.{◌≡◌};
 ghost use Rattle.sqlite.specs.Held.{state};
 ghost use Rattle.batch_decisions.specs.Accepted.{IsAccepted};
 ghost use Rattle.batch_decisions.specs.OfPolicies.{IsManifestOf};
-ghost use Rattle.bounded_lines.specs.Answering.{AreAnswered};
 ghost use Rattle.entity_rows.specs.Table.{IsReady, Continues};
 ghost use Rattle.entity_rows.specs.Rows.{told_store};
 ghost use Rattle.directory.specs.Attempts.{OfStore};
-ghost use Rattle.directory.specs.Lines.{IsLineOn};
+ghost use Rattle.directory.specs.Lines.{IsLineOn, AreLinesAnswered};
 
 use crate::{Directory, answer_line};
 use batch_decisions::{EntityManifest, Steps, refused_line};
@@ -87,9 +86,8 @@ fn answer_marked<S: Alter + Drop, L: Ledger, I: Source + Drop, K: Sink>(
     requires manifest { IsManifestOf schema.now policies.now.policies manifest.now }
     requires ready { IsReady (state S.Store directory.conn) }
     ensures ready { IsReady (state S.Store result.1.conn) }
-    ensures answered { OfStore schema.now (told_store (state S.Store result.1.conn)) (λ w.
-        AreAnswered (IsLineOn schema.now policies.now.policies w) directory.faults result.1.faults
-        lines.old (K.state sink.old).holds (K.state sink.new).holds result.0) }
+    ensures answered { AreLinesAnswered schema.now policies.now (told_store (state S.Store result.1.conn))
+        directory.faults result.1.faults lines.old (K.state sink.old) (K.state sink.new) result.0 }
     ensures goes_on { Continues (told_store (state S.Store directory.conn))
         (told_store (state S.Store result.1.conn)) }
 {
@@ -127,9 +125,8 @@ pub fn answer_lines<S: Alter + Drop, I: Source + Drop, K: Sink>(
     requires manifest { IsManifestOf schema.now policies.now.policies manifest.now }
     requires ready { IsReady (state S.Store directory.conn) }
     ensures ready { IsReady (state S.Store result.1.conn) }
-    ensures answered { OfStore schema.now (told_store (state S.Store result.1.conn)) (λ w.
-        AreAnswered (IsLineOn schema.now policies.now.policies w) directory.faults result.1.faults
-        lines.old (K.state sink.old).holds (K.state sink.new).holds result.0) }
+    ensures answered { AreLinesAnswered schema.now policies.now (told_store (state S.Store result.1.conn))
+        directory.faults result.1.faults lines.old (K.state sink.old) (K.state sink.new) result.0 }
     ensures goes_on { Continues (told_store (state S.Store directory.conn))
         (told_store (state S.Store result.1.conn)) }
 {

@@ -7,28 +7,33 @@ use Rattle.byte_streams.specs.State.{SinkState}
 use Rattle.directory.specs.Accepted.{IsAccepted}
 use Rattle.directory.specs.Attempts.{OfStore}
 use Rattle.directory.specs.Lines.{IsLineOn}
-use Rattle.entity_rows.specs.Table.{Continues}
-use Rattle.entity_store.specs.Store.{Store}
+use Rattle.entity_rows.specs.Rows.{told_store}
+use Rattle.entity_rows.specs.Table.{IsReady, Continues}
 use Rattle.json_document.specs.declared.document.Document.{Document}
+use Rattle.sqlite.specs.State.{State}
 use Rattle.directory_service.specs.Documents.{IsReading}
 use Rattle.directory_service.specs.Run.{IsRefusal}
 use Rattle.directory_service.specs.declared.reply.Reply.{Reply}
 
 -- the next line that is left is the document, and this is left behind it
-abbrev pub IsFirst : Option (List ℕ) → Option (List ℕ) → Document → Type 0
-IsFirst left rest d = (line : List ℕ) × TakesLine left rest line × IsReading line (Ok d)
+abbrev pub IsFirstDocument : Option (List ℕ) → Option (List ℕ) → Document → Type 0
+IsFirstDocument left rest d = (line : List ℕ) × TakesLine left rest line × IsReading line (Ok d)
 
 -- a document that was read is that of the first line; else the work is not done
 abbrev pub IsReadFirst : Option (List ℕ) → Option (List ℕ) → Result Document Reply → Type 0
-IsReadFirst left rest (Ok d) = IsFirst left rest d
+IsReadFirst left rest (Ok d) = IsFirstDocument left rest d
 IsReadFirst left rest (Err r) = IsRefusal r
 
--- Each line that is left has its answer, by a store that is told at the end, and was told at the beginning: where
--- it is in order and conforms to the document's schema, the lines on the responses on it, or on faults.
-abbrev pub AreDecided : Document → Option Store → Option Store → Option (List ℕ) → SinkState → SinkState → Type 0
-AreDecided d first last left sink sink' = Continues first last × OfStore d.schema last (λ w. (faults : ℕ)
+-- Each line that is left has its answer, by the store of the rows that are told at the end, and were told at
+-- the beginning: where it is in order and conforms to the document's schema, the lines on the responses on
+-- it, or on faults. The database can be used again.
+abbrev pub AreDecided : Document → State → State → Option (List ℕ) → SinkState → SinkState → Type 0
+AreDecided d first last left sink sink' =
+    IsReady last × Continues (told_store first) (told_store last)
+    × OfStore d.schema (told_store last) (λ w. (faults : ℕ)
     × AreAnswered (IsLineOn d.schema d.policies.policies w) 0 faults left sink.holds sink'.holds ended.Done)
 
 -- the first line is a document whose policies are accepted
 abbrev pub Decides : Option (List ℕ) → Type 0
-Decides left = (d : Document) × (rest : Option (List ℕ)) × IsFirst left rest d × IsAccepted d.schema d.policies
+Decides left =
+    (d : Document) × (rest : Option (List ℕ)) × IsFirstDocument left rest d × IsAccepted d.schema d.policies

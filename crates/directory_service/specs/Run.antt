@@ -33,8 +33,8 @@ abbrev pub AreAll : Option (List ℕ) → List ℕ → Type 0
 AreAll left bytes = (length bytes ≤ document_limit) × IfSome left (λ all. all ≡ bytes)
 
 -- all that is left are the bytes of the document
-abbrev pub IsDocumentOf : Option (List ℕ) → Document → Type 0
-IsDocumentOf left d = (bytes : List ℕ) × AreAll left bytes × IsReading bytes (Ok d)
+abbrev pub IsDocumentLeft : Option (List ℕ) → Document → Type 0
+IsDocumentLeft left d = (bytes : List ℕ) × AreAll left bytes × IsReading bytes (Ok d)
 
 -- the reply says that the work is not done, though there was a command
 abbrev pub IsRefusal : Reply → Type 0
@@ -42,7 +42,7 @@ IsRefusal r = ¬ (r.status ≡ status.Done) × ¬ (r.status ≡ status.Usage)
 
 -- a document that was read is that of all that was left; else the work is not done
 abbrev pub IsReadOf : Option (List ℕ) → Result Document Reply → Type 0
-IsReadOf left (Ok d) = IsDocumentOf left d
+IsReadOf left (Ok d) = IsDocumentLeft left d
 IsReadOf left (Err r) = IsRefusal r
 
 -- the document's store breaks no rule of its schema, and the text says how many entities it has
@@ -51,15 +51,15 @@ IsImported d text = (first_store_fault d.schema d.entities ≡ None)
     × (text ≡ codes "imported " ++ (decimal (length d.entities) ++ codes "\n"))
 
 -- the text says that a store conforms
-abbrev pub IsChecked : Document → List ℕ → Type 0
-IsChecked d text = text ≡ codes "conforms\n"
+abbrev pub SaysConforms : Document → List ℕ → Type 0
+SaysConforms d text = text ≡ codes "conforms\n"
 
 -- the reply is right of the document that is left of a source, where it says that the work is done
 abbrev pub IsRightOf : (Document → List ℕ → Type 0) → Option (List ℕ) → Reply → Type 0
 IsRightOf Says left r =
-    r.status ≡ status.Done → (d : Document) × IsDocumentOf left d × Says d (string_bytes r.text)
+    r.status ≡ status.Done → (d : Document) × IsDocumentLeft left d × Says d (string_bytes r.text)
 
 -- what is left of a source is a document, and a text that is right of it is written
-abbrev pub Tells : (Document → List ℕ → Type 0) → Option (List ℕ) → SinkState → SinkState → Type 0
-Tells Says left sink sink' = (d : Document) × (text : List ℕ) × IsDocumentOf left d × Says d text
+abbrev pub AnswersDocument : (Document → List ℕ → Type 0) → Option (List ℕ) → SinkState → SinkState → Type 0
+AnswersDocument Says left sink sink' = (d : Document) × (text : List ℕ) × IsDocumentLeft left d × Says d text
     × Appends sink.holds sink'.holds text

@@ -1,7 +1,6 @@
 //! Decisions on the lines that follow the policies.
 ghost use Rattle.std.specs.Prelude.{◌≡◌, IfOk};
 ghost use Rattle.sqlite.specs.Held.{Held, state};
-ghost use Rattle.entity_rows.specs.Rows.{told_store};
 ghost use Rattle.entity_rows.specs.Table.{IsReady};
 ghost use Rattle.directory.specs.Accepted.{IsAccepted};
 ghost use Rattle.directory.specs.OfPolicies.{IsManifestOf};
@@ -62,8 +61,8 @@ fn by_rows<S: Alter + Drop, I: Source + Drop, K: Sink>(
     requires accepted { IsAccepted document.now.schema document.now.policies }
     requires manifest { IsManifestOf document.now.schema document.now.policies.policies manifest.now }
     requires ready { IsReady (state S.Store conn) }
-    ensures done { result ≡ Status.Done → (last : Held S) × IsReady (state S.Store last)
-        × AreDecided document.now (told_store (state S.Store conn)) (told_store (state S.Store last)) lines.old
+    ensures done { result ≡ Status.Done → (last : Held S)
+        × AreDecided document.now (state S.Store conn) (state S.Store last) lines.old
         (K.state sink.old) (K.state sink.new) }
     ensures command { ¬ (result ≡ Status.Usage) }
 {

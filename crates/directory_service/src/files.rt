@@ -1,6 +1,6 @@
 //! Documents and files of entities: written, and checked.
 ghost use Rattle.std.specs.Prelude.{◌≡◌, ◌++◌, IfOk, string_bytes, codes, decimal};
-ghost use Rattle.directory_service.specs.Run.{IsChecked, IsImported, IsRightOf};
+ghost use Rattle.directory_service.specs.Run.{SaysConforms, IsImported, IsRightOf};
 
 use crate::document::read_source;
 use crate::reply::{Reply, file_reply, reply_with};
@@ -73,7 +73,8 @@ fn check_file<S: Start>(
     start: S,
     document: &Document,
 ) -> Result<Reply, AllocError>
-    ensures done { IfOk result (λ r. r.status ≡ Status.Done → IsChecked document.now (string_bytes r.text)) }
+    ensures done { IfOk result (λ r. r.status ≡ Status.Done →
+        SaysConforms document.now (string_bytes r.text)) }
     ensures command { IfOk result (λ r. ¬ (r.status ≡ Status.Usage)) }
 {
     match check_rows(rt, path, start, document) {
@@ -89,7 +90,7 @@ pub(crate) fn check_source<S: Start, I: Source>(
     start: S,
     source: &mut I,
 ) -> Result<Reply, AllocError>
-    ensures done { IfOk result (IsRightOf IsChecked (I.state source.old).left) }
+    ensures done { IfOk result (IsRightOf SaysConforms (I.state source.old).left) }
     ensures command { IfOk result (λ r. ¬ (r.status ≡ Status.Usage)) }
 {
     match read_source(rt.alloc(), source)? {

@@ -1,7 +1,7 @@
 //! The whole run, from a source to a sink.
 ghost use Rattle.std.specs.Prelude.{◌≡◌, Some, None, map, string_bytes};
 ghost use Rattle.directory_service.specs.Decided.{Decides};
-ghost use Rattle.directory_service.specs.Run.{Gives, IsChecked, IsImported, Tells, usage};
+ghost use Rattle.directory_service.specs.Run.{Gives, SaysConforms, IsImported, AnswersDocument, usage};
 ghost use Rattle.directory_service.specs.Words.{asked_for};
 
 use crate::decisions::decide;
@@ -24,9 +24,9 @@ fn run_command<S: Start, I: Source + Drop, K: Sink>(
     sink: &mut K,
 ) -> Status
     ensures imported { command ≡ Command.Import → result ≡ Status.Done
-        → Tells IsImported (I.state source).left (K.state sink.old) (K.state sink.new) }
+        → AnswersDocument IsImported (I.state source).left (K.state sink.old) (K.state sink.new) }
     ensures checked { command ≡ Command.Check → result ≡ Status.Done
-        → Tells IsChecked (I.state source).left (K.state sink.old) (K.state sink.new) }
+        → AnswersDocument SaysConforms (I.state source).left (K.state sink.old) (K.state sink.new) }
     ensures decided { command ≡ Command.Decide → result ≡ Status.Done → Decides (I.state source).left }
     ensures command { ¬ (result ≡ Status.Usage) }
 {
@@ -54,11 +54,13 @@ pub fn run<S: Start, I: Source + Drop, K: Sink>(
     // Where `import` ends with 0 the bytes of the source are a document whose store breaks no rule of its schema,
     // and the text says how many entities it has.
     ensures imported { asked_for (map string_bytes words.now.items) ≡ Some Command.Import
-        → result ≡ Status.Done → Tells IsImported (I.state source).left (K.state sink.old) (K.state sink.new) }
+        → result ≡ Status.Done
+        → AnswersDocument IsImported (I.state source).left (K.state sink.old) (K.state sink.new) }
 
     // Where `check` ends with 0 the bytes of the source are a document, and the text says that a store conforms.
     ensures checked { asked_for (map string_bytes words.now.items) ≡ Some Command.Check
-        → result ≡ Status.Done → Tells IsChecked (I.state source).left (K.state sink.old) (K.state sink.new) }
+        → result ≡ Status.Done
+        → AnswersDocument SaysConforms (I.state source).left (K.state sink.old) (K.state sink.new) }
 
     // Where `decide` ends with 0 the first line of the source is a document whose policies are accepted.
     ensures decided { asked_for (map string_bytes words.now.items) ≡ Some Command.Decide

@@ -58,8 +58,8 @@ fn write_into_file<S: Start>(
     written
 }
 
-/// Writes the entities of a store that conforms, with all their ancestors, into a file: all of them or none. The file is
-/// made where there is none; that of a store that does not conform is left alone.
+/// Writes the entities of a store that conforms, with all their ancestors, into a file: all of them or none.
+/// The file is made where there is none; that of a store that does not conform is left alone.
 pub fn import_into_file<S: Start>(
     rt: &HostRuntime,
     path: &str,

@@ -26,7 +26,8 @@ fn refused_with(alloc: Global, text: &str) -> FileError {
     }
 }
 
-/// Checks that the store conforms. Errs with `Refused`, with the first rule that it breaks, or where memory runs out.
+/// Checks that the store conforms. Errs with `Refused`, with the first rule that it breaks, or where memory
+/// runs out.
 pub fn check_store(
     alloc: Global,
     schema: &ValidatorSchema,

@@ -73,7 +73,8 @@ pub(crate) fn write_entities<S: Alter>(
     commit(alloc, tx)
 }
 
-/// Writes the entities of a store that conforms, with all their ancestors, in one transaction: all of them or none.
+/// Writes the entities of a store that conforms, with all their ancestors, in one transaction: all of them
+/// or none.
 pub fn import<S: Alter>(
     alloc: Global,
     schema: &ValidatorSchema,

@@ -15,28 +15,33 @@ abbrev pub Fits : EntityRequest → Option StoredEntity → Type 0
 Fits r None = Unit {0}
 Fits r (Some e) = e.uid ≡ r.entity_id
 
--- what some choice leaves of the entity of the store, that has at least what is asked; where the loader is exact, just that
-pub record IsGiven (exact : Bool) (s : Store) (r : EntityRequest) (e : StoredEntity) : Type 0 where
+-- what some choice leaves of the entity of the store, that has at least what is asked; where the loader is
+-- exact, just that
+pub record IsHonestEntity (exact : Bool) (s : Store) (r : EntityRequest) (e : StoredEntity) : Type 0 where
   pub stored : StoredEntity
   pub at : entity_at s r.entity_id ≡ Some stored
   pub keep : Keep
   pub is : e ≡ cut_entity keep stored
-  pub chains : (c : Chain) → (asked r.access_trie).chains stored.uid c ≡ true → keep.chains stored.uid c ≡ true
+  pub chains : (c : Chain) → (asked r.access_trie).chains stored.uid c ≡ true →
+      keep.chains stored.uid c ≡ true
   pub tags : (c : Chain) → (asked r.access_trie).tags stored.uid c ≡ true → keep.tags stored.uid c ≡ true
   pub exactly : exact ≡ true → e ≡ cut_entity (asked r.access_trie) stored
 
 -- absent where the store has no such entity
 abbrev pub IsHonest : Bool → Store → EntityRequest → Option StoredEntity → Type 0
 IsHonest exact s r None = entity_at s r.entity_id ≡ None
-IsHonest exact s r (Some e) = IsGiven exact s r e
+IsHonest exact s r (Some e) = IsHonestEntity exact s r e
 
 -- the entity x of the store has the ancestor y
 abbrev pub HasAncestor : Store → EntityUID → EntityUID → Type 0
 HasAncestor s x y = IsSomeAnd (entity_at s x) (λ e. Contains e.ancestors y)
 
--- ancestors that the entity has in the store, and at least those that are asked for; where the loader is exact, just these
-pub record IsHonestList (exact : Bool) (s : Store) (r : AncestorsRequest) (ys : Vec EntityUID Global) : Type 0 where
-  pub enough : (y : EntityUID) → Contains r.ancestors.items y → HasAncestor s r.entity_id y → Contains ys.items y
+-- ancestors that the entity has in the store, and at least those that are asked for; where the loader is
+-- exact, just these
+pub record IsHonestList (exact : Bool) (s : Store)
+    (r : AncestorsRequest) (ys : Vec EntityUID Global) : Type 0 where
+  pub enough : (y : EntityUID) → Contains r.ancestors.items y →
+      HasAncestor s r.entity_id y → Contains ys.items y
   pub given : (y : EntityUID) → Contains ys.items y → HasAncestor s r.entity_id y
   pub exactly : exact ≡ true → (y : EntityUID) → Contains ys.items y → Contains r.ancestors.items y
 

@@ -24,7 +24,11 @@ by_tag f (k ∷ c) = f c
 
 -- the attributes, tags and fields along the trie, and no ancestors
 abbrev pub asked : ViewData → Keep
-asked t = record { chains = λ x. along t; ancestors = λ x y. false; tags = λ x. by_tag (λ c. asks t (any_tag ∷ steps_of c)) }
+asked t = record {
+  chains = λ x. along t;
+  ancestors = λ x y. false;
+  tags = λ x. by_tag (λ c. asks t (any_tag ∷ steps_of c));
+}
 
 -- whether some of the nodes leads along the address
 abbrev pub some_leads : Table → List ℕ → Address → Bool
@@ -39,7 +43,11 @@ some_along ns is c = some_asks ns is (steps_of c)
 
 -- the attributes, tags and fields along which some of the nodes leads, and no ancestors
 abbrev pub asked_by : Table → List ℕ → Keep
-asked_by ns is = record { chains = λ x. some_along ns is; ancestors = λ x y. false; tags = λ x. by_tag (λ c. some_asks ns is (any_tag ∷ steps_of c)) }
+asked_by ns is = record {
+  chains = λ x. some_along ns is;
+  ancestors = λ x y. false;
+  tags = λ x. by_tag (λ c. some_asks ns is (any_tag ∷ steps_of c));
+}
 
 -- the nodes to which the edge leads from some of these
 pub record AreBelow (e : Edge) (ns : Table) (is js : List ℕ) : Type 0 where

@@ -16,7 +16,8 @@ pub record LoaderState : Type 0 where
   -- how often ancestors were asked for
   pub lists : ℕ
 
--- a store that is told stays told, and the same; no count falls, and a loader that tells its store does not stray
+-- a store that is told stays told, and the same; no count falls, and a loader that tells its store does
+-- not stray
 pub record Continues (old new : LoaderState) : Type 0 where
   pub told : (s : Store) → old.store ≡ Some s → new.store ≡ Some s
   pub exact : new.exact ≡ old.exact

@@ -14,8 +14,8 @@ use policy_values::{EntityUID, Text, Value, ValueKind, push_entry};
 use std::alloc::{AllocError, Global};
 use std::collections::{BTreeMap, BTreeSet};
 
-/// The entity with its attributes, its tags and the fields of records there along which some of the nodes of the table leads,
-/// and with these ancestors.
+/// The entity with its attributes, its tags and the fields of records there along which some of the nodes of
+/// the table leads, and with these ancestors.
 pub fn cut_entity(
     alloc: Global,
     entity: &Entity,

@@ -9,8 +9,8 @@ use policy_values::EntityUID;
 use std::alloc::{AllocError, Global};
 use std::collections::BTreeSet;
 
-/// What two answers for one entity say together: all attributes and tags of both, merged where both have one, and all
-/// ancestors of both. None where some attributes or tags do not merge.
+/// What two answers for one entity say together: all attributes and tags of both, merged where both have one,
+/// and all ancestors of both. None where some attributes or tags do not merge.
 pub fn merge_entities(alloc: Global, a: &Entity, b: &Entity) -> Result<Option<Entity>, AllocError>
     ensures { IfOk result (λ e. e ≡ merge_entities a.now b.now) }
 {

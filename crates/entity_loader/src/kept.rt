@@ -38,7 +38,8 @@ impl From<AllocError> for KeepError {
     }
 }
 
-/// Keeps an entity under its id, merged with what is kept there. Where it is not kept, nothing is said of what is kept.
+/// Keeps an entity under its id, merged with what is kept there. Where it is not kept, nothing is said of
+/// what is kept.
 pub fn keep(
     alloc: Global,
     kept: &mut BTreeMap<EntityUID, Entity>,

@@ -45,8 +45,8 @@ impl<T: Drop> From<AllocFailed<T>> for LoadError {
     }
 }
 
-/// An entity that is asked for, with its attributes, its tags and the fields of records there along the trie, and nothing
-/// below an id.
+/// An entity that is asked for, with its attributes, its tags and the fields of records there along the trie,
+/// and nothing below an id.
 #[derive(Debug, Drop)]
 pub struct EntityRequest<'a> {
     /// The id of the entity.
@@ -69,17 +69,19 @@ pub struct AncestorsRequest {
 
 /// What gives entities of a store.
 ///
-/// A loader that tells its store is honest: it answers at least what is asked, and at most what the store has. An entity
-/// that is there is answered also where none of its attributes is asked for. A trie goes on below ids, and its nodes have
-/// no types, so a loader may answer whole attributes. All rounds of one load have to see one state of the data.
+/// A loader that tells its store is honest: it answers at least what is asked, and at most what the store
+/// has. An entity that is there is answered also where none of its attributes is asked for. A trie goes on
+/// below ids, and its nodes have no types, so a loader may answer whole attributes. All rounds of one load
+/// have to see one state of the data.
 pub trait EntityLoader {
     // The store that it stands for, where it tells it, and counts of what has happened so far.
     ghost state: { Self → LoaderState };
 
     /// An answer for each request, in their order. Each id is asked for once, and they ascend.
     ///
-    /// `Failed` comes only where the count of faults rises; another number of answers, or an entity with another id than
-    /// the one that was asked for, only where the count of strays does. Each call counts a round, also one that fails.
+    /// `Failed` comes only where the count of faults rises; another number of answers, or an entity with
+    /// another id than the one that was asked for, only where the count of strays does. Each call counts a
+    /// round, also one that fails.
     fn load_entities(
         &mut self,
         alloc: Global,
@@ -93,13 +95,14 @@ pub trait EntityLoader {
             Rose (state self.old).faults (state self.new).faults }
         ensures fit { IfOk result (λ found. AllZip Fits requests.now.items found.items ⊎
             Rose (state self.old).strays (state self.new).strays) }
-        ensures honest { (s : Store) → (state self.old).store ≡ Some s → IfOk result (λ found. AllZip (IsHonest (state self.old).exact s) requests.now.items found.items) };
+        ensures honest { (s : Store) → (state self.old).store ≡ Some s → IfOk result
+            (λ found. AllZip (IsHonest (state self.old).exact s) requests.now.items found.items) };
 
-    /// For each request, in their order, those of its ids that are ancestors of its entity, its parents and all that are
-    /// reached by parents of these. Each entity is asked for once, and their ids ascend.
+    /// For each request, in their order, those of its ids that are ancestors of its entity, its parents and
+    /// all that are reached by parents of these. Each entity is asked for once, and their ids ascend.
     ///
-    /// `Failed` comes only where the count of faults rises; another number of answers only where the count of strays does.
-    /// Each call counts one for lists, also one that fails.
+    /// `Failed` comes only where the count of faults rises; another number of answers only where the count of
+    /// strays does. Each call counts one for lists, also one that fails.
     fn load_ancestors(
         &mut self,
         alloc: Global,
@@ -113,5 +116,6 @@ pub trait EntityLoader {
             Rose (state self.old).faults (state self.new).faults }
         ensures fit { IfOk result (λ found. (length requests.now.items ≡ length found.items) ⊎
             Rose (state self.old).strays (state self.new).strays) }
-        ensures honest { (s : Store) → (state self.old).store ≡ Some s → IfOk result (λ found. AllZip (IsHonestList (state self.old).exact s) requests.now.items found.items) };
+        ensures honest { (s : Store) → (state self.old).store ≡ Some s → IfOk result
+            (λ found. AllZip (IsHonestList (state self.old).exact s) requests.now.items found.items) };
 }

@@ -12,8 +12,8 @@ use policy_values::{Text, Value, ValueKind, try_clone_fields};
 use std::alloc::{AllocError, Global};
 use std::collections::BTreeMap;
 
-/// What two values say together: of equal values that value, and of records all fields of both, merged where both have
-/// one. None exactly where values that are not both records differ at one place.
+/// What two values say together: of equal values that value, and of records all fields of both, merged where
+/// both have one. None exactly where values that are not both records differ at one place.
 #[cycle(merging)]
 pub fn merge_values(alloc: Global, a: &Value, b: &Value) -> Result<Option<Value>, AllocError>
     ensures { IfOk result (λ v. v ≡ merge a.now b.now) }

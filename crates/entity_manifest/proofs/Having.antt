@@ -22,7 +22,7 @@ use Rattle.typing_spec.specs.Environment.{declared_attributes, declared_tags}
 use Rattle.reads_spec.specs.Paths.{Root, variable, an_id, Step, along, any_tag, Chain}
 use Rattle.reads_spec.specs.PathTypes.{type_along, step_on, types_along, root_type}
 use Rattle.reads_spec.specs.Restrict.{cut, cut_fields, root_value, values_in, step_in_entity, step, walk}
-use Rattle.reads_spec.specs.Cover.{IsOf, AreOf, HasTypes, KeepsTypes}
+use Rattle.reads_spec.specs.Cover.{IsMemberOf, AreMembersOf, HasTypes, KeepsTypes}
 use Rattle.reads_spec.proofs.Cuts.{uid_at, all_at}
 use Rattle.reads_spec.proofs.Fitting.{Fits, FitFields, FitAll, EntityFits, entity_fits, root_fits}
 use Rattle.reads_spec.proofs.Lists.{same_text, IsIn, flat_map_out}
@@ -34,7 +34,7 @@ module _ (d : SchemaData) where
     Has o (id u) = (n : Step) → step_on d o n ≡ type_along d (entity (u.entity_type ∷ [])) n
     Has (Some (record_of xs p)) (rec fs) = HaveAll xs fs
     Has o (rec fs) = ⊥
-    Has o v = IsOf o v
+    Has o v = IsMemberOf o v
 
     pub HaveAll : Attrs → Fields → Type 0
     HaveAll xs no_fields = Unit {0}
@@ -67,7 +67,7 @@ module _ (d : SchemaData) where
     have_types p xs no_fields f m = tt
     have_types p xs (field n v fs) f m = ((f.0.0, f.0.1, has_type f.0.0.attr_type v f.0.2 (declared_member p (attr_at xs n) f.0.0 v f.0.1 m.0)), have_types p xs fs f.1 m.1)
 
-  tags_have : (o : Option Ty) (fs : Fields) → FitAll d o fs → AreOf o fs → HaveOne o fs
+  tags_have : (o : Option Ty) (fs : Fields) → FitAll d o fs → AreMembersOf o fs → HaveOne o fs
   tags_have o no_fields f m = tt
   tags_have None (field k v fs) f m = absurd f
   tags_have (Some t) (field k v fs) f m = (has_type t v f.0 m.0, tags_have (Some t) fs f.1 m.1)
@@ -78,7 +78,7 @@ module _ (d : SchemaData) where
     tags_have (declared_tags d e.uid.entity_type) e.tags f.1 h.tags,
   )
 
-  has_root : (o : Option Ty) (v : Val) → Fits d o v → IsOf o v → Has o v
+  has_root : (o : Option Ty) (v : Val) → Fits d o v → IsMemberOf o v → Has o v
   has_root None v f m = absurd m
   has_root (Some t) v f m = has_type t v f m
 

@@ -27,7 +27,7 @@ use Rattle.typing_spec.specs.Environment.{declared_attributes, declared_tags}
 use Rattle.reads_spec.specs.Paths.{Step, along, any_tag, beyond}
 use Rattle.reads_spec.specs.PathTypes.{type_along, step_on, types_along, is_declared, root_type}
 use Rattle.reads_spec.specs.Restrict.{Keep, cut_entity, root_value, values_in, reach}
-use Rattle.reads_spec.specs.Cover.{IsOf}
+use Rattle.reads_spec.specs.Cover.{IsMemberOf}
 use Rattle.reads_spec.proofs.Cuts.{uid_at, all_at}
 use Rattle.reads_spec.proofs.Fitting.{types_along-append}
 use Rattle.reads_spec.proofs.Lists.{IsIn}
@@ -97,7 +97,7 @@ module _ (d : SchemaData) where
     marks = λ ns r ms h. f.marks (n ∷ ns) r ms h;
   }
 
-  plain_sticks : (o : Option Ty) (v : Val) (t : Tests) → IsPlainValue v → IsOf o v → TestsFit o t → GoesOn t ⊎ Demands t → ⊥
+  plain_sticks : (o : Option Ty) (v : Val) (t : Tests) → IsPlainValue v → IsMemberOf o v → TestsFit o t → GoesOn t ⊎ Demands t → ⊥
   plain_sticks None v t p m f s = absurd m
   plain_sticks (Some w) v t p m f (inl (n, h)) = plain_ends d w n (plain_type w v p m) (and_parts (is_some (type_along d w n)) true (f.leads (n ∷ []) h)).0
   plain_sticks (Some w) v t p m f (inr (r, ns, h)) = plain_no_ids w (plain_type w v p m) (f.marks [] r ns h)

@@ -23,8 +23,8 @@ use Rattle.sqlite.specs.State.{State, HasCleanDisk, Shown, ShowsRows, FailsToQue
 use Rattle.sqlite_tied.specs.Compute.{everything}
 use Rattle.sqlite.specs.Listing.{understood, reads_listing}
 use Rattle.sqlite.proofs.Callers.{IsPlain, command_of, reads_as}
-use Rattle.entity_rows.specs.Table.{entity, entity_schema, is_of, cell, AreCells, IsSound, IsReady, GoesOn, told_rows, Continues}
-use Rattle.entity_rows.specs.Rows.{rows_store, told_store, IsFound}
+use Rattle.entity_rows.specs.Table.{entity, entity_schema, is_of, cell, AreCells, IsConnectionSound, IsReady, RowsStay, told_rows, Continues}
+use Rattle.entity_rows.specs.Rows.{rows_store, told_store, IsRowFound}
 use Rattle.policy_values.specs.declared.entity_uid.EntityUID.{EntityUID}
 use Rattle.entity_store.specs.Store.{StoredEntity, Store, entity_at}
 use Rattle.entity_rows.proofs.Stores.{found_is}
@@ -109,11 +109,11 @@ failed old new too_big e h is =
     let was = back.was_open is in
     (was, λ ready clean. let it = ready (clean, was) in ((back.undone is).0 ∙ it.1, (back.undone is).1 ∙ it.1))
 
-shows_leaves : (old new : State) (sql : List ℕ) (c : Compiled) (params : Row) (rows : List Row) (k : Option Returning) → (IsReady old → IsSound old → k ≡ None) → ShowsRows old new sql c params rows k → Leaves old new
+shows_leaves : (old new : State) (sql : List ℕ) (c : Compiled) (params : Row) (rows : List Row) (k : Option Returning) → (IsReady old → IsConnectionSound old → k ≡ None) → ShowsRows old new sql c params rows k → Leaves old new
 shows_leaves old new sql c params rows None plain h is = unchanged old new h.3 is
 shows_leaves old new sql c params rows (Some what) plain h is = let was = h.1.shown.was_open in (was, λ ready clean. absurd (let e = plain ready (clean, was) in cc))
 
-plain_of : (old : State) (c : Compiled) → understood old.now.schema select_text ≡ Ok c → IsReady old → IsSound old → c.returning ≡ None
+plain_of : (old : State) (c : Compiled) → understood old.now.schema select_text ≡ Ok c → IsReady old → IsConnectionSound old → c.returning ≡ None
 plain_of old c is ready told = (subst IsPlain (sym (ap (λ s. understood s select_text) (ready told).0) ∙ is) select_plain).0
 
 fails_leaves : (old new : State) (sql : List ℕ) (c : Compiled) (params : Row) (e : Error) (k : Option Returning) → FailsToShow old new sql c params e k → Leaves old new
@@ -134,12 +134,12 @@ was_clean old new C h clean = omega (arith, h.clean, clean)
 -- what a look-up keeps and says, where its clauses hold
 pub told : (old new : State) (kind eid : List ℕ) (r : Result (Vec Row Global) Error) (C : Trees → Type 0) → IsReady old → Survives old new C
     → (HasCleanDisk new → IfOk r (λ rows. Shown select_text (given kind eid) old new rows.items)) → (HasCleanDisk new → IfErr r (FailsToQuery select_text (given kind eid) old new))
-    → IsReady new × GoesOn old new × (IsSound new → IfOk r (λ rows. AreCells (new.now.trees 0) kind eid rows.items))
+    → IsReady new × RowsStay old new × (IsConnectionSound new → IfOk r (λ rows. AreCells (new.now.trees 0) kind eid rows.items))
 told old new kind eid r C ready survives ok err =
-    let before = λ (t : IsSound new). was_clean old new C survives t.0 in
-    let left = λ (t : IsSound new). leaves old new (given kind eid) r (ok t.0) (err t.0) t.1 in
-    let kept = λ (t : IsSound new). (left t).1 ready (before t) in
-    let was = λ (t : IsSound new). ready (before t, (left t).0) in (
+    let before = λ (t : IsConnectionSound new). was_clean old new C survives t.0 in
+    let left = λ (t : IsConnectionSound new). leaves old new (given kind eid) r (ok t.0) (err t.0) t.1 in
+    let kept = λ (t : IsConnectionSound new). (left t).1 ready (before t) in
+    let was = λ (t : IsConnectionSound new). ready (before t, (left t).0) in (
       λ t. (ap (λ (d : Database). d.schema) (kept t).0 ∙ (was t).0, (kept t).1 ∙ sym (kept t).0),
       λ t. ((before t, (left t).0), ap (λ (d : Database). d.trees 0) (kept t).0),
       λ t. subst (λ (d : Database). IfOk r (λ rows. AreCells (d.trees 0) kind eid rows.items)) (sym (kept t).0) (finds_if old new kind eid r (was t).0 (ok t.0)),
@@ -160,7 +160,7 @@ unfolding doubt
 is_clean true e = refl
 is_clean false e = absurd (omega (arith, e))
 
-told_of : (s : State) (t : List Row) → told_rows s ≡ Some t → IsSound s × (s.now.trees 0 ≡ t)
+told_of : (s : State) (t : List Row) → told_rows s ≡ Some t → IsConnectionSound s × (s.now.trees 0 ≡ t)
 told_of s t e = let h = by_bools s.is_clean s.is_open (s.now.trees 0) t e in ((clean_is s.is_clean h.0, h.1), h.2)
 
 map_some : {X Y : Type 0} (f : X → Y) (o : Option X) (y : Y) → option_map f o ≡ Some y → (x : X) × (o ≡ Some x) × (f x ≡ y)
@@ -168,26 +168,26 @@ map_some f None y h = absurd (cc)
 map_some f (Some x) y h = (x, refl, cc)
 
 -- the store that is told is that of the rows, while the connection is open and clean
-sound_of : (s : State) (w : Store) → told_store s ≡ Some w → IsSound s × (rows_store (s.now.trees 0) ≡ w)
+sound_of : (s : State) (w : Store) → told_store s ≡ Some w → IsConnectionSound s × (rows_store (s.now.trees 0) ≡ w)
 sound_of s w h =
     let some = map_some rows_store (told_rows s) w h in
     let told = told_of s some.0 some.1 in
     (told.0, ap rows_store told.1 ∙ some.2)
 
-pub store_goes_on : (old new : State) → GoesOn old new → Continues (told_store old) (told_store new)
+pub store_goes_on : (old new : State) → RowsStay old new → Continues (told_store old) (told_store new)
 store_goes_on old new goes w h =
     let now = sound_of new w h in
     let was = goes now.0 in
     rw (is_clean old.is_clean was.0.0, was.0.1) (ap Some (ap rows_store (sym was.1) ∙ now.1))
 
-found_told : (new : State) (u : EntityUID) (shown : List Row) (o : Option StoredEntity) → (IsSound new → AreCells (new.now.trees 0) u.entity_type u.eid shown) → IsFound shown u o
+found_told : (new : State) (u : EntityUID) (shown : List Row) (o : Option StoredEntity) → (IsConnectionSound new → AreCells (new.now.trees 0) u.entity_type u.eid shown) → IsRowFound shown u o
     → (w : Store) → told_store new ≡ Some w → o ≡ entity_at w u
 found_told new u shown o cells found w h =
     let now = sound_of new w h in
     subst (λ s. o ≡ entity_at s u) now.1 (found_is (new.now.trees 0) u shown o (cells now.0) found)
 
 pub found_if : {E : Type 0} (new : State) (u : EntityUID) (kind eid : List ℕ) (shown : List Row) (r : Result (Option StoredEntity) E) → kind ≡ u.entity_type → eid ≡ u.eid
-    → (IsSound new → AreCells (new.now.trees 0) kind eid shown) → IfOk r (IsFound shown u) → (w : Store) → told_store new ≡ Some w → IfOk r (λ o. o ≡ entity_at w u)
+    → (IsConnectionSound new → AreCells (new.now.trees 0) kind eid shown) → IfOk r (IsRowFound shown u) → (w : Store) → told_store new ≡ Some w → IfOk r (λ o. o ≡ entity_at w u)
 found_if new u kind eid shown (Ok o) is_kind is_eid cells found w h =
     found_told new u shown o (λ sound. subst (λ k. AreCells (new.now.trees 0) k u.eid shown) is_kind (subst (λ e. AreCells (new.now.trees 0) kind e shown) is_eid (cells sound))) found w h
 found_if new u kind eid shown (Err e) is_kind is_eid cells found w h = tt

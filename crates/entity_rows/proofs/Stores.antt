@@ -13,7 +13,7 @@ use Rattle.policy_values.specs.declared.entity_uid.EntityUID.{EntityUID}
 use Rattle.policy_values.specs.Uid.{uid_cmp, uid_cmp_total, exact_uid}
 use Rattle.entity_store.specs.Store.{StoredEntity, Store, entity_at, is_named}
 use Rattle.entity_rows.specs.Table.{is_of, cell, AreCells}
-use Rattle.entity_rows.specs.Rows.{cell_entity, row_entity, put, with_row, rows_store, IsFound}
+use Rattle.entity_rows.specs.Rows.{cell_entity, row_entity, put, with_row, rows_store, IsRowFound}
 
 -- ---- ids
 
@@ -126,12 +126,12 @@ one_cell (r ∷ x ∷ rs) shown c p is =
     let clash : 1 ≡ length (map cell (r ∷ x ∷ rs)) = ap length (sym is) ∙ length_permutation (map cell (r ∷ x ∷ rs)) shown p in absurd (omega (arith, clash))
 
 -- what was found by an id is the entity of the rows' store
-pub found_is : (rs : List Row) (u : EntityUID) (shown : List Row) (o : Option StoredEntity) → AreCells rs u.entity_type u.eid shown → IsFound shown u o → o ≡ entity_at (rows_store rs) u
+pub found_is : (rs : List Row) (u : EntityUID) (shown : List Row) (o : Option StoredEntity) → AreCells rs u.entity_type u.eid shown → IsRowFound shown u o → o ≡ entity_at (rows_store rs) u
 found_is rs u shown None p h = sym (nothing u rs (no_cells (filter (is_of u.entity_type u.eid) rs) shown p h))
 found_is rs u shown (Some e) p h =
     let at = one_cell (filter (is_of u.entity_type u.eid) rs) shown h.0 p h.1 in
     sym (one u rs at.0 e at.1 (subst (λ c. cell_entity (column c 0) ≡ Some e) at.2 h.2) h.3)
 
-pub found_id : (u : EntityUID) (shown : List Row) (o : Option StoredEntity) → IsFound shown u o → IfSome o (λ e. e.uid ≡ u)
+pub found_id : (u : EntityUID) (shown : List Row) (o : Option StoredEntity) → IsRowFound shown u o → IfSome o (λ e. e.uid ≡ u)
 found_id u shown None h = tt
 found_id u shown (Some e) h = h.3

@@ -21,7 +21,8 @@ cell_entity (Blob b) = None
 
 -- the entity that the row's text spells, where its id is the row's type and eid
 abbrev pub row_entity : Row → Option StoredEntity
-row_entity r = option_and_then (λ e. if is_of e.uid.entity_type e.uid.eid r then Some e else None) (cell_entity (column r 4))
+row_entity r = option_and_then (λ e. if is_of e.uid.entity_type e.uid.eid r then Some e else None)
+    (cell_entity (column r 4))
 
 -- the store with the entity in its place, in that of another one with its id
 abbrev pub put : StoredEntity → Store → Store
@@ -42,6 +43,6 @@ abbrev pub told_store : State → Option Store
 told_store s = option_map rows_store (told_rows s)
 
 -- what was found by an id: no row, or one, whose text spells the entity with this id
-abbrev pub IsFound : List Row → EntityUID → Option StoredEntity → Type 0
-IsFound rows u None = rows ≡ []
-IsFound rows u (Some e) = (c : Row) × (rows ≡ c ∷ []) × (cell_entity (column c 0) ≡ Some e) × (e.uid ≡ u)
+abbrev pub IsRowFound : List Row → EntityUID → Option StoredEntity → Type 0
+IsRowFound rows u None = rows ≡ []
+IsRowFound rows u (Some e) = (c : Row) × (rows ≡ c ∷ []) × (cell_entity (column c 0) ≡ Some e) × (e.uid ≡ u)

@@ -18,14 +18,22 @@ use Rattle.sqlite_schema.specs.declared.schema.Index.{Index}
 
 -- a column of a STRICT table, without a default
 abbrev pub column_of : List ℕ → Kind → Bool → Column
-column_of name kind not_null = record { name = name; kind = kind; is_strict = true; not_null = not_null; default = Null; collation = Binary }
+column_of name kind not_null = record {
+  name = name;
+  kind = kind;
+  is_strict = true;
+  not_null = not_null;
+  default = Null;
+  collation = Binary;
+}
 
 -- a row for each entity: a number, the type, the eid, and the entity in JSON
 abbrev pub entity : Table
 entity = record {
   name = codes "entity";
   tree = 0;
-  columns = column_of (codes "number") Integer false ∷ column_of (codes "type") Text true ∷ column_of (codes "eid") Text true ∷ column_of (codes "json") Text true ∷ [];
+  columns = column_of (codes "number") Integer false ∷ column_of (codes "type") Text true ∷
+      column_of (codes "eid") Text true ∷ column_of (codes "json") Text true ∷ [];
   key = Some 0;
   primary = 0 ∷ [];
   uniques = (2 ∷ 3 ∷ []) ∷ [];
@@ -39,7 +47,14 @@ entity = record {
 
 -- the index of its pairs of type and eid
 abbrev pub entity_index : Index
-entity_index = record { name = codes "sqlite_autoindex_entity_1"; tree = 1; table = 0; columns = 2 ∷ 3 ∷ []; order = record { digits = 0 }; is_unique = true }
+entity_index = record {
+  name = codes "sqlite_autoindex_entity_1";
+  tree = 1;
+  table = 0;
+  columns = 2 ∷ 3 ∷ [];
+  order = record { digits = 0 };
+  is_unique = true;
+}
 
 -- that table with its index, and nothing else
 abbrev pub entity_schema : Schema
@@ -51,7 +66,8 @@ equals a b = is_true (binary (Compare Eq Binary) a b)
 
 -- the row is of this type and this eid
 abbrev pub is_of : List ℕ → List ℕ → Row → Bool
-is_of kind eid r = list_all (λ (p : Value × Value). equals p.0 p.1) ((column r 2, Words kind) ∷ (column r 3, Words eid) ∷ [])
+is_of kind eid r =
+    list_all (λ (p : Value × Value). equals p.0 p.1) ((column r 2, Words kind) ∷ (column r 3, Words eid) ∷ [])
 
 -- what a look-up shows of the row: its text
 abbrev pub cell : Row → Row
@@ -62,16 +78,16 @@ abbrev pub AreCells : List Row → List ℕ → List ℕ → List Row → Type 0
 AreCells table kind eid rows = IsPermutation (map cell (filter (is_of kind eid) table)) rows
 
 -- the connection is open, and the disk has returned what was written
-abbrev pub IsSound : State → Type 0
-IsSound s = HasCleanDisk s × IsTrue s.is_open
+abbrev pub IsConnectionSound : State → Type 0
+IsConnectionSound s = HasCleanDisk s × IsTrue s.is_open
 
 -- as long as that is so, the database is the table, and all of it is committed
 abbrev pub IsReady : State → Type 0
-IsReady s = IsSound s → (s.now.schema ≡ entity_schema) × (s.committed ≡ s.now)
+IsReady s = IsConnectionSound s → (s.now.schema ≡ entity_schema) × (s.committed ≡ s.now)
 
 -- where it is so after a call it was so before, and the rows are the same
-abbrev pub GoesOn : State → State → Type 0
-GoesOn old new = IsSound new → IsSound old × (new.now.trees 0 ≡ old.now.trees 0)
+abbrev pub RowsStay : State → State → Type 0
+RowsStay old new = IsConnectionSound new → IsConnectionSound old × (new.now.trees 0 ≡ old.now.trees 0)
 
 -- the rows, where they are told: while the connection is open and clean
 abbrev pub told_rows : State → Option (List Row)

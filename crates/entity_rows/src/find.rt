@@ -5,7 +5,7 @@ ghost use Rattle.sqlite.specs.declared.types.Value.TheVariants.{Text};
 ghost use Rattle.sqlite.specs.Held.{state};
 ghost use Rattle.sqlite.specs.State.{HasCleanDisk, FailsToQuery, Shown, Survives, CommitsShowing};
 ghost use Rattle.entity_store.specs.Store.{Store, entity_at};
-ghost use Rattle.entity_rows.specs.Table.{AreCells, IsSound, IsReady, GoesOn, Continues};
+ghost use Rattle.entity_rows.specs.Table.{AreCells, IsConnectionSound, IsReady, RowsStay, Continues};
 ghost use Rattle.entity_rows.specs.Rows.{told_store};
 
 use crate::reading::read_found;
@@ -67,12 +67,13 @@ fn ask<S: Alter>(
     conn.query_all(sql, params![kind, eid])
 }
 
-// The texts of the rows with a type and an eid: while the connection is open and its disk clean, they are those of the table.
+// The texts of the rows with a type and an eid: while the connection is open and its disk clean, they are
+// those of the table.
 fn look_up<S: Alter>(conn: &mut Connection<S>, kind: &str, eid: &str) -> Result<Vec<Row>, Error>
     requires { IsReady (state S.Store conn.old) }
     ensures ready { IsReady (state S.Store conn.new) }
-    ensures goes_on { GoesOn (state S.Store conn.old) (state S.Store conn.new) }
-    ensures honest { IsSound (state S.Store conn.new) →
+    ensures goes_on { RowsStay (state S.Store conn.old) (state S.Store conn.new) }
+    ensures honest { IsConnectionSound (state S.Store conn.new) →
         IfOk result (λ rows.
         AreCells ((state S.Store conn.new).now.trees 0) kind.now eid.now rows.items) }
 {
@@ -84,8 +85,8 @@ fn look_up<S: Alter>(conn: &mut Connection<S>, kind: &str, eid: &str) -> Result<
     )
 }
 
-/// The entity with the id, where the table has a row for it. While the connection is open and its disk has returned what
-/// was written, it is that of the rows' store.
+/// The entity with the id, where the table has a row for it. While the connection is open and its disk has
+/// returned what was written, it is that of the rows' store.
 ///
 /// Errs with `NoEntity` where two rows have the id, or the row's text does not spell the entity.
 pub fn find_entity<S: Alter>(

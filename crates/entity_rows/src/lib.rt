@@ -1,4 +1,5 @@
-//! Entities in a table of a database: a row for each, found by type and eid; and what was found of them as a loader.
+//! Entities in a table of a database: a row for each, found by type and eid; and what was found of them as
+//! a loader.
 #![tactic(auto)]
 
 mod fetched;

@@ -6,7 +6,7 @@ ghost use Rattle.std.specs.BTreeSet.{contains};
 ghost use Rattle.policy_values.specs.Uid.{uid_cmp};
 ghost use Rattle.sqlite.specs.Held.{state};
 ghost use Rattle.entity_rows.specs.Rows.{told_store};
-ghost use Rattle.entity_rows.specs.Fetched.{AreOf, AreOf-prop};
+ghost use Rattle.entity_rows.specs.Fetched.{AreFetchedOf, AreFetchedOf-prop};
 
 use entity_loader::{
     AncestorsRequest, EntityAnswer, EntityLoader, EntityRequest, EntitySlicer, LoadError,
@@ -17,10 +17,11 @@ use sqlite::{Alter, Connection};
 use std::alloc::{AllocError, Global};
 use std::collections::BTreeSet;
 
-/// A loader of what was looked up in a database, which answers just what is asked. A call that asks for an id that was not
-/// looked up fails, is counted, and leaves the id among the missing ones.
+/// A loader of what was looked up in a database, which answers just what is asked. A call that asks for an id
+/// that was not looked up fails, is counted, and leaves the id among the missing ones.
 ///
-/// It tells the store of the database's rows, where the database is open and its disk has returned what was written.
+/// It tells the store of the database's rows, where the database is open and its disk has returned what was
+/// written.
 #[derive(Drop)]
 pub struct FetchedLoader<'a, S: Alter> {
     /// The database, which stays as it is while there is the loader.
@@ -37,7 +38,7 @@ pub struct FetchedLoader<'a, S: Alter> {
     pub rounds: u64,
     /// How often ancestors were asked for; at the last value of u64 it stays.
     pub lists: u64,
-    pub ghost found: { AreOf (told_store (state S.Store database.now)) seen.now entities.now } by { AreOf-prop (told_store (state S.Store database.now)) seen.now entities.now },
+    pub ghost found: { AreFetchedOf (told_store (state S.Store database.now)) seen.now entities.now } by { AreFetchedOf-prop (told_store (state S.Store database.now)) seen.now entities.now },
 }
 
 impl<'a, S: Alter> FetchedLoader<'a, S> {
@@ -48,7 +49,7 @@ impl<'a, S: Alter> FetchedLoader<'a, S> {
         seen: &'a BTreeSet<EntityUID>,
         entities: &'a Entities,
     ) -> FetchedLoader<'a, S>
-        requires { AreOf (told_store (state S.Store database.now)) seen.now entities.now }
+        requires { AreFetchedOf (told_store (state S.Store database.now)) seen.now entities.now }
         ensures database { result.database.now ≡ database.now }
         ensures faults { result.faults ≡ 0 }
     {

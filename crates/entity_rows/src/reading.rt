@@ -6,7 +6,7 @@ ghost use Rattle.sqlite.specs.Order.{column};
 ghost use Rattle.policy_values.specs.Uid.{uid_eq};
 ghost use Rattle.json_values.specs.Json.{has_only};
 ghost use Rattle.entity_rows.specs.Entities.{entity_in, entity_names, entity_of, fields_in, given_entity_of, with_uids};
-ghost use Rattle.entity_rows.specs.Rows.{cell_entity, IsFound};
+ghost use Rattle.entity_rows.specs.Rows.{cell_entity, IsRowFound};
 
 use crate::FindError;
 use entity_store::Entity;
@@ -140,7 +140,7 @@ pub(crate) fn read_found(
     rows: &Vec<Row>,
     uid: &EntityUID,
 ) -> Result<Option<Entity>, FindError>
-    ensures { IfOk result (IsFound rows.now.items uid.now) }
+    ensures { IfOk result (IsRowFound rows.now.items uid.now) }
 {
     match rows.len() {
         0 => Ok(None),

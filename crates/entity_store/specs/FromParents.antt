@@ -27,24 +27,28 @@ IsOwnAncestor es uid = Reaches (Lists es) uid uid
 abbrev pub without_links : StoredEntity → StoredEntity
 without_links e = record e { ancestors = [] }
 
--- the store of the entities es, whose links are their parents: no id is repeated and none is its own ancestor; the store
--- has at each id the entity that es has there, with all ids that are reached by parents, whether or not they have an entity
+-- the store of the entities es, whose links are their parents: no id is repeated and none is its own
+-- ancestor; the store has at each id the entity that es has there, with all ids that are reached by parents,
+-- whether or not they have an entity
 pub record IsFromParents (es store : List StoredEntity) : Type 0 where
   pub once : (uid : EntityUID) → ¬ IsRepeated (ids_of es) uid
   pub no_cycle : (uid : EntityUID) → ¬ IsOwnAncestor es uid
   pub ordered : IsStrictlySortedBy uid_cmp (ids_of store)
-  pub kept : (uid : EntityUID) → option_map without_links (entity_at store uid) ≡ option_map without_links (entity_at es uid)
+  pub kept : (uid : EntityUID) →
+      option_map without_links (entity_at store uid) ≡ option_map without_links (entity_at es uid)
   pub ancestors : (x y : EntityUID) → Lists store x y ↔ Reaches (Lists es) x y
   pub ascending : All (λ e. IsStrictlySortedBy uid_cmp e.ancestors) store
 
--- why the entities es are no store: the least repeated id; where none is, the least id that is its own ancestor
+-- why the entities es are no store: the least repeated id; where none is, the least id that is its own
+-- ancestor
 abbrev pub IsRefused : List StoredEntity → EntitiesError → Type 0
 IsRefused es (Duplicate uid) = IsLeast uid_cmp (IsRepeated (ids_of es)) uid
-IsRefused es (Cycle uid) = ((u : EntityUID) → ¬ IsRepeated (ids_of es) u) × IsLeast uid_cmp (IsOwnAncestor es) uid
+IsRefused es (Cycle uid) =
+    ((u : EntityUID) → ¬ IsRepeated (ids_of es) u) × IsLeast uid_cmp (IsOwnAncestor es) uid
 IsRefused es OutOfMemory = ⊤
 
--- the store of the entities es, whose links are their ancestors: no id is repeated; the store has at each id the entity that es
--- has there
+-- the store of the entities es, whose links are their ancestors: no id is repeated; the store has at each id
+-- the entity that es has there
 pub record IsFromAncestors (es store : List StoredEntity) : Type 0 where
   pub once : (uid : EntityUID) → ¬ IsRepeated (ids_of es) uid
   pub ordered : IsStrictlySortedBy uid_cmp (ids_of store)

@@ -17,7 +17,8 @@ impl Entities {
         }
     }
 
-    /// Adds an entity behind the others, with its ancestors as they are. Where memory runs out, the store is unchanged.
+    /// Adds an entity behind the others, with its ancestors as they are. Where memory runs out, the store is
+    /// unchanged.
     pub fn push(&mut self, entity: Entity) -> Result<(), AllocError>
         requires { IsAbove entity.uid self.old }
         ensures ok { OnOk result (self.new ≡ self.old ++ entity ∷ []) }

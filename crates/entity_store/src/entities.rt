@@ -58,9 +58,9 @@ impl Entities {
     ghost use Rattle.entity_store.specs.Store.{StoredEntity, entity_at};
     ghost use Rattle.entity_store.specs.FromParents.{IsFromAncestors, IsFromParents, IsRefused, IsRepeatedly};
 
-    /// The store of these entities, each with all ids that are reached from it by parents as its ancestors, also those
-    /// that have no entity. It is refused where two entities have one id, with the least such id, and else where an id is
-    /// its own ancestor, with the least such id.
+    /// The store of these entities, each with all ids that are reached from it by parents as its ancestors,
+    /// also those that have no entity. It is refused where two entities have one id, with the least such id,
+    /// and else where an id is its own ancestor, with the least such id.
     pub fn from_parents(alloc: Global, entities: Vec<Entity>) -> Result<Entities, EntitiesError>
         ensures { MatchResult result (IsFromParents entities.items) (IsRefused entities.items) }
     {
@@ -77,8 +77,8 @@ impl Entities {
         Ok(under_ids(alloc, entities)?)
     }
 
-    /// The store of these entities, each with the ancestors that it lists. It is refused where two entities have one id, with
-    /// the least such id.
+    /// The store of these entities, each with the ancestors that it lists. It is refused where two entities
+    /// have one id, with the least such id.
     pub fn from_ancestors(alloc: Global, entities: Vec<Entity>) -> Result<Entities, EntitiesError>
         ensures { MatchResult result (IsFromAncestors entities.items) (IsRepeatedly entities.items) }
     {
@@ -149,7 +149,8 @@ fn least_repeated_id(alloc: Global, entities: &[Entity]) -> Result<Option<Entity
 // What each entity lists.
 fn parents_of(alloc: Global, entities: &[Entity]) -> Result<Steps<EntityUID>, AllocError>
     requires { (uid : EntityUID) → ¬ IsRepeated (ids_of entities.now) uid }
-    ensures { IfOk result (λ parents. (uid : EntityUID) → tree.get uid_cmp parents uid ≡ option_map links_of (entity_at entities.now uid)) }
+    ensures { IfOk result (λ parents. (uid : EntityUID) →
+        tree.get uid_cmp parents uid ≡ option_map links_of (entity_at entities.now uid)) }
 {
     let mut parents = BTreeMap::new(alloc);
     for entity in entities {
@@ -164,7 +165,8 @@ fn with_ancestors(
     entities: Vec<Entity>,
     ancestors: &SharedSteps<EntityUID>,
 ) -> Result<Vec<Entity>, AllocError>
-    ensures { IfOk result (λ list. list.items ≡ map (linked (tree.get uid_cmp ancestors.now)) entities.items) }
+    ensures { IfOk result
+        (λ list. list.items ≡ map (linked (tree.get uid_cmp ancestors.now)) entities.items) }
 {
     let mut list = Vec::new(alloc);
     for entity in entities {
@@ -180,7 +182,8 @@ fn with_ancestors(
 fn under_ids(alloc: Global, entities: Vec<Entity>) -> Result<Entities, AllocError>
     requires { (uid : EntityUID) → ¬ IsRepeated (ids_of entities.items) uid }
     ensures ordered { IfOk result (λ store. IsStrictlySortedBy uid_cmp (ids_of store)) }
-    ensures kept { IfOk result (λ store. (uid : EntityUID) → entity_at store uid ≡ entity_at entities.items uid) }
+    ensures kept { IfOk result
+        (λ store. (uid : EntityUID) → entity_at store uid ≡ entity_at entities.items uid) }
     ensures ascending { IfOk result (All (λ e. IsStrictlySortedBy uid_cmp e.ancestors)) }
 {
     let mut placed = BTreeMap::new(alloc);
@@ -193,7 +196,8 @@ fn under_ids(alloc: Global, entities: Vec<Entity>) -> Result<Entities, AllocErro
 // Adds an entity under its id.
 fn add(entities: &mut BTreeMap<EntityUID, Entity>, entity: Entity) -> Result<(), AllocError>
     requires { AreStored entities.old }
-    ensures added { OnOk result ((uid : EntityUID) → tree.get uid_cmp entities.new uid ≡ (if is_eq (uid_cmp entity.uid uid) then Some entity else tree.get uid_cmp entities.old uid)) }
+    ensures added { OnOk result ((uid : EntityUID) → tree.get uid_cmp entities.new uid ≡
+        (if is_eq (uid_cmp entity.uid uid) then Some entity else tree.get uid_cmp entities.old uid)) }
     ensures stored { OnOk result (AreStored entities.new) }
 {
     let (uid, entity) = entity.under_id()?;

@@ -50,7 +50,12 @@ impl Model for Entity {
     ghost use Rattle.policy_values.specs.Value.{fields_of};
     ghost use Rattle.entity_store.specs.Linked.{chosen};
 
-    ghost view = { λ e. record { uid = e.uid; attrs = fields_of e.attrs.entries; ancestors = (chosen e.shared e.own).keys; tags = fields_of e.tags.entries } };
+    ghost view = { λ e. record {
+      uid = e.uid;
+      attrs = fields_of e.attrs.entries;
+      ancestors = (chosen e.shared e.own).keys;
+      tags = fields_of e.tags.entries;
+    } };
 
     ghost use Rattle.std.specs.List.Sorted.{IsStrictlySortedBy};
     ghost use Rattle.policy_values.specs.Uid.{uid_cmp};
@@ -66,7 +71,12 @@ impl Entity {
         ancestors: BTreeSet<EntityUID>,
         tags: BTreeMap<Text, Value>,
     ) -> Entity
-        ensures value { result ≡ record { uid = uid; attrs = fields_of attrs.entries; ancestors = ancestors.keys; tags = fields_of tags.entries } }
+        ensures value { result ≡ record {
+          uid = uid;
+          attrs = fields_of attrs.entries;
+          ancestors = ancestors.keys;
+          tags = fields_of tags.entries;
+        } }
         ensures ascending { IsStrictlySortedBy uid_cmp result.ancestors }
     {
         let _count = ancestors.len();

@@ -7,8 +7,8 @@ use crate::Context;
 use policy_values::{EntityType, EntityUID, Key};
 use std::alloc::AllocError;
 
-/// A question: may this principal do this action on this resource, in this context? An entry that is none is not
-/// known.
+/// A question: may this principal do this action on this resource, in this context? An entry that is none is
+/// not known.
 #[derive(Debug)]
 pub struct Request {
     /// Who asks.

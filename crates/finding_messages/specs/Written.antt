@@ -19,7 +19,8 @@ help_line (Some help) = codes "  help: " ++ (help ++ codes "\n")
 
 -- error or warning, the kind, the place and the message, and what may help
 abbrev pub finding_text : List ℕ → List ℕ → Option Loc → List ℕ → Option (List ℕ) → List ℕ
-finding_text severity kind place message help = severity ++ (codes " " ++ kind) ++ place_text place ++ (codes ": " ++ (message ++ codes "\n")) ++ help_line help
+finding_text severity kind place message help = severity ++ (codes " " ++ kind) ++
+    place_text place ++ (codes ": " ++ (message ++ codes "\n")) ++ help_line help
 
 abbrev pub error_text : ValidationError → List ℕ
 error_text e = finding_text (codes "error") (error_kind e) (error_place e) (error_message e) (error_help e)
@@ -29,8 +30,10 @@ warning_text w = finding_text (codes "warning") (warning_kind w) (warning_place 
 
 -- how many there are of each
 abbrev pub count_line : ℕ → ℕ → List ℕ
-count_line errors warnings = codes "errors " ++ (decimal errors ++ (codes ", warnings " ++ (decimal warnings ++ codes "\n")))
+count_line errors warnings =
+    codes "errors " ++ (decimal errors ++ (codes ", warnings " ++ (decimal warnings ++ codes "\n")))
 
 -- all errors, all warnings, and how many there are of each
 abbrev pub findings_text : Findings → List ℕ
-findings_text f = flat_map error_text f.errors ++ flat_map warning_text f.warnings ++ count_line (length f.errors) (length f.warnings)
+findings_text f = flat_map error_text f.errors ++ flat_map warning_text f.warnings ++
+    count_line (length f.errors) (length f.warnings)

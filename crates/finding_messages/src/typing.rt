@@ -141,7 +141,8 @@ impl Diagnostic for UnsafeOptionalAttributeAccess {
 
 // Which attribute of what.
 fn unsafe_optional(alloc: Global, access: &AttributeAccess) -> Result<String, AllocError>
-    ensures { IfOk result (λ text. string_bytes text ≡ codes "unable to guarantee safety of access to optional attribute " ++ access_text access.now) }
+    ensures { IfOk result (λ text. string_bytes text ≡
+        codes "unable to guarantee safety of access to optional attribute " ++ access_text access.now) }
 {
     let text = format!(in alloc;
         "unable to guarantee safety of access to optional attribute {access}"
@@ -301,7 +302,8 @@ impl Diagnostic for FunctionArgumentValidation {
 
 // What is said of an argument.
 fn unreadable(alloc: Global, msg: &Text) -> Result<String, AllocError>
-    ensures { IfOk result (λ text. string_bytes text ≡ codes "error during extension function argument validation: " ++ msg.now) }
+    ensures { IfOk result (λ text. string_bytes text ≡
+        codes "error during extension function argument validation: " ++ msg.now) }
 {
     let text = format!(in alloc; "error during extension function argument validation: {msg}")?;
     Ok(text)

@@ -19,7 +19,8 @@ impl Model for ValidationResult {
 
     ghost coded = { coded_findings };
 
-    ghost view = { λ r. record { errors = r.validation_errors.items; warnings = r.validation_warnings.items } };
+    ghost view = { λ r.
+        record { errors = r.validation_errors.items; warnings = r.validation_warnings.items } };
 }
 
 impl ValidationResult {

@@ -9,8 +9,8 @@ use policy_values::Text;
 use std::alloc::{AllocError, Global};
 use std::fmt::Write;
 
-/// The findings, a line for each: `error` or `warning`, its kind and what it says, with a further line where something
-/// may help. The last line has the numbers of errors and of warnings.
+/// The findings, a line for each: `error` or `warning`, its kind and what it says, with a further line where
+/// something may help. The last line has the numbers of errors and of warnings.
 pub fn findings_text(alloc: Global, findings: &ValidationResult) -> Result<Text, AllocError>
     ensures { IfOk result (λ text. text ≡ findings_text findings.now) }
 {
@@ -37,7 +37,8 @@ fn finding_text<D: Diagnostic>(
     kind: &str,
     finding: &D,
 ) -> Result<String, AllocError>
-    ensures { IfOk result (λ text. string_bytes text ≡ finding_text severity.now kind.now (D.place finding.now) (D.message_text finding.now) (D.help_text finding.now)) }
+    ensures { IfOk result (λ text. string_bytes text ≡ finding_text severity.now kind.now
+        (D.place finding.now) (D.message_text finding.now) (D.help_text finding.now)) }
 {
     let message = finding.message(alloc)?;
     let help = finding.help(alloc)?;
@@ -50,7 +51,8 @@ fn finding_text<D: Diagnostic>(
 
 // Adds the message, and ends the line.
 fn add_message(text: &mut String, message: &Text) -> Result<(), AllocError>
-    ensures { OnOk result (string_bytes text.new ≡ string_bytes text.old ++ (codes ": " ++ (message.now ++ codes "\n"))) }
+    ensures { OnOk result (string_bytes text.new ≡
+        string_bytes text.old ++ (codes ": " ++ (message.now ++ codes "\n"))) }
 {
     write!(text, ": {message}\n")?;
     Ok(())

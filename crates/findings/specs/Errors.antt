@@ -22,7 +22,8 @@ error_message (error.InvalidActionApplication e) = application_message e.policy_
 error_message (error.UnexpectedType e) = message e.policy_id (unexpected_type e)
 error_message (error.IncompatibleTypes e) = message e.policy_id (incompatible_types e)
 error_message (error.UnsafeAttributeAccess e) = message e.policy_id (unsafe_attribute_access e)
-error_message (error.UnsafeOptionalAttributeAccess e) = message e.policy_id (unsafe_optional_attribute_access e)
+error_message (error.UnsafeOptionalAttributeAccess e) =
+    message e.policy_id (unsafe_optional_attribute_access e)
 error_message (error.UnsafeTagAccess e) = message e.policy_id (unsafe_tag_access e)
 error_message (error.NoTagsAllowed e) = message e.policy_id (no_tags_allowed e)
 error_message (error.UndefinedFunction e) = message e.policy_id (undefined_function e)

@@ -18,7 +18,8 @@ abbrev pub type_of : Mentioned → List ℕ
 type_of (an_id uid) = uid.entity_type
 type_of (a_type ty) = ty
 
--- all names, each with the place of its literal or of its `is`, reached or not, in the order in which they stand
+-- all names, each with the place of its literal or of its `is`, reached or not, in the order in which
+-- they stand
 module _ {T : Type 0} where
   abbrev mutual
     pub names_in : Tree (Mark T) → List (Mentioned × Option Loc)

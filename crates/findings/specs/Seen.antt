@@ -45,17 +45,28 @@ function_argument_validation e = plain.FunctionArgumentValidation e.msg
 
 -- the error of a policy at a place that says this
 abbrev pub error_at : List ℕ → Option Loc → Kind → ValidationError
-error_at policy loc (plain.UnexpectedType expected actual help) = error.UnexpectedType (record { source_loc = loc; policy_id = policy; expected = expected; actual = actual; help = help })
-error_at policy loc (plain.IncompatibleTypes types hint context) = error.IncompatibleTypes (record { source_loc = loc; policy_id = policy; types = types; hint = hint; context = context })
-error_at policy loc (plain.UnsafeAttributeAccess reached may_exist) = error.UnsafeAttributeAccess (record { source_loc = loc; policy_id = policy; attribute_access = reached; may_exist = may_exist })
-error_at policy loc (plain.UnsafeOptionalAttributeAccess reached) = error.UnsafeOptionalAttributeAccess (record { source_loc = loc; policy_id = policy; attribute_access = reached })
-error_at policy loc (plain.UnsafeTagAccess types tag) = error.UnsafeTagAccess (record { source_loc = loc; policy_id = policy; entity_ty = types; tag = tag })
-error_at policy loc (plain.NoTagsAllowed type) = error.NoTagsAllowed (record { source_loc = loc; policy_id = policy; entity_ty = type })
-error_at policy loc (plain.UndefinedFunction name) = error.UndefinedFunction (record { source_loc = loc; policy_id = policy; name = name })
-error_at policy loc (plain.WrongNumberArguments expected actual) = error.WrongNumberArguments (record { source_loc = loc; policy_id = policy; expected = expected; actual = actual })
-error_at policy loc (plain.FunctionArgumentValidation text) = error.FunctionArgumentValidation (record { source_loc = loc; policy_id = policy; msg = text })
-error_at policy loc plain.EmptySetForbidden = error.EmptySetForbidden (record { source_loc = loc; policy_id = policy })
-error_at policy loc plain.NonLitExtConstructor = error.NonLitExtConstructor (record { source_loc = loc; policy_id = policy })
+error_at policy loc (plain.UnexpectedType expected actual help) = error.UnexpectedType
+    (record { source_loc = loc; policy_id = policy; expected = expected; actual = actual; help = help })
+error_at policy loc (plain.IncompatibleTypes types hint context) = error.IncompatibleTypes
+    (record { source_loc = loc; policy_id = policy; types = types; hint = hint; context = context })
+error_at policy loc (plain.UnsafeAttributeAccess reached may_exist) = error.UnsafeAttributeAccess
+    (record { source_loc = loc; policy_id = policy; attribute_access = reached; may_exist = may_exist })
+error_at policy loc (plain.UnsafeOptionalAttributeAccess reached) = error.UnsafeOptionalAttributeAccess
+    (record { source_loc = loc; policy_id = policy; attribute_access = reached })
+error_at policy loc (plain.UnsafeTagAccess types tag) =
+    error.UnsafeTagAccess (record { source_loc = loc; policy_id = policy; entity_ty = types; tag = tag })
+error_at policy loc (plain.NoTagsAllowed type) =
+    error.NoTagsAllowed (record { source_loc = loc; policy_id = policy; entity_ty = type })
+error_at policy loc (plain.UndefinedFunction name) =
+    error.UndefinedFunction (record { source_loc = loc; policy_id = policy; name = name })
+error_at policy loc (plain.WrongNumberArguments expected actual) = error.WrongNumberArguments
+    (record { source_loc = loc; policy_id = policy; expected = expected; actual = actual })
+error_at policy loc (plain.FunctionArgumentValidation text) =
+    error.FunctionArgumentValidation (record { source_loc = loc; policy_id = policy; msg = text })
+error_at policy loc plain.EmptySetForbidden =
+    error.EmptySetForbidden (record { source_loc = loc; policy_id = policy })
+error_at policy loc plain.NonLitExtConstructor =
+    error.NonLitExtConstructor (record { source_loc = loc; policy_id = policy })
 
 -- the finding as an error of the policy
 abbrev pub error_of : List ℕ → Finding → ValidationError

@@ -25,9 +25,9 @@ pub enum AttributeAccess {
 }
 
 impl AttributeAccess {
-    /// How the attribute of the expression is reached. By what is met first from it to the left, through accesses: an
-    /// expression that is typed as an entity, and not as an action; the context of a declared action; anything else but an
-    /// access.
+    /// How the attribute of the expression is reached. By what is met first from it to the left, through
+    /// accesses: an expression that is typed as an entity, and not as an action; the context of a declared
+    /// action; anything else but an access.
     pub fn from_expr(
         alloc: Global,
         req_env: &RequestEnv<'_>,

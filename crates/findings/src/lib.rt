@@ -2,6 +2,7 @@
 #![tactic(auto)]
 
 mod access;
+mod copies;
 mod error;
 mod helps;
 mod level;

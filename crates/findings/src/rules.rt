@@ -55,8 +55,8 @@ pub struct InvalidEnumEntityError {
     pub choices: ListOf<Eid>,
 }
 
-/// No declared action can meet the scope: none that meets its part for the action has a principal type and a resource
-/// type that meet the other two parts.
+/// No declared action can meet the scope: none that meets its part for the action has a principal type and a
+/// resource type that meet the other two parts.
 #[derive(Debug, Drop, PartialEq, Eq, Hash)]
 pub struct InvalidActionApplication {
     /// Where it was found: nowhere in particular.

@@ -31,9 +31,11 @@ addition_at i (Some read.Nested) = Err (place.EditNested i)
 addition_at i (Some (read.Policy t)) = Ok (Policy t)
 addition_at i (Some (read.Link l)) = Ok (Link l)
 
--- the edit that the value is at the index: a removal, where it has the member `remove`, else what a list of policies may have
+-- the edit that the value is at the index: a removal, where it has the member `remove`, else what a list of
+-- policies may have
 abbrev pub edit_at : ℕ → Data → Result Edit Place
-edit_at i d = if is_some (get (codes "remove") d) then removal_at i (removed_of d) else addition_at i (entry_of d)
+edit_at i d =
+    if is_some (get (codes "remove") d) then removal_at i (removed_of d) else addition_at i (entry_of d)
 
 -- those before, and the edits of the items; else the place of the first fault
 abbrev pub edits_of : List Edit → Items → Result (List Edit) Place

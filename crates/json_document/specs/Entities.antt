@@ -42,7 +42,8 @@ entity_of d = do
 -- those before, and the entities of the items; else the place of the first item that is none
 abbrev pub entities_of : List StoredEntity → Items → Result (List StoredEntity) Place
 entities_of before no_items = Ok before
-entities_of before (item d ds) = option_map_or (λ e. entities_of (before ++ e ∷ []) ds) (entity_of d) (Err (place.Entity (length before)))
+entities_of before (item d ds) =
+    option_map_or (λ e. entities_of (before ++ e ∷ []) ds) (entity_of d) (Err (place.Entity (length before)))
 
 -- the index of the first id that is u, counted from n; the length where none is
 abbrev pub index_from : ℕ → EntityUID → List EntityUID → ℕ

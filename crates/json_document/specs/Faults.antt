@@ -21,5 +21,6 @@ MayComeTo (Err fault.OutOfMemory) P = ⊤
 MayComeTo (Err (fault.Place p)) P = P (Err p)
 
 -- the first and then, where it is read, the next; the first fault is that of the whole
-abbrev pub Then : {A B : Type 0} → (Result A Place → Type 0) → (A → Result B Place → Type 0) → Result B Place → Type 0
+abbrev pub Then : {A B : Type 0} → (Result A Place → Type 0) →
+    (A → Result B Place → Type 0) → Result B Place → Type 0
 Then {A} First Next r = ((p : Place) × First (Err p) × (r ≡ Err p)) ⊎ ((x : A) × First (Ok x) × Next x r)

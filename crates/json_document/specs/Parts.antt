@@ -17,7 +17,14 @@ pub record DocumentParts : Type 0 where
   pub edits : Items
 
 abbrev pub parts_view : Parts → DocumentParts
-parts_view p = record { schema = view p.schema.now; policies = items_view p.policies.now; entities = items_view p.entities.now; request = option_map (λ v. view v.now) p.request; requests = items_view p.requests.now; edits = items_view p.edits.now }
+parts_view p = record {
+  schema = view p.schema.now;
+  policies = items_view p.policies.now;
+  entities = items_view p.entities.now;
+  request = option_map (λ v. view v.now) p.request;
+  requests = items_view p.requests.now;
+  edits = items_view p.edits.now;
+}
 
 -- the members that a document of the shape may have
 abbrev pub part_names : Shape → List (List ℕ)
@@ -25,7 +32,8 @@ part_names Whole = codes "schema" ∷ codes "policies" ∷ codes "entities" ∷ 
 part_names Batch = codes "schema" ∷ codes "policies" ∷ codes "entities" ∷ codes "requests" ∷ []
 part_names Live = codes "schema" ∷ codes "edits" ∷ codes "entities" ∷ codes "request" ∷ []
 
--- an object with a schema, and perhaps, by its shape, lists of policies or of edits to them, of entities, and a request or a list of requests
+-- an object with a schema, and perhaps, by its shape, lists of policies or of edits to them, of entities, and
+-- a request or a list of requests
 unfoldable pub parts_of : Shape → Data → Option DocumentParts
 parts_of shape d = do
   members ← as_object d
@@ -34,4 +42,12 @@ parts_of shape d = do
   entities ← list_of (get (codes "entities") d)
   requests ← list_of (get (codes "requests") d)
   edits ← list_of (get (codes "edits") d)
-  if has_only (part_names shape) members then Some (record { schema = schema; policies = policies; entities = entities; request = get (codes "request") d; requests = requests; edits = edits }) else None
+  if has_only (part_names shape) members then Some (record {
+    schema = schema;
+    policies = policies;
+    entities = entities;
+    request = get (codes "request") d;
+    requests = requests;
+    edits = edits;
+  })
+      else None

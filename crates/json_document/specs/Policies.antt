@@ -21,7 +21,8 @@ use Rattle.json_policies.specs.declared.policy.PolicyRead.TheVariants.{Policy, L
 abbrev pub no_policies : PolicySetData
 no_policies = record { templates = []; policies = [] }
 
--- the place of the fault for which the policy at the index is not added; that there is no memory is no fault of a set
+-- the place of the fault for which the policy at the index is not added; that there is no memory is no fault
+-- of a set
 abbrev pub place_at : ℕ → PolicySetError → Place
 place_at i (refused.DuplicateId id) = place.PolicyDuplicate i
 place_at i (refused.UnknownTemplate id) = place.UnknownTemplate i
@@ -56,10 +57,11 @@ abbrev pub with_link : TemplateLink → Option TemplateData → PolicySetData �
 with_link l None set = set
 with_link l (Some t) set = with_policy (linked_policy l.id l.values t) set
 
--- the set with the link too, unless its id stands already, no template before it has the id that it links, or its ids are
--- not those for the template's slots
+-- the set with the link too, unless its id stands already, no template before it has the id that it links, or
+-- its ids are not those for the template's slots
 abbrev pub added_link : ℕ → PolicySetData → TemplateLink → Result PolicySetData Place
-added_link i set l = unless_fault i (link_fault set l.template l.id (slot_pairs l.values)) (with_link l (template_at set l.template) set)
+added_link i set l = unless_fault i (link_fault set l.template l.id (slot_pairs l.values))
+    (with_link l (template_at set l.template) set)
 
 -- the set with what was read at the index, or the fault
 abbrev pub added_read : ℕ → PolicySetData → Option PolicyRead → Result PolicySetData Place
@@ -77,7 +79,8 @@ and_then (Err p) f = Err p
 abbrev pub added : ℕ → PolicySetData → Data → Result PolicySetData Place
 added i set d = added_read i set (entry_of d)
 
--- the set with the policies of the items too, the first of which is at the index, or the place of the first fault
+-- the set with the policies of the items too, the first of which is at the index, or the place of the
+-- first fault
 abbrev pub policies_of : ℕ → PolicySetData → Items → Result PolicySetData Place
 policies_of i set no_items = Ok set
 policies_of i set (item d ds) = and_then (added i set d) (λ next. policies_of (i + 1) next ds)

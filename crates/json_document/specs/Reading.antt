@@ -39,25 +39,41 @@ or_place p (Some x) = Ok x
 
 abbrev pub document : SchemaData → PolicySetData → List Edit → Store → Request → List Request → Document
 document schema policies edits entities request requests =
-    record { schema = schema; policies = policies; edits = edits; entities = entities; request = request; requests = requests }
+    record {
+      schema = schema;
+      policies = policies;
+      edits = edits;
+      entities = entities;
+      request = request;
+      requests = requests;
+    }
 
--- Reading goes on behind the schema, the policies, the edits, the entities and the request: each part in turn, up to the first fault.
-abbrev pub IsReadBehindRequest : DocumentParts → SchemaData → PolicySetData → List Edit → Store → Request → Result Document Place → Type 0
+-- Reading goes on behind the schema, the policies, the edits, the entities and the request: each part in
+-- turn, up to the first fault.
+abbrev pub IsReadBehindRequest : DocumentParts → SchemaData → PolicySetData →
+    List Edit → Store → Request → Result Document Place → Type 0
 IsReadBehindRequest parts schema policies edits entities request =
-    Then (λ r. r ≡ requests_of [] parts.requests) (λ requests r. r ≡ Ok (document schema policies edits entities request requests))
+    Then (λ r. r ≡ requests_of [] parts.requests)
+    (λ requests r. r ≡ Ok (document schema policies edits entities request requests))
 
-abbrev pub IsReadBehindStore : DocumentParts → SchemaData → PolicySetData → List Edit → Store → Result Document Place → Type 0
+abbrev pub IsReadBehindStore : DocumentParts → SchemaData →
+    PolicySetData → List Edit → Store → Result Document Place → Type 0
 IsReadBehindStore parts schema policies edits entities =
-    Then (λ r. r ≡ or_place place.Request (request_of parts.request)) (IsReadBehindRequest parts schema policies edits entities)
+    Then (λ r. r ≡ or_place place.Request (request_of parts.request))
+    (IsReadBehindRequest parts schema policies edits entities)
 
-abbrev pub IsReadBehindEdits : DocumentParts → SchemaData → PolicySetData → List Edit → Result Document Place → Type 0
-IsReadBehindEdits parts schema policies edits = Then (IsStoreOf parts.entities) (IsReadBehindStore parts schema policies edits)
+abbrev pub IsReadBehindEdits : DocumentParts → SchemaData →
+    PolicySetData → List Edit → Result Document Place → Type 0
+IsReadBehindEdits parts schema policies edits =
+    Then (IsStoreOf parts.entities) (IsReadBehindStore parts schema policies edits)
 
 abbrev pub IsReadBehindPolicies : DocumentParts → SchemaData → PolicySetData → Result Document Place → Type 0
-IsReadBehindPolicies parts schema policies = Then (λ r. r ≡ edits_of [] parts.edits) (IsReadBehindEdits parts schema policies)
+IsReadBehindPolicies parts schema policies =
+    Then (λ r. r ≡ edits_of [] parts.edits) (IsReadBehindEdits parts schema policies)
 
 abbrev pub IsReadBehindSchema : DocumentParts → SchemaData → Result Document Place → Type 0
-IsReadBehindSchema parts schema = Then (λ r. r ≡ policies_of 0 no_policies parts.policies) (IsReadBehindPolicies parts schema)
+IsReadBehindSchema parts schema =
+    Then (λ r. r ≡ policies_of 0 no_policies parts.policies) (IsReadBehindPolicies parts schema)
 
 -- the document that the parts make, or the place of the first fault
 abbrev pub IsReadFrom : DocumentParts → Result Document Place → Type 0

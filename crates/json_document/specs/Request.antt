@@ -20,7 +20,9 @@ known_of (Some d) = if is_some (as_null d) then Some None else option_map Some (
 -- a context; one that is absent or null is unknown
 abbrev pub context_of : Option Data → Option (Option Fields)
 context_of None = Some None
-context_of (Some d) = if is_some (as_null d) then Some None else option_map (λ es. Some (fields_of es)) (option_and_then value_entries_of (as_object d))
+context_of (Some d) =
+    if is_some (as_null d) then Some None
+    else option_map (λ es. Some (fields_of es)) (option_and_then value_entries_of (as_object d))
 
 abbrev pub request_names : List (List ℕ)
 request_names = codes "principal" ∷ codes "action" ∷ codes "resource" ∷ codes "context" ∷ []
@@ -47,4 +49,5 @@ request_of (Some d) = given_request_of d
 -- those before, and the requests of the items; else the place of the first item that is none
 abbrev pub requests_of : List Request → Items → Result (List Request) Place
 requests_of before no_items = Ok before
-requests_of before (item d ds) = option_map_or (λ q. requests_of (before ++ q ∷ []) ds) (given_request_of d) (Err (place.RequestAt (length before)))
+requests_of before (item d ds) = option_map_or (λ q. requests_of (before ++ q ∷ []) ds)
+    (given_request_of d) (Err (place.RequestAt (length before)))

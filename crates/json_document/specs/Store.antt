@@ -15,11 +15,12 @@ use Rattle.json_document.specs.declared.place.Place.TheVariants.{EntityDuplicate
 use Rattle.json_document.specs.declared.place.DocumentFault.{DocumentFault}
 use Rattle.json_document.specs.declared.place.DocumentFault.TheVariants as fault
 
--- the place of the fault for which the entities make no store: the first id that stands earlier; where none does, the
--- entity of the least id that is its own ancestor
+-- the place of the fault for which the entities make no store: the first id that stands earlier; where none
+-- does, the entity of the least id that is its own ancestor
 abbrev pub IsStoreFault : List StoredEntity → Place → Type 0
 IsStoreFault es (EntityDuplicate i) = IsLeast nat_cmp (StandsEarlier (ids_of es)) i
-IsStoreFault es (EntityCycle i) = (uid : EntityUID) × IsRefused es (refused.Cycle uid) × (i ≡ index_from 0 uid (ids_of es))
+IsStoreFault es (EntityCycle i) =
+    (uid : EntityUID) × IsRefused es (refused.Cycle uid) × (i ≡ index_from 0 uid (ids_of es))
 IsStoreFault es _ = ⊥
 
 -- what reading comes to where these entities are read, or a place before

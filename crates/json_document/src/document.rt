@@ -18,6 +18,7 @@ use serde_json::Value;
 use std::alloc::Global;
 
 /// A schema, policies or edits to them, entities, and a request or several.
+#[derive(Debug)]
 pub struct Document {
     /// The schema.
     pub schema: ValidatorSchema,

@@ -5,7 +5,7 @@ use policy_set::Template;
 use policy_values::Text;
 
 /// What is to be done to a set of policies.
-#[derive(Drop)]
+#[derive(Debug, Drop)]
 pub enum Edit {
     /// This policy is to be added, or this template where slots stand in its scope.
     Policy(Template),

@@ -14,7 +14,7 @@ use std::alloc::{AllocError, Global};
 use std::marker::Model;
 
 /// Edits, in their order; contracts see them as their list.
-#[derive(Drop)]
+#[derive(Debug, Drop)]
 pub struct Edits {
     items: Vec<Edit>,
 }
@@ -85,7 +85,8 @@ fn addition(index: usize, read: Option<PolicyRead>) -> Result<Edit, DocumentFaul
     }
 }
 
-// The edit that the value is: a removal, where it has the member `remove`, else what a list of policies may have.
+// The edit that the value is: a removal, where it has the member `remove`, else what a list of policies
+// may have.
 fn read_edit(alloc: Global, index: usize, value: &Value) -> Result<Edit, DocumentFault>
     ensures { ComesTo (λ e. e) result (edit_at index (view value.now)) }
 {

@@ -52,8 +52,8 @@ fn parent_of(entity: Option<&Entity>) -> Option<&EntityUID> {
     }
 }
 
-// The entity of the members. Its ids share the characters of their types with those of the entity before, where they
-// can.
+// The entity of the members. Its ids share the characters of their types with those of the entity before,
+// where they can.
 #[tactic(auto, unfolding(crate::specs::Entities::given_entity_of))]
 fn read_given_entity(
     alloc: Global,

@@ -1,5 +1,5 @@
-//! Documents in JSON: the schema, the policies or the edits to them, the entities and the requests that they declare, and
-//! where the first fault is.
+//! Documents in JSON: the schema, the policies or the edits to them, the entities and the requests that they
+//! declare, and where the first fault is.
 #![tactic(auto)]
 
 mod document;

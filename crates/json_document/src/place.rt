@@ -4,8 +4,8 @@ use schema_core::SchemaFault;
 use std::alloc::{AllocError, AllocFailed};
 use std::fmt;
 
-/// Where the first fault of a document is. The places have the order of the variants, but for the policies, which are
-/// read one after the other.
+/// Where the first fault of a document is. The places have the order of the variants, but for the policies,
+/// which are read one after the other.
 #[derive(Debug, Drop)]
 pub enum Place {
     /// The bytes are no JSON value.

@@ -11,8 +11,8 @@ use Rattle.json_values.specs.Lists.{with_first, with_field}
 use Rattle.json_expressions.specs.declared.forms.Form.{Form}
 use Rattle.json_expressions.specs.declared.forms.Form.TheVariants as form
 
--- what the value of an object's one member may be read as: an expression, a list of them, a list that begins with one,
--- a list that has them behind its first item, and named ones
+-- what the value of an object's one member may be read as: an expression, a list of them, a list that begins
+-- with one, a list that has them behind its first item, and named ones
 pub record Operands : Type 0 where
   pub one : Option Plain
   pub all : Option (List Plain)
@@ -21,7 +21,8 @@ pub record Operands : Type 0 where
   pub fields : Option (List (List ℕ × Plain))
 
 -- first the names behind it, then the expression
-abbrev pub named_tree : Option (List (List ℕ)) → (List (List ℕ) → Plain → Option Plain) → Option Plain → Option Plain
+abbrev pub named_tree : Option (List (List ℕ)) →
+    (List (List ℕ) → Plain → Option Plain) → Option Plain → Option Plain
 named_tree names f first = option_and_then (λ ns. option_and_then (f ns) first) names
 
 -- first the part that is no expression, then the operands
@@ -49,7 +50,8 @@ is_place k l = bytes_eq k (codes "at") && bytes_eq l (codes "of")
 
 -- an expression behind its place, which goes before a place further inside
 unfoldable pub placed_tree : List ℕ → Data → List ℕ → Option Plain → Option Plain
-placed_tree k place l inner = if is_place k l then option_and_then (λ p. option_map (placed p) inner) (loc_of place) else None
+placed_tree k place l inner =
+    if is_place k l then option_and_then (λ p. option_map (placed p) inner) (loc_of place) else None
 
 -- The expression that a JSON value says, of any depth.
 abbrev mutual
@@ -112,6 +114,22 @@ abbrev mutual
   -- an object with one member, or with a place and the expression that stands there
   pub expr_of_members : Members → Option Plain
   expr_of_members no_members = None
-  expr_of_members (member k d no_members) = named_form_tree k d (record { one = expr_of d; all = operands_all d; first = operands_first d; behind = operands_behind d; fields = operands_fields d })
+  expr_of_members (member k d no_members) = named_form_tree k d (record {
+    one = expr_of d;
+    all = operands_all d;
+    first = operands_first d;
+    behind = operands_behind d;
+    fields = operands_fields d;
+  })
   expr_of_members (member k d (member l e no_members)) = placed_tree k d l (expr_of e)
   expr_of_members (member k d (member l e (member m f ms))) = None
+
+-- what the value of an object's one member is read as
+abbrev pub operands_of : Data → Operands
+operands_of d = record {
+  one = expr_of d;
+  all = operands_all d;
+  first = operands_first d;
+  behind = operands_behind d;
+  fields = operands_fields d;
+}

@@ -65,7 +65,8 @@ binary_named key = or_else (sign_named key) (call_named key)
 -- what is made of a list of operands
 abbrev pub list_form_named : List ℕ → Option ListForm
 list_form_named key = or_else
-    (beside ((codes "all", listed.Fold All) ∷ (codes "any", listed.Fold Any) ∷ (codes "if", listed.If) ∷ []) key)
+    (beside
+    ((codes "all", listed.Fold All) ∷ (codes "any", listed.Fold Any) ∷ (codes "if", listed.If) ∷ []) key)
     (option_map listed.Binary (binary_named key))
 
 abbrev pub other_form_named : List ℕ → Option Form

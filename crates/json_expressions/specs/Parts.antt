@@ -34,7 +34,8 @@ elements_of (object ms) = None
 
 abbrev pub pattern_of_items : Items → Option (List PatternElem)
 pattern_of_items no_items = Some []
-pattern_of_items (item d ds) = option_and_then (λ p. option_map (λ q. p ++ q) (pattern_of_items ds)) (elements_of d)
+pattern_of_items (item d ds) =
+    option_and_then (λ p. option_map (λ q. p ++ q) (pattern_of_items ds)) (elements_of d)
 
 -- the second item, where there are two
 abbrev pub second_of : Data → Option Data

@@ -6,7 +6,7 @@ ghost use Rattle.policy_expressions.specs.Tree.{lit};
 ghost use Rattle.json_expressions.specs.Forms.{call_tree, get_tree, has_tree, id_tree, in_turn, like_tree, listed_tree, long_tree, of_one, placed, record_tree, set_tree, type_test_tree, unary_tree, unmarked, var_tree};
 ghost use Rattle.json_expressions.specs.Parts.{called_name_of, attr_names_of, pattern_of, tested_type_of};
 ghost use Rattle.json_expressions.specs.Reads.{bounded, bounded_field};
-ghost use Rattle.json_expressions.specs.Exprs.{expr_of, expr_of_members, exprs_of, first_expr_of, formed_tree, named_exprs_of, named_form_tree, named_tree, operands_all, operands_fields, operands_behind, operands_first, is_place, placed_tree, with_part};
+ghost use Rattle.json_expressions.specs.Exprs.{expr_of, expr_of_members, exprs_of, first_expr_of, formed_tree, named_exprs_of, named_form_tree, named_tree, operands_all, operands_fields, operands_behind, operands_first, operands_of, is_place, placed_tree, with_part};
 
 use crate::forms::{Form, ListForm, form_named, var_named};
 use crate::nesting::Bounded;
@@ -60,8 +60,9 @@ fn is_place(first: &str, second: &str) -> bool
     first == "at" && second == "of"
 }
 
-/// The expression that a JSON value says, where it says one; `Nested`, where that is nested deeper than 400. What an
-/// object holds is looked at to its end also where it is nested too deep, since a fault of the form comes first.
+/// The expression that a JSON value says, where it says one; `Nested`, where that is nested deeper than 400.
+/// What an object holds is looked at to its end also where it is nested too deep, since a fault of the form
+/// comes first.
 #[cycle(expr)]
 pub fn read_expr(alloc: Global, value: &Value) -> Result<Option<Bounded<Expr<()>>>, AllocError>
     ensures { IfOk result (λ o. o ≡ option_map bounded (expr_of (view value.now))) }
@@ -82,7 +83,8 @@ pub fn read_expr(alloc: Global, value: &Value) -> Result<Option<Bounded<Expr<()>
 #[cycle(expr)]
 #[tactic(auto, using(crate::proofs::Bounds::set_reads))]
 fn read_set(alloc: Global, items: &Vec<Value>) -> Result<Option<Bounded<Expr<()>>>, AllocError>
-    ensures { IfOk result (λ o. o ≡ option_map bounded (option_map set_tree (exprs_of (items_view items.now.items)))) }
+    ensures { IfOk result
+        (λ o. o ≡ option_map bounded (option_map set_tree (exprs_of (items_view items.now.items)))) }
 {
     let reads = read_items(alloc, items.as_slice())?;
     set(alloc, reads)
@@ -90,7 +92,8 @@ fn read_set(alloc: Global, items: &Vec<Value>) -> Result<Option<Bounded<Expr<()>
 
 #[cycle(expr)]
 fn read_items(alloc: Global, items: &[Value]) -> Result<Option<Vec<Bounded<Expr<()>>>>, AllocError>
-    ensures { IfOk result (λ o. option_map (λ v. v.items) o ≡ option_map (map bounded) (exprs_of (items_view items.now))) }
+    ensures { IfOk result (λ o. option_map (λ v. v.items) o ≡
+        option_map (map bounded) (exprs_of (items_view items.now))) }
 {
     let mut all = Vec::new(alloc);
     for item in items {
@@ -136,7 +139,8 @@ fn read_placed(
     first: &str,
     loc: &Value,
 ) -> Result<Option<Bounded<Expr<()>>>, AllocError>
-    ensures { IfOk result (λ o. o ≡ option_map bounded (placed_tree first.now (view loc.now) second.now (expr_of (view inner.now)))) }
+    ensures { IfOk result (λ o. o ≡
+        option_map bounded (placed_tree first.now (view loc.now) second.now (expr_of (view inner.now)))) }
 {
     if !is_place(first, second) {
         return Ok(None);
@@ -163,7 +167,8 @@ fn read_named_form(
     value: &Value,
     key: &str,
 ) -> Result<Option<Bounded<Expr<()>>>, AllocError>
-    ensures { IfOk result (λ o. o ≡ option_map bounded (named_form_tree key.now (view value.now) (record { one = expr_of (view value.now); all = operands_all (view value.now); first = operands_first (view value.now); behind = operands_behind (view value.now); fields = operands_fields (view value.now) }))) }
+    ensures { IfOk result (λ o. o ≡
+        option_map bounded (named_form_tree key.now (view value.now) (operands_of (view value.now)))) }
 {
     match form_named(key) {
         Some(form) => read_form(alloc, value, form),
@@ -177,7 +182,8 @@ fn read_form(
     value: &Value,
     form: Form,
 ) -> Result<Option<Bounded<Expr<()>>>, AllocError>
-    ensures { IfOk result (λ o. o ≡ option_map bounded (formed_tree form (view value.now) (record { one = expr_of (view value.now); all = operands_all (view value.now); first = operands_first (view value.now); behind = operands_behind (view value.now); fields = operands_fields (view value.now) }))) }
+    ensures { IfOk result (λ o. o ≡
+        option_map bounded (formed_tree form (view value.now) (operands_of (view value.now)))) }
 {
     match form {
         Form::Id => read_id(alloc, value),
@@ -200,7 +206,8 @@ fn read_unary(
     value: &Value,
     op: UnaryOp,
 ) -> Result<Option<Bounded<Expr<()>>>, AllocError>
-    ensures { IfOk result (λ o. o ≡ option_map bounded (option_map (unary_tree op) (expr_of (view value.now)))) }
+    ensures { IfOk result
+        (λ o. o ≡ option_map bounded (option_map (unary_tree op) (expr_of (view value.now)))) }
 {
     let read = read_expr(alloc, value)?;
     unary(alloc, op, read)
@@ -212,7 +219,8 @@ fn read_list(
     value: &Value,
     form: ListForm,
 ) -> Result<Option<Bounded<Expr<()>>>, AllocError>
-    ensures { IfOk result (λ o. o ≡ option_map bounded (option_and_then (listed_tree form) (operands_all (view value.now)))) }
+    ensures { IfOk result (λ o. o ≡
+        option_map bounded (option_and_then (listed_tree form) (operands_all (view value.now)))) }
 {
     match value {
         Value::Array(items) => read_operands(alloc, items.as_slice(), form),
@@ -227,7 +235,8 @@ fn read_operands(
     items: &[Value],
     form: ListForm,
 ) -> Result<Option<Bounded<Expr<()>>>, AllocError>
-    ensures { IfOk result (λ o. o ≡ option_map bounded (option_and_then (listed_tree form) (exprs_of (items_view items.now)))) }
+    ensures { IfOk result (λ o. o ≡
+        option_map bounded (option_and_then (listed_tree form) (exprs_of (items_view items.now)))) }
 {
     let reads = read_items(alloc, items)?;
     list_form(alloc, form, reads)
@@ -248,7 +257,8 @@ fn read_first(alloc: Global, value: &Value) -> Result<Option<Bounded<Expr<()>>>,
 
 #[cycle(expr)]
 fn read_get(alloc: Global, value: &Value) -> Result<Option<Bounded<Expr<()>>>, AllocError>
-    ensures { IfOk result (λ o. o ≡ option_map bounded (named_tree (attr_names_of (view value.now)) (in_turn get_tree) (operands_first (view value.now)))) }
+    ensures { IfOk result (λ o. o ≡ option_map bounded (named_tree
+        (attr_names_of (view value.now)) (in_turn get_tree) (operands_first (view value.now)))) }
 {
     let Some(names) = read_names(alloc, value)? else {
         return Ok(None);
@@ -259,7 +269,8 @@ fn read_get(alloc: Global, value: &Value) -> Result<Option<Bounded<Expr<()>>>, A
 
 #[cycle(expr)]
 fn read_has(alloc: Global, value: &Value) -> Result<Option<Bounded<Expr<()>>>, AllocError>
-    ensures { IfOk result (λ o. o ≡ option_map bounded (named_tree (attr_names_of (view value.now)) (of_one has_tree) (operands_first (view value.now)))) }
+    ensures { IfOk result (λ o. o ≡ option_map bounded (named_tree
+        (attr_names_of (view value.now)) (of_one has_tree) (operands_first (view value.now)))) }
 {
     let Some(names) = read_names(alloc, value)? else {
         return Ok(None);
@@ -270,7 +281,8 @@ fn read_has(alloc: Global, value: &Value) -> Result<Option<Bounded<Expr<()>>>, A
 
 #[cycle(expr)]
 fn read_like(alloc: Global, value: &Value) -> Result<Option<Bounded<Expr<()>>>, AllocError>
-    ensures { IfOk result (λ o. o ≡ option_map bounded (with_part like_tree (pattern_of (view value.now)) (operands_first (view value.now)))) }
+    ensures { IfOk result (λ o. o ≡ option_map bounded
+        (with_part like_tree (pattern_of (view value.now)) (operands_first (view value.now)))) }
 {
     match read_pattern(alloc, value)? {
         Some(pattern) => read_matched(alloc, value, pattern),
@@ -285,7 +297,8 @@ fn read_matched(
     value: &Value,
     pattern: Pattern,
 ) -> Result<Option<Bounded<Expr<()>>>, AllocError>
-    ensures { IfOk result (λ o. o ≡ option_map bounded (option_map (like_tree pattern) (operands_first (view value.now)))) }
+    ensures { IfOk result (λ o. o ≡
+        option_map bounded (option_map (like_tree pattern) (operands_first (view value.now)))) }
 {
     let read = read_first(alloc, value)?;
     like(alloc, pattern, read)
@@ -293,7 +306,8 @@ fn read_matched(
 
 #[cycle(expr)]
 fn read_is(alloc: Global, value: &Value) -> Result<Option<Bounded<Expr<()>>>, AllocError>
-    ensures { IfOk result (λ o. o ≡ option_map bounded (with_part type_test_tree (tested_type_of (view value.now)) (operands_first (view value.now)))) }
+    ensures { IfOk result (λ o. o ≡ option_map bounded
+        (with_part type_test_tree (tested_type_of (view value.now)) (operands_first (view value.now)))) }
 {
     match read_type(alloc, value)? {
         Some(entity_type) => read_typed(alloc, value, entity_type),
@@ -308,7 +322,8 @@ fn read_typed(
     value: &Value,
     entity_type: EntityType,
 ) -> Result<Option<Bounded<Expr<()>>>, AllocError>
-    ensures { IfOk result (λ o. o ≡ option_map bounded (option_map (type_test_tree entity_type) (operands_first (view value.now)))) }
+    ensures { IfOk result (λ o. o ≡
+        option_map bounded (option_map (type_test_tree entity_type) (operands_first (view value.now)))) }
 {
     let read = read_first(alloc, value)?;
     is_of_type(alloc, entity_type, read)
@@ -316,7 +331,8 @@ fn read_typed(
 
 #[cycle(expr)]
 fn read_call(alloc: Global, value: &Value) -> Result<Option<Bounded<Expr<()>>>, AllocError>
-    ensures { IfOk result (λ o. o ≡ option_map bounded (with_part call_tree (called_name_of (view value.now)) (operands_behind (view value.now)))) }
+    ensures { IfOk result (λ o. o ≡ option_map bounded
+        (with_part call_tree (called_name_of (view value.now)) (operands_behind (view value.now)))) }
 {
     match read_function(alloc, value)? {
         Some(name) => read_called(alloc, value, name),
@@ -330,7 +346,8 @@ fn read_called(
     value: &Value,
     name: Name,
 ) -> Result<Option<Bounded<Expr<()>>>, AllocError>
-    ensures { IfOk result (λ o. o ≡ option_map bounded (option_map (call_tree name) (operands_behind (view value.now)))) }
+    ensures { IfOk result
+        (λ o. o ≡ option_map bounded (option_map (call_tree name) (operands_behind (view value.now)))) }
 {
     let reads = read_behind_first(alloc, value)?;
     call(alloc, name, reads)
@@ -341,7 +358,8 @@ fn read_behind_first(
     alloc: Global,
     value: &Value,
 ) -> Result<Option<Vec<Bounded<Expr<()>>>>, AllocError>
-    ensures { IfOk result (λ o. option_map (λ v. v.items) o ≡ option_map (map bounded) (operands_behind (view value.now))) }
+    ensures { IfOk result (λ o. option_map (λ v. v.items) o ≡
+        option_map (map bounded) (operands_behind (view value.now))) }
 {
     let Value::Array(items) = value else {
         return Ok(None);
@@ -354,7 +372,8 @@ fn read_behind_first(
 
 #[cycle(expr)]
 fn read_record(alloc: Global, value: &Value) -> Result<Option<Bounded<Expr<()>>>, AllocError>
-    ensures { IfOk result (λ o. o ≡ option_map bounded (option_map record_tree (operands_fields (view value.now)))) }
+    ensures { IfOk result
+        (λ o. o ≡ option_map bounded (option_map record_tree (operands_fields (view value.now)))) }
 {
     match value {
         Value::Object(members) => read_named(alloc, members),
@@ -368,7 +387,8 @@ fn read_named(
     alloc: Global,
     members: &Map<String, Value>,
 ) -> Result<Option<Bounded<Expr<()>>>, AllocError>
-    ensures { IfOk result (λ o. o ≡ option_map bounded (option_map record_tree (named_exprs_of (members_view members.now.entries)))) }
+    ensures { IfOk result (λ o. o ≡
+        option_map bounded (option_map record_tree (named_exprs_of (members_view members.now.entries)))) }
 {
     let reads = read_fields(alloc, members)?;
     record(alloc, reads)
@@ -379,7 +399,8 @@ fn read_fields(
     alloc: Global,
     members: &Map<String, Value>,
 ) -> Result<Option<BTreeMap<Text, Bounded<Expr<()>>>>, AllocError>
-    ensures { IfOk result (λ o. option_map (λ m. m.entries) o ≡ option_map (map bounded_field) (named_exprs_of (members_view members.now.entries))) }
+    ensures { IfOk result (λ o. option_map (λ m. m.entries) o ≡
+        option_map (map bounded_field) (named_exprs_of (members_view members.now.entries))) }
 {
     let mut fields = BTreeMap::new(alloc);
     for (key, member) in members.iter() {

@@ -42,7 +42,7 @@ pub(crate) enum ListForm {
 }
 
 /// How operands are joined.
-#[derive(Clone, Copy)]
+#[derive(Clone, Copy, Debug)]
 pub enum Junction {
     /// By `&&`.
     All,

@@ -8,7 +8,7 @@ use std::alloc::{AllocError, Global};
 use std::collections::BTreeMap;
 
 /// What is read where something may be nested too deep.
-#[derive(Drop)]
+#[derive(Debug, Drop)]
 pub enum Bounded<T> {
     /// It is nested no deeper than 400.
     Within(T),

@@ -55,7 +55,8 @@ fn push_elements(
     elements: Vec<PatternElem>,
     value: &Value,
 ) -> Result<Option<Vec<PatternElem>>, AllocError>
-    ensures { IfOk result (λ o. option_map (λ all. all.items) o ≡ option_map (λ more. elements.items ++ more) (elements_of (view value.now))) }
+    ensures { IfOk result (λ o. option_map (λ all. all.items) o ≡
+        option_map (λ more. elements.items ++ more) (elements_of (view value.now))) }
 {
     match value {
         Value::Null => Ok(Some(with_item(elements, PatternElem::Wildcard)?)),
@@ -65,7 +66,8 @@ fn push_elements(
 }
 
 fn read_elements(alloc: Global, items: &Vec<Value>) -> Result<Option<Vec<PatternElem>>, AllocError>
-    ensures { IfOk result (λ o. option_map (λ all. all.items) o ≡ pattern_of_items (items_view items.now.items)) }
+    ensures { IfOk result
+        (λ o. option_map (λ all. all.items) o ≡ pattern_of_items (items_view items.now.items)) }
 {
     let mut elements = Vec::new(alloc);
     for item in items {

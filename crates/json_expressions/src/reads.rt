@@ -445,7 +445,8 @@ pub(crate) fn set(
     alloc: Global,
     reads: Option<Vec<Bounded<Expr<()>>>>,
 ) -> Result<Option<Bounded<Expr<()>>>, AllocError>
-    ensures { IfOk result (λ o. o ≡ option_map (λ rs. on_all set_tree (all_within rs)) (option_map (λ v. v.items) reads)) }
+    ensures { IfOk result
+        (λ o. o ≡ option_map (λ rs. on_all set_tree (all_within rs)) (option_map (λ v. v.items) reads)) }
 {
     match reads {
         Some(reads) => Ok(Some(set_of_all(alloc, reads)?)),
@@ -472,7 +473,8 @@ pub(crate) fn call(
     name: Name,
     reads: Option<Vec<Bounded<Expr<()>>>>,
 ) -> Result<Option<Bounded<Expr<()>>>, AllocError>
-    ensures { IfOk result (λ o. o ≡ option_map (λ rs. on_all (call_tree name) (all_within rs)) (option_map (λ v. v.items) reads)) }
+    ensures { IfOk result (λ o. o ≡
+        option_map (λ rs. on_all (call_tree name) (all_within rs)) (option_map (λ v. v.items) reads)) }
 {
     match reads {
         Some(reads) => Ok(Some(call_of_all(alloc, name, reads)?)),
@@ -497,7 +499,8 @@ pub(crate) fn record(
     alloc: Global,
     reads: Option<BTreeMap<Text, Bounded<Expr<()>>>>,
 ) -> Result<Option<Bounded<Expr<()>>>, AllocError>
-    ensures { IfOk result (λ o. o ≡ option_map (λ rs. on_all record_tree (fields_within rs)) (option_map (λ m. m.entries) reads)) }
+    ensures { IfOk result (λ o. o ≡
+        option_map (λ rs. on_all record_tree (fields_within rs)) (option_map (λ m. m.entries) reads)) }
 {
     match reads {
         Some(reads) => Ok(Some(record_of_all(alloc, reads)?)),

@@ -35,7 +35,10 @@ with_one o os = option_and_then (λ x. option_map (λ xs. x ∷ xs) os) o
 
 -- a condition that is to hold, or one that is not to
 abbrev pub clause_form : List ℕ → Option Plain → Option Plain
-clause_form key o = if bytes_eq key (codes "when") then o else (if bytes_eq key (codes "unless") then option_map negated o else None)
+clause_form key o =
+    if bytes_eq key (codes "when") then o
+    else (if bytes_eq key (codes "unless") then option_map negated o
+    else None)
 
 unfoldable pub clause_of : Data → Option Plain
 clause_of d = option_and_then (λ m. clause_form m.0 (expr_of m.1)) (option_and_then only_member (as_object d))
@@ -51,7 +54,8 @@ or_anything (Some x) = x
 
 -- the clauses folded from the left by &&; an absent body has none
 abbrev pub body_of : Option Data → Option Plain
-body_of o = option_map (λ cs. or_anything (left_fold conjunction None cs)) (option_and_then clauses_of (list_of o))
+body_of o =
+    option_map (λ cs. or_anything (left_fold conjunction None cs)) (option_and_then clauses_of (list_of o))
 
 -- where nothing was read, the literal true
 abbrev pub or_true : Option (Bounded Plain) → Bounded Plain

@@ -15,7 +15,8 @@ given_id (Some d) = option_map Some (uid_of d)
 abbrev pub link_names : List (List ℕ)
 link_names = codes "id" ∷ codes "link" ∷ codes "principal" ∷ codes "resource" ∷ []
 
--- the link of an object without other members: its id, that of its template, and the ids for the template's slots
+-- the link of an object without other members: its id, that of its template, and the ids for the
+-- template's slots
 unfoldable pub link_of : Data → Option TemplateLink
 link_of d = do
   members ← as_object d
@@ -23,4 +24,9 @@ link_of d = do
   template ← option_and_then as_str (get (codes "link") d)
   principal ← given_id (get (codes "principal") d)
   resource ← given_id (get (codes "resource") d)
-  if has_only link_names members then Some (record { id = id; template = template; values = record { principal = principal; resource = resource } }) else None
+  if has_only link_names members then Some (record {
+    id = id;
+    template = template;
+    values = record { principal = principal; resource = resource };
+  })
+      else None

@@ -21,13 +21,17 @@ use Rattle.json_policies.specs.declared.policy.PolicyRead.{PolicyRead}
 use Rattle.json_policies.specs.declared.policy.PolicyRead.TheVariants.{Policy, Link, Nested}
 
 abbrev pub effect_of_text : List ℕ → Option Effect
-effect_of_text text = if bytes_eq text (codes "permit") then Some Permit else (if bytes_eq text (codes "forbid") then Some Forbid else None)
+effect_of_text text =
+    if bytes_eq text (codes "permit") then Some Permit
+    else (if bytes_eq text (codes "forbid") then Some Forbid
+    else None)
 
 abbrev pub effect_of : Data → Option Effect
 effect_of d = option_and_then effect_of_text (as_str d)
 
 abbrev pub policy_names : List (List ℕ)
-policy_names = codes "id" ∷ codes "effect" ∷ codes "principal" ∷ codes "action" ∷ codes "resource" ∷ codes "body" ∷ []
+policy_names =
+    codes "id" ∷ codes "effect" ∷ codes "principal" ∷ codes "action" ∷ codes "resource" ∷ codes "body" ∷ []
 
 -- the parts that the members of the policy give, but for its body
 unfoldable pub policy_parts_of : Data → Option PolicyParts
@@ -41,7 +45,14 @@ policy_parts_of d = do
 
 -- the policy of the parts, with this body
 abbrev pub policy_of_parts : PolicyParts → Plain → TemplateData
-policy_of_parts p body = record { id = p.id; effect = p.effect; principal = p.principal; action = p.action; resource = p.resource; body = body }
+policy_of_parts p body = record {
+  id = p.id;
+  effect = p.effect;
+  principal = p.principal;
+  action = p.action;
+  resource = p.resource;
+  body = body;
+}
 
 abbrev pub policy_with_body : Option PolicyParts → Option Plain → Option TemplateData
 policy_with_body parts body = do
@@ -49,11 +60,13 @@ policy_with_body parts body = do
   body ← body
   Some (policy_of_parts parts body)
 
--- the policy or the template that the value is, of any depth and with any expressions: an object with no other members
+-- the policy or the template that the value is, of any depth and with any expressions: an object with no
+-- other members
 unfoldable pub policy_of : Data → Option TemplateData
 policy_of d = do
   members ← as_object d
-  if has_only policy_names members then policy_with_body (policy_parts_of d) (body_of (get (codes "body") d)) else None
+  if has_only policy_names members then policy_with_body (policy_parts_of d) (body_of (get (codes "body") d))
+      else None
 
 -- the condition is nested deeper than 400
 abbrev pub is_too_deep : TemplateData → Bool
@@ -68,6 +81,9 @@ abbrev pub read_with : PolicyParts → Bounded Plain → Option PolicyRead
 read_with p (read.Within x) = read_of (policy_of_parts p x)
 read_with p read.Nested = Some Nested
 
--- what the value says where a document has a policy: a link, where it has the member `link`, else a policy or a template
+-- what the value says where a document has a policy: a link, where it has the member `link`, else a policy or
+-- a template
 unfoldable pub entry_of : Data → Option PolicyRead
-entry_of d = if is_some (get (codes "link") d) then option_map Link (link_of d) else option_and_then read_of (policy_of d)
+entry_of d =
+    if is_some (get (codes "link") d) then option_map Link (link_of d)
+    else option_and_then read_of (policy_of d)

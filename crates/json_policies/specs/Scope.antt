@@ -46,7 +46,8 @@ scope_names = codes "==" ∷ codes "in" ∷ codes "is" ∷ []
 unfoldable pub given_constraint_of : Data → Option PrincipalOrResourceConstraint
 given_constraint_of d = do
   members ← as_object d
-  if has_only scope_names members then asked (get (codes "==") d) (get (codes "in") d) (get (codes "is") d) else None
+  if has_only scope_names members then asked (get (codes "==") d) (get (codes "in") d) (get (codes "is") d)
+      else None
 
 -- an absent part asks nothing
 abbrev pub constraint_of : Option Data → Option PrincipalOrResourceConstraint
@@ -55,7 +56,10 @@ constraint_of (Some d) = given_constraint_of d
 
 -- the action by `==`, or actions by `in`
 abbrev pub action_form : List ℕ → Option EntityUID → Option (List EntityUID) → Option ActionConstraint
-action_form key uid uids = if bytes_eq key (codes "==") then option_map action.Eq uid else (if bytes_eq key (codes "in") then option_map action.In uids else None)
+action_form key uid uids =
+    if bytes_eq key (codes "==") then option_map action.Eq uid
+    else (if bytes_eq key (codes "in") then option_map action.In uids
+    else None)
 
 abbrev pub action_form_of : Members → Option ActionConstraint
 action_form_of ms = option_and_then (λ m. action_form m.0 (uid_of m.1) (uids_of (Some m.1))) (only_member ms)

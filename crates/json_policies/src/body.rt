@@ -61,7 +61,9 @@ fn read_clause(alloc: Global, value: &Value) -> Result<Option<Bounded<Expr<()>>>
 }
 
 fn read_clauses(alloc: Global, items: &[Value]) -> Result<Option<Bounded<Expr<()>>>, AllocError>
-    ensures { IfOk result (λ o. o ≡ option_map (λ cs. or_true (left_fold (on_two (join_tree Junction.All)) None (map bounded cs))) (clauses_of (items_view items.now))) }
+    ensures { IfOk result (λ o. o ≡
+        option_map (λ cs. or_true (left_fold (on_two (join_tree Junction.All)) None (map bounded cs)))
+        (clauses_of (items_view items.now))) }
 {
     let mut all = None;
     for item in items {

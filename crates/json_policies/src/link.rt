@@ -12,7 +12,7 @@ use serde_json::Value;
 use std::alloc::{AllocError, Global};
 
 /// A link of a template, as a document gives it.
-#[derive(Drop)]
+#[derive(Debug, Drop)]
 pub struct TemplateLink {
     /// Its own id.
     pub id: Text,

@@ -20,7 +20,7 @@ use serde_json::Value;
 use std::alloc::{AllocError, Global};
 
 /// What is read where a document has a policy.
-#[derive(Drop)]
+#[derive(Debug, Drop)]
 pub enum PolicyRead {
     /// A policy, or a template where slots stand in its scope.
     Policy(Template),
@@ -31,7 +31,7 @@ pub enum PolicyRead {
 }
 
 /// The parts of a policy but for its body, as a document gives them.
-#[derive(Drop)]
+#[derive(Debug, Drop)]
 pub struct PolicyParts {
     /// Its id.
     pub id: Text,
@@ -148,7 +148,8 @@ fn with_body(
 // The body is read last, so that nothing of it has to be let go at a fault in another part.
 #[tactic(auto, using(crate::proofs::Depths::whole_read))]
 fn read_whole(alloc: Global, value: &Value) -> Result<Option<PolicyRead>, AllocError>
-    ensures { IfOk result (λ o. o ≡ option_and_then read_of (policy_with_body (policy_parts_of (view value.now)) (body_of (get (codes "body") (view value.now))))) }
+    ensures { IfOk result (λ o. o ≡ option_and_then read_of (policy_with_body
+        (policy_parts_of (view value.now)) (body_of (get (codes "body") (view value.now))))) }
 {
     let Some(parts) = read_policy_parts(alloc, value)? else {
         return Ok(None);
@@ -177,8 +178,8 @@ fn read_policy(alloc: Global, value: &Value) -> Result<Option<PolicyRead>, Alloc
     read_whole(alloc, value)
 }
 
-/// What the value says where a document has a policy, if it has the form of one: a link, where it has the member `link`,
-/// else a policy or a template.
+/// What the value says where a document has a policy, if it has the form of one: a link, where it has the
+/// member `link`, else a policy or a template.
 #[tactic(auto, unfolding(crate::specs::Policy::entry_of))]
 pub fn read_entry(alloc: Global, value: &Value) -> Result<Option<PolicyRead>, AllocError>
     ensures { IfOk result (λ o. o ≡ entry_of (view value.now)) }

@@ -38,7 +38,8 @@ fn read_eq(
     alloc: Global,
     value: &Value,
 ) -> Result<Option<PrincipalOrResourceConstraint>, AllocError>
-    ensures { IfOk result (λ o. o ≡ option_map PrincipalOrResourceConstraint.Eq (reference_of (view value.now))) }
+    ensures { IfOk result
+        (λ o. o ≡ option_map PrincipalOrResourceConstraint.Eq (reference_of (view value.now))) }
 {
     match read_reference(alloc, value)? {
         Some(entity) => Ok(Some(PrincipalOrResourceConstraint::Eq(entity))),
@@ -50,7 +51,8 @@ fn read_in(
     alloc: Global,
     value: &Value,
 ) -> Result<Option<PrincipalOrResourceConstraint>, AllocError>
-    ensures { IfOk result (λ o. o ≡ option_map PrincipalOrResourceConstraint.In (reference_of (view value.now))) }
+    ensures { IfOk result
+        (λ o. o ≡ option_map PrincipalOrResourceConstraint.In (reference_of (view value.now))) }
 {
     match read_reference(alloc, value)? {
         Some(entity) => Ok(Some(PrincipalOrResourceConstraint::In(entity))),
@@ -96,7 +98,8 @@ fn read_asked(
     within: Option<&Value>,
     of_type: Option<&Value>,
 ) -> Result<Option<PrincipalOrResourceConstraint>, AllocError>
-    ensures { IfOk result (λ o. o ≡ asked (option_map (λ v. view v.now) equal.entry) (option_map (λ v. view v.now) within.entry) (option_map (λ v. view v.now) of_type.entry)) }
+    ensures { IfOk result (λ o. o ≡ asked (option_map (λ v. view v.now) equal.entry)
+        (option_map (λ v. view v.now) within.entry) (option_map (λ v. view v.now) of_type.entry)) }
 {
     match (equal, within, of_type) {
         (Some(entity), None, None) => read_eq(alloc, entity),
@@ -159,7 +162,8 @@ fn read_action_form(
     key: &str,
     value: &Value,
 ) -> Result<Option<ActionConstraint>, AllocError>
-    ensures { IfOk result (λ o. o ≡ action_form key.now (uid_of (view value.now)) (uids_of (Some (view value.now)))) }
+    ensures { IfOk result
+        (λ o. o ≡ action_form key.now (uid_of (view value.now)) (uids_of (Some (view value.now)))) }
 {
     match key {
         "==" => read_one_action(alloc, value),

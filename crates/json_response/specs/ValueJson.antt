@@ -20,9 +20,9 @@ uid_data u = pair_data u.entity_type u.eid
 abbrev pub alone : List ℕ → Data → Data
 alone name d = object (member name d no_members)
 
--- A boolean, a long and a text stand for themselves; a set is the array of its elements, in their order; all else stands
--- under a name of its kind: an id, a record, the texts of a decimal and of a range of IP addresses, and the milliseconds of
--- a datetime and of a duration.
+-- A boolean, a long and a text stand for themselves; a set is the array of its elements, in their order; all
+-- else stands under a name of its kind: an id, a record, the texts of a decimal and of a range of IP
+-- addresses, and the milliseconds of a datetime and of a duration.
 abbrev mutual
   pub value_data : Val → Data
   value_data (truth b) = boolean b

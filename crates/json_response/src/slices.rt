@@ -100,8 +100,8 @@ fn write_response(alloc: Global, response: &Response) -> Result<Json, AllocError
     Ok(Json::Object(members))
 }
 
-/// The decision on a request, the policies that have no value, and those that led to the decision: one line of JSON without
-/// spaces, and a newline.
+/// The decision on a request, the policies that have no value, and those that led to the decision: one line
+/// of JSON without spaces, and a newline.
 #[tactic(auto, unfolding(crate::specs::SliceJson::response_text))]
 pub fn response_text(alloc: Global, response: &Response) -> Result<String, AllocError>
     ensures { IfOk result (λ s. string_bytes s ≡ response_text response.now) }
@@ -126,8 +126,8 @@ fn write_slice(alloc: Global, response: &Response, entities: &Entities) -> Resul
     Ok(Json::Object(members))
 }
 
-/// The decision on a request, the policies that have no value, those that led to the decision, and entities that are
-/// enough to come to it: one line of JSON without spaces, and a newline.
+/// The decision on a request, the policies that have no value, those that led to the decision, and entities
+/// that are enough to come to it: one line of JSON without spaces, and a newline.
 #[tactic(auto, unfolding(crate::specs::SliceJson::slice_text))]
 pub fn slice_text(
     alloc: Global,

@@ -86,10 +86,10 @@ fn write_duration(alloc: Global, millis: i64) -> Result<Json, AllocError>
     write_alone(alloc, "duration", Json::from(millis))
 }
 
-/// A value. A boolean, a long and a text stand for themselves, and a set is the array of its elements, ascending. Any other
-/// value is the object with one member, which has the name of its kind: `id`; `record`, the object of its fields, so that
-/// a record whose one field is named `id` is no id; `decimal` and `ip`, their texts; `datetime` and `duration`, their
-/// milliseconds. What is written is read as the value.
+/// A value. A boolean, a long and a text stand for themselves, and a set is the array of its elements,
+/// ascending. Any other value is the object with one member, which has the name of its kind: `id`; `record`,
+/// the object of its fields, so that a record whose one field is named `id` is no id; `decimal` and `ip`,
+/// their texts; `datetime` and `duration`, their milliseconds. What is written is read as the value.
 #[tactic(auto, unfolding(crate::specs::ReadBack::IsReadBack))]
 pub fn write_value(alloc: Global, value: &Value) -> Result<Json, AllocError>
     ensures written { IfOk result (λ v. view v ≡ value_data value.now) }

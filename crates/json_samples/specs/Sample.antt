@@ -14,7 +14,9 @@ draw x k = iterate next_state (k + 1) x / 2 ^ 32
 
 -- the user number i with a level and a manager, both of them by number, in a group
 unfoldable pub user_text : ℕ → ℕ → ℕ → ℕ → List ℕ
-user_text i level manager group = codes "{\"id\":[\"User\",\"u" ++ (decimal i ++ (codes "\"],\"attrs\":{\"level\":" ++ (decimal level ++ (codes ",\"manager\":{\"id\":[\"User\",\"u" ++ (decimal manager ++ (codes "\"]}},\"parents\":[[\"Group\",\"g" ++ (decimal group ++ codes "\"]]}")))))))
+user_text i level manager group = codes "{\"id\":[\"User\",\"u" ++ (decimal i ++
+    (codes "\"],\"attrs\":{\"level\":" ++ (decimal level ++ (codes ",\"manager\":{\"id\":[\"User\",\"u" ++
+    (decimal manager ++ (codes "\"]}},\"parents\":[[\"Group\",\"g" ++ (decimal group ++ codes "\"]]}")))))))
 
 -- the user number i of size users, with three draws from the state x
 abbrev pub drawn_user : ℕ → ℕ → ℕ → List ℕ
@@ -22,7 +24,8 @@ drawn_user x size i = user_text i (draw x 2 % 100) (draw x 1 % size) (draw x 0 %
 
 -- so many users, the first drawn from the seed and each other from where the one before it ended
 unfoldable pub users_text : ℕ → ℕ → ℕ → List ℕ
-users_text seed size n = join_with_byte 44 (map (λ i. drawn_user (iterate next_state (3 * i) seed) size i) (range_with_len 0 n))
+users_text seed size n =
+    join_with_byte 44 (map (λ i. drawn_user (iterate next_state (3 * i) seed) size i) (range_with_len 0 n))
 
 -- what stands in front of the user number i
 abbrev pub comma : ℕ → List ℕ
@@ -38,8 +41,11 @@ sample_policies = codes ",\"policies\":[{\"id\":\"p0\",\"effect\":\"permit\",\"b
 
 -- the first user asks to view another
 unfoldable pub sample_request : ℕ → List ℕ
-sample_request other = codes ",\"request\":{\"principal\":[\"User\",\"u0\"],\"action\":[\"Action\",\"view\"],\"resource\":[\"User\",\"u" ++ (decimal other ++ codes "\"],\"context\":{}}")
+sample_request other =
+    codes ",\"request\":{\"principal\":[\"User\",\"u0\"],\"action\":[\"Action\",\"view\"],\"resource\":[\"User\",\"u" ++
+    (decimal other ++ codes "\"],\"context\":{}}")
 
 -- the document of a seed with size users: the first asks to view the last
 abbrev pub sample_document : ℕ → ℕ → List ℕ
-sample_document seed size = sample_schema ++ sample_policies ++ sample_request (size - 1) ++ codes ",\"entities\":[" ++ users_text seed size size ++ codes "]}"
+sample_document seed size = sample_schema ++ sample_policies ++ sample_request (size - 1) ++
+    codes ",\"entities\":[" ++ users_text seed size size ++ codes "]}"

@@ -71,7 +71,8 @@ fn add_comma(text: &mut String, i: u64) -> Result<(), AllocError>
 fn add_user(text: &mut String, draws: &mut Draws, i: u64, size: u64) -> Result<(), AllocError>
     requires { i < size }
     ensures steps { draws.new.state ≡ iterate next_state 3 draws.old.state }
-    ensures added { OnOk result (string_bytes text.new ≡ string_bytes text.old ++ drawn_user draws.old.state size i) }
+    ensures added { OnOk result
+        (string_bytes text.new ≡ string_bytes text.old ++ drawn_user draws.old.state size i) }
 {
     let group = draws.draw() % 10;
     let manager = draws.draw() % size;

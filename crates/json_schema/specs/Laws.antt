@@ -19,4 +19,5 @@ is_never_read _ = false
 
 -- what a JSON value declares has no such fault
 abbrev pub NoneIsRead : Type 0
-NoneIsRead = (v : Data) (d : Declarations) → schema_of v ≡ Some d → (f : SchemaFault) → IsTrue (is_never_read f) → ¬ IsRefused d f
+NoneIsRead = (v : Data) (d : Declarations) → schema_of v ≡ Some d →
+    (f : SchemaFault) → IsTrue (is_never_read f) → ¬ IsRefused d f

@@ -45,7 +45,8 @@ standard_names = codes "memberOf" ∷ codes "attributes" ∷ codes "tags" ∷ []
 -- an enumerated type, where ids are listed, and else a standard one
 abbrev pub declared_as : List ℕ → Members → Data → Option Data → Option TypeEntry
 declared_as name members d None = if has_only standard_names members then standard_of name d else None
-declared_as name members d (Some listed) = if has_only (codes "enum" ∷ []) members then enumerated_of name listed else None
+declared_as name members d (Some listed) =
+    if has_only (codes "enum" ∷ []) members then enumerated_of name listed else None
 
 -- the type that a member of `entityTypes` declares
 unfoldable pub entity_type_of : List ℕ → Data → Option TypeEntry
@@ -73,7 +74,13 @@ action_in d = do
   resources ← names_of (get (codes "resources") d)
   member_of ← uids_of (get (codes "memberOf") d)
   context ← attributes_at (get (codes "context") d)
-  Some (record { id = id; principals = principals; resources = resources; member_of = member_of; context = context })
+  Some (record {
+    id = id;
+    principals = principals;
+    resources = resources;
+    member_of = member_of;
+    context = context;
+  })
 
 -- the action that an item of `actions` declares
 unfoldable pub action_of : Data → Option ActionEntry
@@ -96,4 +103,6 @@ declarations_of types actions = do
 unfoldable pub schema_of : Data → Option Declarations
 schema_of d = do
   members ← as_object d
-  if has_only (codes "entityTypes" ∷ codes "actions" ∷ []) members then declarations_of (get (codes "entityTypes") d) (get (codes "actions") d) else None
+  if has_only (codes "entityTypes" ∷ codes "actions" ∷ []) members
+      then declarations_of (get (codes "entityTypes") d) (get (codes "actions") d)
+      else None

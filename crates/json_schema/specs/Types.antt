@@ -18,11 +18,21 @@ Entries = List (List ℕ × AttributeType)
 
 -- a primitive type, or that of an extension
 abbrev pub type_named : List ℕ → Option Ty
-type_named t = if bytes_eq t (codes "Bool") then Some (primitive Bool) else (if bytes_eq t (codes "Long") then Some (primitive Long) else (if bytes_eq t (codes "String") then Some (primitive String) else (if is_known_extension t then Some (extension t) else None)))
+type_named t =
+    if bytes_eq t (codes "Bool") then Some (primitive Bool)
+    else (if bytes_eq t (codes "Long") then Some (primitive Long)
+    else (if bytes_eq t (codes "String") then Some (primitive String)
+    else (if is_known_extension t then Some (extension t)
+    else None)))
 
 -- the object with this one member: sets of a type, the entities of a type, or records, which are closed
 abbrev pub type_form : List ℕ → Data → Option Ty → Option Entries → Option Ty
-type_form key d inner attributes = if bytes_eq key (codes "set") then option_map set_of inner else (if bytes_eq key (codes "entity") then option_map (λ n. entity (n ∷ [])) (name_of d) else (if bytes_eq key (codes "record") then option_map (λ es. record_of (attrs_of es) ClosedAttributes) attributes else None))
+type_form key d inner attributes =
+    if bytes_eq key (codes "set") then option_map set_of inner
+    else (if bytes_eq key (codes "entity") then option_map (λ n. entity (n ∷ [])) (name_of d)
+    else (if bytes_eq key (codes "record")
+    then option_map (λ es. record_of (attrs_of es) ClosedAttributes) attributes
+    else None))
 
 -- an attribute of a type, whether it is required or not
 abbrev pub attribute : Ty → AttributeType
@@ -33,7 +43,8 @@ optional t = record { attr_type = t; is_required = false }
 
 -- the object with this one member: an optional attribute, or a required one of the type that the object says
 abbrev pub attribute_form : List ℕ → Option Ty → Option Ty → Option AttributeType
-attribute_form key inner whole = if bytes_eq key (codes "optional") then option_map optional inner else option_map attribute whole
+attribute_form key inner whole =
+    if bytes_eq key (codes "optional") then option_map optional inner else option_map attribute whole
 
 abbrev mutual
   -- the type that a JSON value says
@@ -73,5 +84,6 @@ abbrev mutual
 
   pub attribute_of_members : Members → Option AttributeType
   attribute_of_members no_members = None
-  attribute_of_members (member k d no_members) = attribute_form k (type_of d) (type_form k d (type_of d) (attributes_of d))
+  attribute_of_members (member k d no_members) =
+      attribute_form k (type_of d) (type_form k d (type_of d) (attributes_of d))
   attribute_of_members (member k d (member l e ms)) = None

@@ -47,8 +47,8 @@ fn read_entity(alloc: Global, value: &Value) -> Result<Option<Type>, AllocError>
     }
 }
 
-/// The type that a JSON value says, where it says one: `"Bool"`, `"Long"`, `"String"`, `"decimal"`, `"ipaddr"`,
-/// `"datetime"`, `"duration"`, `{"set":TYPE}`, `{"entity":NAME}` or `{"record":ATTRIBUTES}`.
+/// The type that a JSON value says, where it says one: `"Bool"`, `"Long"`, `"String"`, `"decimal"`,
+/// `"ipaddr"`, `"datetime"`, `"duration"`, `{"set":TYPE}`, `{"entity":NAME}` or `{"record":ATTRIBUTES}`.
 #[cycle(types)]
 pub fn read_type(alloc: Global, value: &Value) -> Result<Option<Type>, AllocError>
     ensures { IfOk result (λ o. o ≡ type_of (view value.now)) }
@@ -113,8 +113,8 @@ fn read_record(alloc: Global, value: &Value) -> Result<Option<Type>, AllocError>
     }
 }
 
-/// The attributes that a JSON value says, where it says some: an object whose members say the attributes that have
-/// their names. A type says a required attribute, `{"optional":TYPE}` one that is not.
+/// The attributes that a JSON value says, where it says some: an object whose members say the attributes that
+/// have their names. A type says a required attribute, `{"optional":TYPE}` one that is not.
 #[cycle(types)]
 pub fn read_attributes(alloc: Global, value: &Value) -> Result<Option<Attributes>, AllocError>
     ensures { IfOk result (λ o. o ≡ option_map attrs_of (attributes_of (view value.now))) }

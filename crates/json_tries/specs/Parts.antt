@@ -17,7 +17,8 @@ led_places (e ∷ es) [] = []
 led_places (e ∷ es) (p ∷ ps) = map (behind e) p ++ led_places es ps
 
 -- the node itself, and then those of its parts
-abbrev pub node_places : Option Bool → Option (List Place) → Option (List Place) → Option (List Place) → Option (List Place)
+abbrev pub node_places : Option Bool → Option (List Place) →
+    Option (List Place) → Option (List Place) → Option (List Place)
 node_places mark fields tags roots = do
   m ← mark
   fs ← fields

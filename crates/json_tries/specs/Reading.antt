@@ -78,7 +78,8 @@ joined no_branches cs = cs
 joined (leading e b bs) cs = leading e b (joined bs cs)
 
 -- a node of these parts: fields come first, then tags, then roots
-abbrev pub node_form : Bool → Option Bool → Option Branches → Option Branches → Option Branches → Option Branch
+abbrev pub node_form : Bool → Option Bool → Option Branches →
+    Option Branches → Option Branches → Option Branch
 node_form named mark fields tags roots = do
   m ← mark
   fs ← fields
@@ -87,7 +88,8 @@ node_form named mark fields tags roots = do
   if named then Some (branch m (joined fs (joined ts rs))) else None
 
 abbrev pub are_names : List ℕ → List ℕ → List ℕ → Bool
-are_names k l m = bytes_eq k (codes "ancestorsTrie") && (bytes_eq l (codes "children") && bytes_eq m (codes "isAncestor"))
+are_names k l m =
+    bytes_eq k (codes "ancestorsTrie") && (bytes_eq l (codes "children") && bytes_eq m (codes "isAncestor"))
 
 abbrev mutual
   -- a node: its members stand in the order of their names
@@ -103,8 +105,10 @@ abbrev mutual
   node_of no_members = None
   node_of (member k d no_members) = None
   node_of (member k d (member l e no_members)) = None
-  node_of (member k d (member l e (member m f no_members))) = node_form (are_names k l m) (as_bool f) (listed_in Fields e) (Some no_branches) (trie_of d)
-  node_of (member k d (member l e (member m f (member n g no_members)))) = node_form (are_names k l m && bytes_eq n (codes "tags")) (as_bool f) (listed_in Fields e) (tags_of g) (trie_of d)
+  node_of (member k d (member l e (member m f no_members))) =
+      node_form (are_names k l m) (as_bool f) (listed_in Fields e) (Some no_branches) (trie_of d)
+  node_of (member k d (member l e (member m f (member n g no_members)))) = node_form
+      (are_names k l m && bytes_eq n (codes "tags")) (as_bool f) (listed_in Fields e) (tags_of g) (trie_of d)
   node_of (member k d (member l e (member m f (member n g (member o h ms))))) = None
 
   -- a trie: the list of its roots

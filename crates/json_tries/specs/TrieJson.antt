@@ -1,7 +1,6 @@
 -- Tries as JSON.
 use Rattle.std.specs.Prelude.{ℕ, Bool, List, [], ◌∷◌, ◌++◌, codes}
-use Rattle.policy_expressions.specs.declared.kinds.Var.{Var}
-use Rattle.policy_expressions.specs.declared.kinds.Var.TheVariants.{Principal, Action, Resource, Context}
+use Rattle.policy_expressions.specs.Show.{variable_text}
 use Rattle.serde_json.specs.Data.{Data, string, boolean, array, object, no_items, item, Members, no_members, member, put}
 use Rattle.serde_json.specs.View.{items_of}
 use Rattle.json_response.specs.ValueJson.{uid_data, alone}
@@ -11,12 +10,6 @@ use Rattle.access_tries.specs.declared.edge.Edge.{Edge}
 use Rattle.access_tries.specs.declared.edge.Edge.TheVariants.{Field, AnyTag, Root}
 use Rattle.access_tries.specs.Table.{Table}
 use Rattle.access_tries.specs.Trees.{Branch, branch, Branches, no_branches, leading, branches_of}
-
-abbrev pub variable_text : Var → List ℕ
-variable_text Principal = codes "principal"
-variable_text Action = codes "action"
-variable_text Resource = codes "resource"
-variable_text Context = codes "context"
 
 -- a root: an id, or an entry of the request
 abbrev pub key_data : EntityRoot → Data
@@ -49,7 +42,8 @@ abbrev pub with_tags : List Data → Members → Members
 with_tags [] ms = ms
 with_tags (t ∷ ts) ms = put (codes "tags") (array (items_of (t ∷ ts))) ms
 
--- a node: the trie that names the ancestors that are asked for, its fields, whether it is itself asked for, and its tags
+-- a node: the trie that names the ancestors that are asked for, its fields, whether it is itself asked for,
+-- and its tags
 abbrev pub node_data : Bool → List Data → List Data → List Data → Data
 node_data mark fields tags roots = object (with_tags tags (member (codes "ancestorsTrie") (trie_data roots)
     (member (codes "children") (array (items_of fields))

@@ -96,7 +96,8 @@ pub(crate) fn led_to(
     edges: &[Edge],
     lists: Option<Vec<Vec<Place>>>,
 ) -> Result<Option<Vec<Place>>, AllocError>
-    ensures { IfOk result (λ o. option_map (λ v. v.items) o ≡ option_map (led_places edges.now) (option_map place_lists lists)) }
+    ensures { IfOk result (λ o. option_map (λ v. v.items) o ≡
+        option_map (led_places edges.now) (option_map place_lists lists)) }
 {
     let Some(lists) = lists else {
         return Ok(None);
@@ -123,7 +124,9 @@ pub(crate) fn node(
     tags: Option<Vec<Place>>,
     roots: Option<Vec<Place>>,
 ) -> Result<Option<Vec<Place>>, AllocError>
-    ensures { IfOk result (λ o. option_map (λ v. v.items) o ≡ node_places mark (option_map (λ v. v.items) fields) (option_map (λ v. v.items) tags) (option_map (λ v. v.items) roots)) }
+    ensures { IfOk result
+        (λ o. option_map (λ v. v.items) o ≡ node_places mark (option_map (λ v. v.items) fields)
+        (option_map (λ v. v.items) tags) (option_map (λ v. v.items) roots)) }
 {
     let (Some(mark), Some(mut fields), Some(mut tags), Some(mut roots)) = (
         mark, fields, tags, roots,
@@ -143,7 +146,8 @@ pub(crate) fn tags_led_to(
     alloc: Global,
     places: Option<Vec<Place>>,
 ) -> Result<Option<Vec<Place>>, AllocError>
-    ensures { IfOk result (λ o. option_map (λ v. v.items) o ≡ option_map (λ ps. map (behind AnyTag) ps) (option_map (λ v. v.items) places)) }
+    ensures { IfOk result (λ o. option_map (λ v. v.items) o ≡
+        option_map (λ ps. map (behind AnyTag) ps) (option_map (λ v. v.items) places)) }
 {
     let Some(places) = places else {
         return Ok(None);
@@ -196,7 +200,8 @@ fn marked_addresses(alloc: Global, places: &[Place]) -> Result<Vec<Vec<Edge>>, A
 }
 
 fn add_marked(alloc: Global, all: &mut Vec<Vec<Edge>>, place: &Place) -> Result<(), AllocError>
-    ensures { OnOk result (addresses_in all.new.items ≡ addresses_in all.old.items ++ map (λ p. p.0) (filter (λ p. p.1) (place.now ∷ []))) }
+    ensures { OnOk result (addresses_in all.new.items ≡
+        addresses_in all.old.items ++ map (λ p. p.0) (filter (λ p. p.1) (place.now ∷ []))) }
 {
     if place.is_marked() {
         all.push(copied(alloc, place.edges())?)?;

@@ -15,7 +15,8 @@ use std::alloc::{AllocError, Global};
 
 #[cycle(trie)]
 fn read_node(alloc: Global, value: &Value) -> Result<Option<Vec<Place>>, AllocError>
-    ensures { IfOk result (λ o. option_map (λ v. v.items) o ≡ option_map places_of (branch_of (view value.now))) }
+    ensures { IfOk result
+        (λ o. option_map (λ v. v.items) o ≡ option_map places_of (branch_of (view value.now))) }
 {
     match value {
         Value::Object(members) => read_members(alloc, members),
@@ -40,7 +41,8 @@ fn read_members(
     alloc: Global,
     members: &Map<String, Value>,
 ) -> Result<Option<Vec<Place>>, AllocError>
-    ensures { IfOk result (λ o. option_map (λ v. v.items) o ≡ option_map places_of (node_of (members_view members.now.entries))) }
+    ensures { IfOk result (λ o. option_map (λ v. v.items) o ≡
+        option_map places_of (node_of (members_view members.now.entries))) }
 {
     let mut rest = members.iter();
     let Some((first, ancestors)) = rest.next() else {
@@ -72,11 +74,12 @@ fn read_members(
     node(alloc, mark.as_bool(), fields, tags, roots)
 }
 
-/// The nodes of the trie that a JSON value says, where it says one: each before those below it, in the order of the document;
-/// of one node first fields, then tags, then roots.
+/// The nodes of the trie that a JSON value says, where it says one: each before those below it, in the order
+/// of the document; of one node first fields, then tags, then roots.
 #[cycle(trie)]
 pub fn read_trie(alloc: Global, value: &Value) -> Result<Option<Vec<Place>>, AllocError>
-    ensures { IfOk result (λ o. option_map (λ v. v.items) o ≡ option_map places_in (trie_of (view value.now))) }
+    ensures { IfOk result
+        (λ o. option_map (λ v. v.items) o ≡ option_map places_in (trie_of (view value.now))) }
 {
     match value {
         Value::Object(members) => read_trie_members(alloc, members),
@@ -89,7 +92,8 @@ fn read_trie_members(
     alloc: Global,
     members: &Map<String, Value>,
 ) -> Result<Option<Vec<Place>>, AllocError>
-    ensures { IfOk result (λ o. option_map (λ v. v.items) o ≡ option_map places_in (trie_of_members (members_view members.now.entries))) }
+    ensures { IfOk result (λ o. option_map (λ v. v.items) o ≡
+        option_map places_in (trie_of_members (members_view members.now.entries))) }
 {
     let mut rest = members.iter();
     let Some((key, value)) = rest.next() else {
@@ -110,7 +114,8 @@ fn read_listed(
     value: &Value,
     listing: Listing,
 ) -> Result<Option<Vec<Place>>, AllocError>
-    ensures { IfOk result (λ o. option_map (λ v. v.items) o ≡ option_map places_in (listed_in listing (view value.now))) }
+    ensures { IfOk result
+        (λ o. option_map (λ v. v.items) o ≡ option_map places_in (listed_in listing (view value.now))) }
 {
     match value {
         Value::Array(items) => read_entries(alloc, items.as_slice(), listing),
@@ -125,7 +130,8 @@ fn read_entries(
     items: &[Value],
     listing: Listing,
 ) -> Result<Option<Vec<Place>>, AllocError>
-    ensures { IfOk result (λ o. option_map (λ v. v.items) o ≡ option_map places_in (entries_form (distinct_edges listing (items_view items.now)) (seconds_of (items_view items.now)))) }
+    ensures { IfOk result (λ o. option_map (λ v. v.items) o ≡ option_map places_in (entries_form
+        (distinct_edges listing (items_view items.now)) (seconds_of (items_view items.now)))) }
 {
     let Some(edges) = read_distinct_edges(alloc, listing, items)? else {
         return Ok(None);
@@ -136,7 +142,8 @@ fn read_entries(
 
 #[cycle(trie)]
 fn read_seconds(alloc: Global, items: &[Value]) -> Result<Option<Vec<Vec<Place>>>, AllocError>
-    ensures { IfOk result (λ o. option_map place_lists o ≡ option_map (map places_of) (seconds_of (items_view items.now))) }
+    ensures { IfOk result (λ o. option_map place_lists o ≡
+        option_map (map places_of) (seconds_of (items_view items.now))) }
 {
     let mut all = Vec::new(alloc);
     for item in items {
@@ -155,7 +162,8 @@ fn read_seconds(alloc: Global, items: &[Value]) -> Result<Option<Vec<Vec<Place>>
 
 #[cycle(trie)]
 fn read_second(alloc: Global, item: &Value) -> Result<Option<Vec<Place>>, AllocError>
-    ensures { IfOk result (λ o. option_map (λ v. v.items) o ≡ option_map places_of (second_of (view item.now))) }
+    ensures { IfOk result
+        (λ o. option_map (λ v. v.items) o ≡ option_map places_of (second_of (view item.now))) }
 {
     match item {
         Value::Array(items) => read_second_in(alloc, items),
@@ -165,7 +173,8 @@ fn read_second(alloc: Global, item: &Value) -> Result<Option<Vec<Place>>, AllocE
 
 #[cycle(trie)]
 fn read_second_in(alloc: Global, items: &Vec<Value>) -> Result<Option<Vec<Place>>, AllocError>
-    ensures { IfOk result (λ o. option_map (λ v. v.items) o ≡ option_map places_of (second_in (items_view items.now.items))) }
+    ensures { IfOk result (λ o. option_map (λ v. v.items) o ≡
+        option_map places_of (second_in (items_view items.now.items))) }
 {
     let mut rest = items.iter();
     let Some(_key) = rest.next() else {
@@ -182,7 +191,8 @@ fn read_second_in(alloc: Global, items: &Vec<Value>) -> Result<Option<Vec<Place>
 
 #[cycle(trie)]
 fn read_tags(alloc: Global, value: &Value) -> Result<Option<Vec<Place>>, AllocError>
-    ensures { IfOk result (λ o. option_map (λ v. v.items) o ≡ option_map places_in (tags_of (view value.now))) }
+    ensures { IfOk result
+        (λ o. option_map (λ v. v.items) o ≡ option_map places_in (tags_of (view value.now))) }
 {
     match value {
         Value::Array(items) => read_tags_in(alloc, items),
@@ -193,7 +203,8 @@ fn read_tags(alloc: Global, value: &Value) -> Result<Option<Vec<Place>>, AllocEr
 #[cycle(trie)]
 #[tactic(auto, using(crate::proofs::Forms::tags_places))]
 fn read_tags_in(alloc: Global, items: &Vec<Value>) -> Result<Option<Vec<Place>>, AllocError>
-    ensures { IfOk result (λ o. option_map (λ v. v.items) o ≡ option_map places_in (tags_in (items_view items.now.items))) }
+    ensures { IfOk result (λ o. option_map (λ v. v.items) o ≡
+        option_map places_in (tags_in (items_view items.now.items))) }
 {
     let mut rest = items.iter();
     let Some(tag) = rest.next() else {

@@ -4,16 +4,15 @@ ghost use Rattle.std.specs.Prelude.{◌≡◌, [], ◌++◌, IfOk, OnOk, map};
 ghost use Rattle.serde_json.specs.View.{view, members_view};
 ghost use Rattle.access_tries.specs.Table.{IsTable, links_at};
 ghost use Rattle.access_tries.specs.Trees.{branches_by, branch_at};
-ghost use Rattle.json_tries.specs.TrieJson.{variable_text, key_data, entry_data, field_part, tag_part, root_part, trie_data, with_tags, node_data, fields_data, tags_data, roots_data, root_trie_data};
+ghost use Rattle.json_tries.specs.TrieJson.{key_data, entry_data, field_part, tag_part, root_part, trie_data, with_tags, node_data, fields_data, tags_data, roots_data, root_trie_data};
 
 use access_tries::{Edge, EntityRoot, Node, RootAccessTrie, links_of, mark_of};
 use json_response::write_uid;
-use policy_expressions::Var;
 use serde_json::{Map, Value, put};
 use std::alloc::{AllocError, Global};
 
-/// A trie, as the object whose member `trie` lists its roots, each with the node that is read there. Roots ascend, ids before
-/// entries of the request, and so do the fields of a node.
+/// A trie, as the object whose member `trie` lists its roots, each with the node that is read there. Roots
+/// ascend, ids before entries of the request, and so do the fields of a node.
 pub fn write_root_trie(alloc: Global, trie: &RootAccessTrie) -> Result<Value, AllocError>
     ensures { IfOk result (λ v. view v ≡ root_trie_data trie.now) }
 {
@@ -44,9 +43,12 @@ impl Parts {
 
     // Adds the node behind an edge.
     fn add(&mut self, alloc: Global, edge: &Edge, node: Value) -> Result<(), AllocError>
-        ensures fields { OnOk result (map view self.new.fields.items ≡ map view self.old.fields.items ++ field_part edge.now (view node)) }
-        ensures tags { OnOk result (map view self.new.tags.items ≡ map view self.old.tags.items ++ tag_part edge.now (view node)) }
-        ensures roots { OnOk result (map view self.new.roots.items ≡ map view self.old.roots.items ++ root_part edge.now (view node)) }
+        ensures fields { OnOk result (map view self.new.fields.items ≡
+            map view self.old.fields.items ++ field_part edge.now (view node)) }
+        ensures tags { OnOk result (map view self.new.tags.items ≡
+            map view self.old.tags.items ++ tag_part edge.now (view node)) }
+        ensures roots { OnOk result (map view self.new.roots.items ≡
+            map view self.old.roots.items ++ root_part edge.now (view node)) }
     {
         match edge {
             Edge::Field(name) => {
@@ -70,7 +72,8 @@ impl Parts {
 
     // The node that leads there.
     fn into_node(self, alloc: Global, mark: bool) -> Result<Value, AllocError>
-        ensures { IfOk result (λ v. view v ≡ node_data mark (map view self.fields.items) (map view self.tags.items) (map view self.roots.items)) }
+        ensures { IfOk result (λ v. view v ≡ node_data mark (map view self.fields.items)
+            (map view self.tags.items) (map view self.roots.items)) }
     {
         let ancestors = write_trie(alloc, self.roots)?;
         let mut members = Map::new(alloc);
@@ -88,7 +91,8 @@ fn put_tags(
     alloc: Global,
     tags: Vec<Value>,
 ) -> Result<(), AllocError>
-    ensures { OnOk result (members_view members.new.entries ≡ with_tags (map view tags.items) (members_view members.old.entries)) }
+    ensures { OnOk result (members_view members.new.entries ≡
+        with_tags (map view tags.items) (members_view members.old.entries)) }
 {
     if 0 < tags.len() {
         put(members, alloc, "tags", Value::Array(tags))?;
@@ -118,30 +122,22 @@ fn write_key(alloc: Global, root: &EntityRoot) -> Result<Value, AllocError>
 {
     let (name, key) = match root {
         EntityRoot::Literal(uid) => ("literal", write_uid(alloc, uid)?),
-        EntityRoot::Var(var) => ("var", Value::try_from_str(alloc, var_text(*var))?),
+        EntityRoot::Var(var) => ("var", Value::try_from_str(alloc, var.text())?),
     };
     let mut members = Map::new(alloc);
     put(&mut members, alloc, name, key)?;
     Ok(Value::Object(members))
 }
 
-fn var_text(var: Var) -> &'static str
-    ensures { result.now ≡ variable_text var }
-{
-    match var {
-        Var::Principal => "principal",
-        Var::Action => "action",
-        Var::Resource => "resource",
-        Var::Context => "context",
-    }
-}
-
 // Where a node leads.
 fn write_parts(alloc: Global, nodes: &[Node], number: usize) -> Result<Parts, AllocError>
     requires { IsTable nodes.now }
-    ensures fields { IfOk result (λ p. map view p.fields.items ≡ fields_data (branches_by (branch_at nodes.now) (links_at nodes.now number))) }
-    ensures tags { IfOk result (λ p. map view p.tags.items ≡ tags_data (branches_by (branch_at nodes.now) (links_at nodes.now number))) }
-    ensures roots { IfOk result (λ p. map view p.roots.items ≡ roots_data (branches_by (branch_at nodes.now) (links_at nodes.now number))) }
+    ensures fields { IfOk result (λ p. map view p.fields.items ≡
+        fields_data (branches_by (branch_at nodes.now) (links_at nodes.now number))) }
+    ensures tags { IfOk result (λ p. map view p.tags.items ≡
+        tags_data (branches_by (branch_at nodes.now) (links_at nodes.now number))) }
+    ensures roots { IfOk result (λ p. map view p.roots.items ≡
+        roots_data (branches_by (branch_at nodes.now) (links_at nodes.now number))) }
 {
     let mut parts = Parts::new(alloc);
     for link in links_of(nodes, number) {

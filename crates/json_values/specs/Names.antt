@@ -18,13 +18,16 @@ is_tail c = is_head c || (nat_le 48 c && nat_le c 57)
 
 -- one component of a name
 abbrev pub is_component : List ℕ → Bool
-is_component cs = nat_lt 0 (length cs) && (is_head (slice_index cs 0) && (list_all is_tail cs && not (bytes_eq cs (codes "__cedar"))))
+is_component cs = nat_lt 0 (length cs) && (is_head (slice_index cs 0) &&
+    (list_all is_tail cs && not (bytes_eq cs (codes "__cedar"))))
 
 -- between double colons stand components alone, where `word` stands in front of the first one
 unfoldable pub is_name_after : List ℕ → List ℕ → Bool
 is_name_after word [] = is_component word
 is_name_after word (c ∷ []) = is_component (word ++ c ∷ [])
-is_name_after word (c ∷ d ∷ rest) = if c == 58 && d == 58 then is_component word && is_name_after [] rest else is_name_after (word ++ c ∷ []) (d ∷ rest)
+is_name_after word (c ∷ d ∷ rest) =
+    if c == 58 && d == 58 then is_component word && is_name_after [] rest
+    else is_name_after (word ++ c ∷ []) (d ∷ rest)
 
 -- components joined by double colons
 unfoldable pub is_name : List ℕ → Bool

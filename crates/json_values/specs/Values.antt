@@ -33,9 +33,13 @@ extension_form key d =
 
 -- the object with this one member: an id, a record of these fields, or a value of an extension
 abbrev pub value_form : List ℕ → Data → Option (List (List ℕ × Val)) → Option Val
-value_form key d fields = if bytes_eq key (codes "id") then option_map entity (uid_of d) else (if bytes_eq key (codes "record") then option_map (λ es. rec (fields_of es)) fields else extension_form key d)
+value_form key d fields =
+    if bytes_eq key (codes "id") then option_map entity (uid_of d)
+    else (if bytes_eq key (codes "record") then option_map (λ es. rec (fields_of es)) fields
+    else extension_form key d)
 
--- The value that a JSON value says. Of a list the order does not count, nor how often an element stands there.
+-- The value that a JSON value says. Of a list the order does not count, nor how often an element
+-- stands there.
 abbrev mutual
   pub value_of : Data → Option Val
   value_of null = None

@@ -1,4 +1,5 @@
-//! Values in JSON, and what every reader of JSON needs: names and ids of entities, the members of objects, lists.
+//! Values in JSON, and what every reader of JSON needs: names and ids of entities, the members of
+//! objects, lists.
 #![tactic(auto)]
 
 mod json;

@@ -34,7 +34,8 @@ pub fn has_only(names: &[&str], members: &Map<String, Value>) -> bool
 
 /// The one member of the object, where it has no other.
 pub fn only_member(members: &Map<String, Value>) -> Option<(&String, &Value)>
-    ensures { option_map (λ m. (string_bytes m.0.now, view m.1.now)) result ≡ only_member (members_view members.now.entries) }
+    ensures { option_map (λ m. (string_bytes m.0.now, view m.1.now)) result ≡
+        only_member (members_view members.now.entries) }
 {
     let mut rest = members.iter();
     let first = rest.next()?;
@@ -46,7 +47,8 @@ pub fn only_member(members: &Map<String, Value>) -> Option<(&String, &Value)>
 
 /// The one member of the value, where it is an object and has no other.
 pub fn lone_member(value: &Value) -> Option<(&String, &Value)>
-    ensures { option_map (λ m. (string_bytes m.0.now, view m.1.now)) result ≡ option_and_then only_member (as_object (view value.now)) }
+    ensures { option_map (λ m. (string_bytes m.0.now, view m.1.now)) result ≡
+        option_and_then only_member (as_object (view value.now)) }
 {
     only_member(value.as_object()?)
 }
@@ -66,7 +68,8 @@ pub fn pair(items: &Vec<Value>) -> Option<(&Value, &Value)>
 
 /// The items of a list; an absent one has none.
 pub fn list_items(list: Option<&Value>) -> Option<&[Value]>
-    ensures { option_map (λ vs. items_view vs.now) result ≡ list_of (option_map (λ v. view v.now) list.entry) }
+    ensures { option_map (λ vs. items_view vs.now) result ≡
+        list_of (option_map (λ v. view v.now) list.entry) }
 {
     match list {
         None => Some(&[]),

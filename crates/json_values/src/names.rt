@@ -91,8 +91,8 @@ fn read_uid_pair(
     read_uid_parts(alloc, &items[0], &items[1], like)
 }
 
-/// The id that the value spells as a list of a name and a text. It shares the characters of its type with another id
-/// that has the type: many ids in a document have the type of the id before.
+/// The id that the value spells as a list of a name and a text. It shares the characters of its type with
+/// another id that has the type: many ids in a document have the type of the id before.
 pub fn read_uid_like(
     alloc: Global,
     value: &Value,
@@ -144,7 +144,8 @@ pub fn read_names(
     alloc: Global,
     value: Option<&Value>,
 ) -> Result<Option<Vec<EntityType>>, AllocError>
-    ensures { IfOk result (λ o. option_map (λ v. v.items) o ≡ names_of (option_map (λ v. view v.now) value.entry)) }
+    ensures { IfOk result
+        (λ o. option_map (λ v. v.items) o ≡ names_of (option_map (λ v. view v.now) value.entry)) }
 {
     let Some(value) = value else {
         return Ok(Some(Vec::new(alloc)));
@@ -157,7 +158,8 @@ pub fn read_names(
 
 /// The ids that a list spells; an absent list has none.
 pub fn read_uids(alloc: Global, value: Option<&Value>) -> Result<Option<Vec<EntityUID>>, AllocError>
-    ensures { IfOk result (λ o. option_map (λ v. v.items) o ≡ uids_of (option_map (λ v. view v.now) value.entry)) }
+    ensures { IfOk result
+        (λ o. option_map (λ v. v.items) o ≡ uids_of (option_map (λ v. view v.now) value.entry)) }
 {
     let Some(value) = value else {
         return Ok(Some(Vec::new(alloc)));

@@ -24,10 +24,11 @@ fn read_id(alloc: Global, value: &Json) -> Result<Option<Value>, AllocError>
     }
 }
 
-/// The value that a JSON value says, where it says one. A boolean, a whole number of 64 bits and a text stand for
-/// themselves. A list is the set of its elements: their order does not count, nor how often one stands there. An id is
-/// `{"id":[TYPE,EID]}`, a record `{"record":{..}}`, a value of an extension `{"decimal":TEXT}`, `{"ip":TEXT}`,
-/// `{"datetime":TEXT}` or `{"duration":TEXT}`, where the text stands for one; the last two also take their milliseconds.
+/// The value that a JSON value says, where it says one. A boolean, a whole number of 64 bits and a text stand
+/// for themselves. A list is the set of its elements: their order does not count, nor how often one stands
+/// there. An id is `{"id":[TYPE,EID]}`, a record `{"record":{..}}`, a value of an extension
+/// `{"decimal":TEXT}`, `{"ip":TEXT}`, `{"datetime":TEXT}` or `{"duration":TEXT}`, where the text stands for
+/// one; the last two also take their milliseconds.
 #[cycle(value)]
 pub fn read_value(alloc: Global, value: &Json) -> Result<Option<Value>, AllocError>
     ensures { IfOk result (λ o. o ≡ value_of (view value.now)) }
@@ -44,7 +45,8 @@ pub fn read_value(alloc: Global, value: &Json) -> Result<Option<Value>, AllocErr
 
 #[cycle(value)]
 fn read_set(alloc: Global, items: &Vec<Json>) -> Result<Option<Value>, AllocError>
-    ensures { IfOk result (λ o. o ≡ option_map (λ vs. set (set_of vs)) (values_of (items_view items.now.items))) }
+    ensures { IfOk result
+        (λ o. o ≡ option_map (λ vs. set (set_of vs)) (values_of (items_view items.now.items))) }
 {
     match read_items(alloc, items)? {
         Some(items) => Ok(Some(Value::set(alloc, items)?)),
@@ -151,7 +153,8 @@ fn duration_from(value: &Json) -> Option<Value>
 
 #[cycle(value)]
 fn read_record(alloc: Global, value: &Json) -> Result<Option<Value>, AllocError>
-    ensures { IfOk result (λ o. o ≡ option_map (λ es. rec (fields_of es)) (value_fields_of (view value.now))) }
+    ensures { IfOk result
+        (λ o. o ≡ option_map (λ es. rec (fields_of es)) (value_fields_of (view value.now))) }
 {
     let Json::Object(members) = value else {
         return Ok(None);
@@ -168,7 +171,8 @@ pub fn read_fields(
     alloc: Global,
     members: &Map<String, Json>,
 ) -> Result<Option<BTreeMap<Text, Value>>, AllocError>
-    ensures { IfOk result (λ o. option_map (λ fs. fs.entries) o ≡ value_entries_of (members_view members.now.entries)) }
+    ensures { IfOk result
+        (λ o. option_map (λ fs. fs.entries) o ≡ value_entries_of (members_view members.now.entries)) }
 {
     let mut fields = BTreeMap::new(alloc);
     for (key, member) in members.iter() {

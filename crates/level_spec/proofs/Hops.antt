@@ -14,7 +14,7 @@ use Rattle.policy_values.specs.Uid.{uid_cmp, uid_cmp_total, uid_eq}
 use Rattle.entity_store.specs.declared.request.Request.{Request}
 use Rattle.entity_store.specs.Store.{StoredEntity, Store, is_named, entity_at}
 use Rattle.level_spec.specs.Cut.{ids_held, ids_asked, is_among, entities_among, reach}
-use Rattle.level_spec.specs.Hops.{held_at, held_by, IsHop, IsNext, HopsReach}
+use Rattle.level_spec.specs.Hops.{held_at, held_by, IsHop, IsNextHop, HopsReach}
 use Rattle.level_spec.proofs.Reached.{same_uid, in_front, AllAmong, held_reached}
 use Rattle.plain_lemmas.proofs.Booleans.{equal_by_both_ways, or_cases}
 
@@ -97,7 +97,7 @@ module _ (q : Request) (s : Store) (each : FindsEach s) where
   first : IsHop q s zero (ids_asked q) (ids_asked q)
   first = record { all = λ u. refl; fresh_reached = λ u h. h; old = λ u h i. let e : true ≡ false = sym h ∙ i in absurd (cc) }
 
-  module _ (k : ℕ) (us fs vs gs : List EntityUID) (h : IsHop q s k us fs) (n : IsNext s us fs vs gs) where
+  module _ (k : ℕ) (us fs vs gs : List EntityUID) (h : IsHop q s k us fs) (n : IsNextHop s us fs vs gs) where
     old_in : (u : EntityUID) → is_among us u ≡ true → is_among vs u ≡ true
     old_in u i = n.all u ∙ or_left (is_among us u) (is_among (held_by s fs) u) i
 

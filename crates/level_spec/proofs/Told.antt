@@ -11,7 +11,7 @@ use Rattle.policy_expressions.specs.declared.kinds.BinaryOp.TheVariants.{GetTag}
 use Rattle.policy_expressions.specs.Tree.{lit, var, slot, ite, conj, disj, unary, binary, attr, has, like, is_type, call, set, rec, Trees, no_trees, tree, Named, no_named, named, Mark}
 use Rattle.typing_spec.specs.Typing.{Typed}
 use Rattle.level_spec.specs.Levels.{is_reached, gives_entity, greater, if_level, one_more, binary_level, asks_store, level_if, is_below, literal_level, level, level_under, dereferences, dereferences_all, dereferences_named}
-use Rattle.level_spec.specs.Findings.{LevelFault, needs_level, literal_target, own_fault, target_fault, binary_target, level_faults, faults_all, faults_named, target_faults, named_targets, IsIn, IsTold, LevelFaultsAreExact}
+use Rattle.level_spec.specs.Findings.{LevelFault, needs_level, literal_target, own_fault, target_fault, binary_target, level_faults, faults_all, faults_named, target_faults, named_targets, IsIn, IsFaultTold, LevelFaultsAreExact}
 use Rattle.level_spec.proofs.Clean.{clean}
 
 in_left : {X : Type 0} (x : X) (xs ys : List X) → IsIn x xs → IsIn x (xs ++ ys)
@@ -30,7 +30,7 @@ ToldAt n o os (literal_target l) = (o ≡ None) ⊎ IsIn None os
 
 module _ (n : ℕ) where
   abbrev Told : List (Option ℕ) → List LevelFault → Type 0
-  Told os fs = AllByRecursion (IsTold n os) fs
+  Told os fs = AllByRecursion (IsFaultTold n os) fs
 
   abbrev TargetTold : Option ℕ → List (Option ℕ) → List LevelFault → Type 0
   TargetTold o os fs = AllByRecursion (ToldAt n o os) fs
@@ -72,7 +72,7 @@ module _ (n : ℕ) where
   both_all P (f ∷ fs) gs h i = (h.0, both_all P fs gs h.1 i)
 
   both_told : (os ps : List (Option ℕ)) (fs gs : List LevelFault) → Told os fs → Told ps gs → Told (os ++ ps) (fs ++ gs)
-  both_told os ps fs gs h i = both_all (IsTold n (os ++ ps)) fs gs (more_told os (os ++ ps) (λ x j. in_left x os ps j) fs h) (more_told ps (os ++ ps) (λ x j. in_right x os ps j) gs i)
+  both_told os ps fs gs h i = both_all (IsFaultTold n (os ++ ps)) fs gs (more_told os (os ++ ps) (λ x j. in_left x os ps j) fs h) (more_told ps (os ++ ps) (λ x j. in_right x os ps j) gs i)
 
   own_told : (o : Option ℕ) (os : List (Option ℕ)) (l : Option Loc) → Told (o ∷ os) (own_fault n o l)
   own_told None os l = tt
@@ -84,13 +84,13 @@ module _ (n : ℕ) where
 
   -- `.` and `has`
   access_told : (b : Bool) (o : Option ℕ) (l : Option Loc) (os : List (Option ℕ)) (ts fs : List LevelFault) → TargetTold o os ts → Told os fs → Told (level_if b o ++ os) (cond b (ts ++ own_fault n o l) fs)
-  access_told true o l os ts fs t f = both_all (IsTold n (o ∷ os)) ts (own_fault n o l) (of_target o os (o ∷ os) (λ e. inl e) (λ x i. inr i) ts t) (own_told o os l)
+  access_told true o l os ts fs t f = both_all (IsFaultTold n (o ∷ os)) ts (own_fault n o l) (of_target o os (o ∷ os) (λ e. inl e) (λ x i. inr i) ts t) (own_told o os l)
   access_told false o l os ts fs t f = f
 
   op_told : (b : Bool) (o : Option ℕ) (l : Option Loc) (os ps : List (Option ℕ)) (ts fs gs : List LevelFault) → TargetTold o os ts → Told os fs → Told ps gs → Told (level_if b o ++ (os ++ ps)) (cond b (ts ++ (gs ++ own_fault n o l)) (fs ++ gs))
   op_told true o l os ps ts fs gs t f g =
-      both_all (IsTold n (o ∷ (os ++ ps))) ts (gs ++ own_fault n o l) (of_target o os (o ∷ (os ++ ps)) (λ e. inl e) (λ x i. inr (in_left x os ps i)) ts t)
-      (both_all (IsTold n (o ∷ (os ++ ps))) gs (own_fault n o l) (more_told ps (o ∷ (os ++ ps)) (λ x i. inr (in_right x os ps i)) gs g) (own_told o (os ++ ps) l))
+      both_all (IsFaultTold n (o ∷ (os ++ ps))) ts (gs ++ own_fault n o l) (of_target o os (o ∷ (os ++ ps)) (λ e. inl e) (λ x i. inr (in_left x os ps i)) ts t)
+      (both_all (IsFaultTold n (o ∷ (os ++ ps))) gs (own_fault n o l) (more_told ps (o ∷ (os ++ ps)) (λ x i. inr (in_right x os ps i)) gs g) (own_told o (os ++ ps) l))
   op_told false o l os ps ts fs gs t f g = both_told os ps fs gs f g
 
   -- targets

@@ -4,13 +4,13 @@ use Rattle.policy_values.specs.declared.entity_uid.EntityUID.{EntityUID}
 use Rattle.entity_store.specs.declared.request.Request.{Request}
 use Rattle.entity_store.specs.Store.{Store}
 use Rattle.level_spec.specs.Cut.{ids_asked, is_among, entities_among, cut}
-use Rattle.level_spec.specs.Hops.{held_by, IsHop, IsNext, Hops}
+use Rattle.level_spec.specs.Hops.{held_by, IsHop, IsNextHop, Hops}
 use Rattle.level_validate.specs.Fresh.{AreFresh}
 
 pub first_hop : (q : Request) (s : Store) (us fs : List EntityUID) → AreFresh (ids_asked q) [] us fs → IsHop q s zero us fs
 first_hop q s us fs h = record { all = h.all; fresh_reached = h.fresh_reached; old = λ u i j. let e = h.newest u i j in absurd (cc) }
 
-pub next_hop : (s : Store) (us fs vs gs : List EntityUID) → AreFresh (held_by s fs) us vs gs → IsNext s us fs vs gs
+pub next_hop : (s : Store) (us fs vs gs : List EntityUID) → AreFresh (held_by s fs) us vs gs → IsNextHop s us fs vs gs
 next_hop s us fs vs gs h = record { all = h.all; fresh_reached = h.fresh_reached; newest = h.newest }
 
 or_none : (a : Bool) → a ≡ (a || false)

@@ -3,6 +3,7 @@ pub mod Fields
 pub mod Errors
 pub mod Seen
 pub mod Fresh
+pub mod Targets
 pub use Rattle.level_spec.specs.Cut
 pub use Rattle.level_spec.specs.Policies
 pub use Rattle.level_spec.specs.Levels

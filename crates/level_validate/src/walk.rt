@@ -4,9 +4,10 @@ ghost use Rattle.std.specs.Prelude.{◌≡◌, ◌++◌, ◌∷◌, IfOk, OnOk, 
 ghost use Rattle.std.specs.Option.{option_copied};
 ghost use Rattle.policy_expressions.specs.Tree.{binary, rec, attr, ite, trees_of, named_of};
 ghost use Rattle.level_spec.specs.Levels.{is_reached, gives_entity, level, literal_level};
-ghost use Rattle.level_spec.specs.Findings.{own_fault, target_fault, level_faults, faults_all, faults_named, target_faults, named_targets};
+ghost use Rattle.level_spec.specs.Findings.{own_fault, target_fault, level_faults, faults_all, faults_named};
 ghost use Rattle.level_validate.specs.Faults.{fault_of, at_place};
 ghost use Rattle.level_validate.specs.Fields.{fields_in};
+ghost use Rattle.level_validate.specs.Targets.{target_faults_at, branch_faults_at, named_targets_at};
 
 use crate::fault::Fault;
 use crate::levels::{gives_entity, greater, is_reached, literal_level, one_more};
@@ -187,8 +188,7 @@ fn target(
     ensures level { IfOk result (λ l. l ≡
         level (option_copied at.now.action) e.now (fields_in pending.now)) }
     ensures found { OnOk result (map fault_of found.new.items ≡ map fault_of found.old.items ++
-        target_faults (option_copied at.now.action) at.now.max_level e.now
-        (fields_in pending.now)) }
+        target_faults_at at.now e.now (fields_in pending.now)) }
 {
     match e.kind() {
         ExprKind::Lit(literal) => target_literal(at, literal, e.source_loc(), found),
@@ -253,7 +253,7 @@ fn target_if(
         level (option_copied at.now.action) (ite x.now y.now z.now (at_place None))
         (fields_in pending.now)) }
     ensures found { OnOk result (map fault_of found.new.items ≡ map fault_of found.old.items ++
-        target_faults (option_copied at.now.action) at.now.max_level
+        target_faults_at at.now
         (ite x.now y.now z.now (at_place None)) (fields_in pending.now)) }
 {
     check(at, x, found)?;
@@ -274,10 +274,7 @@ fn target_branch(
         (if is_reached y.now then
         level (option_copied at.now.action) y.now (fields_in pending.now) else Some 0)) }
     ensures found { OnOk result (map fault_of found.new.items ≡ map fault_of found.old.items ++
-        (if is_reached y.now then
-        target_faults (option_copied at.now.action) at.now.max_level y.now
-        (fields_in pending.now) else
-        level_faults (option_copied at.now.action) at.now.max_level y.now)) }
+        branch_faults_at at.now y.now (fields_in pending.now)) }
 {
     if is_reached(y) {
         target(at, y, pending, found)
@@ -299,7 +296,7 @@ fn target_binary(
     ensures level { IfOk result (λ l. l ≡
         level (option_copied at.now.action) (binary op x.now y.now (at_place loc)) []) }
     ensures found { OnOk result (map fault_of found.new.items ≡ map fault_of found.old.items ++
-        target_faults (option_copied at.now.action) at.now.max_level
+        target_faults_at at.now
         (binary op x.now y.now (at_place loc)) []) }
 {
     match op {
@@ -324,7 +321,7 @@ fn target_attr(
         level (option_copied at.now.action) (attr x.now name.now (at_place None))
         (fields_in pending.now)) }
     ensures found { OnOk result (map fault_of found.new.items ≡ map fault_of found.old.items ++
-        target_faults (option_copied at.now.action) at.now.max_level
+        target_faults_at at.now
         (attr x.now name.now (at_place None)) (fields_in pending.now)) }
 {
     if gives_entity(x) {
@@ -349,7 +346,7 @@ fn target_field(
         level (option_copied at.now.action) (rec (named_of fields.now.entries) (at_place loc))
         (name.now ∷ fields_in rest.now)) }
     ensures found { OnOk result (map fault_of found.new.items ≡ map fault_of found.old.items ++
-        named_targets (option_copied at.now.action) at.now.max_level loc
+        named_targets_at at.now loc
         (named_of fields.now.entries) (name.now ∷ fields_in rest.now)) }
 {
     let mut reached = None;

@@ -5,14 +5,14 @@ use Rattle.schema_core.specs.EnvData.{EnvData, unlinked_envs}
 use Rattle.schema_core.specs.Schema.{SchemaData}
 use Rattle.policy_set.specs.Data.{PolicyData}
 use Rattle.policy_validate.specs.Typed.{typed_conditions}
-use Rattle.manifest_core.specs.Laws.{AreSame}
+use Rattle.manifest_core.specs.Laws.{AreSameEntries}
 use Rattle.manifest_core.specs.Manifest.{Manifest}
 use Rattle.manifest_computation.specs.Computed.{IsEntryOf, IsManifestOf}
 use Rattle.manifest_computation.specs.Laws.{ManifestsAreSettled}
 use Rattle.live_manifest.specs.Laws.{KeptAreComputed}
 
 module _ (schema : SchemaData) (ps : List PolicyData) where
-  entries_same : (envs : List EnvData) (m n : Manifest) → AllZip (λ env e. IsEntryOf schema env (typed_conditions schema env ps) e) envs m → AllZip (λ env e. IsEntryOf schema env (typed_conditions schema env ps) e) envs n → AreSame m n
+  entries_same : (envs : List EnvData) (m n : Manifest) → AllZip (λ env e. IsEntryOf schema env (typed_conditions schema env ps) e) envs m → AllZip (λ env e. IsEntryOf schema env (typed_conditions schema env ps) e) envs n → AreSameEntries m n
   entries_same [] [] [] h k = tt
   entries_same [] [] (e ∷ n) h k = absurd k
   entries_same [] (d ∷ m) n h k = absurd h
@@ -27,8 +27,8 @@ module _ (schema : SchemaData) (ps : List PolicyData) where
       some_same : {X : Type 0} {x y : X} → Some x ≡ Some y → x ≡ y
       some_same k = cc
 
-same : (schema : SchemaData) (ps : List PolicyData) (m n : Manifest) → IsManifestOf schema ps m → IsManifestOf schema ps n → AreSame m n
-same schema [] m n h k = subst (λ l. AreSame l n) (sym h) (subst (AreSame []) (sym k) tt)
+same : (schema : SchemaData) (ps : List PolicyData) (m n : Manifest) → IsManifestOf schema ps m → IsManifestOf schema ps n → AreSameEntries m n
+same schema [] m n h k = subst (λ l. AreSameEntries l n) (sym h) (subst (AreSameEntries []) (sym k) tt)
 same schema (p ∷ ps) m n h k = entries_same schema (p ∷ ps) (unlinked_envs schema) m n h k
 
 pub computed : ManifestsAreSettled → KeptAreComputed

@@ -19,7 +19,7 @@ use Rattle.manifest_computation.specs.Computed.{IsManifestOf}
 use Rattle.live_manifest.specs.Adding.{AddsTo, Tries}
 use Rattle.live_manifest.specs.Edits.{Edit, add_template, made, or_findings, refusal}
 use Rattle.live_manifest.specs.Faults.{IsFaulty}
-use Rattle.live_manifest.specs.Kept.{IsKept, IsMade, IsRefused, IsRefusedFor, LiveData}
+use Rattle.live_manifest.specs.Kept.{IsKept, IsMade, IsEditRefused, IsRefusedFor, LiveData}
 use Rattle.live_manifest.specs.Laws.{EditsKeepAcceptance}
 use Rattle.live_manifest.specs.Tries.{HasTriesOf, HaveTries}
 use Rattle.live_manifest.specs.declared.error.LiveManifestError.{LiveManifestError}
@@ -32,7 +32,7 @@ use Rattle.live_manifest.proofs.Taking.{free_of, no_template, policy_taken, put_
 pub record IsOutcome (e : Edit) (old now : LiveData) (after : Tries) (r : Result (Unit {0}) LiveManifestError) : Type 0 where
   pub kept : IsKept now × HaveTries now.schema after now.policies.policies
   pub made : OnOk r (IsMade e old now)
-  pub refused : IfErr r (IsRefused e old)
+  pub refused : IfErr r (IsEditRefused e old)
   pub unchanged : OnErr r (now ≡ old)
 
 abbrev pub live : SchemaData → PolicySetData → Manifest → LiveData

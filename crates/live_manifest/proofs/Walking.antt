@@ -13,7 +13,7 @@ use Rattle.schema_core.specs.Faults.{IsSchema}
 use Rattle.schema_core.specs.RequestEnvs.{env_data_of}
 use Rattle.schema_core.specs.declared.request_env.RequestEnv.{RequestEnv}
 use Rattle.schema_core.specs.Schema.{SchemaData}
-use Rattle.manifest_core.specs.Manifest.{IsNext, Manifest}
+use Rattle.manifest_core.specs.Manifest.{IsNextType, Manifest}
 use Rattle.manifest_computation.proofs.Ascending.{IsBefore, Pairwise, envs_ascend}
 use Rattle.manifest_computation.proofs.Entries.{at_seam, before_types, done, rest, taken_one_more, whole, zip_last}
 use Rattle.live_manifest.specs.Tries.{IsBuiltOf, IsPlaced}
@@ -28,7 +28,7 @@ one_more R items i env is h ts us t zip added r =
 
 -- the request type of the next environment comes behind those of the entries so far
 next_behind : (before : List EnvData) (m : Manifest) (env : EnvData) (later : List EnvData) (q : RequestType) →
-    request_type_in env ≡ Some q → AllZip IsPlaced before m → Pairwise IsBefore (before ++ env ∷ later) → IsNext q (keys_of m)
+    request_type_in env ≡ Some q → AllZip IsPlaced before m → Pairwise IsBefore (before ++ env ∷ later) → IsNextType q (keys_of m)
 next_behind [] [] env later q is h b = tt
 next_behind [] (x ∷ m) env later q is h b = absurd h
 next_behind (e ∷ before) [] env later q is h b = absurd h
@@ -36,10 +36,10 @@ next_behind (e ∷ before) (x ∷ m) env later q is h b =
     (before_types e env x.0 q h.0.request_type is (at_seam (IsBefore e) before env later b.0), next_behind before m env later q is h.1 b.1)
 
 pub behind_here : (schema : SchemaData) → IsSchema schema → (items : List RequestEnv) → map env_data_of items ≡ unlinked_envs schema → (i : ℕ) (env : RequestEnv) → env ≡ get_or items i env → i < length items →
-    (m : Manifest) → AllZip IsPlaced (map env_data_of (take i items)) m → IfSome (request_type_in (env_data_of env)) (λ q. IsNext q (keys_of m))
+    (m : Manifest) → AllZip IsPlaced (map env_data_of (take i items)) m → IfSome (request_type_in (env_data_of env)) (λ q. IsNextType q (keys_of m))
 behind_here schema ok items same i env is h m placed = by (request_type_in (env_data_of env)) refl
   where
-    by : (o : Option RequestType) → request_type_in (env_data_of env) ≡ o → IfSome o (λ q. IsNext q (keys_of m))
+    by : (o : Option RequestType) → request_type_in (env_data_of env) ≡ o → IfSome o (λ q. IsNextType q (keys_of m))
     by None e = tt
     by (Some q) e =
         next_behind (done schema ok [] items same i env is h) m (env_data_of env) (rest schema ok [] items same i env is h) q e placed

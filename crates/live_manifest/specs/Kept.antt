@@ -32,7 +32,7 @@ pub record IsKept (l : LiveData) : Type 0 where
   pub manifest : IsManifestOf l.schema l.policies.policies l.manifest
 
 -- without policies
-pub record IsFirst (l : LiveData) : Type 0 where
+pub record IsWithoutPolicies (l : LiveData) : Type 0 where
   pub policies : l.policies ≡ no_policies
   pub manifest : l.manifest ≡ []
 
@@ -48,8 +48,8 @@ IsRefusedFor why (refused.PolicySet fault) = why ≡ Some (not_added fault)
 IsRefusedFor why (refused.Validation found) = why ≡ Some (errors found)
 IsRefusedFor why refused.OutOfMemory = ⊤
 
-abbrev pub IsRefused : Edit → LiveData → LiveManifestError → Type 0
-IsRefused e old error = IsRefusedFor (refusal old.schema old.policies e) error
+abbrev pub IsEditRefused : Edit → LiveData → LiveManifestError → Type 0
+IsEditRefused e old error = IsRefusedFor (refusal old.schema old.policies e) error
 
 -- why an entry is not removed: there is none, or it is in use; there was no memory
 abbrev pub IsNotTaken : List ℕ → LiveData → LiveRemovalError → Type 0

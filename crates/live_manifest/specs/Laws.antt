@@ -3,7 +3,7 @@ use Rattle.std.specs.Prelude.{◌≡◌}
 use Rattle.schema_core.specs.Schema.{SchemaData}
 use Rattle.policy_set.specs.PolicySet.{PolicySetData, IsPolicySet}
 use Rattle.policy_validate.specs.Accepted.{IsAccepted}
-use Rattle.manifest_core.specs.Laws.{AreSame}
+use Rattle.manifest_core.specs.Laws.{AreSameEntries}
 use Rattle.manifest_core.specs.Manifest.{Manifest}
 use Rattle.manifest_core.specs.ManifestJson.{manifest_data}
 use Rattle.manifest_computation.specs.Computed.{IsManifestOf}
@@ -19,4 +19,4 @@ EditsKeepAcceptance = (schema : SchemaData) (s : PolicySetData) → IsPolicySet 
 -- same tries; and both are the same JSON
 abbrev pub KeptAreComputed : Type 0
 KeptAreComputed = (l : LiveData) → IsKept l → (m : Manifest) → IsManifestOf l.schema l.policies.policies m →
-    AreSame l.manifest m × (manifest_data l.manifest ≡ manifest_data m)
+    AreSameEntries l.manifest m × (manifest_data l.manifest ≡ manifest_data m)

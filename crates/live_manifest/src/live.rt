@@ -56,12 +56,12 @@ impl<'a> LiveManifest<'a> {
     ghost use Rattle.link_spec.specs.Linked.{linked_envs};
     ghost use Rattle.policy_set.specs.Condition.{has_scope_slot};
     ghost use Rattle.live_manifest.specs.Edits.{add_static, add_template, link, remove, no_policies};
-    ghost use Rattle.live_manifest.specs.Kept.{IsFirst, IsKept, IsMade, IsRefused, IsNotTaken};
+    ghost use Rattle.live_manifest.specs.Kept.{IsWithoutPolicies, IsKept, IsMade, IsEditRefused, IsNotTaken};
 
     /// No policies yet.
     pub fn new(alloc: Global, schema: &'a ValidatorSchema) -> LiveManifest<'a>
         ensures schema { result.schema ≡ schema.now }
-        ensures first { IsFirst result }
+        ensures first { IsWithoutPolicies result }
     {
         LiveManifest {
             alloc,
@@ -98,7 +98,7 @@ impl<'a> LiveManifest<'a> {
     ) -> Result<(), LiveManifestError>
         requires { has_scope_slot template ≡ false }
         ensures made { OnOk result (IsMade (add_static template) self.old self.new) }
-        ensures refused { IfErr result (IsRefused (add_static template) self.old) }
+        ensures refused { IfErr result (IsEditRefused (add_static template) self.old) }
         ensures unchanged { OnErr result (self.new ≡ self.old) }
         ensures steps { steps.new ≤ steps.old + 2 * length (unlinked_envs self.old.schema) }
     {
@@ -143,7 +143,7 @@ impl<'a> LiveManifest<'a> {
     ) -> Result<(), LiveManifestError>
         requires { IsTrue (has_scope_slot template) }
         ensures made { OnOk result (IsMade (add_template template) self.old self.new) }
-        ensures refused { IfErr result (IsRefused (add_template template) self.old) }
+        ensures refused { IfErr result (IsEditRefused (add_template template) self.old) }
         ensures unchanged { OnErr result (self.new ≡ self.old) }
         ensures steps { steps.new ≤ steps.old + 2 * length (linked_envs self.old.schema template) }
     {
@@ -174,7 +174,7 @@ impl<'a> LiveManifest<'a> {
     ) -> Result<(), LiveManifestError>
         ensures made { OnOk result
             (IsMade (link template_id.now new_id values.items) self.old self.new) }
-        ensures refused { IfErr result (IsRefused (link template_id.now new_id values.items) self.old) }
+        ensures refused { IfErr result (IsEditRefused (link template_id.now new_id values.items) self.old) }
         ensures unchanged { OnErr result (self.new ≡ self.old) }
         ensures steps { steps.new ≤ steps.old + 2 * length (unlinked_envs self.old.schema) }
     {

@@ -30,7 +30,7 @@ use Rattle.reads_spec.specs.Reads.{declared_reads, declared_demands}
 use Rattle.reads_spec.specs.Restrict.{needed}
 use Rattle.reads_spec.specs.Policies.{PoliciesAreCovered}
 use Rattle.policy_validate.specs.Laws.{AcceptedAreTyped, AcceptedAreSound}
-use Rattle.manifest_computation.specs.Enough.{Covers, IsEnough, OutcomesAreAllowed, SlicesAreEnough}
+use Rattle.manifest_computation.specs.Enough.{KeepsOutcomes, IsEnough, OutcomesAreAllowed, SlicesAreEnough}
 use Rattle.manifest_computation.specs.Rules.{KeepRules}
 use Rattle.manifest_computation.specs.Slice.{slice, slice_in}
 use Rattle.manifest_computation.proofs.Same.{response_same}
@@ -73,7 +73,7 @@ module _ (covered : PoliciesAreCovered) (everywhere : TypedEverywhere) (typed : 
           ap (λ o. slice_in schema policies.policies q s (option_map (λ a. declared_action (env_for a q)) o)) is
           ∙ ap (λ ts. restricted schema (declared_action (env_for a q)) ts q s) (sym pairs.trees)
 
-      covers : Covers policies.policies q (slice schema policies.policies q s) s
+      covers : KeepsOutcomes policies.policies q (slice schema policies.policies q s) s
       covers t low high =
           subst (λ ps. outcomes ps q t ≡ outcomes ps q s) pairs.policies
           (covered schema ok (env_for a q) q rules.request of s rules.store pairs.pairs pairs.accepted t (subst (λ r. IsPartOf r t) part_is low) high)

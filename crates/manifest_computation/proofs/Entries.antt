@@ -18,7 +18,7 @@ use Rattle.schema_core.specs.RequestEnvs.{env_data_of}
 use Rattle.schema_core.specs.declared.request_env.RequestEnv.{RequestEnv}
 use Rattle.schema_core.specs.Schema.{SchemaData}
 use Rattle.policy_set.specs.Data.{PolicyData}
-use Rattle.manifest_core.specs.Manifest.{Manifest, IsNext}
+use Rattle.manifest_core.specs.Manifest.{Manifest, IsNextType}
 use Rattle.link_spec.specs.Accepted.{IsTyped, IsTypedIn}
 use Rattle.policy_validate.specs.AcceptanceLaws.{LeavesAll}
 use Rattle.policy_validate.specs.Found.{found_conditions}
@@ -50,7 +50,7 @@ before_types undeclared_action f p q h k b = absurd b
 
 -- the request type of the next environment comes behind those of the entries so far
 pub next_behind : (schema : SchemaData) (ps : List PolicyData) (done : List EnvData) (m : Manifest) (env : EnvData) (rest : List EnvData) (q : RequestType) →
-    request_type_in env ≡ Some q → AreEntries schema ps done m → Pairwise IsBefore (done ++ env ∷ rest) → IsNext q (keys_of m)
+    request_type_in env ≡ Some q → AreEntries schema ps done m → Pairwise IsBefore (done ++ env ∷ rest) → IsNextType q (keys_of m)
 next_behind schema ps [] [] env rest q is h b = tt
 next_behind schema ps [] (x ∷ m) env rest q is h b = absurd h
 next_behind schema ps (e ∷ done) [] env rest q is h b = absurd h
@@ -82,10 +82,10 @@ module _ (schema : SchemaData) (ok : IsSchema schema) (ps : List PolicyData) (it
   pub left_here : AllByRecursion (LeavesAll schema ps) (unlinked_envs schema) → LeavesAll schema ps (env_data_of env)
   left_here left = at_seam (LeavesAll schema ps) done (env_data_of env) rest (subst (AllByRecursion (LeavesAll schema ps)) whole left)
 
-  pub behind_here : (m : Manifest) → AreEntries schema ps done m → IfSome (request_type_in (env_data_of env)) (λ q. IsNext q (keys_of m))
+  pub behind_here : (m : Manifest) → AreEntries schema ps done m → IfSome (request_type_in (env_data_of env)) (λ q. IsNextType q (keys_of m))
   behind_here m entries = by (request_type_in (env_data_of env)) refl
     where
-      by : (o : Option RequestType) → request_type_in (env_data_of env) ≡ o → IfSome o (λ q. IsNext q (keys_of m))
+      by : (o : Option RequestType) → request_type_in (env_data_of env) ≡ o → IfSome o (λ q. IsNextType q (keys_of m))
       by None e = tt
       by (Some q) e = next_behind schema ps done m (env_data_of env) rest q e entries (subst (Pairwise IsBefore) whole (envs_ascend schema ok))
 

@@ -24,11 +24,15 @@ module _ (schema : SchemaData) where
     pub trie : IsLeast (declared_reads schema env ts) (declared_demands schema env ts) e.1
     pub table : IsTable e.1
 
+  -- there is one for each environment of the schema, in their order, by what typing gives of these policies
+  abbrev pub AreTypedEntries : List PolicyData → Manifest → Type 0
+  AreTypedEntries ps m =
+      AllZip (λ env e. IsEntryOf env (typed_conditions schema env ps) e) (unlinked_envs schema) m
+
   -- without policies there is no entry; else there is one for each environment of the schema, in their order
   abbrev pub IsManifestOf : List PolicyData → Manifest → Type 0
   IsManifestOf [] m = m ≡ []
-  IsManifestOf ps m =
-      AllZip (λ env e. IsEntryOf env (typed_conditions schema env ps) e) (unlinked_envs schema) m
+  IsManifestOf ps m = AreTypedEntries ps m
 
   -- why there is none: the policies are not accepted, with all that is found of them, or there was no memory
   abbrev pub WhyNone : PolicySetData → EntityManifestError → Type 0

@@ -13,8 +13,8 @@ use Rattle.manifest_computation.specs.Slice.{slice}
 use Rattle.manifest_computation.specs.Rules.{KeepRules}
 
 -- on each store between the slice and the whole one, each policy has the outcome that it has on the whole one
-abbrev pub Covers : List PolicyData → Request → Store → Store → Type 0
-Covers ps q part whole =
+abbrev pub KeepsOutcomes : List PolicyData → Request → Store → Store → Type 0
+KeepsOutcomes ps q part whole =
     (s : Store) → IsPartOf part s → IsPartOf s whole → outcomes ps q s ≡ outcomes ps q whole
 
 -- on each store between the slice and the whole one, each policy has an outcome that is allowed: a truth
@@ -29,7 +29,7 @@ pub record IsEnough (ps : List PolicyData) (q : Request) (part whole : Store) : 
   pub same : outcomes ps q part ≡ outcomes ps q whole
   pub allowed : AreAllowed ps q part
   pub decision : response ps q part ≡ response ps q whole
-  pub covers : Covers ps q part whole
+  pub covers : KeepsOutcomes ps q part whole
   pub allowed_between : AreAllowedBetween ps q part whole
 
 -- where every rule holds, the slice is enough

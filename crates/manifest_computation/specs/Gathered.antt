@@ -12,7 +12,7 @@ use Rattle.schema_core.specs.Schema.{SchemaData}
 use Rattle.typing_spec.specs.Typing.{Typed}
 use Rattle.policy_set.specs.Data.{PolicyData}
 use Rattle.policy_set.specs.PolicySet.{PolicySetData, template_at}
-use Rattle.typecheck_rules.specs.Check.{check_walked, condition_walked}
+use Rattle.typecheck_rules.specs.Check.{check_walked, checked, condition_walked}
 use Rattle.reads_spec.specs.Reads.{declared_reads, declared_demands}
 use Rattle.policy_validate.specs.AcceptanceLaws.{LeavesAll}
 use Rattle.policy_validate.specs.Found.{condition_in, found_conditions}
@@ -48,6 +48,13 @@ module _ (schema : SchemaData) (env : EnvData) where
   -- a condition was taken to the others, or added
   abbrev pub IsTaken : Table → List Typed → Table → List Typed → Typed → Type 0
   IsTaken u us t ts c = (more : List Typed) → HoldSame u (us ++ more) t (ts ++ c ∷ more)
+
+  -- what the check of a condition leaves is there, and was taken; likewise of a part of one, at any depth
+  abbrev pub IsConditionTaken : Plain → Table → List Typed → Table → List Typed → Type 0
+  IsConditionTaken e u us t ts = IsSomeAnd (condition_in (checked schema env e)) (IsTaken u us t ts)
+
+  abbrev pub IsPartTaken : Plain → Table → List Typed → Table → List Typed → Type 0
+  IsPartTaken e u us t ts = IsSomeAnd (part_in e) (IsTaken u us t ts)
 
   -- the trie of what checks leave of policies, of which they leave each condition
   pub record IsTrieLeft (ps : List PolicyData) (t : Table) : Type 0 where

@@ -1,15 +1,14 @@
 //! The manifest of policies.
 
 ghost use Rattle.std.specs.Prelude.{◌≡◌, ◌↔◌, IfOk, IfErr, IfSome, IsTrue, None};
-ghost use Rattle.std.specs.List.{AllByRecursion, AllZip};
+ghost use Rattle.std.specs.List.{AllByRecursion};
 ghost use Rattle.schema_core.specs.EnvData.{unlinked_envs};
 ghost use Rattle.policy_validate.specs.AcceptanceLaws.{LeavesAll};
 ghost use Rattle.policy_validate.specs.Rules.{keep_rules};
 ghost use Rattle.policy_validate.specs.Accepted.{IsAccepted};
 ghost use Rattle.manifest_core.specs.Manifest.{Manifest};
-ghost use Rattle.manifest_computation.specs.Computed.{IsEntryOf, IsManifestOf, WhyNone};
+ghost use Rattle.manifest_computation.specs.Computed.{AreTypedEntries, IsManifestOf, WhyNone};
 ghost use Rattle.manifest_computation.specs.Found.{AreEntries};
-ghost use Rattle.policy_validate.specs.Typed.{typed_conditions};
 
 use crate::EntityManifestError;
 use crate::tries::tries_of;
@@ -110,8 +109,7 @@ fn accepted_exactly(schema: &ValidatorSchema, policies: &PolicySet)
 fn entries_where_accepted(schema: &ValidatorSchema, policies: &PolicySet)
     ensures { IsAccepted schema.now policies.now → (m : Manifest) →
         AreEntries schema.now policies.now.policies (unlinked_envs schema.now) m →
-        AllZip (λ env e. IsEntryOf schema.now env
-        (typed_conditions schema.now env policies.now.policies) e) (unlinked_envs schema.now) m }
+        AreTypedEntries schema.now policies.now.policies m }
 {
     found_are_typed();
     accepted_are_typed();

@@ -1,13 +1,13 @@
 //! The trie of an environment, of a few conditions at a time.
 
-ghost use Rattle.std.specs.Prelude.{◌≡◌, ◌++◌, [], true, false, List, IfOk, OnOk, IfSome, IsSomeAnd, None};
+ghost use Rattle.std.specs.Prelude.{◌≡◌, ◌++◌, [], true, false, List, IfOk, OnOk, IfSome, None};
 ghost use Rattle.schema_core.specs.RequestEnvs.{env_data_of};
 ghost use Rattle.policy_set.specs.Condition.{scope_of};
 ghost use Rattle.policy_set.specs.PolicySet.{IsLinkedIn};
 ghost use Rattle.typing_spec.specs.Typing.{Typed};
 ghost use Rattle.policy_validate.specs.AcceptanceLaws.{LeavesAll};
 ghost use Rattle.typecheck_rules.specs.Check.{checked};
-ghost use Rattle.manifest_computation.specs.Gathered.{AreHeld, HoldSame, IsTaken, IsTrieLeft, part_in};
+ghost use Rattle.manifest_computation.specs.Gathered.{AreHeld, HoldSame, IsConditionTaken, IsPartTaken, IsTaken, IsTrieLeft, part_in};
 ghost use Rattle.policy_validate.specs.Found.{condition_in, condition_told};
 
 use access_tries::RootAccessTrie;
@@ -81,10 +81,9 @@ fn take_policy<'a>(
     requires link { IsLinkedIn policies.now policy.now }
     requires held { AreHeld at.now.schema.now (env_data_of at.now.env.now) policies.now
         bodies.old trie.old conditions.old.items }
-    ensures taken { IfOk result (λ b. b ≡ true → IsSomeAnd
-        (condition_in (checked at.now.schema.now (env_data_of at.now.env.now) policy.now.condition))
-        (IsTaken at.now.schema.now (env_data_of at.now.env.now)
-        trie.new conditions.new.items trie.old conditions.old.items)) }
+    ensures taken { IfOk result (λ b. b ≡ true → IsConditionTaken
+        at.now.schema.now (env_data_of at.now.env.now) policy.now.condition
+        trie.new conditions.new.items trie.old conditions.old.items) }
     ensures missing { IfOk result (λ b. b ≡ false →
         condition_in (checked at.now.schema.now (env_data_of at.now.env.now) policy.now.condition) ≡ None) }
     ensures held { IfOk result
@@ -134,10 +133,9 @@ fn take_body<'a>(
     requires link { IsLinkedIn policies.now policy.now }
     requires held { AreHeld at.now.schema.now (env_data_of at.now.env.now) policies.now
         bodies.old trie.old conditions.old.items }
-    ensures taken { IfOk result (λ b. b ≡ true → IsSomeAnd
-        (part_in at.now.schema.now (env_data_of at.now.env.now) policy.now.body)
-        (IsTaken at.now.schema.now (env_data_of at.now.env.now)
-        trie.new conditions.new.items trie.old conditions.old.items)) }
+    ensures taken { IfOk result (λ b. b ≡ true → IsPartTaken
+        at.now.schema.now (env_data_of at.now.env.now) policy.now.body
+        trie.new conditions.new.items trie.old conditions.old.items) }
     ensures missing { IfOk result (λ b. b ≡ false →
         part_in at.now.schema.now (env_data_of at.now.env.now) policy.now.body ≡ None) }
     ensures held { IfOk result
@@ -164,10 +162,9 @@ fn take_typed_body<'a>(
     conditions: &mut Vec<Expr<Option<Type>>>,
     trie: &mut RootAccessTrie,
 ) -> Result<bool, AllocError>
-    ensures taken { IfOk result (λ b. b ≡ true → IsSomeAnd
-        (part_in at.now.schema.now (env_data_of at.now.env.now) policy.now.body)
-        (IsTaken at.now.schema.now (env_data_of at.now.env.now)
-        trie.new conditions.new.items trie.old conditions.old.items)) }
+    ensures taken { IfOk result (λ b. b ≡ true → IsPartTaken
+        at.now.schema.now (env_data_of at.now.env.now) policy.now.body
+        trie.new conditions.new.items trie.old conditions.old.items) }
     ensures missing { IfOk result (λ b. b ≡ false →
         part_in at.now.schema.now (env_data_of at.now.env.now) policy.now.body ≡ None) }
 {

@@ -6,7 +6,7 @@ ghost use Rattle.std.specs.List.{AllByRecursion};
 ghost use Rattle.entity_store.specs.declared.request.RequestType.{RequestType};
 ghost use Rattle.schema_core.specs.EnvData.{request_type_in, unlinked_envs};
 ghost use Rattle.schema_core.specs.RequestEnvs.{env_data_of};
-ghost use Rattle.manifest_core.specs.Manifest.{IsNext};
+ghost use Rattle.manifest_core.specs.Manifest.{IsNextType};
 ghost use Rattle.manifest_computation.specs.Found.{AreEntries};
 ghost use Rattle.policy_validate.specs.AcceptanceLaws.{LeavesAll};
 
@@ -56,7 +56,7 @@ pub fn add_trie_of(
     tries: &mut BTreeMap<RequestType, RootAccessTrie>,
 ) -> Result<(), AllocError>
     requires declared { IsSome (request_type_in (env_data_of env.now)) }
-    requires next { IfSome (request_type_in (env_data_of env.now)) (λ q. IsNext q (keys tries.old)) }
+    requires next { IfSome (request_type_in (env_data_of env.now)) (λ q. IsNextType q (keys tries.old)) }
     ensures { OnOk result ((q : RequestType) ×
         ((tries.new.entries ≡ tries.old.entries ++ (q, trie) ∷ []) ×
         (request_type_in (env_data_of env.now) ≡ Some q))) }
@@ -73,7 +73,7 @@ fn push_trie(
     request_type: RequestType,
     trie: RootAccessTrie,
 ) -> Result<(), AllocError>
-    requires { IsNext request_type (keys tries.old) }
+    requires { IsNextType request_type (keys tries.old) }
     ensures { OnOk result (tries.new.entries ≡ tries.old.entries ++ (request_type, trie) ∷ []) }
 {
     tries.insert(request_type, trie)?;

@@ -10,7 +10,7 @@ use Rattle.std.specs.Cmp.{IsTotalOrder, on_total, then_total}
 use Rattle.std.specs.Cmp.Lexicographic.{nat_list_cmp_total}
 use Rattle.entity_store.specs.declared.request.RequestType.{RequestType}
 use Rattle.entity_store.specs.Request.{request_type_cmp}
-use Rattle.manifest_core.specs.Manifest.{IsNext}
+use Rattle.manifest_core.specs.Manifest.{IsNextType}
 
 request_types_total : IsTotalOrder request_type_cmp
 request_types_total =
@@ -18,7 +18,7 @@ request_types_total =
     (then_total (on_total (λ t. t.principal) nat_list_cmp_total) (on_total (λ t. t.resource) nat_list_cmp_total))
 
 -- what is put behind all others stands last
-pub put_next : {X : Type 0} → (es : List (RequestType × X)) (k : RequestType) (v : X) → IsNext k (keys_of es) → insert_entry request_type_cmp es k v ≡ es ++ (k, v) ∷ []
+pub put_next : {X : Type 0} → (es : List (RequestType × X)) (k : RequestType) (v : X) → IsNextType k (keys_of es) → insert_entry request_type_cmp es k v ≡ es ++ (k, v) ∷ []
 put_next [] k v h = refl
 put_next (e ∷ es) k v h = rw (h.0) (ap (λ r. e ∷ r) (put_next es k v h.1))
 
@@ -27,7 +27,7 @@ below_seam x [] k rest h = request_types_total.antisymm k x ∙ ap ordering_reve
 below_seam x (d ∷ ks) k rest h = below_seam x ks k rest h.1
 
 -- in a list in order, a request type is greater than those before it
-pub next_seam : (ks : List RequestType) (k : RequestType) (rest : List RequestType) → IsStrictlySortedBy request_type_cmp (ks ++ k ∷ rest) → IsNext k ks
+pub next_seam : (ks : List RequestType) (k : RequestType) (rest : List RequestType) → IsStrictlySortedBy request_type_cmp (ks ++ k ∷ rest) → IsNextType k ks
 unfolding IsStrictlySortedBy
 next_seam [] k rest h = tt
 next_seam (d ∷ ks) k rest h = (below_seam d ks k rest h.0, next_seam ks k rest h.1)

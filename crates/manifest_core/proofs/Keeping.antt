@@ -10,7 +10,7 @@ use Rattle.entity_store.specs.declared.request.RequestType.{RequestType}
 use Rattle.schema_types.specs.Ty.{never}
 use Rattle.schema_core.specs.Schema.{SchemaData}
 use Rattle.access_tries.specs.Table.{Table, NodeData, at_path, leads, is_marked, links_at, Ascend}
-use Rattle.manifest_core.specs.Mismatches.{is_declared_address, IsTyped}
+use Rattle.manifest_core.specs.Mismatches.{is_declared_address, KeepsDeclared}
 use Rattle.access_tries.specs.Walks.{any_link, Keeps, IsBeforeAll}
 use Rattle.access_tries.specs.EdgeLaws.{exact_edge}
 use Rattle.access_tries.proofs.Unions.{IsUniting}
@@ -111,7 +111,7 @@ pub no_nodes : (ns : Table) → length ns ≡ 0 → ns ≡ []
 no_nodes [] h = refl
 no_nodes (n ∷ ns) h = absurd (omega (arith, h))
 
-pub none_typed : (s : SchemaData) (t : RequestType) → IsTyped s t [] []
+pub none_typed : (s : SchemaData) (t : RequestType) → KeepsDeclared s t [] []
 none_typed s t = record { paths = nowhere; marks = unmarked }
   where
     nowhere : (es : Address) → leads [] es ≡ (leads [] es && is_declared_address s t never es)

@@ -16,9 +16,9 @@ use Rattle.access_tries.specs.EdgeLaws.{exact_edge, edge_total}
 use Rattle.access_tries.proofs.Branching.{same_below}
 use Rattle.manifest_core.specs.declared.error.MismatchedEntityManifestError.{MismatchedEntityManifestError as Mismatch}
 use Rattle.manifest_core.specs.Manifest.{Manifest}
-use Rattle.manifest_core.specs.Mismatches.{edge_fault, type_behind, first_fault, first_among, trie_fault, is_declared_address, IsTyped, first_mismatch, AreTyped}
+use Rattle.manifest_core.specs.Mismatches.{edge_fault, type_behind, first_fault, first_among, trie_fault, is_declared_address, KeepsDeclared, first_mismatch, AreTyped}
 use Rattle.manifest_core.proofs.Keeping.{is_there}
-use Rattle.manifest_core.specs.Laws.{AreTables, AreSame, TypedStays}
+use Rattle.manifest_core.specs.Laws.{AreTables, AreSameEntries, TypedStays}
 use Rattle.plain_lemmas.proofs.Booleans.{or_true}
 
 -- neither of two is there
@@ -92,7 +92,7 @@ module _ (s : SchemaData) (t : RequestType) where
   leads_is : (a : Table) → IsTable a → (e : Edge) (es : Address) → leads a (e ∷ es) ≡ some_passes any (branches_of a) e es
   leads_is a k e es = same_below is_some any a k.closed (λ i h. sym (is_there a i h)) 0 e es
 
-  fits_again : (a b : Table) → IsTable a → IsTable b → trie_fault s t a ≡ None → IsTyped s t a b → trie_fault s t b ≡ None
+  fits_again : (a b : Table) → IsTable a → IsTable b → trie_fault s t a ≡ None → KeepsDeclared s t a b → trie_fault s t b ≡ None
   fits_again a b ka kb none typed =
       none_of (branches_of b) never (λ e es p. none_among (branches_of a) never none e es (sym (leads_is a ka e es) ∙ front (leads a (e ∷ es)) _ (sym (typed.paths (e ∷ es)) ∙ leads_is b kb e es ∙ p)))
     where
@@ -105,7 +105,7 @@ module _ (s : SchemaData) (t : RequestType) where
   again true false = refl
   again false q = refl
 
-  same_again : (a b c : Table) → IsTyped s t a b → IsTyped s t b c → IsSame b c
+  same_again : (a b c : Table) → KeepsDeclared s t a b → KeepsDeclared s t b c → IsSame b c
   same_again a b c ab bc = record {
     paths = λ es. ab.paths es ∙ again (leads a es) (is_declared_address s t never es) ∙ sym (bc.paths es ∙ ap (λ p. p && is_declared_address s t never es) (ab.paths es));
     marks = λ es. ab.marks es ∙ again (is_marked a es) (is_declared_address s t never es) ∙ sym (bc.marks es ∙ ap (λ p. p && is_declared_address s t never es) (ab.marks es));
@@ -119,13 +119,13 @@ fits s (a ∷ m) (b ∷ n) km kn h typed =
     both_none (trie_fault s b.0 b.1) (first_mismatch s n) (subst (λ t. trie_fault s t b.1 ≡ None) typed.0 (fits_again s a.0 a.1 b.1 km.0 kn.0 (first_none (trie_fault s a.0 a.1) (first_mismatch s m) h) typed.1))
     (fits s m n km.1 kn.1 (second_none (trie_fault s a.0 a.1) (first_mismatch s m) h) typed.2)
 
-stays : (s : SchemaData) (m n o : Manifest) → AreTyped s m n → AreTyped s n o → AreSame n o
+stays : (s : SchemaData) (m n o : Manifest) → AreTyped s m n → AreTyped s n o → AreSameEntries n o
 stays s [] [] [] mn nw = tt
 stays s [] [] (c ∷ o) mn nw = absurd nw
 stays s [] (b ∷ n) o mn nw = absurd mn
 stays s (a ∷ m) [] o mn nw = absurd mn
 stays s (a ∷ m) (b ∷ n) [] mn nw = absurd nw
-stays s (a ∷ m) (b ∷ n) (c ∷ o) mn nw = (nw.0, same_again s b.0 a.1 b.1 c.1 (subst (λ t. IsTyped s t a.1 b.1) mn.0 mn.1) nw.1, stays s m n o mn.2 nw.2)
+stays s (a ∷ m) (b ∷ n) (c ∷ o) mn nw = (nw.0, same_again s b.0 a.1 b.1 c.1 (subst (λ t. KeepsDeclared s t a.1 b.1) mn.0 mn.1) nw.1, stays s m n o mn.2 nw.2)
 
 pub typed_stays : TypedStays
 typed_stays = record { fits = fits; stays = stays }

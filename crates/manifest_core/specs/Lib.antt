@@ -6,5 +6,6 @@ pub mod Placed
 pub mod Reading
 pub mod Refusals
 pub mod Said
+pub mod Same
 pub use Rattle.json_tries.specs.TrieJson
 pub use Rattle.json_response.specs.ValueJson

@@ -27,5 +27,5 @@ abbrev pub coded_manifest : Coded Manifest
 coded_manifest = coded_list (coded× request_type_row.coded coded_table)
 
 -- the request type is greater than all these
-abbrev pub IsNext : RequestType → List RequestType → Type 0
-IsNext t ts = AllByRecursion (λ u. request_type_cmp t u ≡ Greater) ts
+abbrev pub IsNextType : RequestType → List RequestType → Type 0
+IsNextType t ts = AllByRecursion (λ u. request_type_cmp t u ≡ Greater) ts

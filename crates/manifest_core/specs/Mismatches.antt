@@ -48,7 +48,8 @@ module _ (s : SchemaData) (t : RequestType) where
     resource_slot = None;
   }
 
-  -- what is wrong with a root: its id has no type, the type of principals or of resources is not declared, or the action is not
+  -- what is wrong with a root: its id has no type, the type of principals or of resources is not declared, or
+  -- the action is not
   abbrev pub root_fault : EntityRoot → Option Mismatch
   root_fault (Literal u) = unless_there (literal_type s u) (missing u)
   root_fault (Variable Principal) = unless_there (type_at s t.principal) not_strict
@@ -67,14 +68,16 @@ module _ (s : SchemaData) (t : RequestType) where
   type_behind u AnyTag = type_along s u step.AnyTag
   type_behind u (Root r) = root_type s environment_of r
 
-  -- what is wrong first, branch by branch, with an edge and then behind it; what stands behind an edge that is not declared does not count
+  -- what is wrong first, branch by branch, with an edge and then behind it; what stands behind an edge that
+  -- is not declared does not count
   abbrev mutual
     pub first_fault : Ty → Branch → Option Mismatch
     first_fault u (branch m bs) = first_among u bs
 
     pub first_among : Ty → Branches → Option Mismatch
     first_among u no_branches = None
-    first_among u (leading e b bs) = option_or (edge_fault u e) (option_or (option_and_then (λ v. first_fault v b) (type_behind u e)) (first_among u bs))
+    first_among u (leading e b bs) = option_or (edge_fault u e)
+        (option_or (option_and_then (λ v. first_fault v b) (type_behind u e)) (first_among u bs))
 
   -- whether each edge is declared, from a value of the type
   abbrev pub is_declared_address : Ty → Address → Bool
@@ -82,7 +85,7 @@ module _ (s : SchemaData) (t : RequestType) where
   is_declared_address u (e ∷ es) = option_map_or (λ v. is_declared_address v es) (type_behind u e) false
 
   -- exactly the paths that are declared, with their marks; what leads to the roots is no value
-  pub record IsTyped (a b : Table) : Type 0 where
+  pub record KeepsDeclared (a b : Table) : Type 0 where
     pub paths : (es : Address) → leads b es ≡ (leads a es && is_declared_address never es)
     pub marks : (es : Address) → is_marked b es ≡ (is_marked a es && is_declared_address never es)
 
@@ -99,5 +102,5 @@ module _ (s : SchemaData) where
   -- each request type with what is declared of its trie
   abbrev pub AreTyped : Manifest → Manifest → Type 0
   AreTyped [] [] = Unit {0}
-  AreTyped (a ∷ ms) (b ∷ ns) = (a.0 ≡ b.0) × IsTyped s a.0 a.1 b.1 × AreTyped ms ns
+  AreTyped (a ∷ ms) (b ∷ ns) = (a.0 ≡ b.0) × KeepsDeclared s a.0 a.1 b.1 × AreTyped ms ns
   AreTyped ms ns = ⊥

@@ -14,7 +14,8 @@ module _ (s : SchemaData) (t : RequestType) where
   -- what is wrong first along an address; what stands behind an edge that is not declared does not count
   abbrev pub address_fault : Ty → Address → Option Mismatch
   address_fault u [] = None
-  address_fault u (e ∷ es) = option_or (edge_fault s t u e) (option_and_then (λ v. address_fault v es) (type_behind s t u e))
+  address_fault u (e ∷ es) =
+      option_or (edge_fault s t u e) (option_and_then (λ v. address_fault v es) (type_behind s t u e))
 
   -- along the addresses of nodes, one by one
   abbrev pub places_fault : Ty → List Place → Option Mismatch

@@ -23,7 +23,8 @@ abbrev pub coded_entry : Coded Entry
 coded_entry = coded× request_type_row.coded (coded_list coded_place)
 
 -- the request type of these parts, where each is there and the names are right
-abbrev pub request_type_form : Bool → Option EntityUID → Option (List ℕ) → Option (List ℕ) → Option RequestType
+abbrev pub request_type_form : Bool → Option EntityUID →
+    Option (List ℕ) → Option (List ℕ) → Option RequestType
 request_type_form named action principal resource = do
   u ← action
   p ← principal
@@ -32,14 +33,16 @@ request_type_form named action principal resource = do
 
 -- whether these are the names of its members
 abbrev pub are_names : List ℕ → List ℕ → List ℕ → Bool
-are_names k l m = bytes_eq k (codes "action") && (bytes_eq l (codes "principal") && bytes_eq m (codes "resource"))
+are_names k l m =
+    bytes_eq k (codes "action") && (bytes_eq l (codes "principal") && bytes_eq m (codes "resource"))
 
 -- a request type: its members stand in the order of their names
 abbrev pub request_type_in : Members → Option RequestType
 request_type_in no_members = None
 request_type_in (member k d no_members) = None
 request_type_in (member k d (member l e no_members)) = None
-request_type_in (member k d (member l e (member m f no_members))) = request_type_form (are_names k l m) (uid_of d) (name_of e) (name_of f)
+request_type_in (member k d (member l e (member m f no_members))) =
+    request_type_form (are_names k l m) (uid_of d) (name_of e) (name_of f)
 request_type_in (member k d (member l e (member m f (member n g ms)))) = None
 
 -- the request type that a value says
@@ -55,7 +58,8 @@ entry_form t ps = do
 
 -- an entry is a pair of a request type and a trie
 abbrev pub entry_of : Data → Option Entry
-entry_of d = option_and_then (λ p. entry_form (request_type_of p.0) (option_map places_in (trie_of p.1))) (option_and_then pair_of (as_array d))
+entry_of d = option_and_then (λ p. entry_form (request_type_of p.0) (option_map places_in (trie_of p.1)))
+    (option_and_then pair_of (as_array d))
 
 -- the entries that items say, where each says one
 abbrev pub entries_of_items : Items → Option (List Entry)
@@ -64,7 +68,8 @@ entries_of_items (item d ds) = with_first (entry_of d) (entries_of_items ds)
 
 -- those of the member under this key
 abbrev pub entries_form : List ℕ → Data → Option (List Entry)
-entries_form k d = if bytes_eq k (codes "perAction") then option_and_then entries_of_items (as_array d) else None
+entries_form k d =
+    if bytes_eq k (codes "perAction") then option_and_then entries_of_items (as_array d) else None
 
 -- the object with one member, the list of entries
 abbrev pub entries_of : Data → Option (List Entry)

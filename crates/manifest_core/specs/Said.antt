@@ -21,8 +21,10 @@ use Rattle.manifest_core.specs.Placed.{entries_fault}
 module _ (s : SchemaData) where
   -- exactly the declared paths to these nodes and on the way to them, with the marks of the nodes
   pub record IsTypedOf (t : RequestType) (ps : List Place) (a : Table) : Type 0 where
-    pub paths : (es : Address) → leads a es ≡ (list_any (λ p. is_front es p.0) ps && is_declared_address s t never es)
-    pub marks : (es : Address) → is_marked a es ≡ (list_any (λ p. p.1 && is_same es p.0) ps && is_declared_address s t never es)
+    pub paths : (es : Address) →
+        leads a es ≡ (list_any (λ p. is_front es p.0) ps && is_declared_address s t never es)
+    pub marks : (es : Address) → is_marked a es ≡
+        (list_any (λ p. p.1 && is_same es p.0) ps && is_declared_address s t never es)
 
   -- the same, where nodes are said; where none are, there is no trie
   abbrev pub IsTypedAt : RequestType → Option (List Place) → Option Table → Type 0
@@ -36,15 +38,17 @@ module _ (s : SchemaData) where
   AreTypedOf es m = (t : RequestType) → IsTypedAt t (at request_type_cmp es t) (trie_at m t)
 
   -- the one list has a typed trie at the request type of the entry, and elsewhere what the other one has
-  abbrev pub IsPut : Entry → Manifest → Manifest → Type 0
-  IsPut e m n = (a : Table) × IsTypedOf e.0 e.1 a × ((t : RequestType) → trie_at n t ≡ cond (is_eq (request_type_cmp e.0 t)) (Some a) (trie_at m t))
+  abbrev pub IsEntryPut : Entry → Manifest → Manifest → Type 0
+  IsEntryPut e m n = (a : Table) × IsTypedOf e.0 e.1 a ×
+      ((t : RequestType) → trie_at n t ≡ cond (is_eq (request_type_cmp e.0 t)) (Some a) (trie_at m t))
 
   -- the value says a manifest that fits, and this is it, typed
   abbrev pub IsSaid : Option (List Entry) → Manifest → Type 0
   IsSaid o m = IsSomeAnd o (λ es. AreDistinct es × (entries_fault s es ≡ None) × AreTypedOf es m)
 
   -- the value says no manifest, or this is what is wrong first with the one that it says, or memory ran out
-  abbrev pub IsRefused : Option (List Entry) → EntityManifestFromJsonError → Type 0
-  IsRefused o SerdeJsonParseError = ¬ (IsSomeAnd o AreDistinct)
-  IsRefused o (MismatchedEntityManifest f) = IsSomeAnd o (λ es. AreDistinct es × (entries_fault s es ≡ Some f))
-  IsRefused o OutOfMemory = Unit {0}
+  abbrev pub IsManifestRefused : Option (List Entry) → EntityManifestFromJsonError → Type 0
+  IsManifestRefused o SerdeJsonParseError = ¬ (IsSomeAnd o AreDistinct)
+  IsManifestRefused o (MismatchedEntityManifest f) =
+      IsSomeAnd o (λ es. AreDistinct es × (entries_fault s es ≡ Some f))
+  IsManifestRefused o OutOfMemory = Unit {0}

@@ -3,10 +3,10 @@
 ghost use Rattle.std.specs.Prelude.{◌≡◌, ◌<◌, ◌&&◌, ◌++◌, ◌∷◌, [], IfOk, OnOk, length, is_some};
 ghost use Rattle.std.specs.BTreeMap.{keys};
 ghost use Rattle.access_tries.specs.Edges.{Address};
-ghost use Rattle.access_tries.specs.Table.{IsTable, IsClosed, IsOrdered, at_path, has_mark};
+ghost use Rattle.access_tries.specs.Table.{IsTable, IsClosed, IsTableOrdered, at_path, has_mark};
 ghost use Rattle.access_tries.specs.Walks.{Keeps};
-ghost use Rattle.manifest_core.specs.Manifest.{IsNext};
-ghost use Rattle.manifest_core.specs.Mismatches.{is_declared_address, IsTyped, AreTyped};
+ghost use Rattle.manifest_core.specs.Manifest.{IsNextType};
+ghost use Rattle.manifest_core.specs.Mismatches.{is_declared_address, KeepsDeclared, AreTyped};
 
 use crate::types::type_behind;
 use access_tries::{Link, Node, RootAccessTrie, links_of, mark_of};
@@ -38,7 +38,7 @@ pub(crate) fn push_trie(
     request_type: RequestType,
     trie: RootAccessTrie,
 ) -> Result<(), AllocError>
-    requires { IsNext request_type (keys tries.old) }
+    requires { IsNextType request_type (keys tries.old) }
     ensures { OnOk result (tries.new.entries ≡ tries.old.entries ++ (request_type, trie) ∷ []) }
 {
     drop(tries.insert(request_type, trie)?);
@@ -52,7 +52,7 @@ pub(crate) fn declared_trie(
     request_type: &RequestType,
     trie: &RootAccessTrie,
 ) -> Result<RootAccessTrie, AllocError>
-    ensures { IfOk result (IsTyped schema.now request_type.now trie.now) }
+    ensures { IfOk result (KeepsDeclared schema.now request_type.now trie.now) }
 {
     let given = trie.nodes();
     if given.len() == 0 {
@@ -72,7 +72,7 @@ fn declared_nodes(
     requires table { IsTable given.now }
     requires first { 0 < length given.now }
     ensures table { IfOk result (λ v. IsTable v.items) }
-    ensures typed { IfOk result (λ v. IsTyped schema.now request_type.now given.now v.items) }
+    ensures typed { IfOk result (λ v. KeepsDeclared schema.now request_type.now given.now v.items) }
 {
     let mut nodes = Vec::new(alloc);
     let t = Type::never();
@@ -97,7 +97,7 @@ fn declared_node(
     ensures number { IfOk result (λ n. (n ≡ length nodes.old.items) × (n < length nodes.new.items)) }
     ensures kept { OnOk result (Keeps (length nodes.old.items) nodes.old.items nodes.new.items) }
     ensures closed { OnOk result (IsClosed (length nodes.old.items) nodes.new.items) }
-    ensures ordered { OnOk result (IsOrdered (length nodes.old.items) nodes.new.items) }
+    ensures ordered { OnOk result (IsTableOrdered (length nodes.old.items) nodes.new.items) }
     ensures present { IfOk result (λ n. (a : Address) → at_path is_some nodes.new.items n a ≡
         (at_path is_some x.now i a && is_declared_address schema.now request_type.now t.now a)) }
     ensures marked { IfOk result (λ n. (a : Address) → at_path has_mark nodes.new.items n a ≡

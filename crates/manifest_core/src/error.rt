@@ -20,8 +20,8 @@ pub struct MismatchedNotStrictSchemaError {}
 /// Why a manifest does not fit a schema.
 #[derive(Debug, Drop, Error)]
 pub enum MismatchedEntityManifestError {
-    /// A root is an id that is neither of a declared type nor a declared action, or it is the action or the context and the
-    /// action is not declared.
+    /// A root is an id that is neither of a declared type nor a declared action, or it is the action or the
+    /// context and the action is not declared.
     #[error(transparent)]
     MismatchedMissingEntity(MismatchedMissingEntityError),
     /// A root is the principal or the resource, and its type is not declared.

@@ -1,6 +1,7 @@
 //! Manifests: what is read of a store, for each type of requests.
 #![tactic(auto)]
 
+mod copies;
 mod declared;
 mod error;
 mod faults;

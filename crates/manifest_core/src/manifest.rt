@@ -9,8 +9,9 @@ ghost use Rattle.manifest_core.specs.Mismatches.{first_mismatch, AreTyped};
 ghost use Rattle.manifest_core.specs.Refusals.{IsMismatch};
 ghost use Rattle.manifest_core.specs.Reading.{entries_of};
 ghost use Rattle.manifest_core.specs.Placed.{entries_fault};
-ghost use Rattle.manifest_core.specs.Said.{AreTypedOf, IsSaid, IsRefused};
+ghost use Rattle.manifest_core.specs.Said.{AreTypedOf, IsSaid, IsManifestRefused};
 
+use crate::copies::copied_tries;
 use crate::declared::declared_tries;
 use crate::error::EntityManifestFromJsonError;
 use crate::faults::first_mismatch;
@@ -51,6 +52,14 @@ impl EntityManifest {
         EntityManifest { per_action }
     }
 
+    /// An equal manifest.
+    pub fn try_clone(&self, alloc: Global) -> Result<EntityManifest, AllocError>
+        ensures { IfOk result (λ m. m ≡ self.now) }
+    {
+        let per_action = copied_tries(alloc, self.per_action())?;
+        Ok(EntityManifest { per_action })
+    }
+
     /// The tries by their request types.
     pub fn per_action(&self) -> &BTreeMap<RequestType, RootAccessTrie>
         ensures { result.now.entries ≡ self.now }
@@ -60,17 +69,17 @@ impl EntityManifest {
 
     /// The manifest that a JSON value says, with exactly the paths whose steps the schema declares.
     ///
-    /// Errors: `SerdeJsonParseError` exactly where the value says no manifest (a request type, root or field that is listed
-    /// twice makes it none); `MismatchedEntityManifest` exactly where the manifest does not fit the schema, with what is wrong
-    /// first in the order of the document: lists in their order; of one node first `children`, then `tags`, then
-    /// `ancestorsTrie`.
+    /// Errors: `SerdeJsonParseError` exactly where the value says no manifest (a request type, root or field
+    /// that is listed twice makes it none); `MismatchedEntityManifest` exactly where the manifest does not
+    /// fit the schema, with what is wrong first in the order of the document: lists in their order; of one
+    /// node first `children`, then `tags`, then `ancestorsTrie`.
     pub fn from_json_value(
         alloc: Global,
         value: &Value,
         schema: &ValidatorSchema,
     ) -> Result<EntityManifest, EntityManifestFromJsonError>
         ensures { MatchResult result (IsSaid schema.now (entries_of (view value.now)))
-            (IsRefused schema.now (entries_of (view value.now))) }
+            (IsManifestRefused schema.now (entries_of (view value.now))) }
     {
         let Some(entries) = read_entries(alloc, value)? else {
             return Err(EntityManifestFromJsonError::SerdeJsonParseError);
@@ -83,8 +92,8 @@ impl EntityManifest {
 
     /// The manifest that a text of JSON says, as of [`EntityManifest::from_json_value`].
     ///
-    /// Errors: those of [`EntityManifest::from_json_value`], and `SerdeJsonParseError` where the text is no JSON; `serde_json`
-    /// reads no text that nests deeper than 127.
+    /// Errors: those of [`EntityManifest::from_json_value`], and `SerdeJsonParseError` where the text is no
+    /// JSON; `serde_json` reads no text that nests deeper than 127.
     pub fn from_json_str(
         alloc: Global,
         text: &str,
@@ -92,7 +101,7 @@ impl EntityManifest {
     ) -> Result<EntityManifest, EntityManifestFromJsonError>
         ensures { MatchResult result
             (IsSaid schema.now (option_and_then entries_of (json_of text.now)))
-            (IsRefused schema.now (option_and_then entries_of (json_of text.now))) }
+            (IsManifestRefused schema.now (option_and_then entries_of (json_of text.now))) }
     {
         let Some(value) = parse_json(alloc, text.as_bytes())? else {
             return Err(EntityManifestFromJsonError::SerdeJsonParseError);
@@ -117,8 +126,9 @@ impl EntityManifest {
         Ok(EntityManifest { per_action })
     }
 
-    /// The manifest with exactly the paths whose steps the schema declares, with their marks. It is refused where it does not fit
-    /// the schema: with what is wrong first, in the order of request types, and then of edges.
+    /// The manifest with exactly the paths whose steps the schema declares, with their marks. It is refused
+    /// where it does not fit the schema: with what is wrong first, in the order of request types, and then
+    /// of edges.
     pub fn to_typed(
         &self,
         alloc: Global,
@@ -134,10 +144,31 @@ impl EntityManifest {
         Ok(EntityManifest { per_action })
     }
 
-    /// The manifest as JSON: the object whose member `perAction` lists request types, ascending, each with its trie.
+    /// The manifest as JSON: the object whose member `perAction` lists request types, ascending, each with
+    /// its trie.
     pub fn to_json(&self, alloc: Global) -> Result<Value, AllocError>
         ensures { IfOk result (λ v. view v ≡ manifest_data self.now) }
     {
         write_per_action(alloc, self.per_action())
     }
+}
+
+impl PartialEq for EntityManifest {
+    ghost use Rattle.std.specs.Cmp.{partial_equiv_from_equiv};
+    ghost use Rattle.manifest_core.specs.Same.{same_manifests, same_manifests_equiv};
+
+    ghost eq = { same_manifests };
+
+    ghost laws = { partial_equiv_from_equiv same_manifests_equiv };
+
+    /// Whether both have the same request types, with equal tries.
+    fn eq(&self, other: &EntityManifest) -> bool {
+        self.per_action == other.per_action
+    }
+}
+
+impl Eq for EntityManifest {
+    ghost use Rattle.manifest_core.specs.Same.{same_manifests_equiv};
+
+    ghost laws = { same_manifests_equiv };
 }

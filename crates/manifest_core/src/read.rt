@@ -4,7 +4,7 @@ ghost use Rattle.std.specs.Prelude.{◌≡◌, ◌↔◌, IfOk, OnOk, IsSome};
 ghost use Rattle.policy_values.specs.Repeated.{IsRepeated};
 ghost use Rattle.entity_store.specs.declared.request.RequestType.{RequestType as RequestTypeData};
 ghost use Rattle.manifest_core.specs.Reading.{types_of};
-ghost use Rattle.manifest_core.specs.Said.{IsTypedOf, IsPut, AreTypedOf};
+ghost use Rattle.manifest_core.specs.Said.{IsTypedOf, IsEntryPut, AreTypedOf};
 
 use crate::declared::declared_trie;
 use crate::listing::Entry;
@@ -53,7 +53,7 @@ fn put_trie(
     schema: &ValidatorSchema,
     entry: &Entry,
 ) -> Result<(), AllocError>
-    ensures { OnOk result (IsPut schema.now entry.now tries.old.entries tries.new.entries) }
+    ensures { OnOk result (IsEntryPut schema.now entry.now tries.old.entries tries.new.entries) }
 {
     let trie = typed_trie(alloc, schema, entry)?;
     let request_type = entry.request_type().try_clone()?;

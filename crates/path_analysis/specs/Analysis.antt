@@ -13,8 +13,10 @@ pub record Analysis : Type 0 where
 
 abbrev pub coded_analysis : Coded Analysis
 coded_analysis =
-    code_by (List AccessPath × (List Demand × Shape)) (coded× (coded_list coded_path) (coded× (coded_list (coded× coded_path coded_path)) coded_shape))
-    (λ a. (a.reads, (a.demands, a.shape))) (λ t. record { reads = t.0; demands = t.1.0; shape = t.1.1 }) (λ _. refl)
+    code_by (List AccessPath × (List Demand × Shape))
+    (coded× (coded_list coded_path) (coded× (coded_list (coded× coded_path coded_path)) coded_shape))
+    (λ a. (a.reads, (a.demands, a.shape)))
+    (λ t. record { reads = t.0; demands = t.1.0; shape = t.1.1 }) (λ _. refl)
 
 -- where nothing is read: the result comes from there
 abbrev pub from_shape : Shape → Analysis
@@ -26,8 +28,13 @@ without_shape a = record { reads = a.reads; demands = a.demands; shape = no_shap
 
 -- what both read and demand, for a result that comes from one of both
 abbrev pub united : Analysis → Analysis → Analysis
-united a b = record { reads = a.reads ++ b.reads; demands = a.demands ++ b.demands; shape = one_of a.shape b.shape }
+united a b =
+    record { reads = a.reads ++ b.reads; demands = a.demands ++ b.demands; shape = one_of a.shape b.shape }
 
 -- one step on: the paths there are read
 abbrev pub one_step_on : Analysis → Step → Analysis
-one_step_on a n = record { reads = a.reads ++ with_step (paths (extended a.shape n)); demands = a.demands; shape = extended a.shape n }
+one_step_on a n = record {
+  reads = a.reads ++ with_step (paths (extended a.shape n));
+  demands = a.demands;
+  shape = extended a.shape n;
+}

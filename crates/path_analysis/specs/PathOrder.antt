@@ -14,5 +14,6 @@ abbrev pub with_paths : List AccessPath → List AccessPath → List AccessPath
 with_paths ps qs = fold (insert_key path_cmp) ps qs
 
 -- likewise demands
-abbrev pub with_demands : List (AccessPath × AccessPath) → List (AccessPath × AccessPath) → List (AccessPath × AccessPath)
+abbrev pub with_demands : List (AccessPath × AccessPath) →
+    List (AccessPath × AccessPath) → List (AccessPath × AccessPath)
 with_demands ds es = fold (insert_key demand_cmp) ds es

@@ -28,12 +28,15 @@ mutual
   inj (at_path a) (at_path b) p = ap at_path (coded_path.inj a b (ap tail p))
   inj (set_shape a) (set_shape b) p = ap set_shape (inj a b (ap tail p))
   inj (record_shape a) (record_shape b) p = ap record_shape (inj_fields a b (ap tail p))
-  inj (one_of a b) (one_of c d) p = λ i. one_of (inj a c (ap (λ g. head (tail g)) p) i) (inj b d (ap (λ g. tail (tail g)) p) i)
+  inj (one_of a b) (one_of c d) p =
+      λ i. one_of (inj a c (ap (λ g. head (tail g)) p) i) (inj b d (ap (λ g. tail (tail g)) p) i)
   inj x y p = absurd (omega (arith, ap (λ g. num (head g)) p))
 
   pub inj_fields : (xs ys : FieldShapes) → codes_fields xs ≡ codes_fields ys → xs ≡ ys
   inj_fields no_field_shapes no_field_shapes p = refl
-  inj_fields (field_shape k x xs) (field_shape l y ys) p = λ i. field_shape (text.inj k l (ap (λ g. head (head g)) p) i) (inj x y (ap (λ g. tail (head g)) p) i) (inj_fields xs ys (ap tail p) i)
+  inj_fields (field_shape k x xs) (field_shape l y ys) p =
+      λ i. field_shape (text.inj k l (ap (λ g. head (head g)) p) i)
+      (inj x y (ap (λ g. tail (head g)) p) i) (inj_fields xs ys (ap tail p) i)
   inj_fields no_field_shapes (field_shape l y ys) p = cc
   inj_fields (field_shape k x xs) no_field_shapes p = cc
 

@@ -19,8 +19,9 @@ use schema_types::Type;
 use std::alloc::{AllocError, Global};
 use std::collections::BTreeSet;
 
-/// The trie with exactly what conditions read on requests of an environment, and with the ancestors that they ask for, each
-/// condition with its types there: no step that the schema does not declare is in it, and nothing behind one.
+/// The trie with exactly what conditions read on requests of an environment, and with the ancestors that they
+/// ask for, each condition with its types there: no step that the schema does not declare is in it, and
+/// nothing behind one.
 pub fn conditions_trie<'a>(
     alloc: Global,
     schema: &'a ValidatorSchema,

@@ -12,7 +12,8 @@ use policy_values::Text;
 use std::alloc::{AllocError, Global};
 use std::marker::Model;
 
-/// What an expression reads of a store, of which entities it asks for which ancestors, and where its result comes from.
+/// What an expression reads of a store, of which entities it asks for which ancestors, and where its result
+/// comes from.
 #[derive(Debug, Drop)]
 pub struct EntityManifestAnalysisResult {
     reads: Vec<AccessPath>,
@@ -49,7 +50,8 @@ impl EntityManifestAnalysisResult {
         self.reads.as_slice()
     }
 
-    /// Which ancestors are asked for: each entity at a first path is asked for those that its second path names.
+    /// Which ancestors are asked for: each entity at a first path is asked for those that its second
+    /// path names.
     pub fn demands(&self) -> &[(AccessPath, AccessPath)]
         ensures { result.now ≡ self.now.demands }
     {

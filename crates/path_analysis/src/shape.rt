@@ -120,8 +120,8 @@ impl Shape {
         matches!(&self.kind, ShapeKind::Path(_))
     }
 
-    /// One step on: a path gets longer, a record gives what it has there, one of two gives one of both, and nothing else
-    /// gives anything.
+    /// One step on: a path gets longer, a record gives what it has there, one of two gives one of both, and
+    /// nothing else gives anything.
     pub(crate) fn extended(self, alloc: Global, step: &Step) -> Result<Shape, AllocError>
         ensures { IfOk result (λ r. r ≡ extended self step.now) }
     {

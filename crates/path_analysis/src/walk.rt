@@ -6,7 +6,7 @@ ghost use Rattle.policy_expressions.specs.Tree.{attr, binary, conj, ite, named_o
 ghost use Rattle.reads_spec.specs.Paths.{no_shape};
 ghost use Rattle.reads_spec.specs.Reads as read;
 ghost use Rattle.reads_spec.specs.Reads.{reads_all, demands_all, reads_named, demands_named, shape_of, literal_shape};
-ghost use Rattle.path_analysis.specs.Covers.{Adds, own_path};
+ghost use Rattle.path_analysis.specs.Covers.{Adds, AddsButOwn};
 ghost use Rattle.path_analysis.specs.PathOrder.{with_demands};
 ghost use Rattle.path_analysis.specs.Parts.{shaped, unmarked};
 
@@ -20,8 +20,8 @@ use schema_types::Type;
 use std::alloc::{AllocError, Global};
 use std::collections::{BTreeMap, BTreeSet};
 
-// Adds what an expression reads and demands, and says where its result comes from. Parts that are not reached stand as
-// literals in a typed expression, and read nothing.
+// Adds what an expression reads and demands, and says where its result comes from. Parts that are not reached
+// stand as literals in a typed expression, and read nothing.
 #[cycle(analyze)]
 #[tactic(auto, using(crate::proofs::Covers::adds_none))]
 pub(crate) fn analyze(
@@ -195,9 +195,8 @@ fn reach(
     reads: &mut BTreeSet<AccessPath>,
     demands: &mut BTreeSet<(AccessPath, AccessPath)>,
 ) -> Result<Shape, AllocError>
-    ensures reads { OnOk result (Adds reads.old.keys
-        (read.reads at.now.schema.now (env_data_of at.now.env.now) e.now)
-        reads.new.keys (own_path (shape_of e.now))) }
+    ensures reads { OnOk result (AddsButOwn at.now.schema.now (env_data_of at.now.env.now) e.now
+        reads.old.keys reads.new.keys) }
     ensures demands { OnOk result (demands.new.keys ≡
         with_demands demands.old.keys (read.demands e.now)) }
     ensures shape { IfOk result (λ a. a ≡ shape_of e.now) }
@@ -218,10 +217,8 @@ fn reach_attr(
     reads: &mut BTreeSet<AccessPath>,
     demands: &mut BTreeSet<(AccessPath, AccessPath)>,
 ) -> Result<Shape, AllocError>
-    ensures reads { OnOk result (Adds reads.old.keys
-        (read.reads at.now.schema.now (env_data_of at.now.env.now)
-        (attr x.now name.now unmarked))
-        reads.new.keys (own_path (shape_of (attr x.now name.now unmarked)))) }
+    ensures reads { OnOk result (AddsButOwn at.now.schema.now (env_data_of at.now.env.now)
+        (attr x.now name.now unmarked) reads.old.keys reads.new.keys) }
     ensures demands { OnOk result (demands.new.keys ≡
         with_demands demands.old.keys (read.demands (attr x.now name.now unmarked))) }
     ensures shape { IfOk result (λ a. a ≡ shape_of (attr x.now name.now unmarked)) }

@@ -6,7 +6,8 @@ use Rattle.policy_core.specs.declared.outcome.Outcome.TheVariants.{Value, Error}
 use Rattle.policy_core.specs.declared.outcome.EvalError.{EvalError}
 use Rattle.policy_core.specs.declared.outcome.EvalError.TheVariants.{MissingEntity, IntegerOverflow, ExtensionOverflow}
 
--- an entity that is not in the store, or a number that does not fit: of an integer, or of a datetime or duration
+-- an entity that is not in the store, or a number that does not fit: of an integer, or of a datetime or
+-- duration
 abbrev pub IsAllowedError : EvalError → Type 0
 IsAllowedError (MissingEntity u) = ⊤
 IsAllowedError IntegerOverflow = ⊤

@@ -103,7 +103,8 @@ binary_call binary.IsInRange v w = of_ranges in_range v w
 binary_call binary.Offset v w = offset_value v w
 binary_call binary.DurationSince v w = since_value v w
 
--- a name that is none of a function is an error, then another number of arguments, then what the function makes of them
+-- a name that is none of a function is an error, then another number of arguments, then what the function
+-- makes of them
 abbrev pub called : Option ExtensionFunction → List Val → Outcome
 called None vs = Error UnknownFunction
 called (Some (Unary f)) (v ∷ []) = unary_call f v

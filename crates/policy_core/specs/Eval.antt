@@ -69,7 +69,8 @@ with_value (Value v) f = f v
 with_value (Error e) f = Error e
 
 -- one more value in front; its error comes first
-abbrev pub in_front : {X : Type 0} → (Val → X) → Outcome → Result (List X) EvalError → Result (List X) EvalError
+abbrev pub in_front : {X : Type 0} → (Val → X) → Outcome →
+    Result (List X) EvalError → Result (List X) EvalError
 in_front f (Error e) r = Err e
 in_front f (Value v) r = result_map (λ xs. f v ∷ xs) r
 
@@ -82,20 +83,23 @@ record_outcome (Ok fs) = Value (value.rec (fields_of fs))
 record_outcome (Err e) = Error e
 
 module _ {A : Type 0} where
-  -- `if`, `&&` and `||` evaluate the left operand and stop early; each operand that they use must be a boolean. Every
-  -- other operator evaluates its operands from the left, and then asks what kinds they are. A set evaluates its elements
-  -- in order, a record its fields in the order of their keys. A slot stands for an id that is not known, and has no value.
-  -- The first error is the result.
+  -- `if`, `&&` and `||` evaluate the left operand and stop early; each operand that they use must be a
+  -- boolean. Every other operator evaluates its operands from the left, and then asks what kinds they are. A
+  -- set evaluates its elements in order, a record its fields in the order of their keys. A slot stands for an
+  -- id that is not known, and has no value. The first error is the result.
   abbrev mutual
     pub eval : Tree A → Request → Store → Outcome
     eval (lit l a) q s = Value (literal_value l)
     eval (var v a) q s = Value (variable_value v q)
     eval (slot i a) q s = Error TypeFault
     eval (ite x y z a) q s = choose (truth_of (eval x q s)) (eval y q s) (eval z q s)
-    eval (conj x y a) q s = choose (truth_of (eval x q s)) (truth_outcome (truth_of (eval y q s))) (Value (truth false))
-    eval (disj x y a) q s = choose (truth_of (eval x q s)) (Value (truth true)) (truth_outcome (truth_of (eval y q s)))
+    eval (conj x y a) q s =
+        choose (truth_of (eval x q s)) (truth_outcome (truth_of (eval y q s))) (Value (truth false))
+    eval (disj x y a) q s =
+        choose (truth_of (eval x q s)) (Value (truth true)) (truth_outcome (truth_of (eval y q s)))
     eval (unary o x a) q s = with_value (eval x q s) (λ v. unary_value o v)
-    eval (binary o x y a) q s = with_value (eval x q s) (λ v. with_value (eval y q s) (λ w. binary_value o v w s))
+    eval (binary o x y a) q s =
+        with_value (eval x q s) (λ v. with_value (eval y q s) (λ w. binary_value o v w s))
     eval (attr x n a) q s = with_value (eval x q s) (λ v. attr_value v n s)
     eval (has x n a) q s = with_value (eval x q s) (λ v. has_value v n s)
     eval (like x p a) q s = with_value (eval x q s) (λ v. like_value v p)

@@ -8,4 +8,5 @@ use Rattle.policy_core.specs.Eval.{eval}
 
 -- trees of one shape have one outcome, whatever their marks
 abbrev pub ShapeDecides : Type 0 → Type 0 → Type 0
-ShapeDecides A B = (x : Tree A) (u : Tree B) → SameShape x u → (q : Request) (s : Store) → eval x q s ≡ eval u q s
+ShapeDecides A B =
+    (x : Tree A) (u : Tree B) → SameShape x u → (q : Request) (s : Store) → eval x q s ≡ eval u q s

@@ -10,8 +10,8 @@ abbrev pub some_tail : (List ℕ → Bool) → List ℕ → Bool
 some_tail f [] = f []
 some_tail f (c ∷ cs) = f (c ∷ cs) || some_tail f cs
 
--- the wildcard matches any run of characters, so that what follows it matches some tail; every other element matches its
--- character alone
+-- the wildcard matches any run of characters, so that what follows it matches some tail; every other element
+-- matches its character alone
 abbrev pub matches : List PatternElem → List ℕ → Bool
 matches [] [] = true
 matches [] (c ∷ cs) = false
@@ -19,8 +19,8 @@ matches (Wildcard ∷ p) cs = some_tail (matches p) cs
 matches (Char d ∷ p) [] = false
 matches (Char d ∷ p) (c ∷ cs) = (c == d) && matches p cs
 
--- what is left behind the characters that a pattern and a text have in common: behind a wildcard the rest of both, nothing
--- to do where both are over, and no way on where they differ or one of them is over
+-- what is left behind the characters that a pattern and a text have in common: behind a wildcard the rest of
+-- both, nothing to do where both are over, and no way on where they differ or one of them is over
 pub data Behind : Type 0 where
   wildcard : List PatternElem → List ℕ → Behind
   whole : Behind

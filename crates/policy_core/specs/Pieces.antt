@@ -7,10 +7,11 @@ use Rattle.policy_core.specs.declared.like.Piece.{Piece}
 
 -- of the text's first i characters, those from place k on are the piece's, as far as both go
 abbrev pub Agrees : (piece text : List ℕ) → (k i : ℕ) → Type 0
-Agrees piece text k i = (j : ℕ) → j < length piece → k + j < i → slice_index text (k + j) ≡ slice_index piece j
+Agrees piece text k i =
+    (j : ℕ) → j < length piece → k + j < i → slice_index text (k + j) ≡ slice_index piece j
 
--- the last `found` of the text's first i characters begin the piece, and from no earlier place, of those from s on, do
--- all that follow
+-- the last `found` of the text's first i characters begin the piece, and from no earlier place, of those from
+-- s on, do all that follow
 pub record IsFound (piece text : List ℕ) (s i found : ℕ) : Type 0 where
   pub short : found ≤ i - s
   pub here : (k : ℕ) → k + found ≡ i → Agrees piece text k i
@@ -18,10 +19,11 @@ pub record IsFound (piece text : List ℕ) (s i found : ℕ) : Type 0 where
 
 -- one more character behind `found`, in whatever text
 abbrev pub IsNext : (piece : List ℕ) → (found c next : ℕ) → Type 0
-IsNext piece found c next = (text : List ℕ) (s i : ℕ) → s ≤ i → slice_index text i ≡ c → IsFound piece text s i found → IsFound piece text s (i + 1) next
+IsNext piece found c next = (text : List ℕ) (s i : ℕ) → s ≤ i → slice_index text i ≡ c →
+    IsFound piece text s i found → IsFound piece text s (i + 1) next
 
--- the k-th border is the length of the longest part that begins the piece's first k characters, ends them, and is not all
--- of them
+-- the k-th border is the length of the longest part that begins the piece's first k characters, ends them,
+-- and is not all of them
 abbrev pub AreBorders : (piece borders : List ℕ) → Type 0
 AreBorders piece borders = (k : ℕ) → k < length borders → IsFound piece piece 1 k (slice_index borders k)
 

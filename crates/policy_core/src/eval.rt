@@ -23,9 +23,9 @@ use std::rc::Rc;
 
 /// Evaluates an expression on a whole request and a store: its value, or its first error.
 ///
-/// `if`, `&&` and `||` evaluate their left operand and stop early; each operand that they use must be a boolean.
-/// Every other operator evaluates its operands from the left, and then asks what kinds they are. Errs where memory
-/// runs out; a boolean and a long take none.
+/// `if`, `&&` and `||` evaluate their left operand and stop early; each operand that they use must be a
+/// boolean. Every other operator evaluates its operands from the left, and then asks what kinds they are.
+/// Errs where memory runs out; a boolean and a long take none.
 pub fn evaluate<T>(
     alloc: Global,
     expr: &Expr<T>,
@@ -112,7 +112,8 @@ fn if_of<T>(
     entities: &Entities,
 ) -> Result<Outcome, AllocError>
     requires { IsWhole request.now }
-    ensures { IfOk result (λ o. o ≡ choose (truth_of (eval x.now.value request.now entities.now)) (eval y.now.value request.now entities.now) (eval z.now.value request.now entities.now)) }
+    ensures { IfOk result (λ o. o ≡ choose (truth_of (eval x.now.value request.now entities.now))
+        (eval y.now.value request.now entities.now) (eval z.now.value request.now entities.now)) }
 {
     match truth(outcome_of(alloc, x, request, entities)?) {
         Ok(true) => outcome_of(alloc, y, request, entities),
@@ -130,7 +131,9 @@ fn and_of<T>(
     entities: &Entities,
 ) -> Result<Outcome, AllocError>
     requires { IsWhole request.now }
-    ensures { IfOk result (λ o. o ≡ choose (truth_of (eval x.now.value request.now entities.now)) (truth_outcome (truth_of (eval y.now.value request.now entities.now))) (Outcome.Value (truth false))) }
+    ensures { IfOk result (λ o. o ≡ choose (truth_of (eval x.now.value request.now entities.now))
+        (truth_outcome (truth_of (eval y.now.value request.now entities.now)))
+        (Outcome.Value (truth false))) }
 {
     match truth(outcome_of(alloc, x, request, entities)?) {
         Ok(true) => Ok(as_truth(outcome_of(alloc, y, request, entities)?)),
@@ -148,7 +151,8 @@ fn or_of<T>(
     entities: &Entities,
 ) -> Result<Outcome, AllocError>
     requires { IsWhole request.now }
-    ensures { IfOk result (λ o. o ≡ choose (truth_of (eval x.now.value request.now entities.now)) (Outcome.Value (truth true)) (truth_outcome (truth_of (eval y.now.value request.now entities.now)))) }
+    ensures { IfOk result (λ o. o ≡ choose (truth_of (eval x.now.value request.now entities.now))
+        (Outcome.Value (truth true)) (truth_outcome (truth_of (eval y.now.value request.now entities.now)))) }
 {
     match truth(outcome_of(alloc, x, request, entities)?) {
         Ok(true) => Ok(Outcome::Value(Value::bool(true))),
@@ -168,7 +172,8 @@ fn both_of<T>(
     entities: &Entities,
 ) -> Result<Outcome, AllocError>
     requires { IsWhole request.now }
-    ensures { IfOk result (λ o. o ≡ with_value (eval x.now.value request.now entities.now) (λ v. with_value (eval y.now.value request.now entities.now) (λ w. binary_value op v w entities.now))) }
+    ensures { IfOk result (λ o. o ≡ with_value (eval x.now.value request.now entities.now) (λ v.
+        with_value (eval y.now.value request.now entities.now) (λ w. binary_value op v w entities.now))) }
 {
     match outcome_of(alloc, x, request, entities)? {
         Outcome::Value(x) => {
@@ -188,7 +193,8 @@ fn evaluate_all<T>(
     entities: &Entities,
 ) -> Result<Result<Vec<Value>, EvalError>, AllocError>
     requires { IsWhole request.now }
-    ensures { IfOk result (λ r. result_map (λ v. v.items) r ≡ eval_all (trees_of items.now.items) request.now entities.now) }
+    ensures { IfOk result (λ r. result_map (λ v. v.items) r ≡
+        eval_all (trees_of items.now.items) request.now entities.now) }
 {
     let mut values = Vec::new(alloc);
     for item in items {
@@ -208,7 +214,8 @@ fn evaluate_named<T>(
     entities: &Entities,
 ) -> Result<Result<BTreeMap<Text, Value>, EvalError>, AllocError>
     requires { IsWhole request.now }
-    ensures { IfOk result (λ r. result_map (λ m. m.entries) r ≡ eval_named (named_of fields.now.entries) request.now entities.now) }
+    ensures { IfOk result (λ r. result_map (λ m. m.entries) r ≡
+        eval_named (named_of fields.now.entries) request.now entities.now) }
 {
     let mut values = BTreeMap::new(alloc);
     for (name, item) in fields.iter() {
@@ -341,8 +348,8 @@ fn applied_to_both(
     }
 }
 
-// What an expression has under a name, as it stands in the request or the store, so that nothing of what it goes through is copied; none
-// where it has no such thing, or where that has to be made first.
+// What an expression has under a name, as it stands in the request or the store, so that nothing of what it
+// goes through is copied; none where it has no such thing, or where that has to be made first.
 fn entry_of<'a, T>(
     x: &Expr<T>,
     name: &Text,
@@ -350,7 +357,9 @@ fn entry_of<'a, T>(
     entities: &'a Entities,
 ) -> Option<&'a Value>
     requires { IsWhole request.now }
-    ensures { IfSome result (λ v. with_value (eval x.now request.now entities.now) (λ w. attr_value w name.now entities.now) ≡ Outcome.Value v.now) }
+    ensures { IfSome result
+        (λ v. with_value (eval x.now request.now entities.now) (λ w. attr_value w name.now entities.now) ≡
+        Outcome.Value v.now) }
 {
     match x.kind() {
         ExprKind::Var(var) => entry_of_variable(*var, name, request, entities),
@@ -369,7 +378,8 @@ fn entry_of_variable<'a>(
     entities: &'a Entities,
 ) -> Option<&'a Value>
     requires { IsWhole request.now }
-    ensures { IfSome result (λ v. attr_value (variable_value var request.now) name.now entities.now ≡ Outcome.Value v.now) }
+    ensures { IfSome result
+        (λ v. attr_value (variable_value var request.now) name.now entities.now ≡ Outcome.Value v.now) }
 {
     match var {
         Var::Principal => entry_of_known(&request.principal, name, entities),
@@ -385,7 +395,8 @@ fn entry_of_known<'a>(
     entities: &'a Entities,
 ) -> Option<&'a Value>
     requires { IsSome uid.now }
-    ensures { IfSome result (λ v. attr_value (entity (known uid.now)) name.now entities.now ≡ Outcome.Value v.now) }
+    ensures { IfSome result
+        (λ v. attr_value (entity (known uid.now)) name.now entities.now ≡ Outcome.Value v.now) }
 {
     match uid {
         Some(uid) => entry_of_entity(uid, name, entities),
@@ -395,7 +406,9 @@ fn entry_of_known<'a>(
 
 fn entry_of_context<'a>(context: &'a Option<Context>, name: &Text) -> Option<&'a Value>
     requires { IsSome context.now }
-    ensures { IfSome result (λ v. found_or EvalError.MissingAttribute (field_at (known_fields context.now) name.now) ≡ Outcome.Value v.now) }
+    ensures { IfSome result
+        (λ v. found_or EvalError.MissingAttribute (field_at (known_fields context.now) name.now) ≡
+        Outcome.Value v.now) }
 {
     match context {
         Some(context) => context.get(name),

@@ -10,7 +10,8 @@ use crate::pieces::find;
 use crate::{Pattern, PatternElem, Text};
 use std::alloc::{AllocError, Global};
 
-/// Whether the text matches the pattern. The time grows with the sum of their lengths. Errs where memory runs out.
+/// Whether the text matches the pattern. The time grows with the sum of their lengths. Errs where memory
+/// runs out.
 pub(crate) fn is_like(alloc: Global, text: &Text, pattern: &Pattern) -> Result<bool, AllocError>
     ensures { IfOk result (λ b. b ≡ matches pattern.now (chars text.now)) }
 {
@@ -80,8 +81,8 @@ fn matches(alloc: Global, pattern: &[PatternElem], text: &[char]) -> Result<bool
     }
 }
 
-// Whether some tail of the text matches the pattern. Each piece between wildcards is taken at its first place: a later one
-// would leave what follows it fewer tails.
+// Whether some tail of the text matches the pattern. Each piece between wildcards is taken at its first
+// place: a later one would leave what follows it fewer tails.
 fn some_tail_matches(
     alloc: Global,
     pattern: &[PatternElem],

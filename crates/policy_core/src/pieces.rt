@@ -1,13 +1,13 @@
-//! The first place of a piece in a text, by the borders of the piece: no character of the text is looked at from an
-//! earlier place again.
+//! The first place of a piece in a text, by the borders of the piece: no character of the text is looked at
+//! from an earlier place again.
 
 ghost use Rattle.std.specs.Prelude.{◌≡◌, ◌+◌, ◌<◌, ◌≤◌, IfOk, length};
 ghost use Rattle.policy_core.specs.Pieces.{AreBorders, IsNext, IsEnd};
 
 use std::alloc::{AllocError, Global};
 
-/// The place behind the first one where the piece stands in the text, or none. The time grows with the sum of their
-/// lengths. Errs where memory runs out.
+/// The place behind the first one where the piece stands in the text, or none. The time grows with the sum of
+/// their lengths. Errs where memory runs out.
 pub(crate) fn find(
     alloc: Global,
     piece: &[char],
@@ -30,8 +30,8 @@ pub(crate) fn find(
     }
 }
 
-// For each k below the piece's length, the longest part that begins the first k characters, ends them, and is not all of
-// them.
+// For each k below the piece's length, the longest part that begins the first k characters, ends them, and is
+// not all of them.
 fn borders_of(alloc: Global, piece: &[char]) -> Result<Vec<usize>, AllocError>
     ensures length { IfOk result (λ b. length b.items ≡ length piece.now) }
     ensures borders { IfOk result (λ b. AreBorders piece.now b.items) }
@@ -47,7 +47,8 @@ fn borders_of(alloc: Global, piece: &[char]) -> Result<Vec<usize>, AllocError>
     Ok(borders)
 }
 
-// How many of the piece's first characters end a text whose last one is `c`, where `found` of them stand before it.
+// How many of the piece's first characters end a text whose last one is `c`, where `found` of them stand
+// before it.
 fn next(piece: &[char], borders: &[usize], found: usize, c: char) -> usize
     requires found { found < length borders.now }
     requires length { length borders.now ≤ length piece.now }

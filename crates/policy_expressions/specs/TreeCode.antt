@@ -22,7 +22,8 @@ abbrev pattern : Coded (List PatternElem)
 pattern = coded_list element_row.coded
 
 abbrev pub coded_mark : {T : Type 0} → Coded T → Coded (Mark T)
-coded_mark {T} c = code_by (T × Option Loc) (coded× c (coded_option loc_row.coded)) (λ m. (m.note, m.loc)) (λ p. record { note = p.0; loc = p.1 }) (λ _. refl)
+coded_mark {T} c = code_by (T × Option Loc) (coded× c (coded_option loc_row.coded))
+    (λ m. (m.note, m.loc)) (λ p. record { note = p.0; loc = p.1 }) (λ _. refl)
 
 module _ {A : Type 0} (c : Coded A) where
   abbrev mutual
@@ -33,7 +34,8 @@ module _ {A : Type 0} (c : Coded A) where
     code (conj x y a) = gcons (gnum 3) (gcons (gcons (code x) (code y)) (c.code a))
     code (disj x y a) = gcons (gnum 4) (gcons (gcons (code x) (code y)) (c.code a))
     code (unary o x a) = gcons (gnum 5) (gcons (gcons (unary_row.coded.code o) (code x)) (c.code a))
-    code (binary o x y a) = gcons (gnum 6) (gcons (gcons (binary_row.coded.code o) (gcons (code x) (code y))) (c.code a))
+    code (binary o x y a) =
+        gcons (gnum 6) (gcons (gcons (binary_row.coded.code o) (gcons (code x) (code y))) (c.code a))
     code (attr x n a) = gcons (gnum 7) (gcons (gcons (code x) (text.code n)) (c.code a))
     code (has x n a) = gcons (gnum 8) (gcons (gcons (code x) (text.code n)) (c.code a))
     code (set xs a) = gcons (gnum 9) (gcons (codes xs) (c.code a))
@@ -53,21 +55,40 @@ module _ {A : Type 0} (c : Coded A) where
 
   mutual
     pub inj : (x y : Tree A) → code x ≡ code y → x ≡ y
-    inj (lit l a) (lit m b) p = λ i. lit (literal_row.coded.inj l m (ap (λ g. head (tail g)) p) i) (c.inj a b (ap (λ g. tail (tail g)) p) i)
-    inj (var l a) (var m b) p = λ i. var (var_row.coded.inj l m (ap (λ g. head (tail g)) p) i) (c.inj a b (ap (λ g. tail (tail g)) p) i)
-    inj (ite x y z a) (ite x' y' z' b) p = λ i. ite (inj x x' (ap (λ g. head (head (tail g))) p) i) (inj y y' (ap (λ g. head (tail (head (tail g)))) p) i) (inj z z' (ap (λ g. tail (tail (head (tail g)))) p) i) (c.inj a b (ap (λ g. tail (tail g)) p) i)
-    inj (conj x y a) (conj x' y' b) p = λ i. conj (inj x x' (ap (λ g. head (head (tail g))) p) i) (inj y y' (ap (λ g. tail (head (tail g))) p) i) (c.inj a b (ap (λ g. tail (tail g)) p) i)
-    inj (disj x y a) (disj x' y' b) p = λ i. disj (inj x x' (ap (λ g. head (head (tail g))) p) i) (inj y y' (ap (λ g. tail (head (tail g))) p) i) (c.inj a b (ap (λ g. tail (tail g)) p) i)
-    inj (unary o x a) (unary o' x' b) p = λ i. unary (unary_row.coded.inj o o' (ap (λ g. head (head (tail g))) p) i) (inj x x' (ap (λ g. tail (head (tail g))) p) i) (c.inj a b (ap (λ g. tail (tail g)) p) i)
-    inj (binary o x y a) (binary o' x' y' b) p = λ i. binary (binary_row.coded.inj o o' (ap (λ g. head (head (tail g))) p) i) (inj x x' (ap (λ g. head (tail (head (tail g)))) p) i) (inj y y' (ap (λ g. tail (tail (head (tail g)))) p) i) (c.inj a b (ap (λ g. tail (tail g)) p) i)
-    inj (attr x n a) (attr x' n' b) p = λ i. attr (inj x x' (ap (λ g. head (head (tail g))) p) i) (text.inj n n' (ap (λ g. tail (head (tail g))) p) i) (c.inj a b (ap (λ g. tail (tail g)) p) i)
-    inj (has x n a) (has x' n' b) p = λ i. has (inj x x' (ap (λ g. head (head (tail g))) p) i) (text.inj n n' (ap (λ g. tail (head (tail g))) p) i) (c.inj a b (ap (λ g. tail (tail g)) p) i)
-    inj (set xs a) (set ys b) p = λ i. set (injs xs ys (ap (λ g. head (tail g)) p) i) (c.inj a b (ap (λ g. tail (tail g)) p) i)
-    inj (rec xs a) (rec ys b) p = λ i. rec (inj_named xs ys (ap (λ g. head (tail g)) p) i) (c.inj a b (ap (λ g. tail (tail g)) p) i)
-    inj (slot l a) (slot m b) p = λ i. slot (slot_row.coded.inj l m (ap (λ g. head (tail g)) p) i) (c.inj a b (ap (λ g. tail (tail g)) p) i)
-    inj (like x n a) (like x' n' b) p = λ i. like (inj x x' (ap (λ g. head (head (tail g))) p) i) (pattern.inj n n' (ap (λ g. tail (head (tail g))) p) i) (c.inj a b (ap (λ g. tail (tail g)) p) i)
-    inj (is_type x n a) (is_type x' n' b) p = λ i. is_type (inj x x' (ap (λ g. head (head (tail g))) p) i) (text.inj n n' (ap (λ g. tail (head (tail g))) p) i) (c.inj a b (ap (λ g. tail (tail g)) p) i)
-    inj (call f xs a) (call g ys b) p = λ i. call (text.inj f g (ap (λ g. head (head (tail g))) p) i) (injs xs ys (ap (λ g. tail (head (tail g))) p) i) (c.inj a b (ap (λ g. tail (tail g)) p) i)
+    inj (lit l a) (lit m b) p = λ i. lit (literal_row.coded.inj l m (ap (λ g. head (tail g)) p) i)
+        (c.inj a b (ap (λ g. tail (tail g)) p) i)
+    inj (var l a) (var m b) p = λ i. var (var_row.coded.inj l m (ap (λ g. head (tail g)) p) i)
+        (c.inj a b (ap (λ g. tail (tail g)) p) i)
+    inj (ite x y z a) (ite x' y' z' b) p = λ i. ite (inj x x' (ap (λ g. head (head (tail g))) p) i)
+        (inj y y' (ap (λ g. head (tail (head (tail g)))) p) i)
+        (inj z z' (ap (λ g. tail (tail (head (tail g)))) p) i) (c.inj a b (ap (λ g. tail (tail g)) p) i)
+    inj (conj x y a) (conj x' y' b) p = λ i. conj (inj x x' (ap (λ g. head (head (tail g))) p) i)
+        (inj y y' (ap (λ g. tail (head (tail g))) p) i) (c.inj a b (ap (λ g. tail (tail g)) p) i)
+    inj (disj x y a) (disj x' y' b) p = λ i. disj (inj x x' (ap (λ g. head (head (tail g))) p) i)
+        (inj y y' (ap (λ g. tail (head (tail g))) p) i) (c.inj a b (ap (λ g. tail (tail g)) p) i)
+    inj (unary o x a) (unary o' x' b) p =
+        λ i. unary (unary_row.coded.inj o o' (ap (λ g. head (head (tail g))) p) i)
+        (inj x x' (ap (λ g. tail (head (tail g))) p) i) (c.inj a b (ap (λ g. tail (tail g)) p) i)
+    inj (binary o x y a) (binary o' x' y' b) p =
+        λ i. binary (binary_row.coded.inj o o' (ap (λ g. head (head (tail g))) p) i)
+        (inj x x' (ap (λ g. head (tail (head (tail g)))) p) i)
+        (inj y y' (ap (λ g. tail (tail (head (tail g)))) p) i) (c.inj a b (ap (λ g. tail (tail g)) p) i)
+    inj (attr x n a) (attr x' n' b) p = λ i. attr (inj x x' (ap (λ g. head (head (tail g))) p) i)
+        (text.inj n n' (ap (λ g. tail (head (tail g))) p) i) (c.inj a b (ap (λ g. tail (tail g)) p) i)
+    inj (has x n a) (has x' n' b) p = λ i. has (inj x x' (ap (λ g. head (head (tail g))) p) i)
+        (text.inj n n' (ap (λ g. tail (head (tail g))) p) i) (c.inj a b (ap (λ g. tail (tail g)) p) i)
+    inj (set xs a) (set ys b) p =
+        λ i. set (injs xs ys (ap (λ g. head (tail g)) p) i) (c.inj a b (ap (λ g. tail (tail g)) p) i)
+    inj (rec xs a) (rec ys b) p =
+        λ i. rec (inj_named xs ys (ap (λ g. head (tail g)) p) i) (c.inj a b (ap (λ g. tail (tail g)) p) i)
+    inj (slot l a) (slot m b) p = λ i. slot (slot_row.coded.inj l m (ap (λ g. head (tail g)) p) i)
+        (c.inj a b (ap (λ g. tail (tail g)) p) i)
+    inj (like x n a) (like x' n' b) p = λ i. like (inj x x' (ap (λ g. head (head (tail g))) p) i)
+        (pattern.inj n n' (ap (λ g. tail (head (tail g))) p) i) (c.inj a b (ap (λ g. tail (tail g)) p) i)
+    inj (is_type x n a) (is_type x' n' b) p = λ i. is_type (inj x x' (ap (λ g. head (head (tail g))) p) i)
+        (text.inj n n' (ap (λ g. tail (head (tail g))) p) i) (c.inj a b (ap (λ g. tail (tail g)) p) i)
+    inj (call f xs a) (call g ys b) p = λ i. call (text.inj f g (ap (λ g. head (head (tail g))) p) i)
+        (injs xs ys (ap (λ g. tail (head (tail g))) p) i) (c.inj a b (ap (λ g. tail (tail g)) p) i)
     inj x y p = absurd (omega (arith, ap (λ g. num (head g)) p))
 
     pub injs : (xs ys : Trees A) → codes xs ≡ codes ys → xs ≡ ys
@@ -78,7 +99,8 @@ module _ {A : Type 0} (c : Coded A) where
 
     pub inj_named : (xs ys : Named A) → codes_named xs ≡ codes_named ys → xs ≡ ys
     inj_named no_named no_named p = refl
-    inj_named (named k x xs) (named l y ys) p = λ i. named (text.inj k l (ap (λ g. head (head g)) p) i) (inj x y (ap (λ g. tail (head g)) p) i) (inj_named xs ys (ap tail p) i)
+    inj_named (named k x xs) (named l y ys) p = λ i. named (text.inj k l (ap (λ g. head (head g)) p) i)
+        (inj x y (ap (λ g. tail (head g)) p) i) (inj_named xs ys (ap tail p) i)
     inj_named no_named (named l y ys) p = cc
     inj_named (named k x xs) no_named p = cc
 

@@ -15,9 +15,9 @@ use std::fmt;
 use std::marker::Model;
 use std::rc::Rc;
 
-/// An expression, with a note of type T at each node and the place where it stands in its source. It is at most 400
-/// deep: a literal, a variable or a slot has depth 1, any other expression one more than its deepest operand. Each
-/// record in it has each of its keys once. Copies share its operands.
+/// An expression, with a note of type T at each node and the place where it stands in its source. It is at
+/// most 400 deep: a literal, a variable or a slot has depth 1, any other expression one more than its deepest
+/// operand. Each record in it has each of its keys once. Copies share its operands.
 #[derive(Debug)]
 #[cycle(expr)]
 pub struct Expr<T> {
@@ -97,7 +97,9 @@ impl<T> Model for Expr<T> {
     ghost use Rattle.policy_expressions.specs.Keys.{HasKeysOnce};
     ghost use Rattle.policy_expressions.specs.KindSlots.{slot_in};
 
-    ghost invariant = { λ a. (a.depth ≡ depth_of (tree_of a.kind (record { note = a.note; loc = a.loc }))) × (a.depth ≤ 400) × HasKeysOnce (tree_of a.kind (record { note = a.note; loc = a.loc })) × (a.slotted ≡ slot_in a.kind) };
+    ghost invariant = { λ a. (a.depth ≡ depth_of (tree_of a.kind (record { note = a.note; loc = a.loc }))) ×
+        (a.depth ≤ 400) × HasKeysOnce (tree_of a.kind (record { note = a.note; loc = a.loc })) ×
+        (a.slotted ≡ slot_in a.kind) };
 
     ghost size = { depth_of };
 
@@ -218,7 +220,8 @@ impl<T> Expr<T> {
 }
 
 impl<T: Drop> Expr<T> {
-    /// The conditional of a test and two branches. Errs with `Nested` exactly where it would be more than 400 deep.
+    /// The conditional of a test and two branches. Errs with `Nested` exactly where it would be more than
+    /// 400 deep.
     pub fn ite(
         alloc: Global,
         x: Expr<T>,
@@ -228,7 +231,8 @@ impl<T: Drop> Expr<T> {
         loc: Option<Loc>,
     ) -> Result<Expr<T>, BuildError>
         ensures ok { IfOk result (λ e. e ≡ ite x y z (record { note = note; loc = loc })) }
-        ensures nested { (result ≡ Err BuildError.Nested) ↔ (400 ≤ max (depth_of x) (max (depth_of y) (depth_of z))) }
+        ensures nested { (result ≡ Err BuildError.Nested) ↔
+            (400 ≤ max (depth_of x) (max (depth_of y) (depth_of z))) }
     {
         let depth = operand_depth(&x).max(operand_depth(&y).max(operand_depth(&z)));
         if depth >= MAX_DEPTH {
@@ -303,7 +307,8 @@ impl<T: Drop> Expr<T> {
         Ok(made(ExprKind::UnaryApp(op, x), depth + 1, note, loc))
     }
 
-    /// An operator applied to its two operands, the left one first. Errs with `Nested` exactly where it would be more than 400 deep.
+    /// An operator applied to its two operands, the left one first. Errs with `Nested` exactly where it would
+    /// be more than 400 deep.
     pub fn binary_app(
         alloc: Global,
         op: BinaryOp,
@@ -345,7 +350,8 @@ impl<T: Drop> Expr<T> {
         Ok(made(ExprKind::GetAttr(x, name), depth + 1, note, loc))
     }
 
-    /// The test for an attribute or field of a name. Errs with `Nested` exactly where it would be more than 400 deep.
+    /// The test for an attribute or field of a name. Errs with `Nested` exactly where it would be more than
+    /// 400 deep.
     pub fn has_attr(
         alloc: Global,
         x: Expr<T>,
@@ -365,7 +371,8 @@ impl<T: Drop> Expr<T> {
         Ok(made(ExprKind::HasAttr(x, name), depth + 1, note, loc))
     }
 
-    /// The test of a string against a pattern. Errs with `Nested` exactly where it would be more than 400 deep.
+    /// The test of a string against a pattern. Errs with `Nested` exactly where it would be more than
+    /// 400 deep.
     pub fn like(
         alloc: Global,
         x: Expr<T>,
@@ -412,7 +419,8 @@ impl<T: Drop> Expr<T> {
         note: T,
         loc: Option<Loc>,
     ) -> Result<Expr<T>, BuildError>
-        ensures ok { IfOk result (λ e. e ≡ call name (trees_of args.items) (record { note = note; loc = loc })) }
+        ensures ok { IfOk result
+            (λ e. e ≡ call name (trees_of args.items) (record { note = note; loc = loc })) }
         ensures nested { (result ≡ Err BuildError.Nested) ↔ (400 ≤ deepest (trees_of args.items)) }
     {
         let depth = deepest_of(&args);
@@ -446,7 +454,8 @@ impl<T: Drop> Expr<T> {
         note: T,
         loc: Option<Loc>,
     ) -> Result<Expr<T>, BuildError>
-        ensures ok { IfOk result (λ e. e ≡ rec (named_of fields.entries) (record { note = note; loc = loc })) }
+        ensures ok { IfOk result
+            (λ e. e ≡ rec (named_of fields.entries) (record { note = note; loc = loc })) }
         ensures nested { (result ≡ Err BuildError.Nested) ↔ (400 ≤ deepest_named (named_of fields.entries)) }
     {
         let depth = deepest_of_named(&fields);

@@ -13,8 +13,8 @@ use std::collections::BTreeMap;
 use std::rc::Rc;
 
 impl<T: Note> Expr<T> {
-    /// The expression with a literal for each slot that has an id among the values; other slots stay. Operands without slots are
-    /// shared.
+    /// The expression with a literal for each slot that has an id among the values; other slots stay.
+    /// Operands without slots are shared.
     pub fn substitute(&self, alloc: Global, values: &SlotValues) -> Result<Expr<T>, AllocError>
         ensures { IfOk result (λ e. e ≡ filled values.now self.now) }
     {
@@ -128,7 +128,8 @@ fn fill_two<T: Note>(
     y: &Rc<Expr<T>>,
     values: &SlotValues,
 ) -> Result<(Rc<Expr<T>>, Rc<Expr<T>>), AllocError>
-    ensures { IfOk result (λ r. (r.0.value ≡ filled values.now x.now.value) × (r.1.value ≡ filled values.now y.now.value)) }
+    ensures { IfOk result (λ r. (r.0.value ≡ filled values.now x.now.value) ×
+        (r.1.value ≡ filled values.now y.now.value)) }
 {
     let x = fill_shared(alloc, x, values)?;
     Ok((x, fill_shared(alloc, y, values)?))

@@ -3,9 +3,11 @@
 ghost use Rattle.std.specs.Prelude.{◌≡◌, IfOk};
 ghost use Rattle.std.specs.Option.{option_copied};
 ghost use Rattle.policy_expressions.specs.Slots.{value_of};
+ghost use Rattle.policy_expressions.specs.Show.{variable_text};
 
 use policy_values::{EntityUID, Text};
 use std::alloc::AllocError;
+use std::fmt;
 
 /// Where an expression stands in its source: from the byte `start` up to the byte before `end`.
 #[derive(Clone, Copy, Debug, PartialEq, Eq, PartialOrd, Ord, Hash)]
@@ -40,6 +42,30 @@ pub enum Var {
     Resource,
     /// What else the request says.
     Context,
+}
+
+impl Var {
+    /// How it is written.
+    pub fn text(self) -> &'static str
+        ensures { result.now ≡ variable_text self }
+    {
+        match self {
+            Var::Principal => "principal",
+            Var::Action => "action",
+            Var::Resource => "resource",
+            Var::Context => "context",
+        }
+    }
+}
+
+impl fmt::Display for Var {
+    ghost use Rattle.std.specs.Prelude.{Some};
+
+    ghost output = { λ v. Some (variable_text v) };
+
+    fn fmt<W: fmt::Write>(&self, f: &mut fmt::Formatter<W>) -> fmt::Result {
+        f.write_str(self.text())
+    }
 }
 
 /// A slot: the place of an id that a link of a template gives.

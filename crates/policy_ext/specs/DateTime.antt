@@ -15,7 +15,8 @@ three n = (48 + n / 100) ∷ two (n % 100)
 abbrev pub four : ℕ → List ℕ
 four n = two (n / 100) ++ two (n % 100)
 
--- YYYY-MM-DD of a date of jiff's calendar from the year 0 on; `number` is jiff's day number, 0 for 1970-01-01.
+-- YYYY-MM-DD of a date of jiff's calendar from the year 0 on; `number` is jiff's day number, 0 for
+-- 1970-01-01.
 pub record IsDay (text : List ℕ) (number : ℤ) : Type 0 where
   pub date : Date
   pub year_fits : pos 0 ≤ℤ date.year
@@ -40,7 +41,8 @@ pub record IsOffset (text : List ℕ) (minutes : ℤ) : Type 0 where
 abbrev pub IsZone : List ℕ → ℤ → Type 0
 IsZone text minutes = ((text ≡ 90 ∷ []) × (minutes ≡ pos 0)) ⊎ IsOffset text minutes
 
--- Thh:mm:ss, a fraction and a zone, whose offset is subtracted: the milliseconds from the start of the day in UTC
+-- Thh:mm:ss, a fraction and a zone, whose offset is subtracted: the milliseconds from the start of the day
+-- in UTC
 pub record IsClock (text : List ℕ) (millis : ℤ) : Type 0 where
   pub hour : ℕ
   pub minute : ℕ
@@ -57,7 +59,8 @@ pub record IsClock (text : List ℕ) (millis : ℤ) : Type 0 where
   pub spelled : text ≡ 84 ∷ (two hour ++ 58 ∷ (two minute ++ 58 ∷ (two second ++ (fraction ++ zone))))
   pub value : millis ≡ pos (((hour * 60 + minute) * 60 + second) * 1000 + milli) -ℤ offset *ℤ pos 60000
 
--- A datetime's text is a day, and perhaps a time of day with its zone. It stands for v milliseconds from 1970-01-01 in UTC.
+-- A datetime's text is a day, and perhaps a time of day with its zone. It stands for v milliseconds from
+-- 1970-01-01 in UTC.
 pub record IsDateTime (text : List ℕ) (v : ℤ) : Type 0 where
   pub day : ℤ
   pub millis : ℤ

@@ -12,19 +12,25 @@ use Rattle.policy_ext.specs.DateTimeReading.{date_at, clock_of, instant_of}
 
 -- the calendar has the date
 abbrev pub has_date : ℕ → ℕ → ℕ → Bool
-has_date y m d = nat_le y 9999 && (nat_le 1 m && (nat_le m 12 && (nat_le 1 d && nat_le d (days_in_month (pos y) m))))
+has_date y m d =
+    nat_le y 9999 && (nat_le 1 m && (nat_le m 12 && (nat_le 1 d && nat_le d (days_in_month (pos y) m))))
 
 at_most : (m n : ℕ) → nat_le m n ≡ true → m ≤ n
 at_most m n h = grind (arith, nat_tests)
 
-pub in_calendar : (y m d : ℕ) → has_date y m d ≡ true → IsYear (pos y) × IsInRange 1 12 m × IsInRange 1 (days_in_month (pos y) m) d
+pub in_calendar : (y m d : ℕ) → has_date y m d ≡ true →
+    IsYear (pos y) × IsInRange 1 12 m × IsInRange 1 (days_in_month (pos y) m) d
 in_calendar y m d h =
-    let a = and_parts (nat_le y 9999) (nat_le 1 m && (nat_le m 12 && (nat_le 1 d && nat_le d (days_in_month (pos y) m)))) h in
+    let a = and_parts (nat_le y 9999)
+    (nat_le 1 m && (nat_le m 12 && (nat_le 1 d && nat_le d (days_in_month (pos y) m)))) h in
     let b = and_parts (nat_le 1 m) (nat_le m 12 && (nat_le 1 d && nat_le d (days_in_month (pos y) m))) a.1 in
     let c = and_parts (nat_le m 12) (nat_le 1 d && nat_le d (days_in_month (pos y) m)) b.1 in
     let e = and_parts (nat_le 1 d) (nat_le d (days_in_month (pos y) m)) c.1 in
-    let l = at_most y 9999 a.0 in
-    ((omega (arith, ints), omega (arith, ints)), (at_most 1 m b.0, at_most m 12 c.0), (at_most 1 d e.0, at_most d (days_in_month (pos y) m) e.1))
+    let l = at_most y 9999 a.0 in (
+      (omega (arith, ints), omega (arith, ints)),
+      (at_most 1 m b.0, at_most m 12 c.0),
+      (at_most 1 d e.0, at_most d (days_in_month (pos y) m) e.1),
+    )
 
 abbrev pub civil : (y m d : ℕ) → has_date y m d ≡ true → Date
 civil y m d e =

@@ -5,8 +5,8 @@ use Rattle.std.specs.Fmt.{decimal}
 use Rattle.std.specs.Str.Parse.{IsNumeral, digits_value}
 use Rattle.policy_ext.specs.Sign.{sign, signed}
 
--- A decimal's text is perhaps a minus, one or more digits, a point (46) and one to four digits. It stands for v
--- ten-thousandths, which 64 signed bits hold.
+-- A decimal's text is perhaps a minus, one or more digits, a point (46) and one to four digits. It stands for
+-- v ten-thousandths, which 64 signed bits hold.
 pub record IsDecimal (text : List ℕ) (v : ℤ) : Type 0 where
   pub minus : Bool
   pub whole : List ℕ
@@ -24,4 +24,5 @@ four_digits n = decimal (n / 1000) ++ (decimal (n / 100 % 10) ++ (decimal (n / 1
 
 -- what is written of v ten-thousandths: no needless zero in front, and exactly four digits after the point
 abbrev pub decimal_text : ℤ → List ℕ
-decimal_text v = sign (int_lt v (pos 0)) ++ (decimal (unsigned_abs v / 10000) ++ 46 ∷ four_digits (unsigned_abs v % 10000))
+decimal_text v =
+    sign (int_lt v (pos 0)) ++ (decimal (unsigned_abs v / 10000) ++ 46 ∷ four_digits (unsigned_abs v % 10000))

@@ -23,7 +23,9 @@ strip (l ∷ ls) (b ∷ bs) = if b == l then strip ls bs else None
 
 -- a number and these letters, and what follows them
 abbrev pub part_at : List ℕ → List ℕ → Option (ℕ × List ℕ)
-part_at letters text = option_and_then (λ rest. option_map (λ n. (n, rest)) (number_of 10 (cut_digits text).0)) (strip letters (cut_digits text).1)
+part_at letters text =
+    option_and_then (λ rest. option_map (λ n. (n, rest)) (number_of 10 (cut_digits text).0))
+    (strip letters (cut_digits text).1)
 
 -- the same, and 0 where that unit does not come next
 abbrev pub part_of : List ℕ → List ℕ → ℕ × List ℕ
@@ -35,4 +37,6 @@ sum_from [] text n = if length text == 0 then Some n else None
 sum_from (unit ∷ later) text n = sum_from later (part_of unit.0 text).1 (n + (part_of unit.0 text).0 * unit.1)
 
 abbrev pub duration_of : List ℕ → Option ℤ
-duration_of text = if length (without_minus text) == 0 then None else option_and_then (λ n. signed_of (is_minus text) n) (sum_from units (without_minus text) 0)
+duration_of text =
+    if length (without_minus text) == 0 then None
+    else option_and_then (λ n. signed_of (is_minus text) n) (sum_from units (without_minus text) 0)

@@ -7,7 +7,8 @@ use Rattle.std.specs.Str.Parse.{IsNumeral, digits_value}
 use Rattle.policy_ext.specs.declared.ip_addr.Family.{Family}
 use Rattle.policy_ext.specs.declared.ip_addr.Family.TheVariants.{V4, V6}
 
--- IPv4 is four numbers up to 255 without needless zeros in front, joined by points (46). The first has the highest bits.
+-- IPv4 is four numbers up to 255 without needless zeros in front, joined by points (46). The first has the
+-- highest bits.
 pub record IsIpv4 (text : List ℕ) (bits : ℕ) : Type 0 where
   pub first : ℕ
   pub second : ℕ
@@ -69,9 +70,10 @@ abbrev pub IsAddress : Family → List ℕ → ℕ → Type 0
 IsAddress V4 text bits = IsIpv4 text bits
 IsAddress V6 text bits = IsIpv6 text bits
 
--- A range's text is an address, then perhaps a slash (47) and the prefix without needless zeros in front. Without it all
--- bits count.
+-- A range's text is an address, then perhaps a slash (47) and the prefix without needless zeros in front.
+-- Without it all bits count.
 pub record IsRange (text : List ℕ) (v : Range) : Type 0 where
   pub address : List ℕ
   pub is : IsAddress v.family address v.bits
-  pub spelled : ((text ≡ address) × (v.prefix ≡ width v.family)) ⊎ ((text ≡ address ++ 47 ∷ decimal v.prefix) × (v.prefix ≤ width v.family))
+  pub spelled : ((text ≡ address) × (v.prefix ≡ width v.family)) ⊎
+      ((text ≡ address ++ 47 ∷ decimal v.prefix) × (v.prefix ≤ width v.family))

@@ -10,7 +10,8 @@ first_bits family prefix bits = bits / 2 ^ (width family - prefix)
 
 -- The address lies in the range: they share the first bits that count.
 abbrev pub IsIn : ℕ → Range → Type 0
-IsIn address range = first_bits range.family range.prefix address ≡ first_bits range.family range.prefix range.bits
+IsIn address range =
+    first_bits range.family range.prefix address ≡ first_bits range.family range.prefix range.bits
 
 -- The range v lies inside w: one family, and each address of v is one of w.
 abbrev pub IsInRange : Range → Range → Type 0
@@ -44,7 +45,8 @@ same_family V6 V6 = true
 
 -- one family, at least as long a prefix, and the first bits that count for w are the same
 abbrev pub in_range : Range → Range → Bool
-in_range v w = same_family v.family w.family && (nat_le w.prefix v.prefix && (first_bits w.family w.prefix v.bits == first_bits w.family w.prefix w.bits))
+in_range v w = same_family v.family w.family && (nat_le w.prefix v.prefix &&
+    (first_bits w.family w.prefix v.bits == first_bits w.family w.prefix w.bits))
 
 abbrev pub same_range : Range → Range → Bool
 same_range v w = same_family v.family w.family && ((v.bits == w.bits) && (v.prefix == w.prefix))

@@ -1,4 +1,5 @@
--- How numbers, signs and separators are read, step by step. Private functions cite these definitions; public clauses cite relations.
+-- How numbers, signs and separators are read, step by step. Private functions cite these definitions; public
+-- clauses cite relations.
 use Rattle.std.specs.Prelude.{ℕ, ◌+◌, ◌*◌, ◌^◌, Bool, true, false, ◌&&◌, ◌||◌, ◌==◌, slice_index, nat_lt, length, List, [], ◌∷◌, ℤ, pos, neg_ℤ, if◌then◌else◌, Option, Some, None}
 use Rattle.std.specs.Char.{digit_value, is_digit}
 use Rattle.std.specs.Option.{option_map, option_and_then}
@@ -6,7 +7,10 @@ use Rattle.std.specs.Option.{option_map, option_and_then}
 -- the number that the digits write after those of n, where it has 64 bits
 abbrev pub number_after : ℕ → ℕ → List ℕ → Option ℕ
 number_after radix n [] = Some n
-number_after radix n (c ∷ cs) = if is_digit c radix && nat_lt (n * radix + digit_value c) (2 ^ 64) then number_after radix (n * radix + digit_value c) cs else None
+number_after radix n (c ∷ cs) =
+    if is_digit c radix && nat_lt (n * radix + digit_value c) (2 ^ 64)
+    then number_after radix (n * radix + digit_value c) cs
+    else None
 
 -- the number that one or more digits write
 abbrev pub number_of : ℕ → List ℕ → Option ℕ
@@ -38,4 +42,6 @@ signed_of false n = if nat_lt n (2 ^ 63) then Some (pos n) else None
 
 -- the number, up to `most`, of digits with no zero in front of others
 abbrev pub plain_of : ℕ → List ℕ → Option ℕ
-plain_of most digits = option_and_then (λ n. if nat_lt most n || (slice_index digits 0 == 48 && nat_lt 1 (length digits)) then None else Some n) (number_of 10 digits)
+plain_of most digits = option_and_then
+    (λ n. if nat_lt most n || (slice_index digits 0 == 48 && nat_lt 1 (length digits)) then None else Some n)
+    (number_of 10 digits)

@@ -32,16 +32,18 @@ impl Model for DateTimeValue {
 }
 
 impl DateTimeValue {
-    /// The point in time that the text stands for: `YYYY-MM-DD`, or that and `Thh:mm:ss`, perhaps `.SSS`, then `Z`,
-    /// `+hhmm` or `-hhmm`, an offset that is subtracted. Years are 0000 to 9999, the date is one of the calendar, hours
-    /// go to 23, minutes and seconds to 59, also those of the offset. None for any other text.
+    /// The point in time that the text stands for: `YYYY-MM-DD`, or that and `Thh:mm:ss`, perhaps `.SSS`,
+    /// then `Z`, `+hhmm` or `-hhmm`, an offset that is subtracted. Years are 0000 to 9999, the date is one of
+    /// the calendar, hours go to 23, minutes and seconds to 59, also those of the offset. None for any
+    /// other text.
     pub fn read(text: &str) -> Option<DateTimeValue>
         ensures { (v : ℤ) → (result ≡ Some v) ↔ IsDateTime text.now v }
     {
         from_number(milliseconds(text.as_bytes()))
     }
 
-    /// The milliseconds from 1970-01-01, as `-62167219200000`. That is no text that [`read`](DateTimeValue::read) takes.
+    /// The milliseconds from 1970-01-01, as `-62167219200000`. That is no text that
+    /// [`read`](DateTimeValue::read) takes.
     pub fn text(&self, alloc: Global) -> Result<String, AllocError>
         ensures spelling { IfOk result (λ s. string_bytes s ≡ signed_decimal self.now) }
         ensures is_not_read { IfOk result (λ s. (v : ℤ) → IsDateTime (string_bytes s) v → ⊥) }
@@ -81,7 +83,8 @@ impl DateTimeValue {
 
     /// The start of the day, so rounded down. None where 64 signed bits do not hold it.
     pub fn to_date(&self) -> Option<DateTimeValue>
-        ensures { SomeIff result (FitsSigned w64 (day_of self.now *ℤ pos 86400000)) (day_of self.now *ℤ pos 86400000) }
+        ensures { SomeIff result (FitsSigned w64 (day_of self.now *ℤ pos 86400000))
+            (day_of self.now *ℤ pos 86400000) }
     {
         from_number(self.millis.div_euclid(86400000).checked_mul(86400000))
     }

@@ -33,9 +33,9 @@ impl Model for Duration {
 }
 
 impl Duration {
-    /// The duration that the text stands for: perhaps `-`, then at least one of `Nd`, `Nh`, `Nm`, `Ns` and `Nms`, in
-    /// this order and each at most once, `N` one or more digits. None where the text is none of a duration, or 64
-    /// signed bits do not hold the sum in milliseconds.
+    /// The duration that the text stands for: perhaps `-`, then at least one of `Nd`, `Nh`, `Nm`, `Ns` and
+    /// `Nms`, in this order and each at most once, `N` one or more digits. None where the text is none of a
+    /// duration, or 64 signed bits do not hold the sum in milliseconds.
     pub fn read(text: &str) -> Option<Duration>
         ensures { (v : ℤ) → (result ≡ Some v) ↔ IsDuration text.now v }
     {

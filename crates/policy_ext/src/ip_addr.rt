@@ -22,8 +22,9 @@ pub enum Family {
 
 /// A range of IP addresses: an address, and how many of its first bits count.
 ///
-/// It holds the addresses of its family that share these bits. Two ranges are equal where family, address and prefix
-/// are, so a range also keeps the bits that do not count; they are ordered by family (IPv4 first), address and prefix.
+/// It holds the addresses of its family that share these bits. Two ranges are equal where family, address and
+/// prefix are, so a range also keeps the bits that do not count; they are ordered by family (IPv4 first),
+/// address and prefix.
 #[derive(Clone, Copy, Debug, PartialEq, Eq, PartialOrd, Ord, Hash)]
 pub struct IpAddr {
     family: Family,
@@ -46,17 +47,18 @@ impl Model for IpAddr {
 impl IpAddr {
     /// The range that the text stands for.
     ///
-    /// IPv4 is four numbers up to 255 without needless zeros in front, joined by `.`; IPv6 is eight groups of one to
-    /// four hexadecimal digits joined by `:`, where one `::` may stand for one or more groups of 0. Then perhaps `/n`,
-    /// `n` up to 32 or 128 without needless zeros in front; without it all bits count. None for any other text.
+    /// IPv4 is four numbers up to 255 without needless zeros in front, joined by `.`; IPv6 is eight groups of
+    /// one to four hexadecimal digits joined by `:`, where one `::` may stand for one or more groups of 0.
+    /// Then perhaps `/n`, `n` up to 32 or 128 without needless zeros in front; without it all bits count.
+    /// None for any other text.
     pub fn read(text: &str) -> Option<IpAddr>
         ensures { (v : Range) → (result ≡ Some v) ↔ IsRange text.now v }
     {
         range(text.as_bytes())
     }
 
-    /// The text with its prefix: IPv4 as four numbers, IPv6 as eight groups in lower case without needless zeros in
-    /// front and without `::`. [`read`](IpAddr::read) gives the range back.
+    /// The text with its prefix: IPv4 as four numbers, IPv6 as eight groups in lower case without needless
+    /// zeros in front and without `::`. [`read`](IpAddr::read) gives the range back.
     pub fn text(&self, alloc: Global) -> Result<String, AllocError>
         ensures spelling { IfOk result (λ s. string_bytes s ≡ range_text self.now) }
         ensures is_read { IfOk result (λ s. IsRange (string_bytes s) self.now) }

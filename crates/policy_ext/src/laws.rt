@@ -1,4 +1,5 @@
-//! Laws of the texts of decimals and ranges, each over public calls alone: what is written is read back as the same value.
+//! Laws of the texts of decimals and ranges, each over public calls alone: what is written is read back as
+//! the same value.
 
 ghost use Rattle.std.specs.Prelude.{◌≡◌, IfOk, Some};
 

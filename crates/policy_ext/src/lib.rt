@@ -1,7 +1,7 @@
 //! Extension values of policies: decimals, ranges of IP addresses, points in time and spans of time.
 //!
-//! Each is read from a text. Decimals and ranges are written as texts that are read back, points in time and spans of time
-//! as their milliseconds.
+//! Each is read from a text. Decimals and ranges are written as texts that are read back, points in time and
+//! spans of time as their milliseconds.
 #![tactic(auto)]
 
 mod datetime;

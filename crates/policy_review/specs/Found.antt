@@ -77,7 +77,7 @@ module _ (schema : SchemaData) where
   passes_everywhere p = list_all (λ env. passes (checked schema env p.condition)) (unlinked_envs schema)
 
   -- what is found of accepted policies
-  pub record IsFound (s : PolicySetData) (r : Review) : Type 0 where
+  pub record IsReviewOf (s : PolicySetData) (r : Review) : Type 0 where
     pub accepted : IsAccepted schema s
     pub matrix : r.matrix.items ≡ matrix_of schema s
     pub levels : r.levels.items ≡ levels_of schema s

@@ -8,7 +8,7 @@ ghost use Rattle.policy_review.specs.Levels.{levels_of};
 ghost use Rattle.policy_review.specs.Matrix.{matrix_of};
 ghost use Rattle.policy_review.specs.Laws.{NeversAreNeverTrue, LevelsAreLeast};
 ghost use Rattle.policy_review.specs.Refused.{WhyNone};
-ghost use Rattle.policy_review.specs.Found.{passes_everywhere, level_at, IsFound};
+ghost use Rattle.policy_review.specs.Found.{passes_everywhere, level_at, IsReviewOf};
 
 use crate::ReviewError;
 use crate::laws::{least_levels_are_least, never_is_never_true};
@@ -82,7 +82,7 @@ fn review_where_accepted(
 ) -> Result<Option<Review>, AllocError>
     ensures { IfOk result
         (λ o. MatchOption o (¬ IsAccepted schema.now policies.now)
-        (IsFound schema.now policies.now)) }
+        (IsReviewOf schema.now policies.now)) }
 {
     accepted_exactly(schema, policies);
     let objects = all_objects(alloc)?;
@@ -118,7 +118,7 @@ fn review_where_left(
     requires rules { IsTrue (keep_rules schema.now policies.now) }
     ensures { IfOk result
         (λ o. MatchOption o (¬ IsAccepted schema.now policies.now)
-        (IsFound schema.now policies.now)) }
+        (IsReviewOf schema.now policies.now)) }
 {
     accepted_exactly(schema, policies);
     check_is_exact();

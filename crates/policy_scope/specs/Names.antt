@@ -1,5 +1,5 @@
--- What is found of the names in a condition: types and actions that are not declared, and ids that their enumerated types do not
--- list.
+-- What is found of the names in a condition: types and actions that are not declared, and ids that their
+-- enumerated types do not list.
 use Rattle.std.specs.Prelude.{◌||◌, Bool, ℕ, List, [], ◌∷◌, ◌++◌, Option, Some, None, map, fold, find, option_map, option_to_list, codes, eqb, if◌then◌else◌}
 use Rattle.std.specs.List.{filter_map, starts_with}
 use Rattle.std.specs.Option.{option_cmp, option_and_then}
@@ -32,24 +32,29 @@ module _ {X : Type 0} (cmp : X → X → Ordering) where
 abbrev pub loc_cmp : Loc → Loc → Ordering
 loc_cmp a b = ordering_then (nat_cmp a.start b.start) (nat_cmp a.end b.end)
 
--- two findings are the same one where they name the same at the same place. Those of one policy stand in the order of
--- its literals
+-- two findings are the same one where they name the same at the same place. Those of one policy stand in the
+-- order of its literals
 abbrev pub entity_type_cmp : UnrecognizedEntityType → UnrecognizedEntityType → Ordering
-entity_type_cmp a b = ordering_then (text_cmp a.actual_entity_type b.actual_entity_type) (option_cmp loc_cmp a.source_loc b.source_loc)
+entity_type_cmp a b = ordering_then (text_cmp a.actual_entity_type b.actual_entity_type)
+    (option_cmp loc_cmp a.source_loc b.source_loc)
 
 abbrev pub action_id_cmp : UnrecognizedActionId → UnrecognizedActionId → Ordering
-action_id_cmp a b = ordering_then (uid_cmp a.actual_action_id b.actual_action_id) (option_cmp loc_cmp a.source_loc b.source_loc)
+action_id_cmp a b = ordering_then (uid_cmp a.actual_action_id b.actual_action_id)
+    (option_cmp loc_cmp a.source_loc b.source_loc)
 
 abbrev pub enum_cmp : InvalidEnumEntity → InvalidEnumEntity → Ordering
 enum_cmp a b = ordering_then (uid_cmp a.err.uid b.err.uid) (option_cmp loc_cmp a.source_loc b.source_loc)
 
 -- what is found of a name's type: that it is not known
 abbrev pub entity_type_finding : SchemaData → List ℕ → Mentioned × Option Loc → Option UnrecognizedEntityType
-entity_type_finding schema policy m = if is_known_type schema (type_of m.0) then None else Some (record { source_loc = m.1; policy_id = policy; actual_entity_type = type_of m.0 })
+entity_type_finding schema policy m =
+    if is_known_type schema (type_of m.0) then None
+    else Some (record { source_loc = m.1; policy_id = policy; actual_entity_type = type_of m.0 })
 
 -- all types that are not known, in a condition of the policy
 abbrev pub entity_type_findings : SchemaData → List ℕ → Plain → List UnrecognizedEntityType
-entity_type_findings schema policy condition = distinct entity_type_cmp (filter_map (entity_type_finding schema policy) (names_in condition))
+entity_type_findings schema policy condition =
+    distinct entity_type_cmp (filter_map (entity_type_finding schema policy) (names_in condition))
 
 -- the ids that a link gives for the slots of its template, the principal's first
 abbrev pub ids_given : Option LinkData → List EntityUID
@@ -58,7 +63,8 @@ ids_given (Some l) = option_to_list l.values.principal ++ option_to_list l.value
 
 -- all types of these ids that are not known; they stand at no place
 abbrev pub slot_type_findings : SchemaData → PolicyData → List UnrecognizedEntityType
-slot_type_findings schema p = distinct entity_type_cmp (filter_map (entity_type_finding schema p.id) (map (λ uid. (an_id uid, None)) (ids_given p.link)))
+slot_type_findings schema p = distinct entity_type_cmp
+    (filter_map (entity_type_finding schema p.id) (map (λ uid. (an_id uid, None)) (ids_given p.link)))
 
 -- the text stands somewhere in the other
 abbrev pub occurs_in : List ℕ → List ℕ → Bool
@@ -67,15 +73,24 @@ occurs_in part (c ∷ cs) = starts_with eqb (c ∷ cs) part || occurs_in part cs
 
 -- the action's eid has in it the eid of the other with the type of actions in front
 abbrev pub repeats_type : EntityUID → ActionData → Bool
-repeats_type uid a = occurs_in (codes "Action::" ++ uid.eid) a.name.eid || occurs_in (codes "Action::\"" ++ uid.eid ++ codes "\"") a.name.eid
+repeats_type uid a = occurs_in (codes "Action::" ++ uid.eid) a.name.eid ||
+    occurs_in (codes "Action::\"" ++ uid.eid ++ codes "\"") a.name.eid
 
 -- the least action whose eid repeats the type of actions, where there is one
 abbrev pub action_id_hint : SchemaData → EntityUID → Option UnrecognizedActionIdHelp
-action_id_hint schema uid = option_map (λ a. AvoidActionTypeInActionId a.name) (find (repeats_type uid) schema.action_ids)
+action_id_hint schema uid =
+    option_map (λ a. AvoidActionTypeInActionId a.name) (find (repeats_type uid) schema.action_ids)
 
 -- what is found of an id: that it is of an action which is not declared
 abbrev pub unknown_action : SchemaData → List ℕ → EntityUID → Option Loc → Option UnrecognizedActionId
-unknown_action schema policy uid loc = if is_known_action schema uid then None else Some (record { source_loc = loc; policy_id = policy; actual_action_id = uid; hint = action_id_hint schema uid })
+unknown_action schema policy uid loc =
+    if is_known_action schema uid then None
+    else Some (record {
+      source_loc = loc;
+      policy_id = policy;
+      actual_action_id = uid;
+      hint = action_id_hint schema uid;
+    })
 
 -- what is found of a name; a type alone names no action
 abbrev pub action_id_finding : SchemaData → List ℕ → Mentioned × Option Loc → Option UnrecognizedActionId
@@ -86,7 +101,8 @@ action_id_finding schema policy m = of_name m.0 where
 
 -- all actions that are not declared, in a condition of the policy
 abbrev pub action_id_findings : SchemaData → List ℕ → Plain → List UnrecognizedActionId
-action_id_findings schema policy condition = distinct action_id_cmp (filter_map (action_id_finding schema policy) (names_in condition))
+action_id_findings schema policy condition =
+    distinct action_id_cmp (filter_map (action_id_finding schema policy) (names_in condition))
 
 -- the ids that a type lists, where it is enumerated
 abbrev pub choices_in : Kind → Option (List (List ℕ))
@@ -98,15 +114,20 @@ abbrev pub others_listed : EntityUID → List (List ℕ) → Option (List (List 
 others_listed uid choices = if has text_cmp choices uid.eid then None else Some choices
 
 abbrev pub choices_without : SchemaData → EntityUID → Option (List (List ℕ))
-choices_without schema uid = option_and_then (others_listed uid) (option_and_then (λ t. choices_in t.kind) (type_at schema uid.entity_type))
+choices_without schema uid = option_and_then (others_listed uid)
+    (option_and_then (λ t. choices_in t.kind) (type_at schema uid.entity_type))
 
 -- what is found of a name: that its type does not list it; a type alone is none that is listed
 abbrev pub enum_finding : SchemaData → List ℕ → Mentioned × Option Loc → Option InvalidEnumEntity
 enum_finding schema policy m = of_name m.0 where
   of_name : Mentioned → Option InvalidEnumEntity
-  of_name (an_id uid) = option_map (λ choices. record { source_loc = m.1; policy_id = policy; err = record { uid = uid; choices = choices } }) (choices_without schema uid)
+  of_name (an_id uid) = option_map
+      (λ choices.
+      record { source_loc = m.1; policy_id = policy; err = record { uid = uid; choices = choices } })
+      (choices_without schema uid)
   of_name (a_type ty) = None
 
 -- all ids that their types do not list, in a condition of the policy
 abbrev pub enum_findings : SchemaData → List ℕ → Plain → List InvalidEnumEntity
-enum_findings schema policy condition = distinct enum_cmp (filter_map (enum_finding schema policy) (names_in condition))
+enum_findings schema policy condition =
+    distinct enum_cmp (filter_map (enum_finding schema policy) (names_in condition))

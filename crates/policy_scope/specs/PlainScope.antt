@@ -39,5 +39,6 @@ module _ (schema : SchemaData) where
   is_plain_action (action.Eq u) = is_some (literal_type schema u)
   is_plain_action (action.In us) = are_plain_actions us
 
-  abbrev pub is_plain_scope : PrincipalOrResourceConstraint → ActionConstraint → PrincipalOrResourceConstraint → Bool
+  abbrev pub is_plain_scope : PrincipalOrResourceConstraint →
+      ActionConstraint → PrincipalOrResourceConstraint → Bool
   is_plain_scope p c r = (is_plain_side p && is_plain_action c) && is_plain_side r

@@ -35,12 +35,13 @@ module _ (schema : SchemaData) where
   type_meets (Is m) n = is_eq (text_cmp m n)
   type_meets (IsIn m r) n = is_eq (text_cmp m n) && in_meets r n
 
-  -- the action meets what the scope asks of the action: `in` a list of declared actions is met by these and their
-  -- descendants, and a list with another one by none
+  -- the action meets what the scope asks of the action: `in` a list of declared actions is met by these and
+  -- their descendants, and a list with another one by none
   abbrev pub action_meets : ActionConstraint → ActionData → Bool
   action_meets action.Any a = true
   action_meets (action.Eq u) a = uid_eq u a.name
-  action_meets (action.In us) a = list_all (λ u. is_some (action_at schema u)) us && list_any (is_action_within schema a.name) us
+  action_meets (action.In us) a =
+      list_all (λ u. is_some (action_at schema u)) us && list_any (is_action_within schema a.name) us
 
   -- the action has a principal type and a resource type that meet these parts of a scope
   abbrev pub are_met : PrincipalOrResourceConstraint → PrincipalOrResourceConstraint → ActionData → Bool
@@ -50,7 +51,8 @@ module _ (schema : SchemaData) where
   types_meet t a = are_met t.principal t.resource a
 
   -- some action meets the scope of these parts
-  abbrev pub some_action_meets : PrincipalOrResourceConstraint → ActionConstraint → PrincipalOrResourceConstraint → Bool
+  abbrev pub some_action_meets : PrincipalOrResourceConstraint →
+      ActionConstraint → PrincipalOrResourceConstraint → Bool
   some_action_meets p c r = list_any (λ a. action_meets c a && are_met p r a) schema.action_ids
 
   abbrev pub is_applicable : TemplateData → Bool
@@ -64,11 +66,13 @@ types_for Resource a = a.resources
 module _ (schema : SchemaData) (side : Side) (c : ActionConstraint) where
   -- of the types of the actions that meet the constraint, some passes the test
   abbrev pub some_type : (List ℕ → Bool) → Bool
-  some_type test = list_any (λ a. action_meets schema c a && list_any test (types_for side a)) schema.action_ids
+  some_type test =
+      list_any (λ a. action_meets schema c a && list_any test (types_for side a)) schema.action_ids
 
   -- none of those types is this one, and some is a descendant of it
   abbrev pub only_descendants : List ℕ → Bool
-  only_descendants n = not (some_type (λ other. is_eq (text_cmp n other))) && some_type (λ other. type_below schema other n)
+  only_descendants n =
+      not (some_type (λ other. is_eq (text_cmp n other))) && some_type (λ other. type_below schema other n)
 
   -- `in` would be met in place of `==`: by descendants of the entity's type alone
   abbrev pub in_would_fix : PrincipalOrResourceConstraint → Bool
@@ -76,7 +80,8 @@ module _ (schema : SchemaData) (side : Side) (c : ActionConstraint) where
   in_would_fix other = false
 
 -- what is found of a scope of these parts that no action meets
-abbrev pub application_finding : SchemaData → List ℕ → PrincipalOrResourceConstraint → ActionConstraint → PrincipalOrResourceConstraint → InvalidActionApplication
+abbrev pub application_finding : SchemaData → List ℕ → PrincipalOrResourceConstraint →
+    ActionConstraint → PrincipalOrResourceConstraint → InvalidActionApplication
 application_finding schema policy p c r = record {
   source_loc = None;
   policy_id = policy;
@@ -85,8 +90,10 @@ application_finding schema policy p c r = record {
 }
 
 -- some action has to meet the scope
-abbrev pub scope_findings : SchemaData → List ℕ → PrincipalOrResourceConstraint → ActionConstraint → PrincipalOrResourceConstraint → List InvalidActionApplication
-scope_findings schema policy p c r = if some_action_meets schema p c r then [] else application_finding schema policy p c r ∷ []
+abbrev pub scope_findings : SchemaData → List ℕ → PrincipalOrResourceConstraint →
+    ActionConstraint → PrincipalOrResourceConstraint → List InvalidActionApplication
+scope_findings schema policy p c r =
+    if some_action_meets schema p c r then [] else application_finding schema policy p c r ∷ []
 
 abbrev pub application_findings : SchemaData → TemplateData → List InvalidActionApplication
 application_findings schema t = scope_findings schema t.id t.principal t.action t.resource

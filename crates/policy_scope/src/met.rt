@@ -25,8 +25,8 @@ pub(crate) enum Asked<'a> {
     Below(Side, &'a EntityType),
 }
 
-/// Whether some action that meets the constraint has what is asked. A named one is looked up, and of a list the actions
-/// that meet it, so that the time grows with the list, and not with the actions of the schema.
+/// Whether some action that meets the constraint has what is asked. A named one is looked up, and of a list
+/// the actions that meet it, so that the time grows with the list, and not with the actions of the schema.
 pub(crate) fn some_met(
     schema: &ValidatorSchema,
     constraint: &ActionConstraint,
@@ -46,14 +46,16 @@ pub(crate) fn some_met(
 
 fn listed_has(schema: &ValidatorSchema, uids: &[EntityUID], asked: &Asked<'_>) -> bool
     requires { IsSchema schema.now }
-    ensures { result ≡ some_has schema.now asked.now (action_meets schema.now (ActionConstraint.In uids.now)) }
+    ensures { result ≡
+        some_has schema.now asked.now (action_meets schema.now (ActionConstraint.In uids.now)) }
 {
     are_declared(schema, uids) && some_listed_has(schema, uids, asked)
 }
 
 fn some_listed_has(schema: &ValidatorSchema, uids: &[EntityUID], asked: &Asked<'_>) -> bool
     requires { IsSchema schema.now }
-    ensures { result ≡ list_any (λ u. some_has schema.now asked.now (λ a. is_action_within schema.now a.name u)) uids.now }
+    ensures { result ≡ list_any
+        (λ u. some_has schema.now asked.now (λ a. is_action_within schema.now a.name u)) uids.now }
 {
     uids.iter().any(|uid| some_within_has(schema, uid, asked))
 }

@@ -1,5 +1,5 @@
-//! The names in a policy: the types that it names and the actions of its literals have to be declared, and the ids of
-//! enumerated types to be listed.
+//! The names in a policy: the types that it names and the actions of its literals have to be declared, and
+//! the ids of enumerated types to be listed.
 
 ghost use Rattle.std.specs.Prelude.{◌≡◌, ◌++◌, IfOk, OnOk, map, None, option_copied, option_to_list};
 ghost use Rattle.policy_expressions.specs.Tree.{trees_of, named_of};
@@ -21,35 +21,37 @@ use schema_core::{ListedIds, ValidatorEntityTypeKind, ValidatorSchema};
 use std::alloc::{AllocError, Global};
 use std::collections::{BTreeMap, BTreeSet};
 
-/// The types that literals and `is` tests of the template name, in its scope and in its body, and that are neither
-/// declared nor types of actions: each once at its place, in the order in which they stand.
+/// The types that literals and `is` tests of the template name, in its scope and in its body, and that are
+/// neither declared nor types of actions: each once at its place, in the order in which they stand.
 pub fn validate_entity_types(
     alloc: Global,
     schema: &ValidatorSchema,
     template: &Template,
 ) -> Result<Vec<UnrecognizedEntityType>, AllocError>
-    ensures { IfOk result (λ found. found.items ≡ entity_type_findings schema.now template.now.id (condition_of template.now)) }
+    ensures { IfOk result (λ found. found.items ≡
+        entity_type_findings schema.now template.now.id (condition_of template.now)) }
 {
     unknown_types_in(alloc, schema, template.id(), template.condition())
 }
 
-/// The types that literals and `is` tests of a policy's condition name and that are neither declared nor types of
-/// actions: each once at its place, in the order in which they stand.
+/// The types that literals and `is` tests of a policy's condition name and that are neither declared nor
+/// types of actions: each once at its place, in the order in which they stand.
 pub fn unknown_types_in(
     alloc: Global,
     schema: &ValidatorSchema,
     policy_id: &Text,
     condition: &Expr<()>,
 ) -> Result<Vec<UnrecognizedEntityType>, AllocError>
-    ensures { IfOk result (λ found. found.items ≡ entity_type_findings schema.now policy_id.now condition.now) }
+    ensures { IfOk result
+        (λ found. found.items ≡ entity_type_findings schema.now policy_id.now condition.now) }
 {
     let mut names = Vec::new(alloc);
     add_names(condition, &mut names)?;
     unknown_types(alloc, schema, policy_id, names)
 }
 
-/// The types of the ids that a link gives for the slots of its template and that are neither declared nor types of
-/// actions: each once, the principal's first. A static policy has none.
+/// The types of the ids that a link gives for the slots of its template and that are neither declared nor
+/// types of actions: each once, the principal's first. A static policy has none.
 pub fn validate_entity_types_in_slots(
     alloc: Global,
     schema: &ValidatorSchema,
@@ -69,7 +71,9 @@ fn add_given<'a>(
     values: &'a SlotValues,
     names: &mut Vec<(Mention<'a>, Option<Loc>)>,
 ) -> Result<(), AllocError>
-    ensures { OnOk result (map pair_of names.new.items ≡ map pair_of names.old.items ++ map (λ uid. (an_id uid, None)) (option_to_list values.now.principal ++ option_to_list values.now.resource)) }
+    ensures { OnOk result
+        (map pair_of names.new.items ≡ map pair_of names.old.items ++ map (λ uid. (an_id uid, None))
+        (option_to_list values.now.principal ++ option_to_list values.now.resource)) }
 {
     if let Some(uid) = &values.principal {
         names.push((Mention::Id(uid), None))?;
@@ -87,7 +91,8 @@ fn unknown_types(
     policy_id: &Text,
     names: Vec<(Mention<'_>, Option<Loc>)>,
 ) -> Result<Vec<UnrecognizedEntityType>, AllocError>
-    ensures { IfOk result (λ found. found.items ≡ distinct entity_type_cmp (filter_map (entity_type_finding schema.now policy_id.now) (map pair_of names.entry.items))) }
+    ensures { IfOk result (λ found. found.items ≡ distinct entity_type_cmp
+        (filter_map (entity_type_finding schema.now policy_id.now) (map pair_of names.entry.items))) }
 {
     let mut seen = BTreeSet::new(alloc);
     let mut found = Vec::new(alloc);
@@ -114,20 +119,21 @@ fn is_known_type(schema: &ValidatorSchema, ty: &EntityType) -> bool
     schema.is_known_entity_type(ty)
 }
 
-/// The actions that literals of the template name, in its scope and in its body, and that are not declared: each once at
-/// its place, in the order in which the literals stand.
+/// The actions that literals of the template name, in its scope and in its body, and that are not declared:
+/// each once at its place, in the order in which the literals stand.
 pub fn validate_action_ids(
     alloc: Global,
     schema: &ValidatorSchema,
     template: &Template,
 ) -> Result<Vec<UnrecognizedActionId>, AllocError>
-    ensures { IfOk result (λ found. found.items ≡ action_id_findings schema.now template.now.id (condition_of template.now)) }
+    ensures { IfOk result (λ found. found.items ≡
+        action_id_findings schema.now template.now.id (condition_of template.now)) }
 {
     unknown_actions_in(alloc, schema, template.id(), template.condition())
 }
 
-/// The actions that literals of a policy's condition name and that are not declared: each once at its place, in the order
-/// in which the literals stand.
+/// The actions that literals of a policy's condition name and that are not declared: each once at its place,
+/// in the order in which the literals stand.
 pub fn unknown_actions_in(
     alloc: Global,
     schema: &ValidatorSchema,
@@ -166,20 +172,21 @@ fn is_known_action(schema: &ValidatorSchema, uid: &EntityUID) -> bool
     !uid.is_action() || schema.get_action_id(uid).is_some()
 }
 
-/// The ids of enumerated types that literals of the template name, in its scope and in its body, and that their types do
-/// not list: each once at its place, in the order in which the literals stand.
+/// The ids of enumerated types that literals of the template name, in its scope and in its body, and that
+/// their types do not list: each once at its place, in the order in which the literals stand.
 pub fn validate_enum_entity(
     alloc: Global,
     schema: &ValidatorSchema,
     template: &Template,
 ) -> Result<Vec<InvalidEnumEntity>, AllocError>
-    ensures { IfOk result (λ found. found.items ≡ enum_findings schema.now template.now.id (condition_of template.now)) }
+    ensures { IfOk result
+        (λ found. found.items ≡ enum_findings schema.now template.now.id (condition_of template.now)) }
 {
     unlisted_ids_in(alloc, schema, template.id(), template.condition())
 }
 
-/// The ids of enumerated types that literals of a policy's condition name and that their types do not list: each once at
-/// its place, in the order in which the literals stand.
+/// The ids of enumerated types that literals of a policy's condition name and that their types do not list:
+/// each once at its place, in the order in which the literals stand.
 pub fn unlisted_ids_in(
     alloc: Global,
     schema: &ValidatorSchema,
@@ -258,8 +265,8 @@ fn choices_in(kind: &ValidatorEntityTypeKind) -> Option<&ListedIds>
     }
 }
 
-/// What may have been meant by the id of an action that is not declared: the least declared action whose eid has in it
-/// that of the id behind the type of actions, with or without quotes.
+/// What may have been meant by the id of an action that is not declared: the least declared action whose eid
+/// has in it that of the id behind the type of actions, with or without quotes.
 pub fn unrecognized_action_id_help(
     alloc: Global,
     schema: &ValidatorSchema,
@@ -351,7 +358,8 @@ fn add_names_of_all<'a, T>(
     items: &'a Vec<Expr<T>>,
     names: &mut Vec<(Mention<'a>, Option<Loc>)>,
 ) -> Result<(), AllocError>
-    ensures { OnOk result (map pair_of names.new.items ≡ map pair_of names.old.items ++ names_in_all (trees_of items.now.items)) }
+    ensures { OnOk result (map pair_of names.new.items ≡
+        map pair_of names.old.items ++ names_in_all (trees_of items.now.items)) }
 {
     for item in items {
         add_names(item, names)?;
@@ -364,7 +372,8 @@ fn add_names_of_named<'a, T>(
     fields: &'a BTreeMap<Text, Expr<T>>,
     names: &mut Vec<(Mention<'a>, Option<Loc>)>,
 ) -> Result<(), AllocError>
-    ensures { OnOk result (map pair_of names.new.items ≡ map pair_of names.old.items ++ names_in_named (named_of fields.now.entries)) }
+    ensures { OnOk result (map pair_of names.new.items ≡
+        map pair_of names.old.items ++ names_in_named (named_of fields.now.entries)) }
 {
     for (_, item) in fields {
         add_names(item, names)?;

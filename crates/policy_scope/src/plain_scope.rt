@@ -10,9 +10,9 @@ use policy_set::{ActionConstraint, EntityReference, PrincipalOrResourceConstrain
 use policy_values::{EntityType, EntityUID};
 use schema_core::ValidatorSchema;
 
-/// Whether each id of a scope has a type, in that it is of a declared entity type or is a declared action, and a list of
-/// actions is not empty and has declared actions of one type alone. To type such a scope finds nothing in any environment,
-/// and where the scope is not met it is false.
+/// Whether each id of a scope has a type, in that it is of a declared entity type or is a declared action,
+/// and a list of actions is not empty and has declared actions of one type alone. To type such a scope finds
+/// nothing in any environment, and where the scope is not met it is false.
 pub fn is_plain_scope(
     schema: &ValidatorSchema,
     principal: &PrincipalOrResourceConstraint,

@@ -20,10 +20,11 @@ use std::alloc::{AllocError, Global};
 use std::cmp::Ordering;
 use std::collections::BTreeSet;
 
-/// What is found of the template's scope where no declared action meets it. An action meets a scope where it meets the
-/// part for the action and has a principal type and a resource type that meet the other two parts: each meets a part
-/// that asks for nothing and a slot, the named entity's own type `==`, that type and its descendants `in`, and the named
-/// type `is`. A list of actions is met by these and their descendants, where each is declared.
+/// What is found of the template's scope where no declared action meets it. An action meets a scope where it
+/// meets the part for the action and has a principal type and a resource type that meet the other two parts:
+/// each meets a part that asks for nothing and a slot, the named entity's own type `==`, that type and its
+/// descendants `in`, and the named type `is`. A list of actions is met by these and their descendants, where
+/// each is declared.
 pub fn validate_template_action_application(
     alloc: Global,
     schema: &ValidatorSchema,
@@ -68,7 +69,8 @@ fn application(
     action: &ActionConstraint,
     resource: &PrincipalOrResourceConstraint,
 ) -> Result<Vec<InvalidActionApplication>, AllocError>
-    ensures { IfOk result (λ found. found.items ≡ scope_findings schema.now policy_id.now principal.now action.now resource.now) }
+    ensures { IfOk result (λ found. found.items ≡
+        scope_findings schema.now policy_id.now principal.now action.now resource.now) }
 {
     let mut found = Vec::new(alloc);
     if !some_met(schema, action, &Asked::Applies(principal, resource)) {
@@ -82,8 +84,8 @@ fn application(
     Ok(found)
 }
 
-/// Whether the action meets what a scope asks of the action: it is the named one, or it is one of the list or a descendant of
-/// one, where each of the list is declared.
+/// Whether the action meets what a scope asks of the action: it is the named one, or it is one of the list or
+/// a descendant of one, where each of the list is declared.
 pub fn action_meets(
     schema: &ValidatorSchema,
     constraint: &ActionConstraint,
@@ -164,8 +166,8 @@ fn some_meets(
     false
 }
 
-/// Whether the type meets what a scope asks of the principal, or of the resource: it is the named entity's own for `==`,
-/// that one or a descendant of it for `in`, the named one for `is`. Each type meets a slot.
+/// Whether the type meets what a scope asks of the principal, or of the resource: it is the named entity's
+/// own for `==`, that one or a descendant of it for `in`, the named one for `is`. Each type meets a slot.
 pub fn type_meets(
     schema: &ValidatorSchema,
     constraint: &PrincipalOrResourceConstraint,
@@ -240,8 +242,8 @@ pub(crate) fn types_for(side: Side, action: &ValidatorActionId) -> &BTreeSet<Ent
     }
 }
 
-// Whether `in` would be met in place of `==`: of the types of the actions that meet the part for the action, none is
-// the named entity's own, and some is a descendant of it.
+// Whether `in` would be met in place of `==`: of the types of the actions that meet the part for the action,
+// none is the named entity's own, and some is a descendant of it.
 fn in_would_fix(
     schema: &ValidatorSchema,
     side: Side,

@@ -1,6 +1,6 @@
--- The condition of a template: ((principal && action) && resource) && body, where a part of the scope that asks for nothing
--- is the literal true.
-use Rattle.std.specs.Prelude.{◌≡◌, ◌||◌, ℕ, Bool, true, false, List, None, map}
+-- The condition of a template: ((principal && action) && resource) && body, where a part of the scope that
+-- asks for nothing is the literal true.
+use Rattle.std.specs.Prelude.{◌≡◌, ◌<◌, ◌||◌, ℕ, Bool, true, false, List, None, map}
 use Rattle.policy_values.specs.declared.entity_uid.EntityUID.{EntityUID}
 use Rattle.policy_expressions.specs.declared.kinds.Literal.TheVariants as literal
 use Rattle.policy_expressions.specs.declared.kinds.Var.{Var}
@@ -9,7 +9,7 @@ use Rattle.policy_expressions.specs.declared.kinds.SlotId.{SlotId}
 use Rattle.policy_expressions.specs.declared.kinds.SlotId.TheVariants.{Principal, Resource}
 use Rattle.policy_expressions.specs.declared.kinds.BinaryOp.{BinaryOp}
 use Rattle.policy_expressions.specs.declared.kinds.BinaryOp.TheVariants.{Eq as IsEqual, In as IsIn}
-use Rattle.policy_expressions.specs.Tree.{Trees, trees_of, Mark, lit, var, slot, conj, binary, set, is_type}
+use Rattle.policy_expressions.specs.Tree.{Trees, trees_of, depth_of, Mark, lit, var, slot, conj, binary, set, is_type}
 use Rattle.policy_expressions.specs.Plain.{Plain, unmarked}
 use Rattle.policy_expressions.specs.Slots.{has_slot}
 use Rattle.policy_set.specs.Data.{TemplateData, PolicyData}
@@ -65,10 +65,12 @@ literals uids = trees_of (map id_literal uids)
 abbrev pub action_part : ActionConstraint → Plain
 action_part action.Any = anything
 action_part (action.Eq uid) = binary IsEqual (var variable.Action unmarked) (id_literal uid) unmarked
-action_part (action.In uids) = binary IsIn (var variable.Action unmarked) (set (literals uids) unmarked) unmarked
+action_part (action.In uids) =
+    binary IsIn (var variable.Action unmarked) (set (literals uids) unmarked) unmarked
 
 abbrev pub scope_of : PrincipalOrResourceConstraint → ActionConstraint → PrincipalOrResourceConstraint → Plain
-scope_of p a r = conj (conj (scope_part Principal p) (action_part a) unmarked) (scope_part Resource r) unmarked
+scope_of p a r =
+    conj (conj (scope_part Principal p) (action_part a) unmarked) (scope_part Resource r) unmarked
 
 abbrev pub condition_of : TemplateData → Plain
 condition_of t = conj (scope_of t.principal t.action t.resource) t.body unmarked
@@ -103,7 +105,14 @@ static_of t = record {
 
 -- a policy as it would be written by itself
 abbrev pub written_of : PolicyData → TemplateData
-written_of p = record { id = p.id; effect = p.effect; principal = p.principal; action = p.action; resource = p.resource; body = p.body }
+written_of p = record {
+  id = p.id;
+  effect = p.effect;
+  principal = p.principal;
+  action = p.action;
+  resource = p.resource;
+  body = p.body;
+}
 
 -- what holds of each policy of a set: its condition is that of its scope and its body, and has no slot
 pub record IsPolicy (p : PolicyData) : Type 0 where
@@ -115,9 +124,22 @@ abbrev pub right_of : Plain → Plain
 right_of (conj x y a) = y
 right_of e = e
 
--- the template of these parts
-abbrev pub template_with : List ℕ → Effect → PrincipalOrResourceConstraint → ActionConstraint → PrincipalOrResourceConstraint → Plain → TemplateData
-template_with id effect p a r whole = record { id = id; effect = effect; principal = p; action = a; resource = r; body = right_of whole }
+-- the template of these parts, with its whole condition
+abbrev pub template_with : List ℕ → Effect → PrincipalOrResourceConstraint →
+    ActionConstraint → PrincipalOrResourceConstraint → Plain → TemplateData
+template_with id effect p a r whole =
+    record { id = id; effect = effect; principal = p; action = a; resource = r; body = right_of whole }
+
+-- the template of these parts, with its body
+abbrev pub template_of :
+    List ℕ → Effect → PrincipalOrResourceConstraint → ActionConstraint → PrincipalOrResourceConstraint → Plain
+    → TemplateData
+template_of id effect p a r body =
+    record { id = id; effect = effect; principal = p; action = a; resource = r; body = body }
+
+-- the condition would be nested deeper than 400
+abbrev pub IsTooDeep : TemplateData → Type 0
+IsTooDeep t = 400 < depth_of (condition_of t)
 
 -- what holds of each template: its condition is that of its scope and its body, which has no slot
 pub record IsTemplate (t : TemplateData) (whole : Plain) : Type 0 where

@@ -31,7 +31,8 @@ linked o (scope.IsIn n r) = scope.IsIn n (with_id o r)
 
 -- the link as a template of its own
 abbrev pub linked_of : SlotValues → TemplateData → TemplateData
-linked_of w t = record t { principal = linked w.principal t.principal; resource = linked w.resource t.resource }
+linked_of w t =
+    record t { principal = linked w.principal t.principal; resource = linked w.resource t.resource }
 
 -- a template's slots stand in its scope alone
 abbrev pub HasPlainBody : TemplateData → Type 0

@@ -1,4 +1,5 @@
--- Sets of policies as plain data: templates, which have slots, and policies, which are static or links; each ascending by id.
+-- Sets of policies as plain data: templates, which have slots, and policies, which are static or links; each
+-- ascending by id.
 use Rattle.std.specs.Prelude.{◌≡◌, ⊤, ℕ, Bool, true, false, ◌||◌, not, nat_lt, List, [], ◌++◌, Option, Some, None, map, filter, fold, length, slice_get, is_some, IsSomeAnd, IfSome, IsTrue, cond, refl}
 use Rattle.std.specs.Option.{option_or}
 use Rattle.std.specs.BTreeMap.{BTreeMap, values}
@@ -93,7 +94,10 @@ given values i = map (λ v. v.1) (filter (λ v. is_same_slot v.0 i) values)
 
 -- the first id that is given for each slot
 abbrev pub slot_values : List (SlotId × EntityUID) → SlotValues
-slot_values values = record { principal = slice_get (given values Principal) 0; resource = slice_get (given values Resource) 0 }
+slot_values values = record {
+  principal = slice_get (given values Principal) 0;
+  resource = slice_get (given values Resource) 0;
+}
 
 -- a fault, where there is one
 abbrev pub fault_if : Bool → PolicySetError → Option PolicySetError
@@ -116,7 +120,8 @@ is_missing c us = nat_lt (length us) (slot_count c)
 abbrev pub is_extra : PrincipalOrResourceConstraint → List EntityUID → Bool
 is_extra c us = nat_lt (slot_count c) (length us)
 
--- why a template can't be linked with what is given: a slot is missing; a slot that it doesn't have is given, or one is given twice
+-- why a template can't be linked with what is given: a slot is missing; a slot that it doesn't have is given,
+-- or one is given twice
 abbrev pub slot_fault : TemplateData → List (SlotId × EntityUID) → Option PolicySetError
 slot_fault t values =
     option_or (fault_if (is_missing t.principal (given values Principal)) (SlotMissing Principal))
@@ -129,9 +134,24 @@ abbrev pub template_fault : Option TemplateData → List ℕ → List (SlotId ×
 template_fault None id values = Some (UnknownTemplate id)
 template_fault (Some t) id values = slot_fault t values
 
--- why a template can't be linked under the id: the id stands already; there is no such template; the slots are not those given
+-- why a template can't be linked under the id: the id stands already; there is no such template; the slots
+-- are not those given
 abbrev pub link_fault : PolicySetData → List ℕ → List ℕ → List (SlotId × EntityUID) → Option PolicySetError
-link_fault s template id values = option_or (id_fault s id) (template_fault (template_at s template) template values)
+link_fault s template id values =
+    option_or (id_fault s id) (template_fault (template_at s template) template values)
+
+-- the policy is the link under the id of a template of the set that can be linked with what is given
+abbrev pub IsLinkWith : PolicySetData → List ℕ → List ℕ → List (SlotId × EntityUID) → PolicyData → Type 0
+IsLinkWith s template id values p =
+    (template_fault (template_at s template) template values ≡ None)
+    × IsSomeAnd (template_at s template) (λ t. p ≡ linked_policy id (slot_values values) t)
+
+-- nothing stands against the link under the id, and the new set is the old one with it
+abbrev pub IsLinkAdded : PolicySetData → PolicySetData → List ℕ → List ℕ → List (SlotId × EntityUID) → Type 0
+IsLinkAdded old new template id values =
+    (link_fault old template id values ≡ None)
+    × IsSomeAnd (template_at old template)
+    (λ t. new ≡ with_policy (linked_policy id (slot_values values) t) old)
 
 -- the error is this fault, or that there is no memory
 abbrev pub IsNotAdded : Option PolicySetError → PolicySetError → Type 0
@@ -151,7 +171,8 @@ IsLinkOf p w t = Fills w t × (p ≡ linked_policy p.id w t)
 abbrev pub IsLinkedIn : PolicySetData → PolicyData → Type 0
 IsLinkedIn s p = IfSome p.link (λ l. IsSomeAnd (template_at s l.template) (IsLinkOf p l.values))
 
--- what a set keeps: ids ascend, and stand once among templates and policies; each link is that of a template of the set
+-- what a set keeps: ids ascend, and stand once among templates and policies; each link is that of a template
+-- of the set
 pub record IsPolicySet (s : PolicySetData) : Type 0 where
   pub template_ids : IsStrictlySortedBy text_cmp (map (λ t. t.id) s.templates)
   pub policy_ids : IsStrictlySortedBy text_cmp (map (λ p. p.id) s.policies)
@@ -161,7 +182,8 @@ pub record IsPolicySet (s : PolicySetData) : Type 0 where
   pub links : AllByRecursion (IsLinkedIn s) s.policies
 
 -- the maps that hold a set: each id is that of what stands there
-pub record HoldsSet (templates : BTreeMap (List ℕ) TemplateData) (policies : BTreeMap (List ℕ) PolicyData) : Type 0 where
+pub record HoldsSet (templates : BTreeMap (List ℕ) TemplateData)
+    (policies : BTreeMap (List ℕ) PolicyData) : Type 0 where
   pub template_ids : AreAtTheirKeys text_cmp (λ t. t.id) templates
   pub policy_ids : AreAtTheirKeys text_cmp (λ p. p.id) policies
   pub whole : IsPolicySet (record { templates = values templates; policies = values policies })

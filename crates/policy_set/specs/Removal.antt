@@ -18,7 +18,10 @@ is_another_policy id p = not (is_eq (text_cmp id p.id))
 
 -- the set without what has the id
 abbrev pub without : List ℕ → PolicySetData → PolicySetData
-without id s = record { templates = filter (is_another_template id) s.templates; policies = filter (is_another_policy id) s.policies }
+without id s = record {
+  templates = filter (is_another_template id) s.templates;
+  policies = filter (is_another_policy id) s.policies;
+}
 
 -- whether a link of the set stands on the template with the id
 abbrev pub is_linked : PolicySetData → List ℕ → Bool
@@ -30,7 +33,8 @@ pub data RemovalFault : Type 0 where
   template_in_use : RemovalFault
 
 abbrev pub removal_fault : PolicySetData → List ℕ → Option RemovalFault
-removal_fault s id = if is_taken s id then (if is_linked s id then Some template_in_use else None) else Some unknown_policy
+removal_fault s id =
+    if is_taken s id then (if is_linked s id then Some template_in_use else None) else Some unknown_policy
 
 -- why the set still has what has the id: nothing had it; a link stands on it
 abbrev pub IsNotRemoved : PolicySetData → List ℕ → RemovalError → Type 0

@@ -57,12 +57,14 @@ module _ (q : Request) (s : Store) where
   -- the permits that are true
   abbrev pub true_permits : List PolicyData → List (List ℕ)
   true_permits [] = []
-  true_permits (p ∷ ps) = if_permit p.effect (if_true (outcome p q s) p.id (true_permits ps)) (true_permits ps)
+  true_permits (p ∷ ps) =
+      if_permit p.effect (if_true (outcome p q s) p.id (true_permits ps)) (true_permits ps)
 
   -- the forbids that are true
   abbrev pub true_forbids : List PolicyData → List (List ℕ)
   true_forbids [] = []
-  true_forbids (p ∷ ps) = if_permit p.effect (true_forbids ps) (if_true (outcome p q s) p.id (true_forbids ps))
+  true_forbids (p ∷ ps) =
+      if_permit p.effect (true_forbids ps) (if_true (outcome p q s) p.id (true_forbids ps))
 
   -- the policies that have no value: they are skipped, and listed
   abbrev pub failures : List PolicyData → List PolicyFailure

@@ -10,8 +10,8 @@ use crate::{Decision, Effect, Policy, PolicyFailure, PolicySet, Response};
 use policy_core::{Entities, EvalError, Outcome, Request, Text, Value, ValueKind, evaluate};
 use std::alloc::{AllocError, Global};
 
-/// Allow where some permit is true and no forbid is, else Deny. A policy whose condition has no value is skipped, and
-/// listed. The request has to be whole.
+/// Allow where some permit is true and no forbid is, else Deny. A policy whose condition has no value is
+/// skipped, and listed. The request has to be whole.
 pub fn decide(
     alloc: Global,
     policies: &PolicySet,
@@ -39,9 +39,12 @@ fn note(
     forbids: &mut Vec<Text>,
     failures: &mut Vec<PolicyFailure>,
 ) -> Result<(), AllocError>
-    ensures permits { OnOk result ((ids : List (List ℕ)) → permits.new.items ++ ids ≡ permits.old.items ++ if_permit policy.now.effect (if_true outcome policy.now.id ids) ids) }
-    ensures forbids { OnOk result ((ids : List (List ℕ)) → forbids.new.items ++ ids ≡ forbids.old.items ++ if_permit policy.now.effect ids (if_true outcome policy.now.id ids)) }
-    ensures failures { OnOk result ((fs : List FailureOf) → failures.new.items ++ fs ≡ failures.old.items ++ if_error outcome policy.now.id fs) }
+    ensures permits { OnOk result ((ids : List (List ℕ)) → permits.new.items ++ ids ≡
+        permits.old.items ++ if_permit policy.now.effect (if_true outcome policy.now.id ids) ids) }
+    ensures forbids { OnOk result ((ids : List (List ℕ)) → forbids.new.items ++ ids ≡
+        forbids.old.items ++ if_permit policy.now.effect ids (if_true outcome policy.now.id ids)) }
+    ensures failures { OnOk result ((fs : List FailureOf) →
+        failures.new.items ++ fs ≡ failures.old.items ++ if_error outcome policy.now.id fs) }
 {
     match outcome {
         Outcome::Value(value) => {

@@ -1,8 +1,8 @@
 //! Policies, templates and links, sets of them, and the decision on a request.
 #![tactic(auto)]
 
-/// What a call gives; where it fails, what is held is dropped by calls, and the error goes up. A value that is dropped on its
-/// own is taken apart by cases in the proof.
+/// What a call gives; where it fails, what is held is dropped by calls, and the error goes up. A value that
+/// is dropped on its own is taken apart by cases in the proof.
 #[macro_export]
 macro_rules! or_drop {
     ($fallible:expr, $($held:ident),*) => {

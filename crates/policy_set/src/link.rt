@@ -9,6 +9,7 @@ use policy_values::{EntityUID, Text};
 use std::marker::Model;
 
 // The id of the template that is linked, and the ids that the link gives for its slots.
+#[derive(Debug)]
 pub(crate) struct Link {
     pub(crate) template: Text,
     pub(crate) values: SlotValues,
@@ -37,7 +38,8 @@ pub(crate) fn check_slots(
     template: &Template,
     values: &[(SlotId, EntityUID)],
 ) -> Result<(), PolicySetError>
-    ensures { MatchResult result (λ _. slot_fault template.now values.now ≡ None) (λ e. slot_fault template.now values.now ≡ Some e) }
+    ensures { MatchResult result (λ _. slot_fault template.now values.now ≡ None)
+        (λ e. slot_fault template.now values.now ≡ Some e) }
 {
     let principal_slots = slot_count(template.principal_constraint());
     let principals = count_given(values, SlotId::Principal);

@@ -14,6 +14,7 @@ use std::alloc::{AllocError, Global};
 use std::marker::Model;
 
 /// A policy of a set: static, or a link of a template. Its condition has no slot.
+#[derive(Debug)]
 pub struct Policy {
     // The policy as it would be written by itself: a link has its ids in the places of slots.
     template: Template,

@@ -12,6 +12,7 @@ use std::collections::btree_map::Values;
 use std::marker::Model;
 
 /// Templates and policies under their ids, in the order of the ids. An id stands once among all of them.
+#[derive(Debug)]
 pub struct PolicySet {
     templates: BTreeMap<Text, Template>,
     policies: BTreeMap<Text, Policy>,
@@ -84,7 +85,7 @@ pub enum RemovalError<'a> {
 }
 
 impl PolicySet {
-    ghost use Rattle.std.specs.Prelude.{◌≡◌, IsTrue, false, [], length, map, OnErr, MatchResult, None, IfOk, IfErr, OnOk, IsSomeAnd};
+    ghost use Rattle.std.specs.Prelude.{◌≡◌, IsTrue, false, [], length, map, OnErr, MatchResult, None, IfOk, IfErr, OnOk};
     ghost use Rattle.std.specs.Option.{option_copied};
     ghost use Rattle.std.specs.List.{AllByRecursion};
     ghost use Rattle.std.specs.List.Sorted.{IsStrictlySortedBy};
@@ -92,9 +93,8 @@ impl PolicySet {
     ghost use Rattle.policy_values.specs.Uid.{text_cmp};
     ghost use Rattle.policy_set.specs.Data.{TemplateData, PolicyData};
     ghost use Rattle.policy_set.specs.Condition.{IsPolicy, has_scope_slot, static_of};
-    ghost use Rattle.policy_set.specs.Links.{linked_policy};
     ghost use Rattle.policy_set.specs.Removal.{is_linked, removal_fault, without, IsNotRemoved};
-    ghost use Rattle.policy_set.specs.PolicySet.{template_at, policy_at, is_taken, with_template, with_policy, written, links, id_fault, link_fault, template_fault, slot_values, IsNotAdded, IsToLink, IsLinkedIn};
+    ghost use Rattle.policy_set.specs.PolicySet.{template_at, policy_at, is_taken, with_template, with_policy, written, links, id_fault, link_fault, template_fault, IsLinkWith, IsLinkAdded, IsNotAdded, IsToLink, IsLinkedIn};
 
     /// A set without templates and policies.
     pub fn new(alloc: Global) -> PolicySet
@@ -106,11 +106,14 @@ impl PolicySet {
         }
     }
 
-    /// Adds a static policy, a template whose scope has no slot. Errs with `DuplicateId` where a template or a policy of
-    /// the set has its id. On any error the set is unchanged and the policy is dropped.
+    /// Adds a static policy, a template whose scope has no slot. Errs with `DuplicateId` where a template or
+    /// a policy of the set has its id. On any error the set is unchanged and the policy is dropped.
     pub fn add_static(&mut self, template: Template) -> Result<(), PolicySetError>
         requires { has_scope_slot template ≡ false }
-        ensures answer { MatchResult result (λ _. (id_fault self.old template.id ≡ None) × (self.new ≡ with_policy (static_of template) self.old)) (IsNotAdded (id_fault self.old template.id)) }
+        ensures answer { MatchResult result
+            (λ _. (id_fault self.old template.id ≡ None) ×
+            (self.new ≡ with_policy (static_of template) self.old))
+            (IsNotAdded (id_fault self.old template.id)) }
         ensures unchanged { OnErr result (self.new ≡ self.old) }
     {
         if self.is_taken(template.id()) {
@@ -120,11 +123,13 @@ impl PolicySet {
         Ok(())
     }
 
-    /// Adds a template, whose scope has a slot. Errs with `DuplicateId` where a template or a policy of the set has its
-    /// id. On any error the set is unchanged and the template is dropped.
+    /// Adds a template, whose scope has a slot. Errs with `DuplicateId` where a template or a policy of the
+    /// set has its id. On any error the set is unchanged and the template is dropped.
     pub fn add_template(&mut self, template: Template) -> Result<(), PolicySetError>
         requires { IsTrue (has_scope_slot template) }
-        ensures answer { MatchResult result (λ _. (id_fault self.old template.id ≡ None) × (self.new ≡ with_template template self.old)) (IsNotAdded (id_fault self.old template.id)) }
+        ensures answer { MatchResult result
+            (λ _. (id_fault self.old template.id ≡ None) × (self.new ≡ with_template template self.old))
+            (IsNotAdded (id_fault self.old template.id)) }
         ensures unchanged { OnErr result (self.new ≡ self.old) }
     {
         if self.is_taken(template.id()) {
@@ -134,18 +139,21 @@ impl PolicySet {
         Ok(())
     }
 
-    /// Adds the link of a template of the set under a new id, with an id for each of the template's slots. Errs, in this
-    /// order, with `DuplicateId` where a template or a policy has the new id, with `UnknownTemplate` where there is no
-    /// such template, with `SlotMissing` where a slot of the template is given nothing, with `SlotExtra` where a slot is
-    /// given that the template does not have, or one is given twice; of the last two the principal's slot first. On any
-    /// error the set is unchanged and the values are dropped.
+    /// Adds the link of a template of the set under a new id, with an id for each of the template's slots.
+    /// Errs, in this order, with `DuplicateId` where a template or a policy has the new id, with
+    /// `UnknownTemplate` where there is no such template, with `SlotMissing` where a slot of the template is
+    /// given nothing, with `SlotExtra` where a slot is given that the template does not have, or one is given
+    /// twice; of the last two the principal's slot first. On any error the set is unchanged and the values
+    /// are dropped.
     pub fn link(
         &mut self,
         template_id: &Text,
         new_id: Text,
         values: Vec<(SlotId, EntityUID)>,
     ) -> Result<(), PolicySetError>
-        ensures answer { MatchResult result (λ _. (link_fault self.old template_id.now new_id values.items ≡ None) × IsSomeAnd (template_at self.old template_id.now) (λ t. self.new ≡ with_policy (linked_policy new_id (slot_values values.items) t) self.old)) (IsNotAdded (link_fault self.old template_id.now new_id values.items)) }
+        ensures answer { MatchResult result
+            (λ _. IsLinkAdded self.old self.new template_id.now new_id values.items)
+            (IsNotAdded (link_fault self.old template_id.now new_id values.items)) }
         ensures unchanged { OnErr result (self.new ≡ self.old) }
     {
         if self.is_taken(&new_id) {
@@ -164,7 +172,9 @@ impl PolicySet {
         id: Text,
         values: Vec<(SlotId, EntityUID)>,
     ) -> Result<Policy, PolicySetError>
-        ensures answer { MatchResult result (λ p. (template_fault (template_at self.now template_id.now) template_id.now values.items ≡ None) × IsSomeAnd (template_at self.now template_id.now) (λ t. p ≡ linked_policy id (slot_values values.items) t)) (IsNotAdded (template_fault (template_at self.now template_id.now) template_id.now values.items)) }
+        ensures answer { MatchResult result (IsLinkWith self.now template_id.now id values.items)
+            (IsNotAdded
+            (template_fault (template_at self.now template_id.now) template_id.now values.items)) }
         ensures link { IfOk result (IsLinkedIn self.now) }
     {
         let template = match self.template(template_id) {
@@ -230,10 +240,12 @@ impl PolicySet {
         Ok(())
     }
 
-    /// Removes the template, static policy or link with the id, and takes no memory. Errs, in this order, with `UnknownPolicy` where no
-    /// entry has the id, and with `TemplateInUse` where a link stands on it. On an error the set is unchanged.
+    /// Removes the template, static policy or link with the id, and takes no memory. Errs, in this order,
+    /// with `UnknownPolicy` where no entry has the id, and with `TemplateInUse` where a link stands on it. On
+    /// an error the set is unchanged.
     pub fn remove<'a>(&mut self, id: &'a Text) -> Result<(), RemovalError<'a>>
-        ensures removed { OnOk result ((removal_fault self.old id.now ≡ None) × (self.new ≡ without id.now self.old)) }
+        ensures removed { OnOk result
+            ((removal_fault self.old id.now ≡ None) × (self.new ≡ without id.now self.old)) }
         ensures refused { IfErr result (IsNotRemoved self.old id.now) }
         ensures unchanged { OnErr result (self.new ≡ self.old) }
     {
@@ -349,7 +361,8 @@ ghost use Rattle.policy_set.specs.declared.policy_set.PolicySetError.TheVariants
 ghost use Rattle.std.specs.BTreeMap.{IsOrdered, insert_entry, values};
 ghost use Rattle.policy_values.specs.Uid.{text_cmp};
 
-/// In a set the ids ascend and stand once among templates and policies, and each link is that of a template of the set.
+/// In a set the ids ascend and stand once among templates and policies, and each link is that of a template
+/// of the set.
 pub fn is_policy_set(set: &PolicySet)
     ensures { IsPolicySet set.now }
 {

@@ -38,7 +38,8 @@ impl Model for Response {
 
     ghost coded = { coded_response };
 
-    ghost view = { λ r. record { decision = r.decision; reasons = r.reasons.items; errors = r.errors.items } };
+    ghost view = { λ r.
+        record { decision = r.decision; reasons = r.reasons.items; errors = r.errors.items } };
 }
 
 impl Response {
@@ -60,7 +61,8 @@ impl Response {
         self.decision
     }
 
-    /// The ids of the policies that led to the decision, ascending: the true permits for Allow, else the true forbids.
+    /// The ids of the policies that led to the decision, ascending: the true permits for Allow, else the true
+    /// forbids.
     pub fn reasons(&self) -> &[Text]
         ensures { result.now ≡ self.now.reasons }
     {

@@ -1,10 +1,10 @@
 //! Templates: policies as they are written, a scope and a body, which make one condition.
 
-ghost use Rattle.std.specs.Prelude.{◌≡◌, ◌↔◌, ◌<◌, ◌≤◌, true, false, IfOk, Err};
+ghost use Rattle.std.specs.Prelude.{◌≡◌, ◌↔◌, ◌≤◌, true, false, IfOk, Err};
 ghost use Rattle.policy_expressions.specs.Tree.{depth_of};
 ghost use Rattle.policy_expressions.specs.Slots.{has_slot};
 ghost use Rattle.policy_set.specs.Data.{TemplateData};
-ghost use Rattle.policy_set.specs.Condition.{condition_of, has_scope_slot};
+ghost use Rattle.policy_set.specs.Condition.{condition_of, has_scope_slot, template_of, IsTooDeep};
 ghost use Rattle.policy_set.specs.Links.{linked_of, own_condition};
 
 use crate::{ActionConstraint, Effect, EntityReference, PrincipalOrResourceConstraint};
@@ -17,6 +17,7 @@ use std::marker::Model;
 const MOST_BODY_DEPTH: u32 = 400;
 
 /// A policy as it is written. Where slots stand in its scope, it is to be linked.
+#[derive(Debug)]
 pub struct Template {
     id: Text,
     effect: Effect,
@@ -54,9 +55,13 @@ impl Model for Template {
 
     ghost coded = { coded_template };
 
-    ghost view = { λ t. template_with t.id t.effect t.principal_constraint t.action_constraint t.resource_constraint t.condition };
+    ghost view = { λ t. template_with t.id t.effect t.principal_constraint
+        t.action_constraint t.resource_constraint t.condition };
 
-    ghost invariant = { λ t. IsTemplate (template_with t.id t.effect t.principal_constraint t.action_constraint t.resource_constraint t.condition) t.condition };
+    ghost invariant = { λ t. IsTemplate
+        (template_with t.id t.effect t.principal_constraint
+        t.action_constraint t.resource_constraint t.condition)
+        t.condition };
 }
 
 /// Why there is no template.
@@ -99,9 +104,9 @@ impl From<BuildError> for TemplateError {
 }
 
 impl Template {
-    /// The template with this id, effect, scope and body. Its condition is `((principal && action) && resource) && body`,
-    /// where an unconstrained part is the literal true. Errs with `SlotInCondition` where the body has a slot, else with
-    /// `Nested` where the condition would be nested deeper than 400.
+    /// The template with this id, effect, scope and body. Its condition is `((principal && action) &&
+    /// resource) && body`, where an unconstrained part is the literal true. Errs with `SlotInCondition` where
+    /// the body has a slot, else with `Nested` where the condition would be nested deeper than 400.
     pub fn new(
         alloc: Global,
         id: Text,
@@ -111,9 +116,10 @@ impl Template {
         resource: PrincipalOrResourceConstraint,
         body: Expr<()>,
     ) -> Result<Template, TemplateError>
-        ensures ok { IfOk result (λ t. t ≡ record { id = id; effect = effect; principal = principal; action = action; resource = resource; body = body }) }
+        ensures ok { IfOk result (λ t. t ≡ template_of id effect principal action resource body) }
         ensures slot { (result ≡ Err TemplateError.SlotInCondition) ↔ (has_slot body ≡ true) }
-        ensures nested { (result ≡ Err TemplateError.Nested) ↔ ((has_slot body ≡ false) × (400 < depth_of (condition_of record { id = id; effect = effect; principal = principal; action = action; resource = resource; body = body }))) }
+        ensures nested { (result ≡ Err TemplateError.Nested) ↔
+            ((has_slot body ≡ false) × IsTooDeep (template_of id effect principal action resource body)) }
     {
         match whole_condition(alloc, &principal, &action, &resource, body) {
             Ok(condition) => Ok(Template {
@@ -250,7 +256,8 @@ fn whole_condition(
     resource: &PrincipalOrResourceConstraint,
     body: Expr<()>,
 ) -> Result<Expr<()>, TemplateError>
-    ensures ok { IfOk result (λ e. (e ≡ conj (scope_of principal.now action.now resource.now) body unmarked) × (has_slot body ≡ false)) }
+    ensures ok { IfOk result (λ e. (e ≡ conj (scope_of principal.now action.now resource.now) body unmarked) ×
+        (has_slot body ≡ false)) }
     ensures slot { (result ≡ Err TemplateError.SlotInCondition) ↔ (has_slot body ≡ true) }
     ensures nested { (result ≡ Err TemplateError.Nested) ↔ ((has_slot body ≡ false) × (400 ≤ depth_of body)) }
 {
@@ -275,7 +282,8 @@ fn whole_condition(
     }
 }
 
-// The scope's part of the condition. An expression that is not needed is let go by a call, which keeps proofs short.
+// The scope's part of the condition. An expression that is not needed is let go by a call, which keeps
+// proofs short.
 fn scope_condition(
     alloc: Global,
     principal: &PrincipalOrResourceConstraint,
@@ -424,7 +432,8 @@ fn of_type_in(
     entity_type: &EntityType,
     entity: &EntityReference,
 ) -> Result<Expr<()>, BuildError>
-    ensures ok { IfOk result (λ e. e ≡ conj (of_type slot entity_type.now) (compared In slot entity.now) unmarked) }
+    ensures ok { IfOk result
+        (λ e. e ≡ conj (of_type slot entity_type.now) (compared In slot entity.now) unmarked) }
     ensures depth { IfOk result (λ e. depth_of e ≤ 3) }
     ensures shallow { result ≡ Err BuildError.Nested → ⊥ }
 {

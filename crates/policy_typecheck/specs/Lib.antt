@@ -4,6 +4,7 @@ pub mod Missing
 pub mod NoAction
 pub mod Pointed
 pub mod Policies
+pub mod SlotEnvs
 pub mod Told
 pub mod Verdict
 pub use Rattle.typecheck_walk.specs.Answer

@@ -2,10 +2,10 @@
 
 ghost use Rattle.std.specs.Prelude.{◌≡◌, ◌++◌, map, IfOk, OnOk};
 ghost use Rattle.std.specs.List.{flat_map};
-ghost use Rattle.std.specs.Option.{option_copied};
 ghost use Rattle.schema_core.specs.Environments.{environment, environments_at};
 ghost use Rattle.schema_core.specs.RequestEnvs.{env_data_of};
-ghost use Rattle.link_spec.specs.Linked.{linked_env, linked_envs, linked_envs_at, linked_envs_of, linked_envs_with};
+ghost use Rattle.link_spec.specs.Linked.{linked_envs, linked_envs_at, linked_envs_of, linked_envs_with};
+ghost use Rattle.policy_typecheck.specs.SlotEnvs.{slot_envs};
 
 use crate::slots::slot_types;
 use policy_set::Template;
@@ -95,8 +95,7 @@ fn add_with_slot<'a>(
     resource_slots: &Vec<Option<&'a EntityType>>,
 ) -> Result<(), AllocError>
     ensures { OnOk result (map env_data_of envs.new.items ≡ map env_data_of envs.old.items ++
-        map (linked_env action.now (environment principal.now action.now.name resource.now)
-        (option_copied principal_slot.entry)) (map option_copied resource_slots.now.items)) }
+        slot_envs action.now principal.now resource.now principal_slot.entry resource_slots.now.items) }
 {
     for slot in resource_slots {
         envs.push(RequestEnv::DeclaredAction {

@@ -39,7 +39,7 @@ use typecheck_walk::{
 use typing_spec::ExtensionSchemas;
 
 /// A typechecker for the policies of a schema.
-#[derive(Drop)]
+#[derive(Debug, Drop)]
 pub struct Typechecker<'a, 'x> {
     schema: &'a ValidatorSchema,
     extensions: Extensions<'a, 'x>,

@@ -24,7 +24,7 @@ use Rattle.policy_typecheck.specs.Added.{all_added, same_error}
 use Rattle.policy_typecheck.specs.declared.PolicyCheck.{PolicyCheck}
 use Rattle.policy_typecheck.specs.declared.PolicyCheck.TheVariants.{Success, Irrelevant, Fail}
 use Rattle.policy_validate.specs.Accepted.{typing_errors, errors_of_written, warnings_of}
-use Rattle.policy_validate.specs.AtLevel.{faults_told, has_any, untyped_errors, IsTypedAt}
+use Rattle.policy_validate.specs.AtLevel.{faults_told, has_any, untyped_errors, IsTypedAtLevel}
 use Rattle.policy_validate.specs.Levels.{or_else, condition_at, conditions_of, level_errors_of}
 use Rattle.policy_validate.specs.declared.levels.TypedAt.{TypedAt}
 use Rattle.policy_validate.proofs.Empty.{parts_empty, none_grown}
@@ -125,7 +125,7 @@ module _ (schema : SchemaData) (n : ℕ) (t : TemplateData) where
       let none = none_grown _ (λ x. refl) (refusals schema t) h in
       absurd (cc (sym (ap (λ b. if b then too_deep t.id ∷ [] else errors_at (linked_envs schema t)) deep) ∙ none))
 
-  pub ended : is_too_deep schema t ≡ false → (a : TypedAt) (left : List EnvData) → left ≡ [] → IsTypedSoFar a.impossible a.faults left → IsTypedAt schema n t a
+  pub ended : is_too_deep schema t ≡ false → (a : TypedAt) (left : List EnvData) → left ≡ [] → IsTypedSoFar a.impossible a.faults left → IsTypedAtLevel schema n t a
   ended flat a left none so_far = record {
     errors =
         ap (all_added same_error [])
@@ -137,10 +137,10 @@ module _ (schema : SchemaData) (n : ℕ) (t : TemplateData) where
   }
 
   -- what is found then
-  pub typed_errors : (a : TypedAt) → IsTypedAt schema n t a → map (level_error t.id n) a.faults ≡ or_else (typing_errors schema t) (level_errors_of schema n t)
+  pub typed_errors : (a : TypedAt) → IsTypedAtLevel schema n t a → map (level_error t.id n) a.faults ≡ or_else (typing_errors schema t) (level_errors_of schema n t)
   typed_errors a h = ap (map (level_error t.id n)) h.faults ∙ sym (ap (λ es. or_else es (level_errors_of schema n t)) h.errors)
 
-  pub typed_warnings : (a : TypedAt) → IsTypedAt schema n t a → (if a.impossible then impossible t.id ∷ [] else []) ≡ warnings_of schema t
+  pub typed_warnings : (a : TypedAt) → IsTypedAtLevel schema n t a → (if a.impossible then impossible t.id ∷ [] else []) ≡ warnings_of schema t
   typed_warnings a h = ap (λ b. if b then impossible t.id ∷ [] else []) h.impossible
 
 -- ---- all errors

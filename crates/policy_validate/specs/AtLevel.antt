@@ -38,7 +38,7 @@ module _ (schema : SchemaData) where
       ++ map InvalidActionApplication (application_findings schema t)))
 
   -- typing finds no error, and this is what it leaves
-  pub record IsTypedAt (n : ℕ) (t : TemplateData) (a : TypedAt) : Type 0 where
+  pub record IsTypedAtLevel (n : ℕ) (t : TemplateData) (a : TypedAt) : Type 0 where
     pub errors : typing_errors schema t ≡ []
     pub impossible : a.impossible ≡ is_impossible schema t
     pub faults : a.faults ≡ distinct fault_cmp (flat_map (faults_in n) (conditions_of schema t))

@@ -11,7 +11,7 @@ ghost use Rattle.level_validate.specs.Faults.{fault_cmp};
 ghost use Rattle.policy_typecheck.specs.Checks.{errors_in, is_false};
 ghost use Rattle.policy_typecheck.specs.Policies.{impossible};
 ghost use Rattle.policy_validate.specs.Accepted.{typing_errors, warnings_of};
-ghost use Rattle.policy_validate.specs.AtLevel.{faults_told, has_any, IsTypedAt};
+ghost use Rattle.policy_validate.specs.AtLevel.{faults_told, has_any, IsTypedAtLevel};
 ghost use Rattle.policy_validate.specs.Levels.{or_else, level_errors_of, errors_at_level, level_findings_of, IsAcceptedAt, CutIsEnough};
 
 use crate::Validator;
@@ -222,7 +222,7 @@ fn typed_at(
     requires { typechecker.now ≡ schema.now }
     ensures { IfOk result
         (λ o. MatchOption o (¬ (typing_errors schema.now template.now ≡ []))
-        (IsTypedAt schema.now level template.now)) }
+        (IsTypedAtLevel schema.now level template.now)) }
 {
     if is_too_deep(template.condition()) {
         return Ok(None);

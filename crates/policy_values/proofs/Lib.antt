@@ -1,4 +1,5 @@
 mod Back
+mod BehindColons
 mod Closed
 pub mod Keyed
 mod Known

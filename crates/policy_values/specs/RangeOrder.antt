@@ -15,7 +15,8 @@ family_rank V6 = 1
 
 -- ranges by family, then by the bits of their addresses, then by their prefixes
 abbrev pub range_cmp : Range → Range → Ordering
-range_cmp v w = ordering_then (nat_cmp (family_rank v.family) (family_rank w.family)) (ordering_then (nat_cmp v.bits w.bits) (nat_cmp v.prefix w.prefix))
+range_cmp v w = ordering_then (nat_cmp (family_rank v.family) (family_rank w.family))
+    (ordering_then (nat_cmp v.bits w.bits) (nat_cmp v.prefix w.prefix))
 
 -- a range is stored as the tuple of its parts
 abbrev pub coded_range : Coded Range

@@ -31,7 +31,8 @@ module _ {K : Type 0} (cmp : K → K → Ordering) where
   leads steps x q = option_map_or (λ next. has next.keys q) (at cmp steps x) false
 
 -- the key stands in a set and is no key of the steps
-abbrev pub IsOutside : {A K : Type 0} → (A → A → Ordering) → (K → K → Ordering) → List (K × BTreeSet K) → List (A × BTreeSet K) → K → Type 0
+abbrev pub IsOutside : {A K : Type 0} → (A → A → Ordering) → (K → K → Ordering) →
+    List (K × BTreeSet K) → List (A × BTreeSet K) → K → Type 0
 IsOutside {A} cmp_a cmp steps sets q = (is_some (at cmp steps q) ≡ false) × ((x : A) × Leads cmp_a sets x q)
 
 module _ {K : Type 0} (cmp : K → K → Ordering) (steps : List (K × BTreeSet K)) where
@@ -52,7 +53,8 @@ module _ {K : Type 0} (cmp : K → K → Ordering) (steps : List (K × BTreeSet 
   -- the keys with sets are those of the steps and those that are led to
   pub record HasKeysOf (other : List (K × BTreeSet K)) : Type 0 where
     pub each : (q : K) → is_some (at cmp steps q) ≡ true → is_some (at cmp other q) ≡ true
-    pub only : (q : K) → is_some (at cmp other q) ≡ true → (is_some (at cmp steps q) ≡ true) ⊎ ((x : K) × Leads cmp steps x q)
+    pub only : (q : K) → is_some (at cmp other q) ≡ true →
+        (is_some (at cmp steps q) ≡ true) ⊎ ((x : K) × Leads cmp steps x q)
 
   -- the steps the other way
   pub record IsReversed (back : List (K × BTreeSet K)) : Type 0 where

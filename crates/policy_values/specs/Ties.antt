@@ -14,7 +14,9 @@ equal_of Less h = cc
 equal_of Greater h = cc
 
 -- one step of "first, then the rest", for three values
-pub then_chain : (a b c p q s : Ordering) → (a ≡ Less → b ≡ Less → c ≡ Less) → (a ≡ Equal → c ≡ b) → (b ≡ Equal → c ≡ a) → (p ≡ Less → q ≡ Less → s ≡ Less) → ordering_then a p ≡ Less → ordering_then b q ≡ Less → ordering_then c s ≡ Less
+pub then_chain : (a b c p q s : Ordering) → (a ≡ Less → b ≡ Less → c ≡ Less) →
+    (a ≡ Equal → c ≡ b) → (b ≡ Equal → c ≡ a) → (p ≡ Less → q ≡ Less → s ≡ Less) →
+    ordering_then a p ≡ Less → ordering_then b q ≡ Less → ordering_then c s ≡ Less
 then_chain Less Less c p q s f g h k m n = rw (f refl refl) refl
 then_chain Less Equal c p q s f g h k m n = rw (h refl) refl
 then_chain Less Greater c p q s f g h k m n = cc

@@ -6,8 +6,9 @@ use Rattle.policy_values.specs.Uid.{text_cmp}
 use Rattle.policy_ext.specs.IpAddr.{Range}
 
 mutual
-  -- a boolean, a long, a string, an entity's id, a set, a record or an extension value: a decimal by its ten-thousandths, a
-  -- range of IP addresses, a datetime by its milliseconds from 1970 on, a duration by its milliseconds
+  -- a boolean, a long, a string, an entity's id, a set, a record or an extension value: a decimal by its
+  -- ten-thousandths, a range of IP addresses, a datetime by its milliseconds from 1970 on, a duration by its
+  -- milliseconds
   pub data Val : Type 0 where
     truth : Bool → Val
     long : ℤ → Val

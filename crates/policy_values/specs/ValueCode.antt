@@ -54,7 +54,8 @@ mutual
 
   pub inj_fields : (xs ys : Fields) → codes_fields xs ≡ codes_fields ys → xs ≡ ys
   inj_fields no_fields no_fields p = refl
-  inj_fields (field k x xs) (field l y ys) p = λ i. field (text.inj k l (ap (λ g. head (head g)) p) i) (inj x y (ap (λ g. tail (head g)) p) i) (inj_fields xs ys (ap tail p) i)
+  inj_fields (field k x xs) (field l y ys) p = λ i. field (text.inj k l (ap (λ g. head (head g)) p) i)
+      (inj x y (ap (λ g. tail (head g)) p) i) (inj_fields xs ys (ap tail p) i)
   inj_fields no_fields (field l y ys) p = cc
   inj_fields (field k x xs) no_fields p = cc
 

@@ -13,7 +13,8 @@ pub most_le-size : (xs : List Val) → most (λ x. size_of x + 1) xs ≤ size_of
 most_le-size [] = omega arith
 most_le-size (x ∷ xs) = omega (arith, most_le-size xs)
 
-pub most_le-fields : (es : List (List ℕ × Val)) → most (λ x. size_of x + 1) (map (λ e. e.1) es) ≤ size_of_fields (fields_of es) + 1
+pub most_le-fields : (es : List (List ℕ × Val)) →
+    most (λ x. size_of x + 1) (map (λ e. e.1) es) ≤ size_of_fields (fields_of es) + 1
 most_le-fields [] = omega arith
 most_le-fields (e ∷ es) = omega (arith, most_le-fields es)
 

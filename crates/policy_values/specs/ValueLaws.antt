@@ -28,16 +28,19 @@ exact_family V6 V4 h = absurd (omega arith)
 
 exact_range : CmpEqualImpliesEq range_cmp
 exact_range v w h =
-    let e = then_equal (nat_cmp (family_rank v.family) (family_rank w.family)) (ordering_then (nat_cmp v.bits w.bits) (nat_cmp v.prefix w.prefix)) h in
+    let e = then_equal (nat_cmp (family_rank v.family) (family_rank w.family))
+    (ordering_then (nat_cmp v.bits w.bits) (nat_cmp v.prefix w.prefix)) h in
     let f = then_equal (nat_cmp v.bits w.bits) (nat_cmp v.prefix w.prefix) e.1 in
     λ i. record {
-      family = exact_family v.family w.family (exact_unsigned (family_rank v.family) (family_rank w.family) e.0) i;
+      family =
+          exact_family v.family w.family (exact_unsigned (family_rank v.family) (family_rank w.family) e.0) i;
       bits = exact_unsigned v.bits w.bits f.0 i;
       prefix = exact_unsigned v.prefix w.prefix f.1 i;
     }
 
 range_total : IsTotalOrder range_cmp
-range_total = then_total (on_total (λ r. family_rank r.family) nat_cmp_total) (then_total (on_total (λ r. r.bits) nat_cmp_total) (on_total (λ r. r.prefix) nat_cmp_total))
+range_total = then_total (on_total (λ r. family_rank r.family) nat_cmp_total)
+    (then_total (on_total (λ r. r.bits) nat_cmp_total) (on_total (λ r. r.prefix) nat_cmp_total))
 
 by_rank : (m n : ℕ) → m < n → nat_cmp m n ≡ Less
 by_rank m n h = grind (arith, nat_tests)
@@ -104,7 +107,8 @@ mutual
   fields_flip no_fields (field l y ys) = refl
   fields_flip (field k x xs) no_fields = refl
   fields_flip (field k x xs) (field l y ys) =
-      (λ i. ordering_then (ordering_then (nat_list_cmp_total.antisymm k l i) (val_flip x y i)) (fields_flip xs ys i))
+      (λ i. ordering_then (ordering_then (nat_list_cmp_total.antisymm k l i) (val_flip x y i))
+      (fields_flip xs ys i))
       ∙ (λ i. ordering_then (then_flip (text_cmp l k) (val_cmp y x) i) (ordering_reverse (fields_cmp ys xs)))
       ∙ then_flip (ordering_then (text_cmp l k) (val_cmp y x)) (fields_cmp ys xs)
 
@@ -154,7 +158,8 @@ mutual
   pub vals_trans : (xs ys zs : Vals) → vals_cmp xs ys ≡ Less → vals_cmp ys zs ≡ Less → vals_cmp xs zs ≡ Less
   vals_trans (val x xs) (val y ys) (val z zs) h k =
       then_chain (val_cmp x y) (val_cmp y z) (val_cmp x z) (vals_cmp xs ys) (vals_cmp ys zs) (vals_cmp xs zs)
-      (val_trans x y z) (λ e. ap (λ w. val_cmp w z) (exact_val x y e)) (λ e. ap (λ w. val_cmp x w) (sym (exact_val y z e)))
+      (val_trans x y z) (λ e. ap (λ w. val_cmp w z) (exact_val x y e))
+      (λ e. ap (λ w. val_cmp x w) (sym (exact_val y z e)))
       (vals_trans xs ys zs) h k
   vals_trans no_vals no_vals zs h k = cc
   vals_trans (val x xs) no_vals zs h k = cc
@@ -162,14 +167,19 @@ mutual
   vals_trans no_vals (val y ys) no_vals h k = cc
   vals_trans (val x xs) (val y ys) no_vals h k = cc
 
-  pub fields_trans : (xs ys zs : Fields) → fields_cmp xs ys ≡ Less → fields_cmp ys zs ≡ Less → fields_cmp xs zs ≡ Less
+  pub fields_trans : (xs ys zs : Fields) → fields_cmp xs ys ≡ Less →
+      fields_cmp ys zs ≡ Less → fields_cmp xs zs ≡ Less
   fields_trans (field k x xs) (field l y ys) (field m z zs) h n =
-      then_chain (ordering_then (text_cmp k l) (val_cmp x y)) (ordering_then (text_cmp l m) (val_cmp y z)) (ordering_then (text_cmp k m) (val_cmp x z)) (fields_cmp xs ys) (fields_cmp ys zs) (fields_cmp xs zs)
+      then_chain (ordering_then (text_cmp k l) (val_cmp x y)) (ordering_then (text_cmp l m) (val_cmp y z))
+      (ordering_then (text_cmp k m) (val_cmp x z)) (fields_cmp xs ys) (fields_cmp ys zs) (fields_cmp xs zs)
       (then_chain (text_cmp k l) (text_cmp l m) (text_cmp k m) (val_cmp x y) (val_cmp y z) (val_cmp x z)
-      (nat_list_cmp_total.trans k l m) (λ e. ap (λ w. text_cmp w m) (exact_bytes k l e)) (λ e. ap (λ w. text_cmp k w) (sym (exact_bytes l m e)))
+      (nat_list_cmp_total.trans k l m) (λ e. ap (λ w. text_cmp w m) (exact_bytes k l e))
+      (λ e. ap (λ w. text_cmp k w) (sym (exact_bytes l m e)))
       (val_trans x y z))
-      (λ e. let f = then_equal (text_cmp k l) (val_cmp x y) e in λ i. ordering_then (text_cmp (exact_bytes k l f.0 i) m) (val_cmp (exact_val x y f.1 i) z))
-      (λ e. let f = then_equal (text_cmp l m) (val_cmp y z) e in λ i. ordering_then (text_cmp k (sym (exact_bytes l m f.0) i)) (val_cmp x (sym (exact_val y z f.1) i)))
+      (λ e. let f = then_equal (text_cmp k l) (val_cmp x y) e in
+      λ i. ordering_then (text_cmp (exact_bytes k l f.0 i) m) (val_cmp (exact_val x y f.1 i) z))
+      (λ e. let f = then_equal (text_cmp l m) (val_cmp y z) e in
+      λ i. ordering_then (text_cmp k (sym (exact_bytes l m f.0) i)) (val_cmp x (sym (exact_val y z f.1) i)))
       (fields_trans xs ys zs) h n
   fields_trans no_fields no_fields zs h n = cc
   fields_trans (field k x xs) no_fields zs h n = cc

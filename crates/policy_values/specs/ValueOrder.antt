@@ -7,7 +7,8 @@ use Rattle.policy_values.specs.Uid.{text_cmp, uid_cmp}
 use Rattle.policy_values.specs.RangeOrder.{range_cmp}
 use Rattle.policy_values.specs.Value.{Val, truth, long, string, entity, set, rec, decimal, ip, datetime, duration, Vals, no_vals, val, Fields, no_fields, field}
 
--- the place of a kind: booleans, longs, strings, ids, sets, records, decimals, ranges of IP addresses, datetimes, durations
+-- the place of a kind: booleans, longs, strings, ids, sets, records, decimals, ranges of IP addresses,
+-- datetimes, durations
 abbrev pub rank : Val → ℕ
 rank (truth b) = 0
 rank (long n) = 1
@@ -45,7 +46,8 @@ abbrev mutual
   fields_cmp no_fields no_fields = Equal
   fields_cmp no_fields (field k y ys) = Less
   fields_cmp (field k x xs) no_fields = Greater
-  fields_cmp (field k x xs) (field l y ys) = ordering_then (ordering_then (text_cmp k l) (val_cmp x y)) (fields_cmp xs ys)
+  fields_cmp (field k x xs) (field l y ys) =
+      ordering_then (ordering_then (text_cmp k l) (val_cmp x y)) (fields_cmp xs ys)
 
 -- a set in order with one more value, in its place unless it is there
 abbrev pub insert_val : Val → Vals → Vals

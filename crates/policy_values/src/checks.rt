@@ -4,6 +4,7 @@ ghost use Rattle.std.specs.Option.{option_copied};
 ghost use Rattle.std.specs.BTreeMap.{get};
 ghost use Rattle.policy_values.specs.Reaches.{Leads, IsUnlisted, IsOutside, IsNotClosed};
 ghost use Rattle.policy_values.specs.Least.{IsLeastIfAny, lower_of};
+ghost use Rattle.policy_values.specs.ClosureSteps.{IsClosedUnder, HasStepOut};
 
 use crate::{Key, SharedSet, SharedSteps};
 use std::collections::{BTreeMap, BTreeSet};
@@ -20,7 +21,8 @@ pub fn least_outside<'a, A: Key, K: Key>(
     steps: &SharedSteps<K>,
     sets: &'a BTreeMap<A, SharedSet<K>>,
 ) -> Option<&'a K>
-    ensures { IsLeastIfAny K.cmp (IsOutside A.cmp K.cmp steps.now.entries sets.now.entries) (option_copied result) }
+    ensures { IsLeastIfAny K.cmp (IsOutside A.cmp K.cmp steps.now.entries sets.now.entries)
+        (option_copied result) }
 {
     let mut least = None;
     for (_, set) in sets {
@@ -31,7 +33,8 @@ pub fn least_outside<'a, A: Key, K: Key>(
 
 // The least key of the set that has no entry.
 fn first_unlisted<'a, K: Key>(steps: &SharedSteps<K>, next: &'a BTreeSet<K>) -> Option<&'a K>
-    ensures { IsLeastIfAny K.cmp (λ q. (is_some (get K.cmp steps.now q) ≡ false) × Contains next.now.keys q) (option_copied result) }
+    ensures { IsLeastIfAny K.cmp (λ q. (is_some (get K.cmp steps.now q) ≡ false) × Contains next.now.keys q)
+        (option_copied result) }
 {
     for key in next {
         if !steps.contains_key(key) {
@@ -78,8 +81,8 @@ pub fn first_not_closed<K: Key>(steps: &SharedSteps<K>) -> Option<&K>
 
 // Whether the steps from keys of the set lead into it.
 fn is_closed<K: Key>(steps: &SharedSteps<K>, next: &BTreeSet<K>) -> bool
-    ensures { MatchBool result ((y z : K) → Contains next.now.keys y → Leads K.cmp steps.now.entries y z → Contains next.now.keys z)
-        ((y : K) × (z : K) × Contains next.now.keys y × Leads K.cmp steps.now.entries y z × (¬ Contains next.now.keys z)) }
+    ensures { MatchBool result (IsClosedUnder K.cmp steps.now.entries next.now.keys)
+        (HasStepOut K.cmp steps.now.entries next.now.keys) }
 {
     for key in next {
         if let Some(far) = steps.get(key) {

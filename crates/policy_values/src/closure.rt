@@ -4,8 +4,9 @@ ghost use Rattle.std.specs.Option.{option_copied};
 ghost use Rattle.std.specs.BTreeMap as tree;
 ghost use Rattle.std.specs.BTreeSet.{IsOrdered};
 ghost use Rattle.policy_values.specs.Reaches.{Reaches, Leads, IsClosure};
-ghost use Rattle.policy_values.specs.ClosureSteps.{AreWhole, AreReached, IsAtOneOf};
+ghost use Rattle.policy_values.specs.ClosureSteps.{AreWhole, IsAdded, AreReached, IsAtOneOf};
 
+use crate::post_order::post_order;
 use crate::reach::reached_from;
 use crate::{Key, SharedSet};
 use std::alloc::{AllocError, Global};
@@ -17,17 +18,43 @@ pub type Steps<K> = BTreeMap<K, BTreeSet<K>>;
 /// The same, in sets that keys may share.
 pub type SharedSteps<K> = BTreeMap<K, SharedSet<K>>;
 
-/// The steps, with each key that is reached by one or more of them as one step. Keys with the same steps share a set.
+/// The steps, with each key that is reached by one or more of them as one step. Keys with the same steps
+/// share a set.
 pub fn closure_of<K: Key>(alloc: Global, steps: &Steps<K>) -> Result<SharedSteps<K>, AllocError>
     ensures { IfOk result (λ closed. IsClosure K.cmp steps.now.entries closed.entries) }
 {
     let mut closed = BTreeMap::new(alloc);
     let mut known = BTreeMap::new(alloc);
+    for key in &post_order(alloc, steps)? {
+        if let Some(next) = steps.get(key) {
+            close(alloc, steps, &mut closed, &mut known, key, next)?;
+        }
+    }
     for (key, next) in steps {
-        let reached = reached_once(alloc, steps, &closed, &mut known, key, next)?;
-        closed.insert(key.clone()?, reached)?;
+        close(alloc, steps, &mut closed, &mut known, key, next)?;
     }
     Ok(closed)
+}
+
+// Puts what is reached from the key at it.
+fn close<K: Key>(
+    alloc: Global,
+    steps: &Steps<K>,
+    closed: &mut SharedSteps<K>,
+    known: &mut BTreeMap<BTreeSet<K>, SharedSet<K>>,
+    key: &K,
+    next: &BTreeSet<K>,
+) -> Result<(), AllocError>
+    requires closed { AreWhole K.cmp steps.now.entries closed.old.entries }
+    requires known { AreReached K.cmp steps.now.entries known.old.entries }
+    requires here { tree.get K.cmp steps.now key.now ≡ Some next.now }
+    ensures closed { OnOk result (AreWhole K.cmp steps.now.entries closed.new.entries) }
+    ensures added { OnOk result (IsAdded K.cmp key.now closed.old.entries closed.new.entries) }
+    ensures known { OnOk result (AreReached K.cmp steps.now.entries known.new.entries) }
+{
+    let reached = reached_once(alloc, steps, closed, known, key, next)?;
+    closed.insert(key.clone()?, reached)?;
+    Ok(())
 }
 
 // What is reached from the key: it is known where a key with the same steps came before.
@@ -42,7 +69,8 @@ fn reached_once<K: Key>(
     requires closed { AreWhole K.cmp steps.now.entries closed.now.entries }
     requires known { AreReached K.cmp steps.now.entries known.old.entries }
     requires here { tree.get K.cmp steps.now key.now ≡ Some next.now }
-    ensures reached { IfOk result (λ reached. (y : K) → Contains reached.keys y ↔ Reaches (Leads K.cmp steps.now.entries) key.now y) }
+    ensures reached { IfOk result (λ reached. (y : K) →
+        Contains reached.keys y ↔ Reaches (Leads K.cmp steps.now.entries) key.now y) }
     ensures ordered { IfOk result (IsOrdered K.cmp) }
     ensures known { OnOk result (AreReached K.cmp steps.now.entries known.new.entries) }
 {

@@ -2,7 +2,7 @@
 
 ghost use Rattle.std.specs.Prelude.{◌≡◌, IfOk};
 ghost use Rattle.policy_values.specs.Name.{IsName};
-ghost use Rattle.policy_values.specs.Basename.{is_action_type};
+ghost use Rattle.policy_values.specs.Basename.{basename_of, is_action_type};
 
 use crate::{Name, Text};
 use std::alloc::AllocError;
@@ -45,6 +45,17 @@ impl EntityType {
         ensures name { IsName self.now }
     {
         self.name.as_str()
+    }
+
+    /// The last component of its name.
+    pub fn basename(&self) -> &str
+        ensures { result.now ≡ basename_of self.now }
+    {
+        let name = self.as_str();
+        match name.rsplit_once("::") {
+            Some((_, last)) => last,
+            None => name,
+        }
     }
 
     /// Whether it is a type of actions: the last component of its name is `Action`.
@@ -134,7 +145,8 @@ impl Clone for Eid {
     }
 }
 
-/// The id of an entity: its type and its eid. Ids are ordered by type and then by eid; one prints as `Type::"eid"`.
+/// The id of an entity: its type and its eid. Ids are ordered by type and then by eid; one prints as
+/// `Type::"eid"`.
 #[derive(Clone, Debug, PartialEq, Eq, PartialOrd, Ord, Hash)]
 pub struct EntityUID {
     /// The type of the entity.

@@ -1,5 +1,5 @@
-//! Texts, names, entity types and entity ids, what leads to what by one or more steps, and values: booleans, longs, strings,
-//! entity ids, sets, records and extension values, in one total order.
+//! Texts, names, entity types and entity ids, what leads to what by one or more steps, and values: booleans,
+//! longs, strings, entity ids, sets, records and extension values, in one total order.
 #![tactic(auto)]
 
 mod ascending;
@@ -13,6 +13,7 @@ pub mod laws;
 mod map;
 mod name;
 mod parse;
+mod post_order;
 mod reach;
 mod readings;
 mod repeats;

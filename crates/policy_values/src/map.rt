@@ -8,8 +8,8 @@ use crate::Text;
 use std::alloc::AllocError;
 use std::collections::BTreeMap;
 
-/// Adds an entry behind the others, where its key is greater than theirs. Errs where memory runs out, and leaves the map
-/// as it was then.
+/// Adds an entry behind the others, where its key is greater than theirs. Errs where memory runs out, and
+/// leaves the map as it was then.
 pub fn push_entry<V: Drop>(
     map: &mut BTreeMap<Text, V>,
     key: Text,

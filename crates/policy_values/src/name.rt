@@ -8,8 +8,8 @@ use crate::parse::is_name;
 use std::alloc::{AllocError, Global};
 use std::marker::Model;
 
-/// One or more components joined by `::`, as in `Photos::Album`. A component is a letter or `_` and then letters,
-/// digits and `_`, all ASCII, and is not `__cedar`.
+/// One or more components joined by `::`, as in `Photos::Album`. A component is a letter or `_` and then
+/// letters, digits and `_`, all ASCII, and is not `__cedar`.
 #[derive(Debug, PartialEq, Eq, PartialOrd, Ord, Hash)]
 pub struct Name {
     text: Text,

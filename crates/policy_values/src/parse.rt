@@ -32,7 +32,8 @@ fn split_word(bytes: &[u8]) -> (&[u8], &[u8])
 
 // What stands behind two colons.
 fn after_separator(bytes: &[u8]) -> Option<&[u8]>
-    ensures { MatchOption result ((rest : List ℕ) → bytes.now ≢ codes "::" ++ rest) (λ rest. bytes.now ≡ codes "::" ++ rest.now) }
+    ensures { MatchOption result ((rest : List ℕ) → bytes.now ≢ codes "::" ++ rest)
+        (λ rest. bytes.now ≡ codes "::" ++ rest.now) }
 {
     match bytes {
         [b':', b':', rest @ ..] => Some(rest),

@@ -35,8 +35,10 @@ pub fn descendants_of<K: Key>(
 
 // Sees that the steps have the key.
 fn put<K: Key>(alloc: Global, steps: &mut Steps<K>, key: &K) -> Result<(), AllocError>
-    ensures keys { OnOk result ((q : K) → is_some (get K.cmp steps.new q) ≡ (is_eq (K.cmp key.now q) || is_some (get K.cmp steps.old q))) }
-    ensures leads { OnOk result ((x y : K) → leads K.cmp steps.new.entries x y ≡ leads K.cmp steps.old.entries x y) }
+    ensures keys { OnOk result ((q : K) → is_some (get K.cmp steps.new q) ≡
+        (is_eq (K.cmp key.now q) || is_some (get K.cmp steps.old q))) }
+    ensures leads { OnOk result
+        ((x y : K) → leads K.cmp steps.new.entries x y ≡ leads K.cmp steps.old.entries x y) }
 {
     if !steps.contains_key(key) {
         steps.insert(key.clone()?, BTreeSet::new(alloc))?;
@@ -51,8 +53,10 @@ pub fn add_step<K: Key>(
     from: &K,
     to: &K,
 ) -> Result<(), AllocError>
-    ensures keys { OnOk result ((q : K) → is_some (get K.cmp steps.new q) ≡ (is_eq (K.cmp from.now q) || is_some (get K.cmp steps.old q))) }
-    ensures leads { OnOk result ((x y : K) → leads K.cmp steps.new.entries x y ≡ (leads K.cmp steps.old.entries x y || (is_eq (K.cmp from.now x) && is_eq (K.cmp to.now y)))) }
+    ensures keys { OnOk result ((q : K) → is_some (get K.cmp steps.new q) ≡
+        (is_eq (K.cmp from.now q) || is_some (get K.cmp steps.old q))) }
+    ensures leads { OnOk result ((x y : K) → leads K.cmp steps.new.entries x y ≡
+        (leads K.cmp steps.old.entries x y || (is_eq (K.cmp from.now x) && is_eq (K.cmp to.now y)))) }
     ensures refused { OnErr result ((q : K) → get K.cmp steps.new q ≡ get K.cmp steps.old q) }
 {
     if let Some(next) = steps.get_mut(from) {

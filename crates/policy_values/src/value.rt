@@ -18,9 +18,10 @@ use std::marker::Model;
 /// A value. What is equal in Cedar is equal here: a set has no order and no repeats, so its elements are kept
 /// ascending, each once.
 ///
-/// Values are ordered by kind (booleans, longs, strings, ids, sets, records, decimals, ranges of IP addresses, datetimes,
-/// durations), and inside a kind by content: texts by their bytes, ids by type and then by eid, sets and records as the
-/// lists of their elements and of their fields, ranges by family, address and prefix.
+/// Values are ordered by kind (booleans, longs, strings, ids, sets, records, decimals, ranges of IP
+/// addresses, datetimes, durations), and inside a kind by content: texts by their bytes, ids by type and then
+/// by eid, sets and records as the lists of their elements and of their fields, ranges by family, address
+/// and prefix.
 #[derive(Debug)]
 #[cycle(value)]
 pub struct Value {
@@ -123,7 +124,8 @@ impl Value {
         }
     }
 
-    /// The set of the elements of a list, whatever their order; repeats are kept once. Errs where memory runs out.
+    /// The set of the elements of a list, whatever their order; repeats are kept once. Errs where memory
+    /// runs out.
     pub fn set(alloc: Global, items: Vec<Value>) -> Result<Value, AllocError>
         ensures { IfOk result (λ v. v ≡ set (set_of items.items)) }
     {

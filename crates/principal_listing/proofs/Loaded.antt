@@ -14,10 +14,10 @@ use Rattle.entity_manifest.specs.Loaded.{LoadedIsEnough, RefusalsAreFaults, AreD
 use Rattle.entity_manifest.proofs.ByManifest.{Loads, promised}
 use Rattle.entity_manifest.proofs.OfStore.{memory_alone}
 use Rattle.principal_listing.specs.Allowed.{passed_over}
-use Rattle.principal_listing.specs.Ready.{IsReady}
+use Rattle.principal_listing.specs.Ready.{IsListingReady}
 use Rattle.principal_listing.specs.declared.candidates.Listing.{Listing}
 
-module _ (covered : LoadedIsEnough) (faults : RefusalsAreFaults) (sticks : Table → Val → Type 0) (l : Listing) (q : Request) (ready : IsReady l (passed_over q))
+module _ (covered : LoadedIsEnough) (faults : RefusalsAreFaults) (sticks : Table → Val → Type 0) (l : Listing) (q : Request) (ready : IsListingReady l (passed_over q))
     (rules : KeepRules l.schema.now l.policies.now q l.entities.now) (old new : EntitySlicer) (of : old.entities.now ≡ l.entities.now)
     (result : Result Store EntitySliceError) (loads : Loads l.manifest.now q (slicer_state old) (slicer_state new) result sticks) where
   told : IsTold (slicer_state old) l.entities.now

@@ -9,7 +9,7 @@ use Rattle.schema_core.specs.Schema.{SchemaData}
 use Rattle.std.specs.Option.{option_copied}
 use Rattle.principal_listing.specs.Allowed.{asked_by, passed_over, applies_to, is_allow, is_allowed, KeepOtherRules}
 use Rattle.principal_listing.specs.Pages.{comes_after}
-use Rattle.principal_listing.specs.Ready.{IsReady, is_candidate}
+use Rattle.principal_listing.specs.Ready.{IsListingReady, is_candidate}
 use Rattle.principal_listing.specs.declared.candidates.Listing.{Listing}
 
 -- the rules do not speak of the principal
@@ -35,7 +35,7 @@ and_second : (b a : Bool) → (b && a) ≡ true → a ≡ true
 and_second true a h = h
 and_second false a h = absurd (cc)
 
-module _ (l : Listing) (q : Request) (ready : IsReady l (passed_over q)) (x : Option EntityUID) (u : EntityUID) where
+module _ (l : Listing) (q : Request) (ready : IsListingReady l (passed_over q)) (x : Option EntityUID) (u : EntityUID) where
   abbrev pub allows : Bool
   allows = is_allow (response l.policies.now.policies (asked_by q u) l.entities.now).decision
 

@@ -11,7 +11,7 @@ use Rattle.schema_core.specs.Faults.{IsSchema}
 use Rattle.schema_core.specs.Schema.{ActionData, action_at}
 use Rattle.row_loader.specs.Laws.{IsStoreOrdered}
 use Rattle.entity_manifest.specs.OfPolicies.{IsManifestOf}
-use Rattle.principal_listing.specs.Allowed.{KeepOtherRules}
+use Rattle.principal_listing.specs.Allowed.{KeepOtherRules, is_allowed}
 use Rattle.principal_listing.specs.Pages.{comes_after}
 use Rattle.principal_listing.specs.declared.candidates.Listing.{Listing}
 
@@ -23,9 +23,14 @@ takes a n = option_map_or (λ a. has text_cmp a.principals n) a false
 abbrev pub is_candidate : Option ActionData → Option EntityUID → EntityUID → Bool
 is_candidate a x u = comes_after x u && takes a u.entity_type
 
+-- whether an id comes after another, if there is one, and its principal is allowed
+abbrev pub is_listed_after : Listing → Request → Option EntityUID → EntityUID → Bool
+is_listed_after l q x u =
+    comes_after x u && is_allowed l.schema.now l.policies.now.policies q l.entities.now u
+
 -- every rule holds that does not speak of the principal, the manifest is that of the policies, and all is in
 -- order
-pub record IsReady (l : Listing) (q : Request) : Type 0 where
+pub record IsListingReady (l : Listing) (q : Request) : Type 0 where
   pub rules : KeepOtherRules l.schema.now l.policies.now q l.entities.now
   pub action : option_copied l.action ≡ action_at l.schema.now (action_of q)
   pub manifest : IsManifestOf l.schema.now l.policies.now.policies l.manifest.now

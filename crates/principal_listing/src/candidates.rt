@@ -8,9 +8,9 @@ ghost use Rattle.reads_spec.specs.Among.{IsIn};
 ghost use Rattle.entity_manifest.specs.Rules.{KeepRules};
 ghost use Rattle.manifest_loading.specs.declared.error.EntitySliceError.TheVariants.{OutOfMemory};
 ghost use Rattle.entity_manifest.specs.Loaded.{AreDecidedAlike};
-ghost use Rattle.principal_listing.specs.Allowed.{passed_over, is_allow, is_allowed};
+ghost use Rattle.principal_listing.specs.Allowed.{passed_over, is_allow};
 ghost use Rattle.principal_listing.specs.Pages.{comes_after};
-ghost use Rattle.principal_listing.specs.Ready.{IsReady, takes, is_candidate};
+ghost use Rattle.principal_listing.specs.Ready.{IsListingReady, takes, is_candidate, is_listed_after};
 
 use crate::laws::candidates_keep_rules;
 use crate::scopes::some_lets_in;
@@ -51,11 +51,10 @@ pub(crate) fn is_listed<L: Ledger>(
     entity: &Entity,
     steps: &mut Steps<L>,
 ) -> Result<bool, AllocError>
-    requires ready { IsReady listing.now (passed_over asked.old) }
+    requires ready { IsListingReady listing.now (passed_over asked.old) }
     requires entity { IsIn entity.now listing.now.entities.now }
-    ensures listed { IfOk result (λ b. b ≡ (comes_after (option_copied after.entry) entity.now.uid
-        && is_allowed listing.now.schema.now listing.now.policies.now.policies asked.old
-        listing.now.entities.now entity.now.uid)) }
+    ensures listed { IfOk result (λ b. b ≡
+        is_listed_after listing.now asked.old (option_copied after.entry) entity.now.uid) }
     ensures asked { passed_over asked.new ≡ passed_over asked.old }
 {
     candidates_keep_rules();
@@ -109,7 +108,7 @@ fn is_allowed<L: Ledger>(
     asked: &Request,
     steps: &mut Steps<L>,
 ) -> Result<bool, AllocError>
-    requires ready { IsReady listing.now (passed_over asked.now) }
+    requires ready { IsListingReady listing.now (passed_over asked.now) }
     requires rules { KeepRules listing.now.schema.now listing.now.policies.now asked.now
         listing.now.entities.now }
     ensures { IfOk result (λ b. b ≡
@@ -145,7 +144,7 @@ fn load_candidate<L: Ledger>(
     asked: &Request,
     steps: &mut Steps<L>,
 ) -> Result<Entities, EntitySliceError>
-    requires ready { IsReady listing.now (passed_over asked.now) }
+    requires ready { IsListingReady listing.now (passed_over asked.now) }
     requires rules { KeepRules listing.now.schema.now listing.now.policies.now asked.now
         listing.now.entities.now }
     ensures decided { IfOk result

@@ -7,7 +7,7 @@ ghost use Rattle.schema_core.specs.Schema.{action_at};
 ghost use Rattle.entity_manifest.specs.OfPolicies.{IsManifestOf};
 ghost use Rattle.principal_listing.specs.Allowed.{allowed_principals, passed_over, KeepOtherRules};
 ghost use Rattle.principal_listing.specs.Pages.{page_ids, has_more, IsPage};
-ghost use Rattle.principal_listing.specs.Ready.{IsReady};
+ghost use Rattle.principal_listing.specs.Ready.{IsListingReady};
 ghost use Rattle.principal_listing.specs.Refused.{WhyNoPage};
 
 use crate::candidates::{Listing, is_listed};
@@ -85,7 +85,7 @@ fn is_ready(listing: &Listing<'_>, asked: &Request)
         action_at listing.now.schema.now (action_of asked.now) }
     requires manifest { IsManifestOf listing.now.schema.now listing.now.policies.now.policies
         listing.now.manifest.now }
-    ensures { IsReady listing.now asked.now }
+    ensures { IsListingReady listing.now asked.now }
 {
     // for the proof: the names of a schema's actions ascend, and so do the ids of a store
     let _actions = listing.schema.action_ids();
@@ -108,7 +108,7 @@ fn page_of<L: Ledger>(
     requires name { blank.name ≡ L.name }
     requires parts { blank.parts ≡ L.parts }
     requires one { blank.parts ≡ 1 }
-    requires ready { IsReady listing.now (passed_over asked.old) }
+    requires ready { IsListingReady listing.now (passed_over asked.old) }
     ensures { IfOk result (IsPage limit
         (allowed_principals listing.now.schema.now listing.now.policies.now.policies asked.old
         listing.now.entities.now)

@@ -14,15 +14,15 @@ use Rattle.typing_spec.proofs.Booleans.{by_truth}
 use Rattle.typing_spec.proofs.Condition.{is_one}
 use Rattle.typing_spec.specs.Sound.{IsOfType, Fulfils, TypingIsSound}
 use Rattle.typing_spec.specs.Typing.{Typed, Typing, types}
-use Rattle.reads_spec.specs.Cover.{Prunes, IsDecided, IsTypedOn}
+use Rattle.reads_spec.specs.Cover.{Prunes, IsBooleanOrError, IsTypedOn}
 use Rattle.reads_spec.proofs.Covering.{covers}
 use Rattle.reads_spec.specs.Conditions.{HasTyping, ConditionsAreCovered}
 use Rattle.reads_spec.proofs.Conforming.{keeps_types}
 use Rattle.reads_spec.proofs.Pruning.{prunes}
 
 -- what is typed as a boolean is one, or an error
-decided : (t : Ty) (o : Outcome) → is_boolean t ≡ true → IsOfType t o → IsDecided o
-decided t o h v = by_truth t IsDecided o (is_one t h) v (λ b m. tt) (λ e m. tt)
+decided : (t : Ty) (o : Outcome) → is_boolean t ≡ true → IsOfType t o → IsBooleanOrError o
+decided t o h v = by_truth t IsBooleanOrError o (is_one t h) v (λ b m. tt) (λ e m. tt)
 
 there_is : {X : Type 0} (P : X → Type 0) (o : Option X) (x : X) → o ≡ Some x → IfSome o P → P x
 there_is P o x e h = subst (λ o. IfSome o P) e h

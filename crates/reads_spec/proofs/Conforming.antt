@@ -22,11 +22,11 @@ use Rattle.schema_core.specs.Kinds.{tags_in}
 use Rattle.schema_core.specs.Schema.{SchemaData, type_at, action_at}
 use Rattle.typing_spec.specs.Conforms.{AreTags, TypedConforms, ActionConforms, ConformsAs, EntityConforms, StoreConforms, Applies, RequestConforms, IsOf}
 use Rattle.reads_spec.specs.PathTypes.{root_type}
-use Rattle.reads_spec.specs.Cover.{IsOf as IsOfOption, AreOf, HasTypes, KeepsTypes}
+use Rattle.reads_spec.specs.Cover.{IsMemberOf, AreMembersOf, HasTypes, KeepsTypes}
 use Rattle.type_relations.proofs.UnionLaws.{own_text}
 use Rattle.plain_lemmas.proofs.Booleans.{or_left_true}
 
-tags_of : (o : Option Ty) (fs : Fields) → AreTags o fs → AreOf o fs
+tags_of : (o : Option Ty) (fs : Fields) → AreTags o fs → AreMembersOf o fs
 tags_of None no_fields h = tt
 tags_of None (field k v fs) h = absurd (cc)
 tags_of (Some t) no_fields h = tt
@@ -61,7 +61,7 @@ store_types d (e ∷ es) h = (entity_types d e h.0, store_types d es h.1)
 has_itself : (n m : List ℕ) → m ≡ n → IsTrue (has_name (n ∷ []) m)
 has_itself n m e = rw e (or_left_true _ _ (own_text n))
 
-action_typed : (d : SchemaData) (u w : EntityUID) → u ≡ w → IsSomeAnd (action_at d w) (λ a. Unit {0}) → IsOfOption (literal_type d w) (Rattle.policy_values.specs.Value.entity u)
+action_typed : (d : SchemaData) (u w : EntityUID) → u ≡ w → IsSomeAnd (action_at d w) (λ a. Unit {0}) → IsMemberOf (literal_type d w) (Rattle.policy_values.specs.Value.entity u)
 action_typed d u w e h =
     let a = at_some (λ a. Unit {0}) (action_at d w) h in
     rw a.1 (ap (λ x. x.entity_type) e)
@@ -83,7 +83,7 @@ keeps_types d schema g q request of s store =
     some_same : {X : Type 0} {x y : X} → Some x ≡ Some y → x ≡ y
     some_same h = cc
 
-    entry : (Unit {0} → Member (record_of g.context ClosedAttributes) (rec (known_fields q.context))) → IsSomeAnd (action_at d g.environment.action) (λ x. Unit {0}) → (v : Rattle.policy_expressions.specs.declared.kinds.Var.Var) → IsOfOption (root_type d (declared_action g) (Rattle.reads_spec.specs.Paths.variable v)) (variable_value v q)
+    entry : (Unit {0} → Member (record_of g.context ClosedAttributes) (rec (known_fields q.context))) → IsSomeAnd (action_at d g.environment.action) (λ x. Unit {0}) → (v : Rattle.policy_expressions.specs.declared.kinds.Var.Var) → IsMemberOf (root_type d (declared_action g) (Rattle.reads_spec.specs.Paths.variable v)) (variable_value v q)
     entry ctx act Principal = has_itself g.environment.principal (principal_of q).entity_type of.principal
     entry ctx act Resource = has_itself g.environment.resource (resource_of q).entity_type of.resource
     entry ctx act Action = action_typed d (action_of q) g.environment.action of.action act

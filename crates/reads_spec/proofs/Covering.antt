@@ -13,7 +13,7 @@ use Rattle.schema_core.specs.Schema.{SchemaData}
 use Rattle.reads_spec.specs.Paths.{AccessPath, Demand, Shape}
 use Rattle.reads_spec.specs.Reads.{shape_of, reads, reads_of, demands, demands_of, declared_reads, declared_demands}
 use Rattle.reads_spec.specs.Restrict.{needed}
-use Rattle.reads_spec.specs.Cover.{KeepsTypes, IsDecided, IsTypedOn, IsPartOf, restricted, ReadsCover}
+use Rattle.reads_spec.specs.Cover.{KeepsTypes, IsBooleanOrError, IsTypedOn, IsPartOf, restricted, ReadsCover}
 use Rattle.reads_spec.proofs.Fitting.{all_fit, root_fits}
 use Rattle.reads_spec.proofs.Relation.{Setting, there, Agree}
 use Rattle.reads_spec.proofs.Tops.{top, rel_top}
@@ -37,7 +37,7 @@ setting_of d g q whole types ps ds s b = record {
 }
 
 -- a boolean or an error is the same on both sides
-decided_same : (a : Shape) (c : Setting) (o p : Outcome) → IsDecided o → Agree a c o p → p ≡ o
+decided_same : (a : Shape) (c : Setting) (o p : Outcome) → IsBooleanOrError o → Agree a c o p → p ≡ o
 decided_same a c (Value (truth b)) (Value w) h k = ap Value (is_truth w (rel_top a c (truth b) w k))
   where
     is_truth : (w : Val) → truth b ≡ top w → w ≡ truth b

@@ -32,7 +32,7 @@ use Rattle.reads_spec.specs.Paths.{Root, variable, an_id, Step, along, any_tag, 
 use Rattle.typing_spec.specs.Environment.{declared_attributes, declared_tags}
 use Rattle.reads_spec.specs.PathTypes.{type_along, step_on, types_along, root_type, chains, chains_in}
 use Rattle.reads_spec.specs.Restrict.{cut, cut_fields, root_value, values_in, step_in_entity, step}
-use Rattle.reads_spec.specs.Cover.{IsOf, AreOf, HasTypes, KeepsTypes}
+use Rattle.reads_spec.specs.Cover.{IsMemberOf, AreMembersOf, HasTypes, KeepsTypes}
 use Rattle.reads_spec.proofs.Lists.{same_text, IsIn, in_left, in_right, in_map}
 use Rattle.reads_spec.proofs.Cuts.{uid_at, all_at}
 
@@ -226,22 +226,22 @@ module _ (d : SchemaData) (schema : IsSchema d) where
       here (Some t) e = of_kind t.kind (kind_held n t e)
 
   -- a value of the type of tags
-  tag_fits : (n : List ℕ) (v : Val) → IsOf (declared_tags d n) v → Fits d (declared_tags d n) v
+  tag_fits : (n : List ℕ) (v : Val) → IsMemberOf (declared_tags d n) v → Fits d (declared_tags d n) v
   tag_fits n v m = here (type_at d n) refl m
     where
-      of_kind : (k : Kind) → IsTrue (is_held_kind k) → IsOf (tags_in k) v → Fits d (tags_in k) v
+      of_kind : (k : Kind) → IsTrue (is_held_kind k) → IsMemberOf (tags_in k) v → Fits d (tags_in k) v
       of_kind (standard xs None) h m = absurd m
       of_kind (standard xs (Some t)) h m = member_fits d t v (and_parts (are_held xs) (is_held t) h).1 m
       of_kind (enumerated ids) h m = absurd m
 
-      here : (o : Option TypeData) → type_at d n ≡ o → IsOf (option_and_then (λ t. tags_in t.kind) o) v → Fits d (option_and_then (λ t. tags_in t.kind) o) v
+      here : (o : Option TypeData) → type_at d n ≡ o → IsMemberOf (option_and_then (λ t. tags_in t.kind) o) v → Fits d (option_and_then (λ t. tags_in t.kind) o) v
       here None e m = absurd m
       here (Some t) e m = of_kind t.kind (kind_held n t e) m
 
-  tags_fit : (n : List ℕ) (fs : Fields) → AreOf (declared_tags d n) fs → FitAll d (declared_tags d n) fs
+  tags_fit : (n : List ℕ) (fs : Fields) → AreMembersOf (declared_tags d n) fs → FitAll d (declared_tags d n) fs
   tags_fit n fs m = here (declared_tags d n) (tag_fits n) fs m
     where
-      here : (o : Option Ty) → ((v : Val) → IsOf o v → Fits d o v) → (fs : Fields) → AreOf o fs → FitAll d o fs
+      here : (o : Option Ty) → ((v : Val) → IsMemberOf o v → Fits d o v) → (fs : Fields) → AreMembersOf o fs → FitAll d o fs
       here o f no_fields m = tt
       here None f (field k v fs) m = absurd m.0
       here (Some t) f (field k v fs) m = (f v m.0, here (Some t) f fs m.1)
@@ -265,10 +265,10 @@ module _ (d : SchemaData) (schema : IsSchema d) where
       here None e None f k = sym (no_step u.entity_type f k)
 
   -- an id of the type of a literal
-  same_type : (u w : EntityUID) → IsOf (literal_type d w) (id u) → u.entity_type ≡ w.entity_type
+  same_type : (u w : EntityUID) → IsMemberOf (literal_type d w) (id u) → u.entity_type ≡ w.entity_type
   same_type u w m = here (action_at d w) (type_at d w.entity_type) m
     where
-      here : (a : Option ActionData) (t : Option TypeData) → IsOf (id_type w a t) (id u) → u.entity_type ≡ w.entity_type
+      here : (a : Option ActionData) (t : Option TypeData) → IsMemberOf (id_type w a t) (id u) → u.entity_type ≡ w.entity_type
       here (Some a) t m = m
       here None (Some t) m = one_type w.entity_type u.entity_type m
       here None None m = absurd m

@@ -15,19 +15,23 @@ use Rattle.policy_expressions.specs.Keys.{HasKeysOnce}
 use Rattle.typing_spec.specs.Typing.{Typing, types}
 use Rattle.reads_spec.specs.Cover.{IsPartOf, restricted}
 
--- a condition without slots, with its typing in the environment, which is a boolean; each of its records has each key once
+-- a condition without slots, with its typing in the environment, which is a boolean; each of its records has
+-- each key once
 pub record HasTyping (schema : SchemaData) (env : LinkedEnvironment) (c : Plain × Typing) : Type 0 where
   pub filled : has_slot c.0 ≡ false
   pub keys : HasKeysOnce c.0
   pub typed : types schema (declared_action env) [] c.0 ≡ Some c.1
   pub boolean : IsTrue (is_boolean c.1.type)
 
--- where the request, of the environment, and the store conform, each condition with its typing has, on each store between the one
--- restricted to what the typed conditions read and the whole one, the outcome that it has on the whole one
+-- where the request, of the environment, and the store conform, each condition with its typing has, on each
+-- store between the one restricted to what the typed conditions read and the whole one, the outcome that it
+-- has on the whole one
 abbrev pub ConditionsAreCovered : Type 0
 ConditionsAreCovered =
-    (schema : SchemaData) → IsSchema schema → (env : LinkedEnvironment) (q : Request) → RequestConforms schema q → IsOf schema q env →
+    (schema : SchemaData) → IsSchema schema →
+    (env : LinkedEnvironment) (q : Request) → RequestConforms schema q → IsOf schema q env →
     (whole : Store) → StoreConforms schema whole →
     (cs : List (Plain × Typing)) → AllByRecursion (HasTyping schema env) cs →
-    (s : Store) → IsPartOf (restricted schema (declared_action env) (map (λ c. c.1.tree) cs) q whole) s → IsPartOf s whole →
+    (s : Store) → IsPartOf (restricted schema (declared_action env) (map (λ c. c.1.tree) cs) q whole) s →
+    IsPartOf s whole →
     map (λ c. eval c.0 q s) cs ≡ map (λ c. eval c.0 q whole) cs

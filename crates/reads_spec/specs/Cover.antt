@@ -24,38 +24,40 @@ use Rattle.reads_spec.specs.Reads.{declared_reads, declared_demands}
 use Rattle.reads_spec.specs.Restrict.{Keep, part, restrict}
 
 -- there is a type, and the value is a member of it
-abbrev pub IsOf : Option Ty → Val → Type 0
-IsOf None v = ⊥
-IsOf (Some t) v = Member t v
+abbrev pub IsMemberOf : Option Ty → Val → Type 0
+IsMemberOf None v = ⊥
+IsMemberOf (Some t) v = Member t v
 
 -- so is each value of the fields
-abbrev pub AreOf : Option Ty → Fields → Type 0
-AreOf o no_fields = Unit {0}
-AreOf o (field k v fs) = IsOf o v × AreOf o fs
+abbrev pub AreMembersOf : Option Ty → Fields → Type 0
+AreMembersOf o no_fields = Unit {0}
+AreMembersOf o (field k v fs) = IsMemberOf o v × AreMembersOf o fs
 
--- an entity has no attributes but those that its type declares, each of its type, and tags of the type of tags; of a type
--- that is not declared it has neither
+-- an entity has no attributes but those that its type declares, each of its type, and tags of the type of
+-- tags; of a type that is not declared it has neither
 pub record HasTypes (schema : SchemaData) (e : StoredEntity) : Type 0 where
   pub attributes : Typed ClosedAttributes (or_none (declared_attributes schema e.uid.entity_type)) e.attrs
-  pub tags : AreOf (declared_tags schema e.uid.entity_type) e.tags
+  pub tags : AreMembersOf (declared_tags schema e.uid.entity_type) e.tags
 
--- what is read of a request and a store is of the types that the schema has for it in an environment; what is required plays
--- no part
+-- what is read of a request and a store is of the types that the schema has for it in an environment; what is
+-- required plays no part
 pub record KeepsTypes (schema : SchemaData) (env : EnvData) (q : Request) (s : Store) : Type 0 where
   pub valid : IsSchema schema
   pub closed : IsTrue (is_held (context_type_in env))
-  pub entries : (v : Var) → IsOf (root_type schema env (variable v)) (variable_value v q)
+  pub entries : (v : Var) → IsMemberOf (root_type schema env (variable v)) (variable_value v q)
   pub entities : AllByRecursion (HasTypes schema) s
 
 module _ (q : Request) (s : Store) {A B : Type 0} where
-  -- t is e wherever e is evaluated on the store; where it is not, t may have anything, such as the literal true
+  -- t is e wherever e is evaluated on the store; where it is not, t may have anything, such as the
+  -- literal true
   abbrev mutual
     pub Prunes : Tree A → Tree B → Type 0
     Prunes (lit l a) (lit m b) = l ≡ m
     Prunes (var v a) (var w b) = v ≡ w
     Prunes (slot i a) (slot j b) = i ≡ j
     Prunes (ite x y z a) (ite x2 y2 z2 b) =
-        Prunes x x2 × (truth_of (eval x q s) ≡ Ok true → Prunes y y2) × (truth_of (eval x q s) ≡ Ok false → Prunes z z2)
+        Prunes x x2 × (truth_of (eval x q s) ≡ Ok true → Prunes y y2) ×
+        (truth_of (eval x q s) ≡ Ok false → Prunes z z2)
     Prunes (conj x y a) (conj x2 y2 b) = Prunes x x2 × (truth_of (eval x q s) ≡ Ok true → Prunes y y2)
     Prunes (disj x y a) (disj x2 y2 b) = Prunes x x2 × (truth_of (eval x q s) ≡ Ok false → Prunes y y2)
     Prunes (unary o x a) (unary p x2 b) = (o ≡ p) × Prunes x x2
@@ -80,25 +82,26 @@ module _ (q : Request) (s : Store) {A B : Type 0} where
     PrunesNamed xs ys = ⊥
 
 -- a boolean, or an error
-abbrev pub IsDecided : Outcome → Type 0
-IsDecided (Value (truth b)) = Unit {0}
-IsDecided (Value v) = ⊥
-IsDecided (Error e) = Unit {0}
+abbrev pub IsBooleanOrError : Outcome → Type 0
+IsBooleanOrError (Value (truth b)) = Unit {0}
+IsBooleanOrError (Value v) = ⊥
+IsBooleanOrError (Error e) = Unit {0}
 
 -- the store restricted to what typed conditions read on the request, in an environment
 abbrev pub restricted : {B : Type 0} → SchemaData → EnvData → List (Tree B) → Request → Store → Store
 restricted schema env ts q s = restrict (declared_reads schema env ts) (declared_demands schema env ts) q s
 
--- a has some of what b has: of its entities, each with some of its ancestors, attributes and tags, and of the fields of records there; all else is equal
+-- a has some of what b has: of its entities, each with some of its ancestors, attributes and tags, and of the
+-- fields of records there; all else is equal
 abbrev pub IsPartOf : Store → Store → Type 0
 IsPartOf a b = (keep : Keep) × (a ≡ part keep b)
 
 -- a condition as it is written, and as it is typed
 abbrev pub IsTypedOn : {A B : Type 0} → Request → Store → Tree A × Tree B → Type 0
-IsTypedOn q s c = Prunes q s c.0 c.1 × IsDecided (eval c.0 q s)
+IsTypedOn q s c = Prunes q s c.0 c.1 × IsBooleanOrError (eval c.0 q s)
 
--- where request and store keep to the types, each condition has, on each store between the one restricted to what its typed form reads and the whole one, the
--- outcome that it has on the whole one
+-- where request and store keep to the types, each condition has, on each store between the one restricted to
+-- what its typed form reads and the whole one, the outcome that it has on the whole one
 abbrev pub ReadsCover : Type 0 → Type 0 → Type 0
 ReadsCover A B =
     (schema : SchemaData) (env : EnvData) (q : Request) (whole : Store) → KeepsTypes schema env q whole →

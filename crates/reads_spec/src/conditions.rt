@@ -5,9 +5,9 @@ ghost use Rattle.reads_spec.specs.Policies.{PoliciesAreCovered};
 
 use typing_spec::laws::typing_is_sound;
 
-/// Coverage: where request and store conform to a schema, the store restricted to what typed
-/// conditions read is enough. On it, and on each store between it and the whole one, every condition has the outcome that
-/// it has on the whole one.
+/// Coverage: where request and store conform to a schema, the store restricted to what typed conditions read
+/// is enough. On it, and on each store between it and the whole one, every condition has the outcome that it
+/// has on the whole one.
 pub fn conditions_are_covered()
     ensures { ConditionsAreCovered }
 {

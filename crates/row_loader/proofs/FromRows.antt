@@ -11,7 +11,7 @@ use Rattle.store_order.specs.Order.{IsEntityOrdered}
 use Rattle.store_order.proofs.Lookups.{their_lookups}
 use Rattle.reads_spec.specs.Paths.{along, any_tag}
 use Rattle.reads_spec.specs.Restrict.{cut_entity, cut_fields}
-use Rattle.entity_loader.specs.Answers.{IsGiven}
+use Rattle.entity_loader.specs.Answers.{IsHonestEntity}
 use Rattle.entity_loader.specs.Asked.{asks}
 use Rattle.entity_loader.specs.declared.loader.EntityRequest.{EntityRequest}
 use Rattle.table_loader.specs.Laws.{IsOrderedStore}
@@ -60,10 +60,10 @@ module _ (t : Tables) (r : EntityRequest) (e stored : StoredEntity) (at : entity
   }
 
 pub given : (t : Tables) (r : EntityRequest) (e : StoredEntity) → IsOrderedStore (store_of t) →
-    has_entity t r.entity_id ≡ true → IsFromRows t r e → IsGiven false (store_of t) r e
+    has_entity t r.entity_id ≡ true → IsFromRows t r e → IsHonestEntity false (store_of t) r e
 given t r e order has is = by (entity_at (store_of t) r.entity_id) refl has
   where
-    by : (o : Option StoredEntity) → entity_at (store_of t) r.entity_id ≡ o → is_some o ≡ true → IsGiven false (store_of t) r e
+    by : (o : Option StoredEntity) → entity_at (store_of t) r.entity_id ≡ o → is_some o ≡ true → IsHonestEntity false (store_of t) r e
     by None at k = absurd (cc)
     by (Some stored) at k = record {
       stored = stored;

@@ -22,7 +22,7 @@ use Rattle.entity_loader.specs.State.{Continues}
 use Rattle.entity_loader.specs.declared.loader.AncestorsRequest.{AncestorsRequest}
 use Rattle.entity_loader.specs.declared.loader.EntityRequest.{EntityRequest}
 use Rattle.table_loader.specs.Laws.{IsOrderedStore}
-use Rattle.table_loader.specs.State.{RowsState, RowsContinue, HasAncestor, has_entity, attribute_at, tags_at}
+use Rattle.table_loader.specs.State.{RowsState, RowsContinue, TablesHaveAncestor, has_entity, attribute_at, tags_at}
 use Rattle.table_loader.specs.Tables.{Tables, store_of}
 use Rattle.row_loader.proofs.Entries.{keys_ascend, ordered_keys}
 use Rattle.row_loader.proofs.FromRows.{given}
@@ -68,7 +68,7 @@ module _ (t : Tables) (u : EntityUID) where
   none_found = record { enough = λ y c h. c; given = λ y c. absurd (omega (arith, c.1)) }
 
   module _ (done found : List EntityUID) (y : EntityUID) (f : AreFound t u done found) where
-    pub found_more : HasAncestor t u y → AreFound t u (done ++ y ∷ []) (found ++ y ∷ [])
+    pub found_more : TablesHaveAncestor t u y → AreFound t u (done ++ y ∷ []) (found ++ y ∷ [])
     found_more h = record {
       enough = λ z c k. elim (Contains-push_cases done y z c) [
         | inl before ↦ Contains-append_left found (y ∷ []) z (f.enough z before k)
@@ -76,15 +76,15 @@ module _ (t : Tables) (u : EntityUID) where
       ];
       given = λ z c. elim (Contains-push_cases found y z c) [
         | inl before ↦ f.given z before
-        | inr same ↦ subst (HasAncestor t u) same h
+        | inr same ↦ subst (TablesHaveAncestor t u) same h
       ];
     }
 
-    pub found_other : (HasAncestor t u y → ⊥) → AreFound t u (done ++ y ∷ []) found
+    pub found_other : (TablesHaveAncestor t u y → ⊥) → AreFound t u (done ++ y ∷ []) found
     found_other h = record {
       enough = λ z c k. elim (Contains-push_cases done y z c) [
         | inl before ↦ f.enough z before k
-        | inr same ↦ absurd (h (subst (HasAncestor t u) (sym same) k))
+        | inr same ↦ absurd (h (subst (TablesHaveAncestor t u) (sym same) k))
       ];
       given = f.given;
     }

@@ -4,7 +4,7 @@ use Rattle.access_tries.specs.Views.{ViewData}
 use Rattle.entity_store.specs.Store.{StoredEntity, Store, entity_at}
 use Rattle.reads_spec.specs.Paths.{Chain, along, any_tag}
 use Rattle.reads_spec.specs.Restrict.{Keep, cut_entity}
-use Rattle.entity_loader.specs.Answers.{IsGiven}
+use Rattle.entity_loader.specs.Answers.{IsHonestEntity}
 use Rattle.entity_loader.specs.Asked.{asks}
 use Rattle.entity_loader.specs.declared.loader.EntityRequest.{EntityRequest}
 
@@ -26,4 +26,4 @@ by_rows v = record { chains = λ x. attributes_asked v; ancestors = λ x y. fals
 abbrev pub RowAnswersAreHonest : Type 0
 RowAnswersAreHonest =
     (s : Store) (r : EntityRequest) (e : StoredEntity) → entity_at s r.entity_id ≡ Some e →
-    IsGiven false s r (cut_entity (by_rows r.access_trie) e)
+    IsHonestEntity false s r (cut_entity (by_rows r.access_trie) e)

@@ -3,18 +3,18 @@
 ghost use Rattle.std.specs.Prelude.{◌≡◌, ◌∷◌, [], ℕ, false, List, Some, None, IfOk, OnOk, if◌then◌else◌};
 ghost use Rattle.std.specs.BTreeMap.{get};
 ghost use Rattle.std.specs.List.{AllZip};
-ghost use Rattle.std.specs.Option.{option_or};
 ghost use Rattle.std.specs.Ordering.{is_eq};
 ghost use Rattle.policy_values.specs.Uid.{text_cmp};
-ghost use Rattle.policy_values.specs.Value.{field_at, fields_of, no_fields};
-ghost use Rattle.reads_spec.specs.Paths.{along, any_tag};
+ghost use Rattle.policy_values.specs.Value.{field_at, fields_of};
+ghost use Rattle.reads_spec.specs.Paths.{along};
 ghost use Rattle.entity_loader.specs.Answers.{Fits, IsHonest};
 ghost use Rattle.entity_loader.specs.Asked.{asks};
 ghost use Rattle.store_order.specs.Laws.{KeysAscend};
 ghost use Rattle.table_loader.specs.Laws.{IsOrderedStore};
 ghost use Rattle.table_loader.specs.State.{RowsContinue, attribute_at, tags_at};
 ghost use Rattle.table_loader.specs.Tables.{Tables, store_of};
-ghost use Rattle.row_loader.specs.Asking.{IsCause};
+ghost use Rattle.row_loader.specs.Asking.{IsCause, PutsIfAny};
+ghost use Rattle.row_loader.specs.FromRows.{tags_from_rows};
 
 use crate::asking::loaded;
 use access_tries::TrieRef;
@@ -100,10 +100,8 @@ fn put_attribute<R: Rows>(
 ) -> Result<(), LoadError>
     ensures goes_on { RowsContinue (R.state rows.old) (R.state rows.new) }
     ensures cause { IsCause result (R.state rows.old) (R.state rows.new) }
-    ensures put { (t : Tables) → (R.state rows.new).told ≡ Some t → OnOk result ((k : List ℕ) →
-        get text_cmp attrs.new k ≡ (if is_eq (text_cmp key.now k)
-        then option_or (attribute_at t uid.now key.now) (get text_cmp attrs.old k)
-        else get text_cmp attrs.old k)) }
+    ensures put { (t : Tables) → (R.state rows.new).told ≡ Some t →
+        OnOk result (PutsIfAny attrs.old attrs.new key.now (attribute_at t uid.now key.now)) }
 {
     match loaded(rows.attribute(alloc, uid, key))? {
         Some(value) => Ok(put(attrs, key.try_clone()?, value)?),
@@ -129,8 +127,7 @@ fn tags<R: Rows>(
     ensures goes_on { RowsContinue (R.state rows.old) (R.state rows.new) }
     ensures cause { IsCause result (R.state rows.old) (R.state rows.new) }
     ensures found { (t : Tables) → (R.state rows.new).told ≡ Some t → KeysAscend (tags_at t uid.now) →
-        IfOk result (λ m. fields_of m.entries ≡
-        (if asks trie.now (any_tag ∷ []) then tags_at t uid.now else no_fields)) }
+        IfOk result (λ m. fields_of m.entries ≡ tags_from_rows t trie.now uid.now) }
 {
     match trie.tags() {
         Some(_) => {

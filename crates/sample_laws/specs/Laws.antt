@@ -9,7 +9,7 @@ use Rattle.manifest_computation.specs.Rules.{KeepRules}
 use Rattle.serde_json.specs.Data.{Data}
 
 -- the text is JSON, and read as a document with one request that keeps every rule
-pub record IsSound (text : List ℕ) : Type 0 where
+pub record IsSoundText (text : List ℕ) : Type 0 where
   pub value : Data
   pub document : Document
   pub is_json : json_of text ≡ Some value
@@ -18,4 +18,4 @@ pub record IsSound (text : List ℕ) : Type 0 where
 
 -- so is each text that is made of a seed and a size, whatever the seed, and however long the text
 abbrev pub SamplesAreSound : Type 0
-SamplesAreSound = (seed size : ℕ) → size < 2 ^ 64 → IsSound (sample_document seed size)
+SamplesAreSound = (seed size : ℕ) → size < 2 ^ 64 → IsSoundText (sample_document seed size)

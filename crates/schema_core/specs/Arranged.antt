@@ -20,7 +20,8 @@ abbrev pub arranged_type : List (List ℕ × BTreeSet (List ℕ)) → List ℕ �
 arranged_type types e = record { name = e.0; descendants = keys_found text_cmp types e.0; kind = kind_of e.1 }
 
 -- an action with its context, and its sets
-abbrev pub arranged_action : List (EntityUID × BTreeSet EntityUID) → List (EntityUID × BTreeSet (List ℕ)) → List (EntityUID × BTreeSet (List ℕ)) → EntityUID × Attrs → ActionData
+abbrev pub arranged_action : List (EntityUID × BTreeSet EntityUID) → List (EntityUID × BTreeSet (List ℕ)) →
+    List (EntityUID × BTreeSet (List ℕ)) → EntityUID × Attrs → ActionData
 arranged_action actions principals resources e = record {
   name = e.0;
   principals = keys_found uid_cmp principals e.0;

@@ -44,7 +44,8 @@ module _ (d : Declarations) where
   abbrev pub IsInCycle : EntityUID → Type 0
   IsInCycle u = Reaches (λ v w. IsTrue ((declared_outline d).action_lists v w)) u u
 
--- s is the schema that the declarations give: they keep all rules, and the descendants of a type or an action are all its members
+-- s is the schema that the declarations give: they keep all rules, and the descendants of a type or an action
+-- are all its members
 pub record IsSchemaOf (d : Declarations) (s : SchemaData) : Type 0 where
   pub once : Nowhere (IsDeclaredTwice d)
   pub names : HasSoundNames (declared_outline d)
@@ -67,7 +68,8 @@ HasMembers d = HasOnceNamed d × Nowhere (IsInCycle d) × Nowhere (IsListingEnum
 abbrev pub IsRefused : Declarations → SchemaFault → Type 0
 IsRefused d (DuplicateAction u) = IsLeast uid_cmp (IsDeclaredTwice d) u
 IsRefused d (ActionCycle u) = HasOnceNamed d × IsLeast uid_cmp (IsInCycle d) u
-IsRefused d (EnumHasAncestor x) = HasOnceNamed d × Nowhere (IsInCycle d) × IsLeast text_cmp (IsListingEnum (declared_outline d)) x
+IsRefused d (EnumHasAncestor x) =
+    HasOnceNamed d × Nowhere (IsInCycle d) × IsLeast text_cmp (IsListingEnum (declared_outline d)) x
 IsRefused d (BadType x) = HasMembers d × IsTypeFault (declared_outline d) (BadType x)
 IsRefused d (BadContext u) = HasMembers d × IsTypeFault (declared_outline d) (BadContext u)
 IsRefused d (UnknownExtension n) = HasMembers d × IsTypeFault (declared_outline d) (UnknownExtension n)

@@ -14,7 +14,8 @@ pub record TypeEntry : Type 0 where
   pub member_of : List (List ℕ)
   pub kind : Kind
 
--- an action, the types of principals and of resources that it applies to, the actions that it is a member of, and the attributes of its context
+-- an action, the types of principals and of resources that it applies to, the actions that it is a member of,
+-- and the attributes of its context
 pub record ActionEntry : Type 0 where
   pub id : EntityUID
   pub principals : List (List ℕ)
@@ -40,7 +41,8 @@ coded_action_entry =
     code_by (EntityUID × (List (List ℕ) × (List (List ℕ) × (List EntityUID × Attrs))))
     (coded× coded_uid (coded× coded_names (coded× coded_names (coded× (coded_list coded_uid) coded_attrs))))
     (λ a. (a.id, (a.principals, (a.resources, (a.member_of, a.context)))))
-    (λ p. record { id = p.0; principals = p.1.0; resources = p.1.1.0; member_of = p.1.1.1.0; context = p.1.1.1.1 })
+    (λ p.
+    record { id = p.0; principals = p.1.0; resources = p.1.1.0; member_of = p.1.1.1.0; context = p.1.1.1.1 })
     (λ _. refl)
 
 abbrev pub coded_declarations : Coded Declarations

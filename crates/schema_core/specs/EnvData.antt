@@ -34,7 +34,11 @@ resource_in undeclared_action = None
 
 -- the three together
 abbrev pub request_type_in : EnvData → Option RequestType
-request_type_in (declared_action e) = Some (record { principal = e.environment.principal; action = e.environment.action; resource = e.environment.resource })
+request_type_in (declared_action e) = Some (record {
+  principal = e.environment.principal;
+  action = e.environment.action;
+  resource = e.environment.resource;
+})
 request_type_in undeclared_action = None
 
 -- the types of what stands for the slots
@@ -74,7 +78,8 @@ context_type_in undeclared_action = record_of no_attrs OpenAttributes
 
 -- an environment of the action, with the action's context and without slots
 abbrev pub unlinked : ActionData → Environment → EnvData
-unlinked a e = declared_action record { environment = e; context = a.context; principal_slot = None; resource_slot = None }
+unlinked a e = declared_action
+    record { environment = e; context = a.context; principal_slot = None; resource_slot = None }
 
 -- all of them, of an action and of a schema
 abbrev pub unlinked_of : ActionData → List EnvData

@@ -1,4 +1,5 @@
--- The environments in which a policy is looked at: an action, and a principal type and a resource type that it applies to.
+-- The environments in which a policy is looked at: an action, and a principal type and a resource type that
+-- it applies to.
 use Rattle.std.specs.Prelude.{ℕ, List, map, flat_map}
 use Rattle.policy_values.specs.declared.entity_uid.EntityUID.{EntityUID}
 use Rattle.schema_core.specs.Schema.{ActionData, SchemaData}

@@ -36,9 +36,12 @@ attrs_extend xs n = some_within (is_of_extension n) xs
 
 -- the names of extension types
 abbrev pub is_known_extension : List ℕ → Bool
-is_known_extension n = ((bytes_eq n (codes "decimal") || bytes_eq n (codes "ipaddr")) || bytes_eq n (codes "datetime")) || bytes_eq n (codes "duration")
+is_known_extension n =
+    ((bytes_eq n (codes "decimal") || bytes_eq n (codes "ipaddr")) || bytes_eq n (codes "datetime")) ||
+    bytes_eq n (codes "duration")
 
--- whether a schema may hold the type: a primitive or an extension type, the entities of one type, and sets and closed records of such
+-- whether a schema may hold the type: a primitive or an extension type, the entities of one type, and sets
+-- and closed records of such
 abbrev mutual
   pub is_held : Ty → Bool
   is_held never = false

@@ -26,4 +26,5 @@ there_and_back (enumerated ids) = refl
 
 -- a kind is stored as one of two tuples
 abbrev pub coded_kind : Coded Kind
-coded_kind = code_by Parts (coded⊎ (coded× coded_attrs (coded_option coded_ty)) coded_names) parts_of of_parts there_and_back
+coded_kind = code_by Parts (coded⊎ (coded× coded_attrs (coded_option coded_ty)) coded_names)
+    parts_of of_parts there_and_back

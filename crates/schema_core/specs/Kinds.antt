@@ -5,7 +5,8 @@ use Rattle.policy_values.specs.Uid.{text_cmp}
 use Rattle.schema_types.specs.Ty.{Ty, Attrs, no_attrs}
 use Rattle.schema_core.specs.Inside.{some_inside, some_within, is_of_entity, is_of_extension, is_held, are_held}
 
--- standard, with attributes and perhaps tags of a type; or enumerated, with the ids that it lists, in their declared order
+-- standard, with attributes and perhaps tags of a type; or enumerated, with the ids that it lists, in their
+-- declared order
 pub data Kind : Type 0 where
   standard : Attrs → Option Ty → Kind
   enumerated : List (List ℕ) → Kind

@@ -23,7 +23,9 @@ IsPlainKind (enumerated ids) = ⊤
 
 -- in a schema those of every entity type are, and the context of every action
 abbrev pub SchemaTypesArePlain : Type 0
-SchemaTypesArePlain = (s : SchemaData) → IsSchema s → (x : List ℕ) → IfSome (type_at s x) (λ t. IsPlainKind t.kind)
+SchemaTypesArePlain =
+    (s : SchemaData) → IsSchema s → (x : List ℕ) → IfSome (type_at s x) (λ t. IsPlainKind t.kind)
 
 abbrev pub SchemaContextsArePlain : Type 0
-SchemaContextsArePlain = (s : SchemaData) → IsSchema s → (u : EntityUID) → IfSome (action_at s u) (λ a. plain_attrs a.context ≡ Some a.context)
+SchemaContextsArePlain = (s : SchemaData) → IsSchema s →
+    (u : EntityUID) → IfSome (action_at s u) (λ a. plain_attrs a.context ≡ Some a.context)

@@ -36,7 +36,8 @@ listed_outline l = record {
 }
 
 -- each set of the map ascends
-abbrev pub HasAscending : {A K : Type 0} → (A → A → Ordering) → (K → K → Ordering) → List (A × BTreeSet K) → Type 0
+abbrev pub HasAscending : {A K : Type 0} → (A → A → Ordering) →
+    (K → K → Ordering) → List (A × BTreeSet K) → Type 0
 HasAscending {A} cmp_a cmp sets = (x : A) → IfSome (at cmp_a sets x) (λ s. IsStrictlySortedBy cmp s.keys)
 
 -- the listing has the types of the outline, with ascending sets of what they list, and no actions
@@ -45,7 +46,8 @@ pub record ListsTypes (o : Outline) (l : Listing) : Type 0 where
   pub lists : (x y : List ℕ) → leads text_cmp l.types.entries x y ≡ o.type_lists x y
   pub kinds : (x : List ℕ) → kind_found l.kinds.entries x ≡ o.kind_at x
   pub ascending : HasAscending text_cmp text_cmp l.types.entries
-  pub with_kinds : (x : List ℕ) → is_some (at text_cmp l.kinds.entries x) ≡ is_some (at text_cmp l.types.entries x)
+  pub with_kinds : (x : List ℕ) →
+      is_some (at text_cmp l.kinds.entries x) ≡ is_some (at text_cmp l.types.entries x)
   pub actions : l.actions.entries ≡ []
   pub principals : l.principals.entries ≡ []
   pub resources : l.resources.entries ≡ []
@@ -57,17 +59,22 @@ pub record IsListing (l : Listing) : Type 0 where
   pub actions : HasAscending uid_cmp uid_cmp l.actions.entries
   pub principals : HasAscending uid_cmp text_cmp l.principals.entries
   pub resources : HasAscending uid_cmp text_cmp l.resources.entries
-  pub with_kinds : (x : List ℕ) → is_some (at text_cmp l.kinds.entries x) ≡ is_some (at text_cmp l.types.entries x)
-  pub with_principals : (u : EntityUID) → is_some (at uid_cmp l.principals.entries u) ≡ is_some (at uid_cmp l.actions.entries u)
-  pub with_resources : (u : EntityUID) → is_some (at uid_cmp l.resources.entries u) ≡ is_some (at uid_cmp l.actions.entries u)
-  pub with_contexts : (u : EntityUID) → is_some (at uid_cmp l.contexts.entries u) ≡ is_some (at uid_cmp l.actions.entries u)
+  pub with_kinds : (x : List ℕ) →
+      is_some (at text_cmp l.kinds.entries x) ≡ is_some (at text_cmp l.types.entries x)
+  pub with_principals : (u : EntityUID) →
+      is_some (at uid_cmp l.principals.entries u) ≡ is_some (at uid_cmp l.actions.entries u)
+  pub with_resources : (u : EntityUID) →
+      is_some (at uid_cmp l.resources.entries u) ≡ is_some (at uid_cmp l.actions.entries u)
+  pub with_contexts : (u : EntityUID) →
+      is_some (at uid_cmp l.contexts.entries u) ≡ is_some (at uid_cmp l.actions.entries u)
 
 -- n is m with the value at the key
 abbrev pub Puts : {A X : Type 0} → (A → A → Ordering) → List (A × X) → List (A × X) → A → X → Type 0
 Puts {A} cmp m n k x = (q : A) → at cmp n q ≡ cond (is_eq (cmp k q)) (Some x) (at cmp m q)
 
 -- the listing n is m with the type, too
-pub record AddsType (m n : Listing) (x : List ℕ) (k : ValidatorEntityTypeKind) (xs : BTreeSet (List ℕ)) : Type 0 where
+pub record AddsType (m n : Listing) (x : List ℕ)
+    (k : ValidatorEntityTypeKind) (xs : BTreeSet (List ℕ)) : Type 0 where
   pub types : Puts text_cmp m.types.entries n.types.entries x xs
   pub kinds : Puts text_cmp m.kinds.entries n.kinds.entries x k
   pub actions : n.actions ≡ m.actions
@@ -76,7 +83,8 @@ pub record AddsType (m n : Listing) (x : List ℕ) (k : ValidatorEntityTypeKind)
   pub contexts : n.contexts ≡ m.contexts
 
 -- the listing n is m with the action, too
-pub record AddsAction (m n : Listing) (u : EntityUID) (ps rs : BTreeSet (List ℕ)) (us : BTreeSet EntityUID) (xs : Attrs) : Type 0 where
+pub record AddsAction (m n : Listing) (u : EntityUID) (ps rs : BTreeSet (List ℕ))
+    (us : BTreeSet EntityUID) (xs : Attrs) : Type 0 where
   pub types : n.types ≡ m.types
   pub kinds : n.kinds ≡ m.kinds
   pub actions : Puts uid_cmp m.actions.entries n.actions.entries u us

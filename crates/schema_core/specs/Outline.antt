@@ -42,18 +42,21 @@ outline_of s = record {
 module _ (o : Outline) where
   -- the type is listed at some type, or at some action
   abbrev pub IsListedType : List ℕ → Type 0
-  IsListedType y = ((x : List ℕ) × IsTrue (o.type_lists x y)) ⊎ (((u : EntityUID) × IsTrue (o.principal_lists u y)) ⊎ ((u : EntityUID) × IsTrue (o.resource_lists u y)))
+  IsListedType y = ((x : List ℕ) × IsTrue (o.type_lists x y)) ⊎
+      (((u : EntityUID) × IsTrue (o.principal_lists u y)) ⊎ ((u : EntityUID) × IsTrue (o.resource_lists u y)))
 
   -- the type is named in attributes or tags of some type, or in the context of some action
   abbrev pub IsTypeInside : List ℕ → Type 0
-  IsTypeInside y = ((x : List ℕ) × IsSomeAnd (o.kind_at x) (λ k. IsTrue (kind_names k y))) ⊎ ((u : EntityUID) × IsSomeAnd (o.context_at u) (λ xs. IsTrue (attrs_name xs y)))
+  IsTypeInside y = ((x : List ℕ) × IsSomeAnd (o.kind_at x) (λ k. IsTrue (kind_names k y))) ⊎
+      ((u : EntityUID) × IsSomeAnd (o.context_at u) (λ xs. IsTrue (attrs_name xs y)))
 
   abbrev pub IsNamedType : List ℕ → Type 0
   IsNamedType y = IsListedType y ⊎ IsTypeInside y
 
   -- the extension type is named in attributes or tags of some type, or in the context of some action
   abbrev pub IsNamedExtension : List ℕ → Type 0
-  IsNamedExtension n = ((x : List ℕ) × IsSomeAnd (o.kind_at x) (λ k. IsTrue (kind_extends k n))) ⊎ ((u : EntityUID) × IsSomeAnd (o.context_at u) (λ xs. IsTrue (attrs_extend xs n)))
+  IsNamedExtension n = ((x : List ℕ) × IsSomeAnd (o.kind_at x) (λ k. IsTrue (kind_extends k n))) ⊎
+      ((u : EntityUID) × IsSomeAnd (o.context_at u) (λ xs. IsTrue (attrs_extend xs n)))
 
   -- the type is enumerated
   abbrev pub IsEnumType : List ℕ → Type 0
@@ -98,11 +101,13 @@ module _ (o : Outline) where
 
   -- a type at which a type is not listed that is listed at one that it lists
   abbrev pub IsOpenType : List ℕ → Type 0
-  IsOpenType x = (y : List ℕ) × (z : List ℕ) × IsTrue (o.type_lists x y) × IsTrue (o.type_lists y z) × (o.type_lists x z ≡ false)
+  IsOpenType x = (y : List ℕ) × (z : List ℕ) × IsTrue (o.type_lists x y) ×
+      IsTrue (o.type_lists y z) × (o.type_lists x z ≡ false)
 
   -- the same of actions
   abbrev pub IsOpenAction : EntityUID → Type 0
-  IsOpenAction u = (v : EntityUID) × (w : EntityUID) × IsTrue (o.action_lists u v) × IsTrue (o.action_lists v w) × (o.action_lists u w ≡ false)
+  IsOpenAction u = (v : EntityUID) × (w : EntityUID) × IsTrue (o.action_lists u v) ×
+      IsTrue (o.action_lists v w) × (o.action_lists u w ≡ false)
 
   -- an entity type in whose attributes or tags is a type that no schema holds
   abbrev pub IsBadType : List ℕ → Type 0
@@ -129,28 +134,33 @@ pub record HasSoundNames (o : Outline) : Type 0 where
   -- every action that is named is declared
   pub named_actions : (v : EntityUID) → IsNamedAction o v → IsTrue (o.has_action v)
 
--- what is listed is closed: at types and at actions stands whatever is listed at what is listed there; no action is listed at itself, and no enumerated
--- type at a type
+-- what is listed is closed: at types and at actions stands whatever is listed at what is listed there; no
+-- action is listed at itself, and no enumerated type at a type
 pub record IsClosed (o : Outline) : Type 0 where
-  pub types : (x y z : List ℕ) → IsTrue (o.type_lists x y) → IsTrue (o.type_lists y z) → IsTrue (o.type_lists x z)
-  pub actions : (u v w : EntityUID) → IsTrue (o.action_lists u v) → IsTrue (o.action_lists v w) → IsTrue (o.action_lists u w)
+  pub types : (x y z : List ℕ) → IsTrue (o.type_lists x y) →
+      IsTrue (o.type_lists y z) → IsTrue (o.type_lists x z)
+  pub actions : (u v w : EntityUID) → IsTrue (o.action_lists u v) →
+      IsTrue (o.action_lists v w) → IsTrue (o.action_lists u w)
   pub no_own : (u : EntityUID) → o.action_lists u u ≡ false
   pub no_enum : (x y : List ℕ) → IsTrue (o.type_lists x y) → IfSome (o.kind_at y) (λ k. is_enum k ≡ false)
 
 -- types inside keep their rules
 pub record HasSoundTypes (o : Outline) : Type 0 where
-  -- attributes and tags of every entity type, and the context of every action, are of types that a schema may hold
+  -- attributes and tags of every entity type, and the context of every action, are of types that a schema
+  -- may hold
   pub kinds : (x : List ℕ) → IfSome (o.kind_at x) (λ k. IsTrue (is_held_kind k))
   pub contexts : (u : EntityUID) → IfSome (o.context_at u) (λ xs. IsTrue (are_held xs))
   -- every extension type that is named is one of those that there are
   pub extensions : (n : List ℕ) → IsNamedExtension o n → IsTrue (is_known_extension n)
 
--- o declares what d declares, and lists at each type and action its members: what lists it in d, by one or more steps
+-- o declares what d declares, and lists at each type and action its members: what lists it in d, by one or
+-- more steps
 pub record HasDescendants (d o : Outline) : Type 0 where
   pub has_type : (x : List ℕ) → o.has_type x ≡ d.has_type x
   pub has_action : (u : EntityUID) → o.has_action u ≡ d.has_action u
   pub types : (x y : List ℕ) → IsTrue (o.type_lists x y) ↔ Reaches (λ a b. IsTrue (d.type_lists a b)) y x
-  pub actions : (u v : EntityUID) → IsTrue (o.action_lists u v) ↔ Reaches (λ a b. IsTrue (d.action_lists a b)) v u
+  pub actions : (u v : EntityUID) →
+      IsTrue (o.action_lists u v) ↔ Reaches (λ a b. IsTrue (d.action_lists a b)) v u
   pub principals : (u : EntityUID) (y : List ℕ) → o.principal_lists u y ≡ d.principal_lists u y
   pub resources : (u : EntityUID) (y : List ℕ) → o.resource_lists u y ≡ d.resource_lists u y
   pub kinds : (x : List ℕ) → o.kind_at x ≡ d.kind_at x

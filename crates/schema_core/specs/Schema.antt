@@ -1,6 +1,7 @@
 -- A schema as plain data: entity types and actions, each in ascending order of its names.
-use Rattle.std.specs.Prelude.{◌⊎◌, ℕ, Bool, false, List, Option, IsSome, IsTrue, IsSomeAnd, Contains, find, refl}
+use Rattle.std.specs.Prelude.{◌↔◌, ◌⊎◌, ℕ, Bool, false, List, Option, IsSome, IsTrue, IsSomeAnd, Contains, find, refl}
 use Rattle.std.specs.Coded.{Coded, coded×, coded_ℕ, coded_list, code_by}
+use Rattle.std.specs.BTreeSet.{BTreeSet}
 use Rattle.std.specs.Ordering.{is_eq}
 use Rattle.std.specs.Option.{option_map_or}
 use Rattle.policy_values.specs.Reaches.{has}
@@ -18,8 +19,8 @@ pub record TypeData : Type 0 where
   pub descendants : List (List ℕ)
   pub kind : Kind
 
--- an action: its id, the types of the principals and of the resources that it applies to, the actions that are in it, and the attributes of the
--- context that it is asked for in
+-- an action: its id, the types of the principals and of the resources that it applies to, the actions that
+-- are in it, and the attributes of the context that it is asked for in
 pub record ActionData : Type 0 where
   pub name : EntityUID
   pub principals : List (List ℕ)
@@ -49,7 +50,13 @@ coded_action =
     code_by (EntityUID × (List (List ℕ) × (List (List ℕ) × (List EntityUID × Attrs))))
     (coded× coded_uid (coded× coded_names (coded× coded_names (coded× (coded_list coded_uid) coded_attrs))))
     (λ a. (a.name, (a.principals, (a.resources, (a.descendants, a.context)))))
-    (λ p. record { name = p.0; principals = p.1.0; resources = p.1.1.0; descendants = p.1.1.1.0; context = p.1.1.1.1 })
+    (λ p. record {
+      name = p.0;
+      principals = p.1.0;
+      resources = p.1.1.0;
+      descendants = p.1.1.1.0;
+      context = p.1.1.1.1;
+    })
     (λ _. refl)
 
 abbrev pub coded_schema : Coded SchemaData
@@ -93,6 +100,17 @@ module _ (s : SchemaData) where
   -- the action `below` is in the action `uid`
   abbrev pub HasActionDescendant : EntityUID → EntityUID → Type 0
   HasActionDescendant uid below = IsSomeAnd (action_at uid) (λ a. Contains a.descendants below)
+
+  -- one of the actions is not declared
+  abbrev pub HasUndeclaredAction : List EntityUID → Type 0
+  HasUndeclaredAction uids = (u : EntityUID) × Contains uids u × (¬ IsDeclaredAction u)
+
+  -- the actions are declared, and the set has exactly them and their descendants
+  abbrev pub AreActionsInSet : List EntityUID → BTreeSet EntityUID → Type 0
+  AreActionsInSet uids actions =
+      ((u : EntityUID) → Contains uids u → IsDeclaredAction u)
+      × ((q : EntityUID) → Contains actions.keys q ↔
+      (Contains uids q ⊎ ((u : EntityUID) × Contains uids u × HasActionDescendant u q)))
 
   -- the same, as tests: the type, the action, is among the descendants of the other
   abbrev pub type_below : List ℕ → List ℕ → Bool

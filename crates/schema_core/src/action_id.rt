@@ -7,8 +7,8 @@ use std::alloc::{AllocError, Global};
 use std::collections::BTreeSet;
 use std::marker::Model;
 
-/// An action: the types of the principals and of the resources that it applies to, its descendants, the actions that are in it, and the
-/// attributes of the contexts in which it is asked for.
+/// An action: the types of the principals and of the resources that it applies to, its descendants, the
+/// actions that are in it, and the attributes of the contexts in which it is asked for.
 #[derive(Debug, Drop)]
 pub struct ValidatorActionId {
     pub(crate) name: EntityUID,
@@ -28,9 +28,16 @@ impl Model for ValidatorActionId {
     ghost use Rattle.std.specs.BTreeSet.{IsOrdered};
     ghost use Rattle.policy_values.specs.Uid.{text_cmp, uid_cmp};
 
-    ghost view = { λ a. record { name = a.name; principals = a.principals.keys; resources = a.resources.keys; descendants = a.descendants.keys; context = a.context } };
+    ghost view = { λ a. record {
+      name = a.name;
+      principals = a.principals.keys;
+      resources = a.resources.keys;
+      descendants = a.descendants.keys;
+      context = a.context;
+    } };
 
-    ghost invariant = { λ a. IsOrdered text_cmp a.principals × IsOrdered text_cmp a.resources × IsOrdered uid_cmp a.descendants };
+    ghost invariant = { λ a. IsOrdered text_cmp a.principals ×
+        IsOrdered text_cmp a.resources × IsOrdered uid_cmp a.descendants };
 }
 
 impl ValidatorActionId {
@@ -42,8 +49,8 @@ impl ValidatorActionId {
     ghost use Rattle.schema_types.specs.declared.kinds.OpenTag.TheVariants.{ClosedAttributes};
     ghost use Rattle.schema_core.specs.Faults.{HasSets};
 
-    /// The action with these types and descendants, and contexts with these attributes and no others. What is listed more
-    /// than once is kept once.
+    /// The action with these types and descendants, and contexts with these attributes and no others. What is
+    /// listed more than once is kept once.
     pub fn new(
         alloc: Global,
         name: EntityUID,
@@ -53,9 +60,12 @@ impl ValidatorActionId {
         context: Attributes,
     ) -> Result<ValidatorActionId, AllocError>
         ensures name { IfOk result (λ a. a.name ≡ name) }
-        ensures principals { IfOk result (λ a. (q : List ℕ) → Contains a.principals q ↔ Contains principals.items q) }
-        ensures resources { IfOk result (λ a. (q : List ℕ) → Contains a.resources q ↔ Contains resources.items q) }
-        ensures descendants { IfOk result (λ a. (q : EntityUID) → Contains a.descendants q ↔ Contains descendants.items q) }
+        ensures principals { IfOk result
+            (λ a. (q : List ℕ) → Contains a.principals q ↔ Contains principals.items q) }
+        ensures resources { IfOk result
+            (λ a. (q : List ℕ) → Contains a.resources q ↔ Contains resources.items q) }
+        ensures descendants { IfOk result
+            (λ a. (q : EntityUID) → Contains a.descendants q ↔ Contains descendants.items q) }
         ensures ascending { IfOk result HasSets }
         ensures context { IfOk result (λ a. a.context ≡ context) }
     {

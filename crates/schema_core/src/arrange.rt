@@ -42,7 +42,8 @@ pub fn arranged_actions(
     requires actions { HasAscending uid_cmp uid_cmp actions.now.entries }
     requires principals { HasAscending uid_cmp text_cmp principals.now.entries }
     requires resources { HasAscending uid_cmp text_cmp resources.now.entries }
-    ensures each { IfOk result (λ list. list.items ≡ map (arranged_action actions.now.entries principals.now.entries resources.now.entries) contexts.entries) }
+    ensures each { IfOk result (λ list. list.items ≡ map
+        (arranged_action actions.now.entries principals.now.entries resources.now.entries) contexts.entries) }
     ensures ordered { IfOk result (λ _. IsOrdered uid_cmp contexts) }
 {
     let mut list = Vec::new(alloc);

@@ -17,7 +17,8 @@ use policy_values::{EntityType, EntityUID, Name, least_outside, least_unlisted, 
 
 /// The first rule about names that is broken.
 pub fn check_names(listing: &Listing) -> Result<(), SchemaFault>
-    ensures { MatchResult result (λ _. HasSoundNames (listed_outline listing.now)) (IsNameFault (listed_outline listing.now)) }
+    ensures { MatchResult result (λ _. HasSoundNames (listed_outline listing.now))
+        (IsNameFault (listed_outline listing.now)) }
 {
     if let Some(name) = first_action_type(listing) {
         return Err(SchemaFault::ActionTypeDeclared(name.clone()?));
@@ -39,7 +40,8 @@ pub fn check_names(listing: &Listing) -> Result<(), SchemaFault>
 
 /// The first rule about types inside that is broken.
 pub fn check_types(listing: &Listing) -> Result<(), SchemaFault>
-    ensures { MatchResult result (λ _. HasSoundTypes (listed_outline listing.now)) (IsTypeFault (listed_outline listing.now)) }
+    ensures { MatchResult result (λ _. HasSoundTypes (listed_outline listing.now))
+        (IsTypeFault (listed_outline listing.now)) }
 {
     if let Some(name) = first_bad_type(listing) {
         return Err(SchemaFault::BadType(name.clone()?));
@@ -55,7 +57,8 @@ pub fn check_types(listing: &Listing) -> Result<(), SchemaFault>
 
 // The least type that has the basename of actions.
 fn first_action_type(listing: &Listing) -> Option<&EntityType>
-    ensures { IsLeastIfAny text_cmp (IsDeclaredActionType (listed_outline listing.now)) (option_copied result) }
+    ensures { IsLeastIfAny text_cmp
+        (IsDeclaredActionType (listed_outline listing.now)) (option_copied result) }
 {
     for name in listing.types.keys() {
         if name.is_action() {
@@ -102,7 +105,9 @@ fn least_undeclared(listing: &Listing) -> Option<&EntityType>
 
 // The same of those that are named in types.
 fn undeclared_inside(listing: &Listing) -> Option<&EntityType>
-    ensures { IsLeastIfAny text_cmp (λ q. ((listed_outline listing.now).has_type q ≡ false) × IsTypeInside (listed_outline listing.now) q) (option_copied result) }
+    ensures { IsLeastIfAny text_cmp
+        (λ q. ((listed_outline listing.now).has_type q ≡ false) × IsTypeInside (listed_outline listing.now) q)
+        (option_copied result) }
 {
     let mut low = None;
     for (_, kind) in &listing.kinds {

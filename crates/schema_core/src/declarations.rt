@@ -31,15 +31,16 @@ impl TypeDeclaration {
     ghost use Rattle.std.specs.Prelude.{◌≡◌, [], IfOk};
     ghost use Rattle.schema_core.specs.Kinds.{standard, enumerated, firsts};
 
-    /// Declares a type a member of others, and its entities to have these attributes and tags of this type; no tags,
-    /// where there is none. A type may be listed more than once.
+    /// Declares a type a member of others, and its entities to have these attributes and tags of this type;
+    /// no tags, where there is none. A type may be listed more than once.
     pub fn standard(
         name: EntityType,
         member_of: Vec<EntityType>,
         attributes: Attributes,
         tags: Option<Type>,
     ) -> TypeDeclaration
-        ensures { result ≡ record { name = name; member_of = member_of.items; kind = standard attributes tags } }
+        ensures { result ≡
+            record { name = name; member_of = member_of.items; kind = standard attributes tags } }
     {
         let kind = ValidatorEntityTypeKind::Standard { attributes, tags };
         TypeDeclaration {
@@ -49,14 +50,15 @@ impl TypeDeclaration {
         }
     }
 
-    /// Declares a type whose entities are those with these ids. An id that is listed more than once is kept at its first
-    /// place.
+    /// Declares a type whose entities are those with these ids. An id that is listed more than once is kept
+    /// at its first place.
     pub fn enumerated(
         alloc: Global,
         name: EntityType,
         choices: Vec<Eid>,
     ) -> Result<TypeDeclaration, AllocError>
-        ensures { IfOk result (λ t. t ≡ record { name = name; member_of = []; kind = enumerated (firsts choices.items) }) }
+        ensures { IfOk result
+            (λ t. t ≡ record { name = name; member_of = []; kind = enumerated (firsts choices.items) }) }
     {
         let kind = ValidatorEntityTypeKind::Enum(firsts_of(alloc, choices)?);
         Ok(TypeDeclaration {
@@ -67,8 +69,8 @@ impl TypeDeclaration {
     }
 }
 
-/// The declaration of an action, with the types of the principals and of the resources that it applies to, the actions that it is a member of, and
-/// the attributes of its contexts.
+/// The declaration of an action, with the types of the principals and of the resources that it applies to,
+/// the actions that it is a member of, and the attributes of its contexts.
 #[derive(Debug, Drop)]
 pub struct ActionDeclaration {
     pub(crate) id: EntityUID,
@@ -85,13 +87,20 @@ impl Model for ActionDeclaration {
 
     ghost coded = { coded_action_entry };
 
-    ghost view = { λ a. record { id = a.id; principals = a.principals.items; resources = a.resources.items; member_of = a.member_of.items; context = a.context } };
+    ghost view = { λ a. record {
+      id = a.id;
+      principals = a.principals.items;
+      resources = a.resources.items;
+      member_of = a.member_of.items;
+      context = a.context;
+    } };
 }
 
 impl ActionDeclaration {
     ghost use Rattle.std.specs.Prelude.{◌≡◌};
 
-    /// Declares an action, and its contexts to have these attributes. What is listed may be listed more than once.
+    /// Declares an action, and its contexts to have these attributes. What is listed may be listed more
+    /// than once.
     pub fn new(
         id: EntityUID,
         principals: Vec<EntityType>,
@@ -99,7 +108,13 @@ impl ActionDeclaration {
         member_of: Vec<EntityUID>,
         context: Attributes,
     ) -> ActionDeclaration
-        ensures { result ≡ record { id = id; principals = principals.items; resources = resources.items; member_of = member_of.items; context = context } }
+        ensures { result ≡ record {
+          id = id;
+          principals = principals.items;
+          resources = resources.items;
+          member_of = member_of.items;
+          context = context;
+        } }
     {
         ActionDeclaration {
             id,

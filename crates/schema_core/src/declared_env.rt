@@ -5,7 +5,8 @@ ghost use Rattle.schema_core.specs.RequestEnvs.{environment_of};
 
 use policy_values::{EntityType, EntityUID};
 
-/// An environment in which a policy is looked at: an action, and a principal type and a resource type that it applies to.
+/// An environment in which a policy is looked at: an action, and a principal type and a resource type that it
+/// applies to.
 #[derive(Clone, Copy, Debug, PartialEq, Eq)]
 pub struct DeclaredEnv<'a> {
     /// The type of the principal.

@@ -46,8 +46,8 @@ impl ValidatorEntityType {
     ghost use Rattle.schema_core.specs.Kinds.{standard, enumerated, firsts, attributes_in, tags_in};
     ghost use Rattle.schema_core.specs.KindView.{kind_of};
 
-    /// The type with these descendants, whose entities have these attributes and tags. A type that is listed more than
-    /// once is one descendant.
+    /// The type with these descendants, whose entities have these attributes and tags. A type that is listed
+    /// more than once is one descendant.
     pub fn new_standard(
         alloc: Global,
         name: EntityType,
@@ -56,7 +56,8 @@ impl ValidatorEntityType {
         tags: Option<Type>,
     ) -> Result<ValidatorEntityType, AllocError>
         ensures name { IfOk result (λ t. t.name ≡ name) }
-        ensures descendants { IfOk result (λ t. (q : List ℕ) → Contains t.descendants q ↔ Contains descendants.items q) }
+        ensures descendants { IfOk result
+            (λ t. (q : List ℕ) → Contains t.descendants q ↔ Contains descendants.items q) }
         ensures ascending { IfOk result (λ t. IsStrictlySortedBy text_cmp t.descendants) }
         ensures kind { IfOk result (λ t. t.kind ≡ standard attributes tags) }
     {
@@ -64,8 +65,8 @@ impl ValidatorEntityType {
         ValidatorEntityType::of_kind(alloc, name, descendants, kind)
     }
 
-    /// The enumerated type with these descendants, whose entities are those with these ids. An id that is listed more
-    /// than once is kept at its first place.
+    /// The enumerated type with these descendants, whose entities are those with these ids. An id that is
+    /// listed more than once is kept at its first place.
     pub fn new_enum(
         alloc: Global,
         name: EntityType,
@@ -73,7 +74,8 @@ impl ValidatorEntityType {
         choices: Vec<Eid>,
     ) -> Result<ValidatorEntityType, AllocError>
         ensures name { IfOk result (λ t. t.name ≡ name) }
-        ensures descendants { IfOk result (λ t. (q : List ℕ) → Contains t.descendants q ↔ Contains descendants.items q) }
+        ensures descendants { IfOk result
+            (λ t. (q : List ℕ) → Contains t.descendants q ↔ Contains descendants.items q) }
         ensures ascending { IfOk result (λ t. IsStrictlySortedBy text_cmp t.descendants) }
         ensures kind { IfOk result (λ t. t.kind ≡ enumerated (firsts choices.items)) }
     {
@@ -88,7 +90,8 @@ impl ValidatorEntityType {
         kind: ValidatorEntityTypeKind,
     ) -> Result<ValidatorEntityType, AllocError>
         ensures name { IfOk result (λ t. t.name ≡ name) }
-        ensures descendants { IfOk result (λ t. (q : List ℕ) → Contains t.descendants q ↔ Contains descendants.items q) }
+        ensures descendants { IfOk result
+            (λ t. (q : List ℕ) → Contains t.descendants q ↔ Contains descendants.items q) }
         ensures ascending { IfOk result (λ t. IsStrictlySortedBy text_cmp t.descendants) }
         ensures kind { IfOk result (λ t. t.kind ≡ kind_of kind) }
     {
@@ -104,7 +107,8 @@ impl ValidatorEntityType {
         kind: ValidatorEntityTypeKind,
     ) -> Result<ValidatorEntityType, AllocError>
         requires { IsOrdered text_cmp descendants }
-        ensures { IfOk result (λ t. t ≡ record { name = name; descendants = descendants.keys; kind = kind_of kind }) }
+        ensures { IfOk result
+            (λ t. t ≡ record { name = name; descendants = descendants.keys; kind = kind_of kind }) }
     {
         let no_attributes = Attributes::with_attributes(alloc, BTreeMap::new(alloc))?;
         Ok(ValidatorEntityType {

@@ -4,7 +4,8 @@ use policy_values::{EntityType, EntityUID, Name};
 use std::alloc::AllocError;
 use thiserror::Error;
 
-/// Why there is no schema: the first rule that is broken, and the least name or id that breaks it. The rules have the order of the variants.
+/// Why there is no schema: the first rule that is broken, and the least name or id that breaks it. The rules
+/// have the order of the variants.
 #[derive(Debug, Drop, Error)]
 pub enum SchemaFault {
     /// The action is declared twice.
@@ -37,8 +38,9 @@ pub enum SchemaFault {
     /// The action has a descendant whose descendants are not all its own.
     #[error("descendants of an action are not transitive")]
     ActionNotClosed(EntityUID),
-    /// The attributes or tags of the entity type hold a type that no schema has: one of no value, of one boolean, of any entity, of an
-    /// action, of the entities of several types, of sets of anything, or of records that may have other attributes.
+    /// The attributes or tags of the entity type hold a type that no schema has: one of no value, of one
+    /// boolean, of any entity, of an action, of the entities of several types, of sets of anything, or of
+    /// records that may have other attributes.
     #[error("attributes or tags hold a type that no schema has")]
     BadType(EntityType),
     /// The context of the action holds such a type.

@@ -20,7 +20,9 @@ pub fn undeclared_in_kind<'a>(
     types: &SharedSteps<EntityType>,
     kind: &'a ValidatorEntityTypeKind,
 ) -> Option<&'a EntityType>
-    ensures { option_copied result ≡ lowest_of (undeclared_next (λ n. is_some (at text_cmp types.now.entries n))) (option_copied low.entry) (kind_of kind.now) }
+    ensures { option_copied result ≡
+        lowest_of (undeclared_next (λ n. is_some (at text_cmp types.now.entries n)))
+        (option_copied low.entry) (kind_of kind.now) }
 {
     match kind {
         ValidatorEntityTypeKind::Standard {
@@ -42,7 +44,8 @@ pub fn undeclared_in<'a>(
     types: &SharedSteps<EntityType>,
     a: &'a Attributes,
 ) -> Option<&'a EntityType>
-    ensures { option_copied result ≡ lowest_within (undeclared_next (λ n. is_some (at text_cmp types.now.entries n))) (option_copied low.entry) a.now }
+    ensures { option_copied result ≡ lowest_within
+        (undeclared_next (λ n. is_some (at text_cmp types.now.entries n))) (option_copied low.entry) a.now }
 {
     let mut low = low;
     for (_, x) in a.entries().iter() {
@@ -58,7 +61,8 @@ fn undeclared_in_type<'a>(
     types: &SharedSteps<EntityType>,
     t: &'a Type,
 ) -> Option<&'a EntityType>
-    ensures { option_copied result ≡ lowest_inside (undeclared_next (λ n. is_some (at text_cmp types.now.entries n))) (option_copied low.entry) t.now }
+    ensures { option_copied result ≡ lowest_inside
+        (undeclared_next (λ n. is_some (at text_cmp types.now.entries n))) (option_copied low.entry) t.now }
 {
     match t.kind() {
         TypeKind::Set {
@@ -75,7 +79,9 @@ fn undeclared_in_part<'a>(
     types: &SharedSteps<EntityType>,
     k: &'a EntityRecordKind,
 ) -> Option<&'a EntityType>
-    ensures { option_copied result ≡ lowest_inside (undeclared_next (λ n. is_some (at text_cmp types.now.entries n))) (option_copied low.entry) (part_of k.now) }
+    ensures { option_copied result ≡
+        lowest_inside (undeclared_next (λ n. is_some (at text_cmp types.now.entries n)))
+        (option_copied low.entry) (part_of k.now) }
 {
     match k {
         EntityRecordKind::Record { attrs, .. } => undeclared_in(low, types, attrs),
@@ -90,7 +96,8 @@ fn undeclared_among<'a>(
     types: &SharedSteps<EntityType>,
     lub: &'a EntityLUB,
 ) -> Option<&'a EntityType>
-    ensures { option_copied result ≡ lowest_names (λ n. is_some (at text_cmp types.now.entries n)) (option_copied low.entry) lub.now }
+    ensures { option_copied result ≡
+        lowest_names (λ n. is_some (at text_cmp types.now.entries n)) (option_copied low.entry) lub.now }
 {
     let mut low = low;
     for name in lub.iter() {

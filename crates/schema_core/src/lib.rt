@@ -1,5 +1,5 @@
-//! Schemas: which entity types and actions there are and how they are declared, what is in what, which attributes there are,
-//! which requests an action applies to, and the rules that a schema keeps.
+//! Schemas: which entity types and actions there are and how they are declared, what is in what, which
+//! attributes there are, which requests an action applies to, and the rules that a schema keeps.
 #![tactic(auto)]
 
 mod action_id;

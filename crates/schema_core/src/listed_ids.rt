@@ -27,7 +27,8 @@ impl Model for ListedIds {
     ghost use Rattle.policy_values.specs.Reaches.{has};
     ghost use Rattle.policy_values.specs.Uid.{text_cmp};
 
-    ghost invariant = { λ l. IsOrdered text_cmp l.ascending × ((q : List ℕ) → has text_cmp l.ascending.keys q ≡ has text_cmp l.declared.items q) };
+    ghost invariant = { λ l. IsOrdered text_cmp l.ascending ×
+        ((q : List ℕ) → has text_cmp l.ascending.keys q ≡ has text_cmp l.declared.items q) };
 }
 
 impl ListedIds {

@@ -1,4 +1,5 @@
-// Types and actions under their names, each with what is listed at it: descendants, or what it is a member of.
+// Types and actions under their names, each with what is listed at it: descendants, or what it is a
+// member of.
 ghost use Rattle.std.specs.Prelude.{◌≡◌, [], map, IfOk, OnOk};
 ghost use Rattle.schema_core.specs.Schema.{SchemaData, made_of};
 ghost use Rattle.schema_core.specs.Outline.{outline_of, HasSoundNames, HasSoundTypes, IsClosed};
@@ -63,7 +64,8 @@ impl Listing {
         requires closed { IsClosed (listed_outline self) }
         requires types { HasSoundTypes (listed_outline self) }
         requires listing { IsListing self }
-        ensures { IfOk result (λ parts. IsSchema (made_of parts.0.items parts.1.items) × (outline_of (made_of parts.0.items parts.1.items) ≡ listed_outline self)) }
+        ensures { IfOk result (λ parts. IsSchema (made_of parts.0.items parts.1.items) ×
+            (outline_of (made_of parts.0.items parts.1.items) ≡ listed_outline self)) }
     {
         let Listing {
             types,
@@ -87,7 +89,9 @@ pub fn listed(
 ) -> Result<Listing, AllocError>
     requires types { IsOnce (map (λ t. t.name) entity_types.items) }
     requires actions { IsOnce (map (λ a. a.name) action_ids.items) }
-    ensures outline { let given : SchemaData = record { entity_types = entity_types.items; action_ids = action_ids.items } in IfOk result (λ l. listed_outline l ≡ outline_of given) }
+    ensures outline { let given : SchemaData =
+        record { entity_types = entity_types.items; action_ids = action_ids.items } in
+        IfOk result (λ l. listed_outline l ≡ outline_of given) }
     ensures listing { IfOk result IsListing }
 {
     let mut listing = listed_types(alloc, entity_types)?;
@@ -154,7 +158,8 @@ fn listed_types(
     entity_types: Vec<ValidatorEntityType>,
 ) -> Result<Listing, AllocError>
     requires { IsOnce (map (λ t. t.name) entity_types.items) }
-    ensures { let given : SchemaData = record { entity_types = entity_types.items; action_ids = [] } in IfOk result (ListsTypes (outline_of given)) }
+    ensures { let given : SchemaData = record { entity_types = entity_types.items; action_ids = [] } in
+        IfOk result (ListsTypes (outline_of given)) }
 {
     let mut listing = empty(alloc);
     for entity_type in entity_types {
@@ -172,7 +177,8 @@ fn listed_types(
 // The types with what they are members of.
 fn declared_types(alloc: Global, entity_types: Vec<TypeDeclaration>) -> Result<Listing, AllocError>
     requires { IsOnce (map (λ t. t.name) entity_types.items) }
-    ensures { let given : Declarations = record { entity_types = entity_types.items; actions = [] } in IfOk result (ListsTypes (declared_outline given)) }
+    ensures { let given : Declarations = record { entity_types = entity_types.items; actions = [] } in
+        IfOk result (ListsTypes (declared_outline given)) }
 {
     let mut listing = empty(alloc);
     for entity_type in entity_types {

@@ -9,8 +9,8 @@ use schema_types::{Attributes, Type};
 use std::alloc::{AllocError, Global};
 use std::collections::BTreeMap;
 
-/// The type of an id that stands in a policy: that of the actions of its type, where it is a declared action; else that of the
-/// entities of its type, where the type is declared; else none.
+/// The type of an id that stands in a policy: that of the actions of its type, where it is a declared action;
+/// else that of the entities of its type, where the type is declared; else none.
 pub fn euid_literal(
     alloc: Global,
     uid: &EntityUID,

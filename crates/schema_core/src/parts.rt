@@ -2,8 +2,8 @@
 
 ghost use Rattle.std.specs.Prelude.{◌≡◌, map, IfOk, MatchResult};
 ghost use Rattle.schema_core.specs.Schema.{made_of};
-ghost use Rattle.schema_core.specs.Outline.{outline_of, HasSoundNames, HasDescendants};
-ghost use Rattle.schema_core.specs.Faults.{IsOnce, IsSchema, IsRefusedData};
+ghost use Rattle.schema_core.specs.Outline.{HasSoundNames, HasDescendants};
+ghost use Rattle.schema_core.specs.Faults.{IsOnce, IsSchemaOfData, IsRefusedData};
 ghost use Rattle.schema_core.specs.Declarations.{IsSchemaOf, IsRefused};
 ghost use Rattle.schema_core.specs.Listing.{listed_outline, IsListing};
 
@@ -20,7 +20,8 @@ pub fn schema_parts(
     action_ids: Vec<ValidatorActionId>,
 ) -> Result<SchemaParts, SchemaFault>
     requires { IsOnce (map (λ t. t.name) entity_types.items) }
-    ensures { MatchResult result (λ parts. IsSchema (made_of parts.0.items parts.1.items) × (outline_of (made_of parts.0.items parts.1.items) ≡ outline_of (made_of entity_types.items action_ids.items)))
+    ensures { MatchResult result
+        (λ p. IsSchemaOfData (made_of entity_types.items action_ids.items) (made_of p.0.items p.1.items))
         (IsRefusedData (made_of entity_types.items action_ids.items)) }
 {
     let ids = ids_of(alloc, &action_ids)?;
@@ -45,14 +46,15 @@ pub fn schema_parts(
     Ok(listing.arranged(alloc)?)
 }
 
-/// The types and actions that a document declares, where they keep the rules: descendants are all members, by one or more
-/// steps.
+/// The types and actions that a document declares, where they keep the rules: descendants are all members, by
+/// one or more steps.
 pub fn declared_parts(
     alloc: Global,
     declarations: SchemaDeclarations,
 ) -> Result<SchemaParts, SchemaFault>
     requires { IsOnce (map (λ t. t.name) declarations.entity_types) }
-    ensures { MatchResult result (λ parts. IsSchemaOf declarations (made_of parts.0.items parts.1.items)) (IsRefused declarations) }
+    ensures { MatchResult result (λ parts. IsSchemaOf declarations (made_of parts.0.items parts.1.items))
+        (IsRefused declarations) }
 {
     let ids = declared_ids(alloc, &declarations)?;
     if let Some(uid) = least_repeated(alloc, &ids)? {
@@ -100,7 +102,8 @@ fn declared_ids(
 fn with_descendants(alloc: Global, listing: Listing) -> Result<Listing, AllocError>
     requires names { HasSoundNames (listed_outline listing) }
     requires listing { IsListing listing }
-    ensures descendants { IfOk result (λ members. HasDescendants (listed_outline listing) (listed_outline members)) }
+    ensures descendants { IfOk result
+        (λ members. HasDescendants (listed_outline listing) (listed_outline members)) }
     ensures listing { IfOk result IsListing }
 {
     let types = descendants_of(alloc, &listing.types)?;

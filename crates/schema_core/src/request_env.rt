@@ -36,7 +36,8 @@ pub enum RequestEnv<'a> {
 }
 
 impl<'a> RequestEnv<'a> {
-    /// The types of a request's principal and resource, and its action; none exactly where the action is not declared.
+    /// The types of a request's principal and resource, and its action; none exactly where the action is not
+    /// declared.
     pub fn to_request_type(&self) -> Result<Option<RequestType>, AllocError>
         ensures { IfOk result (λ t. t ≡ request_type_in (env_data_of self.now)) }
     {
@@ -85,8 +86,8 @@ impl<'a> RequestEnv<'a> {
         }
     }
 
-    /// The type of the action, none where the schema does not declare its id; that of all entities, where the action is not
-    /// declared.
+    /// The type of the action, none where the schema does not declare its id; that of all entities, where the
+    /// action is not declared.
     pub fn action_type(
         &self,
         alloc: Global,
@@ -120,8 +121,8 @@ impl<'a> RequestEnv<'a> {
         }
     }
 
-    /// The type of the context: records with its attributes and no others; that of all records, where the action is not
-    /// declared.
+    /// The type of the context: records with its attributes and no others; that of all records, where the
+    /// action is not declared.
     pub fn context_type(&self, alloc: Global) -> Result<Type, AllocError>
         ensures { IfOk result (λ t. t ≡ context_type_in (env_data_of self.now)) }
     {
@@ -134,7 +135,8 @@ impl<'a> RequestEnv<'a> {
         }
     }
 
-    /// The type of what stands for the principal's slot; none where there is no such slot or the action is not declared.
+    /// The type of what stands for the principal's slot; none where there is no such slot or the action is
+    /// not declared.
     pub fn principal_slot(&self) -> Option<&'a EntityType>
         ensures { option_copied result ≡ principal_slot_in (env_data_of self.now) }
     {
@@ -144,7 +146,8 @@ impl<'a> RequestEnv<'a> {
         }
     }
 
-    /// The type of what stands for the resource's slot; none where there is no such slot or the action is not declared.
+    /// The type of what stands for the resource's slot; none where there is no such slot or the action is not
+    /// declared.
     pub fn resource_slot(&self) -> Option<&'a EntityType>
         ensures { option_copied result ≡ resource_slot_in (env_data_of self.now) }
     {
@@ -168,7 +171,8 @@ pub fn add_environments<'a>(
     envs: &mut Vec<RequestEnv<'a>>,
     action: &'a ValidatorActionId,
 ) -> Result<(), AllocError>
-    ensures { OnOk result (map env_data_of envs.new.items ≡ map env_data_of envs.old.items ++ unlinked_of action.now) }
+    ensures { OnOk result (map env_data_of envs.new.items ≡
+        map env_data_of envs.old.items ++ unlinked_of action.now) }
 {
     for principal in action.applies_to_principals() {
         add_resources(envs, action, principal)?;
@@ -182,7 +186,8 @@ fn add_resources<'a>(
     action: &'a ValidatorActionId,
     principal: &'a EntityType,
 ) -> Result<(), AllocError>
-    ensures { OnOk result (map env_data_of envs.new.items ≡ map env_data_of envs.old.items ++ map (unlinked action.now) (environments_at action.now principal.now)) }
+    ensures { OnOk result (map env_data_of envs.new.items ≡ map env_data_of envs.old.items ++
+        map (unlinked action.now) (environments_at action.now principal.now)) }
 {
     for resource in action.applies_to_resources() {
         envs.push(RequestEnv::DeclaredAction {

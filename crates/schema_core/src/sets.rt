@@ -24,7 +24,8 @@ pub fn set_of<K: Key>(alloc: Global, keys: Vec<K>) -> Result<BTreeSet<K>, AllocE
 /// Adds the keys of another set.
 pub fn add_all<K: Key>(set: &mut BTreeSet<K>, keys: &BTreeSet<K>) -> Result<(), AllocError>
     requires { IsOrdered K.cmp set.old }
-    ensures has { OnOk result ((q : K) → has K.cmp set.new.keys q ≡ (has K.cmp set.old.keys q || has K.cmp keys.now.keys q)) }
+    ensures has { OnOk result ((q : K) →
+        has K.cmp set.new.keys q ≡ (has K.cmp set.old.keys q || has K.cmp keys.now.keys q)) }
     ensures ordered { OnOk result (IsOrdered K.cmp set.new) }
 {
     for key in keys {

@@ -40,7 +40,8 @@ impl Model for ValidatorSchema {
 
     ghost view = { λ s. record { entity_types = s.entity_types.items; action_ids = s.action_ids.items } };
 
-    ghost invariant = { λ s. IsSchema record { entity_types = s.entity_types.items; action_ids = s.action_ids.items } };
+    ghost invariant = { λ s. IsSchema
+        record { entity_types = s.entity_types.items; action_ids = s.action_ids.items } };
 }
 
 ghost use Rattle.std.specs.Prelude.{◌≡◌, ◌↔◌, ◌⊎◌, ℕ, List, map, option_map, IfOk, IfSome, IsTrue, MatchResult, MatchOption, Contains};
@@ -48,9 +49,8 @@ ghost use Rattle.std.specs.Option.{option_copied};
 ghost use Rattle.std.specs.BTreeSet.{IsOrdered};
 ghost use Rattle.policy_values.specs.declared.entity_uid.EntityUID.{EntityUID};
 ghost use Rattle.policy_values.specs.Uid.{text_cmp, uid_cmp};
-ghost use Rattle.schema_core.specs.Schema.{SchemaData, type_at, action_at, IsKnownType, IsDeclaredAction, HasTypeDescendant, HasActionDescendant};
-ghost use Rattle.schema_core.specs.Outline.{outline_of};
-ghost use Rattle.schema_core.specs.Faults.{IsOnce, IsSchema, IsRefusedData};
+ghost use Rattle.schema_core.specs.Schema.{made_of, type_at, action_at, IsKnownType, IsDeclaredAction, HasTypeDescendant, HasActionDescendant, HasUndeclaredAction, AreActionsInSet};
+ghost use Rattle.schema_core.specs.Faults.{IsOnce, IsSchema, IsSchemaOfData, IsRefusedData};
 ghost use Rattle.schema_core.specs.Declarations.{IsSchemaOf, IsRefused};
 ghost use Rattle.schema_core.specs.EnvData.{unlinked_envs};
 ghost use Rattle.schema_core.specs.RequestEnvs.{env_data_of};
@@ -63,8 +63,8 @@ impl ValidatorSchema {
         action_ids: Vec<ValidatorActionId>,
     ) -> Result<ValidatorSchema, SchemaFault>
         requires { IsOnce (map (λ t. t.name) entity_types.items) }
-        ensures { let given : SchemaData = record { entity_types = entity_types.items; action_ids = action_ids.items } in
-            MatchResult result (λ schema. IsSchema schema × (outline_of schema ≡ outline_of given)) (IsRefusedData given) }
+        ensures { MatchResult result (IsSchemaOfData (made_of entity_types.items action_ids.items))
+            (IsRefusedData (made_of entity_types.items action_ids.items)) }
     {
         match schema_parts(alloc, entity_types, action_ids) {
             Ok((entity_types, action_ids)) => Ok(ValidatorSchema {
@@ -128,7 +128,8 @@ impl ValidatorSchema {
         }
     }
 
-    /// The attributes of the contexts in which the action is asked for; none exactly where the action is not declared.
+    /// The attributes of the contexts in which the action is asked for; none exactly where the action is not
+    /// declared.
     pub fn context_type(&self, uid: &EntityUID) -> Option<&Attributes>
         ensures { option_copied result ≡ option_map (λ a. a.context) (action_at self.now uid.now) }
     {
@@ -168,7 +169,8 @@ impl ValidatorSchema {
         alloc: Global,
         entity: &EntityUID,
     ) -> Result<BTreeSet<EntityType>, AllocError>
-        ensures types { IfOk result (λ types. (q : List ℕ) → Contains types.keys q ↔ ((q ≡ entity.now.entity_type) ⊎ HasTypeDescendant self.now entity.now.entity_type q)) }
+        ensures types { IfOk result (λ types. (q : List ℕ) → Contains types.keys q ↔
+            ((q ≡ entity.now.entity_type) ⊎ HasTypeDescendant self.now entity.now.entity_type q)) }
         ensures ascending { IfOk result (IsOrdered text_cmp) }
     {
         let mut types = match self.get_entity_type(&entity.entity_type) {
@@ -185,9 +187,8 @@ impl ValidatorSchema {
         alloc: Global,
         uids: &[EntityUID],
     ) -> Result<Option<BTreeSet<EntityUID>>, AllocError>
-        ensures actions { IfOk result (λ found. MatchOption found
-            ((u : EntityUID) × Contains uids.now u × (¬ IsDeclaredAction self.now u))
-            (λ actions. ((u : EntityUID) → Contains uids.now u → IsDeclaredAction self.now u) × ((q : EntityUID) → Contains actions.keys q ↔ (Contains uids.now q ⊎ ((u : EntityUID) × Contains uids.now u × HasActionDescendant self.now u q))))) }
+        ensures actions { IfOk result (λ found.
+            MatchOption found (HasUndeclaredAction self.now uids.now) (AreActionsInSet self.now uids.now)) }
         ensures ascending { IfOk result (λ found. IfSome found (IsOrdered uid_cmp)) }
     {
         let mut actions = BTreeSet::new(alloc);
@@ -207,7 +208,8 @@ impl ValidatorSchema {
         alloc: Global,
         uid: &EntityUID,
     ) -> Result<BTreeSet<EntityUID>, AllocError>
-        ensures actions { IfOk result (λ actions. (q : EntityUID) → Contains actions.keys q ↔ HasActionDescendant self.now q uid.now) }
+        ensures actions { IfOk result (λ actions. (q : EntityUID) →
+            Contains actions.keys q ↔ HasActionDescendant self.now q uid.now) }
         ensures ascending { IfOk result (IsOrdered uid_cmp) }
     {
         let mut ancestors = BTreeSet::new(alloc);
@@ -219,8 +221,8 @@ impl ValidatorSchema {
         Ok(ancestors)
     }
 
-    /// Every action with each of its principal types and each of its resource types, ascending in this order, each with the
-    /// action's context and without slots.
+    /// Every action with each of its principal types and each of its resource types, ascending in this order,
+    /// each with the action's context and without slots.
     pub fn unlinked_request_envs(&self, alloc: Global) -> Result<Vec<RequestEnv<'_>>, AllocError>
         ensures { IfOk result (λ envs. map env_data_of envs.items ≡ unlinked_envs self.now) }
     {

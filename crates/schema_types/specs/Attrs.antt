@@ -8,4 +8,5 @@ use Rattle.schema_types.specs.declared.ty.AttributeType.{AttributeType}
 -- the attribute under a key, where there is one
 abbrev pub attr_at : Attrs → List ℕ → Option AttributeType
 attr_at no_attrs n = None
-attr_at (attr k t q xs) n = cond (is_eq (text_cmp n k)) (Some (record { attr_type = t; is_required = q })) (attr_at xs n)
+attr_at (attr k t q xs) n =
+    cond (is_eq (text_cmp n k)) (Some (record { attr_type = t; is_required = q })) (attr_at xs n)

@@ -29,4 +29,5 @@ abbrev pub HashAgrees : Type 0
 HashAgrees = (t u : Ty) → is_eq (ty_cmp t u) ≡ true → ty_fed t ≡ ty_fed u
 
 abbrev pub AttributeHashAgrees : Type 0
-AttributeHashAgrees = (x y : AttributeType) → is_eq (attribute_cmp x y) ≡ true → attribute_fed x ≡ attribute_fed y
+AttributeHashAgrees =
+    (x y : AttributeType) → is_eq (attribute_cmp x y) ≡ true → attribute_fed x ≡ attribute_fed y

@@ -11,7 +11,8 @@ plain_first k q None rest = None
 plain_first k q (Some t) rest = option_map (attr k t q) rest
 
 abbrev mutual
-  -- none for no value, for any entity and for unions; a truth value's type is that of booleans, an action is an entity
+  -- none for no value, for any entity and for unions; a truth value's type is that of booleans, an action is
+  -- an entity
   pub plain : Ty → Option Ty
   plain never = None
   plain true_type = Some (primitive BoolType)

@@ -11,7 +11,8 @@ use Rattle.schema_types.specs.declared.schema_type.SchemaType.TheInside.{Inside}
 use Rattle.schema_types.specs.declared.schema_type.SchemaAttributes.TheInside.{Inside as InsideAttrs}
 use Rattle.schema_types.specs.declared.schema_type.SchemaAttributes.TheDeep.{deep-SchemaType, deep-SchemaTypeKind, deep-SchemaAttributes, deep-SchemaAttribute}
 
-most_le-attrs : (es : List (List ℕ × SchemaAttribute)) → most (λ x. deep-SchemaAttribute x) (map (λ e. e.1) es) ≤ size_of_attrs (schema_attrs_of es)
+most_le-attrs : (es : List (List ℕ × SchemaAttribute)) →
+    most (λ x. deep-SchemaAttribute x) (map (λ e. e.1) es) ≤ size_of_attrs (schema_attrs_of es)
 most_le-attrs [] = omega arith
 most_le-attrs (e ∷ es) = omega (arith, most_le-attrs es)
 
@@ -28,5 +29,6 @@ kind_falls (Extension n) = omega arith
 pub schema_falls : (a : Inside) → deep-SchemaType a ≤ size_of (schema_ty_of a.kind)
 schema_falls a = omega (arith, kind_falls a.kind)
 
-pub schema_attrs_fall : (a : InsideAttrs) → deep-SchemaAttributes a ≤ size_of_attrs (schema_attrs_of a.attrs.entries)
+pub schema_attrs_fall : (a : InsideAttrs) →
+    deep-SchemaAttributes a ≤ size_of_attrs (schema_attrs_of a.attrs.entries)
 schema_attrs_fall a = omega (arith, most_le-attrs a.attrs.entries)

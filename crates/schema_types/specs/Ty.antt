@@ -5,8 +5,8 @@ use Rattle.schema_types.specs.declared.kinds.OpenTag.{OpenTag}
 use Rattle.schema_types.specs.declared.kinds.OpenTag.TheVariants.{OpenAttributes, ClosedAttributes}
 
 mutual
-  -- no value; true alone, false alone; a primitive type; sets of anything, of one type; a record; any entity, an entity of
-  -- one of some types, an action of a type, which has attributes; an extension type
+  -- no value; true alone, false alone; a primitive type; sets of anything, of one type; a record; any entity,
+  -- an entity of one of some types, an action of a type, which has attributes; an extension type
   pub data Ty : Type 0 where
     never : Ty
     true_type : Ty

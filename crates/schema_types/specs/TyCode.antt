@@ -30,7 +30,8 @@ abbrev mutual
 
   pub code_attrs : Attrs → Gv
   code_attrs no_attrs = gnil
-  code_attrs (attr k t q xs) = gcons (gcons (gcons (text.code k) (code t)) (coded_bool.code q)) (code_attrs xs)
+  code_attrs (attr k t q xs) =
+      gcons (gcons (gcons (text.code k) (code t)) (coded_bool.code q)) (code_attrs xs)
 
 mutual
   pub inj : (x y : Ty) → code x ≡ code y → x ≡ y
@@ -40,16 +41,20 @@ mutual
   inj (primitive a) (primitive b) p = ap primitive (primitive_row.coded.inj a b (ap tail p))
   inj any_set any_set p = refl
   inj (set_of a) (set_of b) p = ap set_of (inj a b (ap tail p))
-  inj (record_of xs o) (record_of ys u) p = λ i. record_of (inj_attrs xs ys (ap (λ g. head (tail g)) p) i) (open_row.coded.inj o u (ap (λ g. tail (tail g)) p) i)
+  inj (record_of xs o) (record_of ys u) p = λ i. record_of (inj_attrs xs ys (ap (λ g. head (tail g)) p) i)
+      (open_row.coded.inj o u (ap (λ g. tail (tail g)) p) i)
   inj any_entity any_entity p = refl
   inj (entity xs) (entity ys) p = ap entity (texts.inj xs ys (ap tail p))
-  inj (action m xs) (action n ys) p = λ i. action (text.inj m n (ap (λ g. head (tail g)) p) i) (inj_attrs xs ys (ap (λ g. tail (tail g)) p) i)
+  inj (action m xs) (action n ys) p =
+      λ i. action (text.inj m n (ap (λ g. head (tail g)) p) i) (inj_attrs xs ys (ap (λ g. tail (tail g)) p) i)
   inj (extension m) (extension n) p = ap extension (text.inj m n (ap tail p))
   inj x y p = absurd (omega (arith, ap (λ g. num (head g)) p))
 
   pub inj_attrs : (xs ys : Attrs) → code_attrs xs ≡ code_attrs ys → xs ≡ ys
   inj_attrs no_attrs no_attrs p = refl
-  inj_attrs (attr k t q xs) (attr l u r ys) p = λ i. attr (text.inj k l (ap (λ g. head (head (head g))) p) i) (inj t u (ap (λ g. tail (head (head g))) p) i) (coded_bool.inj q r (ap (λ g. tail (head g)) p) i) (inj_attrs xs ys (ap tail p) i)
+  inj_attrs (attr k t q xs) (attr l u r ys) p = λ i. attr
+      (text.inj k l (ap (λ g. head (head (head g))) p) i) (inj t u (ap (λ g. tail (head (head g))) p) i)
+      (coded_bool.inj q r (ap (λ g. tail (head g)) p) i) (inj_attrs xs ys (ap tail p) i)
   inj_attrs no_attrs (attr l u r ys) p = cc
   inj_attrs (attr k t q xs) no_attrs p = cc
 

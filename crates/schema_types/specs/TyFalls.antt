@@ -13,7 +13,8 @@ use Rattle.schema_types.specs.declared.ty.Type.TheInside.{Inside}
 use Rattle.schema_types.specs.declared.ty.Attributes.TheInside.{Inside as InsideAttrs}
 use Rattle.schema_types.specs.declared.ty.Attributes.TheDeep.{deep-Type, deep-TypeKind, deep-EntityRecordKind, deep-Attributes, deep-AttributeType}
 
-most_le-attrs : (es : List (List ℕ × AttributeType)) → most (λ x. deep-AttributeType x) (map (λ e. e.1) es) ≤ size_of_attrs (attrs_of es)
+most_le-attrs : (es : List (List ℕ × AttributeType)) →
+    most (λ x. deep-AttributeType x) (map (λ e. e.1) es) ≤ size_of_attrs (attrs_of es)
 most_le-attrs [] = omega arith
 most_le-attrs (e ∷ es) = omega (arith, most_le-attrs es)
 

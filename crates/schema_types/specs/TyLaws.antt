@@ -58,7 +58,8 @@ mutual
   exact_attrs no_attrs (attr l u r ys) h = cc
   exact_attrs (attr k t q xs) no_attrs h = cc
   exact_attrs (attr k t q xs) (attr l u r ys) h =
-      let e = then_equal (ordering_then (text_cmp k l) (ordering_then (ty_cmp t u) (bool_cmp q r))) (attrs_cmp xs ys) h in
+      let e = then_equal (ordering_then (text_cmp k l) (ordering_then (ty_cmp t u) (bool_cmp q r)))
+      (attrs_cmp xs ys) h in
       let f = then_equal (text_cmp k l) (ordering_then (ty_cmp t u) (bool_cmp q r)) e.0 in
       let g = then_equal (ty_cmp t u) (bool_cmp q r) f.1 in
       λ i. attr (exact_bytes k l f.0 i) (exact_ty t u g.0 i) (exact_bool q r g.1 i) (exact_attrs xs ys e.1 i)
@@ -73,10 +74,12 @@ mutual
   ty_flip (primitive p) (primitive q) = nat_cmp_total.antisymm (place_of p) (place_of q)
   ty_flip (set_of t) (set_of u) = ty_flip t u
   ty_flip (record_of xs o) (record_of ys p) =
-      (λ i. ordering_then (attrs_flip xs ys i) (nat_cmp_total.antisymm (open_place o) (open_place p) i)) ∙ then_flip (attrs_cmp ys xs) (nat_cmp (open_place p) (open_place o))
+      (λ i. ordering_then (attrs_flip xs ys i) (nat_cmp_total.antisymm (open_place o) (open_place p) i)) ∙
+      then_flip (attrs_cmp ys xs) (nat_cmp (open_place p) (open_place o))
   ty_flip (entity ms) (entity ns) = texts_cmp_total.antisymm ms ns
   ty_flip (action m xs) (action n ys) =
-      (λ i. ordering_then (nat_list_cmp_total.antisymm m n i) (attrs_flip xs ys i)) ∙ then_flip (text_cmp n m) (attrs_cmp ys xs)
+      (λ i. ordering_then (nat_list_cmp_total.antisymm m n i) (attrs_flip xs ys i)) ∙
+      then_flip (text_cmp n m) (attrs_cmp ys xs)
   ty_flip (extension m) (extension n) = nat_list_cmp_total.antisymm m n
   ty_flip t u = refl
 
@@ -85,15 +88,22 @@ mutual
   attrs_flip no_attrs (attr l u r ys) = refl
   attrs_flip (attr k t q xs) no_attrs = refl
   attrs_flip (attr k t q xs) (attr l u r ys) =
-      (λ i. ordering_then (ordering_then (nat_list_cmp_total.antisymm k l i) (ordering_then (ty_flip t u i) (bool_cmp_total.antisymm q r i))) (attrs_flip xs ys i))
-      ∙ (λ i. ordering_then (ordering_then (ordering_reverse (text_cmp l k)) (then_flip (ty_cmp u t) (bool_cmp r q) i)) (ordering_reverse (attrs_cmp ys xs)))
-      ∙ (λ i. ordering_then (then_flip (text_cmp l k) (ordering_then (ty_cmp u t) (bool_cmp r q)) i) (ordering_reverse (attrs_cmp ys xs)))
+      (λ i. ordering_then
+      (ordering_then (nat_list_cmp_total.antisymm k l i)
+      (ordering_then (ty_flip t u i) (bool_cmp_total.antisymm q r i)))
+      (attrs_flip xs ys i))
+      ∙ (λ i. ordering_then
+      (ordering_then (ordering_reverse (text_cmp l k)) (then_flip (ty_cmp u t) (bool_cmp r q) i))
+      (ordering_reverse (attrs_cmp ys xs)))
+      ∙ (λ i. ordering_then (then_flip (text_cmp l k) (ordering_then (ty_cmp u t) (bool_cmp r q)) i)
+      (ordering_reverse (attrs_cmp ys xs)))
       ∙ then_flip (ordering_then (text_cmp l k) (ordering_then (ty_cmp u t) (bool_cmp r q))) (attrs_cmp ys xs)
 
 abbrev entry_cmp : List ℕ → Ty → Bool → List ℕ → Ty → Bool → Ordering
 entry_cmp k t q l u r = ordering_then (text_cmp k l) (ordering_then (ty_cmp t u) (bool_cmp q r))
 
-exact_entry : (k : List ℕ) (t : Ty) (q : Bool) (l : List ℕ) (u : Ty) (r : Bool) → entry_cmp k t q l u r ≡ Equal → (k ≡ l) × (t ≡ u) × (q ≡ r)
+exact_entry : (k : List ℕ) (t : Ty) (q : Bool) (l : List ℕ) (u : Ty) (r : Bool) →
+    entry_cmp k t q l u r ≡ Equal → (k ≡ l) × (t ≡ u) × (q ≡ r)
 exact_entry k t q l u r h =
     let f = then_equal (text_cmp k l) (ordering_then (ty_cmp t u) (bool_cmp q r)) h in
     let g = then_equal (ty_cmp t u) (bool_cmp q r) f.1 in
@@ -134,27 +144,37 @@ mutual
   ty_trans false_type false_type c h k = cc
   ty_trans any_set any_set c h k = cc
   ty_trans any_entity any_entity c h k = cc
-  ty_trans (primitive a) (primitive b) (primitive c) h k = nat_cmp_total.trans (place_of a) (place_of b) (place_of c) h k
+  ty_trans (primitive a) (primitive b) (primitive c) h k =
+      nat_cmp_total.trans (place_of a) (place_of b) (place_of c) h k
   ty_trans (set_of a) (set_of b) (set_of c) h k = ty_trans a b c h k
   ty_trans (record_of xs o) (record_of ys p) (record_of zs q) h k =
-      then_chain (attrs_cmp xs ys) (attrs_cmp ys zs) (attrs_cmp xs zs) (nat_cmp (open_place o) (open_place p)) (nat_cmp (open_place p) (open_place q)) (nat_cmp (open_place o) (open_place q))
-      (attrs_trans xs ys zs) (λ e. ap (λ w. attrs_cmp w zs) (exact_attrs xs ys e)) (λ e. ap (λ w. attrs_cmp xs w) (sym (exact_attrs ys zs e)))
+      then_chain (attrs_cmp xs ys) (attrs_cmp ys zs) (attrs_cmp xs zs) (nat_cmp (open_place o) (open_place p))
+      (nat_cmp (open_place p) (open_place q)) (nat_cmp (open_place o) (open_place q))
+      (attrs_trans xs ys zs) (λ e. ap (λ w. attrs_cmp w zs) (exact_attrs xs ys e))
+      (λ e. ap (λ w. attrs_cmp xs w) (sym (exact_attrs ys zs e)))
       (nat_cmp_total.trans (open_place o) (open_place p) (open_place q)) h k
   ty_trans (entity a) (entity b) (entity c) h k = texts_cmp_total.trans a b c h k
   ty_trans (action m xs) (action n ys) (action l zs) h k =
-      then_chain (text_cmp m n) (text_cmp n l) (text_cmp m l) (attrs_cmp xs ys) (attrs_cmp ys zs) (attrs_cmp xs zs)
-      (nat_list_cmp_total.trans m n l) (λ e. ap (λ w. text_cmp w l) (exact_bytes m n e)) (λ e. ap (λ w. text_cmp m w) (sym (exact_bytes n l e)))
+      then_chain (text_cmp m n) (text_cmp n l) (text_cmp m l)
+      (attrs_cmp xs ys) (attrs_cmp ys zs) (attrs_cmp xs zs)
+      (nat_list_cmp_total.trans m n l) (λ e. ap (λ w. text_cmp w l) (exact_bytes m n e))
+      (λ e. ap (λ w. text_cmp m w) (sym (exact_bytes n l e)))
       (attrs_trans xs ys zs) h k
   ty_trans (extension a) (extension b) (extension c) h k = nat_list_cmp_total.trans a b c h k
   ty_trans a b c h k = less_rank a c (omega (arith, rank_le a b h, rank_le b c k))
 
-  pub attrs_trans : (xs ys zs : Attrs) → attrs_cmp xs ys ≡ Less → attrs_cmp ys zs ≡ Less → attrs_cmp xs zs ≡ Less
+  pub attrs_trans : (xs ys zs : Attrs) → attrs_cmp xs ys ≡ Less →
+      attrs_cmp ys zs ≡ Less → attrs_cmp xs zs ≡ Less
   attrs_trans (attr k t q xs) (attr l u r ys) (attr m v s zs) h n =
-      then_chain (entry_cmp k t q l u r) (entry_cmp l u r m v s) (entry_cmp k t q m v s) (attrs_cmp xs ys) (attrs_cmp ys zs) (attrs_cmp xs zs)
-      (then_chain (text_cmp k l) (text_cmp l m) (text_cmp k m) (ordering_then (ty_cmp t u) (bool_cmp q r)) (ordering_then (ty_cmp u v) (bool_cmp r s)) (ordering_then (ty_cmp t v) (bool_cmp q s))
-      (nat_list_cmp_total.trans k l m) (λ e. ap (λ w. text_cmp w m) (exact_bytes k l e)) (λ e. ap (λ w. text_cmp k w) (sym (exact_bytes l m e)))
+      then_chain (entry_cmp k t q l u r) (entry_cmp l u r m v s)
+      (entry_cmp k t q m v s) (attrs_cmp xs ys) (attrs_cmp ys zs) (attrs_cmp xs zs)
+      (then_chain (text_cmp k l) (text_cmp l m) (text_cmp k m) (ordering_then (ty_cmp t u) (bool_cmp q r))
+      (ordering_then (ty_cmp u v) (bool_cmp r s)) (ordering_then (ty_cmp t v) (bool_cmp q s))
+      (nat_list_cmp_total.trans k l m) (λ e. ap (λ w. text_cmp w m) (exact_bytes k l e))
+      (λ e. ap (λ w. text_cmp k w) (sym (exact_bytes l m e)))
       (then_chain (ty_cmp t u) (ty_cmp u v) (ty_cmp t v) (bool_cmp q r) (bool_cmp r s) (bool_cmp q s)
-      (ty_trans t u v) (λ e. ap (λ w. ty_cmp w v) (exact_ty t u e)) (λ e. ap (λ w. ty_cmp t w) (sym (exact_ty u v e)))
+      (ty_trans t u v) (λ e. ap (λ w. ty_cmp w v) (exact_ty t u e))
+      (λ e. ap (λ w. ty_cmp t w) (sym (exact_ty u v e)))
       (bool_cmp_total.trans q r s)))
       (λ e. let f = exact_entry k t q l u r e in λ i. entry_cmp (f.0 i) (f.1 i) (f.2 i) m v s)
       (λ e. let f = exact_entry l u r m v s e in λ i. entry_cmp k t q (sym f.0 i) (sym f.1 i) (sym f.2 i))

@@ -43,7 +43,8 @@ abbrev mutual
   ty_cmp any_entity any_entity = Equal
   ty_cmp (primitive p) (primitive q) = nat_cmp (place_of p) (place_of q)
   ty_cmp (set_of t) (set_of u) = ty_cmp t u
-  ty_cmp (record_of xs o) (record_of ys p) = ordering_then (attrs_cmp xs ys) (nat_cmp (open_place o) (open_place p))
+  ty_cmp (record_of xs o) (record_of ys p) =
+      ordering_then (attrs_cmp xs ys) (nat_cmp (open_place o) (open_place p))
   ty_cmp (entity ms) (entity ns) = texts_cmp ms ns
   ty_cmp (action m xs) (action n ys) = ordering_then (text_cmp m n) (attrs_cmp xs ys)
   ty_cmp (extension m) (extension n) = text_cmp m n
@@ -53,4 +54,5 @@ abbrev mutual
   attrs_cmp no_attrs no_attrs = Equal
   attrs_cmp no_attrs (attr l u r ys) = Less
   attrs_cmp (attr k t q xs) no_attrs = Greater
-  attrs_cmp (attr k t q xs) (attr l u r ys) = ordering_then (ordering_then (text_cmp k l) (ordering_then (ty_cmp t u) (bool_cmp q r))) (attrs_cmp xs ys)
+  attrs_cmp (attr k t q xs) (attr l u r ys) = ordering_then
+      (ordering_then (text_cmp k l) (ordering_then (ty_cmp t u) (bool_cmp q r))) (attrs_cmp xs ys)

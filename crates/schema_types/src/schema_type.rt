@@ -171,8 +171,8 @@ impl From<AllocError> for SchemaTypeError {
     }
 }
 
-/// The schema type of a type: a set without element type is the empty set, True and False are Bool, an action is of the
-/// entity type of its name.
+/// The schema type of a type: a set without element type is the empty set, True and False are Bool, an action
+/// is of the entity type of its name.
 pub fn to_schema_type(alloc: Global, t: &Type) -> Result<SchemaType, SchemaTypeError>
     ensures { MatchResult result (λ s. plain t.now ≡ Some s) (λ e. IsPlainError (plain t.now) e) }
 {
@@ -248,7 +248,8 @@ fn schema_entries(
     alloc: Global,
     entries: &BTreeMap<Text, AttributeType>,
 ) -> Result<Option<BTreeMap<Text, SchemaAttribute>>, AllocError>
-    ensures { IfOk result (λ o. option_map (λ m. schema_attrs_of m.entries) o ≡ plain_attrs (attrs_of entries.now.entries)) }
+    ensures { IfOk result (λ o. option_map (λ m. schema_attrs_of m.entries) o ≡
+        plain_attrs (attrs_of entries.now.entries)) }
 {
     let mut made = BTreeMap::new(alloc);
     for (key, x) in entries.iter() {

@@ -90,7 +90,8 @@ fn show_attribute<W: fmt::Write>(
     x: &AttributeType,
     f: &mut fmt::Formatter<W>,
 ) -> fmt::Result
-    ensures { WritesOnOk W.write_str_gives f.old result (attr_text key.now x.now.is_required (ty_text x.now.attr_type)) f.new }
+    ensures { WritesOnOk W.write_str_gives f.old result
+        (attr_text key.now x.now.is_required (ty_text x.now.attr_type)) f.new }
 {
     key.fmt(f)?;
     show_mark(x.is_required, f)?;

@@ -3,6 +3,7 @@
 
 ghost use Rattle.std.specs.Prelude.{◌≡◌, ◌+◌, ◌<◌, min};
 
+use std::fmt;
 use std::marker::Model;
 use std::sync::ledger::{Blank, Book, Ledger, Share};
 
@@ -54,5 +55,12 @@ impl<L: Ledger> Steps<L> {
     {
         self.book.add(&mut self.share, 1);
         self.count = self.count.saturating_add(1);
+    }
+}
+
+impl<L: Ledger> fmt::Debug for Steps<L> {
+    fn fmt<W: fmt::Write>(&self, f: &mut fmt::Formatter<W>) -> fmt::Result {
+        let count = self.count;
+        write!(f, "Steps {{ count: {count} }}")
     }
 }

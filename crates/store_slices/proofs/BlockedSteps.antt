@@ -20,7 +20,7 @@ use Rattle.trie_traversal.specs.Places.{node_of}
 use Rattle.trie_traversal.specs.Stuck.{Tests, tests_of, behind, GoesOn, Demands, Sticks, FieldsStick, SomeSticks, EntitySticks, IsStuck}
 use Rattle.trie_traversal.specs.Wants.{Test, sees}
 use Rattle.store_slices.specs.Blocked.{IsBlockedInStore, IsBlocked}
-use Rattle.store_slices.specs.Reached.{IsReached, AreReached}
+use Rattle.store_slices.specs.Reached.{IsReached, AreReachedAsked}
 
 abbrev test : Tests → Bool → Test
 test t false = t.leads
@@ -88,7 +88,7 @@ by_entity e t u (inr h) = by_weaker (λ w. SomeSticks (values_in e.tags) (behind
 
 -- ---- of places, and of paths
 
-module _ (ns : Table) (q : Request) (s : Store) (ps : List Place) (found : AreReached ns q s ps) where
+module _ (ns : Table) (q : Request) (s : Store) (ps : List Place) (found : AreReachedAsked ns q s ps) where
   -- what sticks at a place is blocked
   pub place_blocked : (u : Val) → SomeAnswerSticks ns (entity_at s) ps u → IsBlockedInStore ns q s u
   place_blocked u h = from (entity_at s h.place.uid) refl h.sticks

@@ -29,8 +29,8 @@ use Rattle.trie_traversal.specs.Places.{node_of}
 use Rattle.trie_traversal.specs.Wants.{wants}
 use Rattle.entity_loader.specs.Asked.{some_asks}
 use Rattle.store_slices.specs.Tries.{IsTrieOf}
-use Rattle.store_slices.specs.Reached.{AreReached, AreThere}
-use Rattle.store_slices.specs.Kept.{Numbers, Named, numbers_at, some_place, IsGrouped, IsNumbered, along_nodes, names, some_names, with_names, AreNodes, AreNamed}
+use Rattle.store_slices.specs.Reached.{AreReachedAsked, AreThere}
+use Rattle.store_slices.specs.Kept.{Numbers, NamedIds, numbers_at, some_place, IsGrouped, IsNumbered, along_nodes, names, some_names, with_names, AreNodes, AreNamed}
 use Rattle.plain_lemmas.proofs.Lists.{is_some_within}
 
 -- ---- places by their entities
@@ -95,7 +95,7 @@ are_nodes t ps m there g x = g.keys x ∙ all_there t x ps there ∙ sym (g.test
 behind_path : (p : AccessPath) (ns : List Step) → address_of (beyond p ns) ≡ address_of p ++ map edge_of ns
 behind_path p ns = ap (λ es. Root p.root ∷ es) (map-append edge_of p.steps ns)
 
-module _ (reads : List AccessPath) (demands : List Demand) (t : Table) (fit : IsTrieOf reads demands t) (q : Request) (s : Store) (ps : List Place) (found : AreReached t q s ps) (m : Numbers) (g : IsGrouped ps m) where
+module _ (reads : List AccessPath) (demands : List Demand) (t : Table) (fit : IsTrieOf reads demands t) (q : Request) (s : Store) (ps : List Place) (found : AreReachedAsked t q s ps) (m : Numbers) (g : IsGrouped ps m) where
   wanted : (x : EntityUID) (cs : List Step) → some_asks t (numbers_at m x) cs ≡ wants false t ps x (map edge_of cs)
   wanted x cs = g.tests (λ i. view_leads (record { nodes = t; number = i }) (map edge_of cs)) x
 
@@ -119,7 +119,7 @@ module _ (reads : List AccessPath) (demands : List Demand) (t : Table) (fit : Is
   paths_are : by_paths reads q s ≡ along_nodes t m
   paths_are i = record { chains = λ x c. kept_is x (steps_of c) i; ancestors = λ x y. false; tags = λ x c. tags_are x c i }
 
-  module _ (kept : BTreeMap EntityUID StoredEntity) (is_kept : IsKept kept (part (along_nodes t m) s)) (there : AreThere t ps) (sets : Named) (named : AreNamed t q ps kept sets) where
+  module _ (kept : BTreeMap EntityUID StoredEntity) (is_kept : IsKept kept (part (along_nodes t m) s)) (there : AreThere t ps) (sets : NamedIds) (named : AreNamed t q ps kept sets) where
     -- a demand of a path to the entity, and a path that names the ancestor
     asked_for : (x y : EntityUID) (p r : AccessPath) → IsIn (let d : Demand = (p, r) in d) demands → IsIn (entity x) (reach s q p) → list_any (names_id y) (reach (part (by_paths reads q s) s) q r) ≡ true → some_names sets (numbers_at m x) y ≡ true
     asked_for x y p r d reached names_it =

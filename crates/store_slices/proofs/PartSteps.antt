@@ -29,7 +29,7 @@ use Rattle.trie_traversal.specs.Names.{IsKept, IsNamed}
 use Rattle.trie_traversal.specs.declared.place.Place.{Place}
 use Rattle.trie_traversal.specs.Places.{node_of}
 use Rattle.entity_loader.specs.Asked.{asked_by}
-use Rattle.store_slices.specs.Kept.{Numbers, Named, numbers_at, along_nodes, names, some_names, with_names, AreNodes, AreNamed}
+use Rattle.store_slices.specs.Kept.{Numbers, NamedIds, numbers_at, along_nodes, names, some_names, with_names, AreNodes, AreNamed}
 
 -- the entities `made` were made of those before `left`, of all
 pub record IsParting (k : Keep) (made left all : Store) : Type 0 where
@@ -124,7 +124,7 @@ module _ (ns : Table) (m : Numbers) (e : StoredEntity) where
       (λ i. record (cut_entity (asked_by ns (numbers_are v at i)) e) { ancestors = none i })
       ∙ (λ i. record (cut_entity (along_nodes ns m) e) { ancestors = sym (none_passes e.ancestors) i })
 
-  pub named_cut : (sets : Named) (v : Vec ℕ Global) → get uid_cmp m e.uid ≡ Some v → (ids : List EntityUID) → ids ≡ filter (some_names sets v.items) e.ancestors → record (cut_entity (asked_by ns v.items) e) { ancestors = ids } ≡ cut_entity (with_names ns m sets) e
+  pub named_cut : (sets : NamedIds) (v : Vec ℕ Global) → get uid_cmp m e.uid ≡ Some v → (ids : List EntityUID) → ids ≡ filter (some_names sets v.items) e.ancestors → record (cut_entity (asked_by ns v.items) e) { ancestors = ids } ≡ cut_entity (with_names ns m sets) e
   named_cut sets v at ids are =
       (λ i. record (cut_entity (asked_by ns v.items) e) { ancestors = are i })
       ∙ (λ i. record (cut_entity (asked_by ns (numbers_are v at i)) e) { ancestors = filter (some_names sets (numbers_are v at i)) e.ancestors })
@@ -132,17 +132,17 @@ module _ (ns : Table) (m : Numbers) (e : StoredEntity) where
 -- ---- names at places
 
 -- the ids of numbers are right, and there for each place but those that are left
-pub record IsNaming (ns : Table) (q : Request) (kept : BTreeMap EntityUID StoredEntity) (left all : List Place) (m : Named) : Type 0 where
+pub record IsNaming (ns : Table) (q : Request) (kept : BTreeMap EntityUID StoredEntity) (left all : List Place) (m : NamedIds) : Type 0 where
   pub right : (s : Store) → IsKept kept s → (i : ℕ) → is_some (get nat_cmp m i) ≡ true → (y : EntityUID) → (names m i y ≡ true) ↔ IsNamed (record { nodes = ns; number = i }) q s y
   pub rest : (p : Place) → IsIn p all → IsIn p left ⊎ (is_some (get nat_cmp m p.number) ≡ true)
 
-pub naming_start : (ns : Table) (q : Request) (kept : BTreeMap EntityUID StoredEntity) (all : List Place) (m : Named) → m.entries ≡ [] → IsNaming ns q kept all all m
+pub naming_start : (ns : Table) (q : Request) (kept : BTreeMap EntityUID StoredEntity) (all : List Place) (m : NamedIds) → m.entries ≡ [] → IsNaming ns q kept all all m
 naming_start ns q kept all m none = record {
   right = λ s k i there y. absurd (false≢true (sym (ap (λ es. is_some (lookup (is_at (nat_cmp i)) es)) none) ∙ there));
   rest = λ p h. inl h;
 }
 
-module _ (ns : Table) (q : Request) (kept : BTreeMap EntityUID StoredEntity) (it left all : List Place) (p : Place) (m : Named) (is : it ≡ p ∷ left) (t : IsNaming ns q kept it all m) where
+module _ (ns : Table) (q : Request) (kept : BTreeMap EntityUID StoredEntity) (it left all : List Place) (p : Place) (m : NamedIds) (is : it ≡ p ∷ left) (t : IsNaming ns q kept it all m) where
   pub naming_skip : is_some (get nat_cmp m p.number) ≡ true → IsNaming ns q kept left all m
   naming_skip there = record { right = t.right; rest = λ r h. by r (t.rest r h) }
     where
@@ -154,7 +154,7 @@ module _ (ns : Table) (q : Request) (kept : BTreeMap EntityUID StoredEntity) (it
       by r (inl i) = first r (subst (IsIn r) is i)
       by r (inr h) = inr h
 
-  module _ (now : Named) (ids : BTreeSet EntityUID) (put : (i : ℕ) → get nat_cmp now i ≡ cond (is_eq (nat_cmp p.number i)) (Some ids) (get nat_cmp m i)) (here : get nat_cmp now p.number ≡ Some ids)
+  module _ (now : NamedIds) (ids : BTreeSet EntityUID) (put : (i : ℕ) → get nat_cmp now i ≡ cond (is_eq (nat_cmp p.number i)) (Some ids) (get nat_cmp m i)) (here : get nat_cmp now p.number ≡ Some ids)
       (named : (s : Store) → IsKept kept s → (y : EntityUID) → (contains uid_cmp ids y ≡ true) ↔ IsNamed (node_of ns p) q s y) where
     abbrev AreRight : Store → ℕ → EntityUID → Option (BTreeSet EntityUID) → Type 0
     AreRight s i y o = (option_map_or (λ b. contains uid_cmp b y) o false ≡ true) ↔ IsNamed (record { nodes = ns; number = i }) q s y
@@ -181,7 +181,7 @@ module _ (ns : Table) (q : Request) (kept : BTreeMap EntityUID StoredEntity) (it
       rest = λ r h. by r (t.rest r h);
     }
 
-pub naming_done : (ns : Table) (q : Request) (kept : BTreeMap EntityUID StoredEntity) (left all : List Place) (m : Named) → left ≡ [] → IsNaming ns q kept left all m → AreNamed ns q all kept m
+pub naming_done : (ns : Table) (q : Request) (kept : BTreeMap EntityUID StoredEntity) (left all : List Place) (m : NamedIds) → left ≡ [] → IsNaming ns q kept left all m → AreNamed ns q all kept m
 naming_done ns q kept left all m none t s k p h y = by (t.rest p h)
   where
     by : IsIn p left ⊎ (is_some (get nat_cmp m p.number) ≡ true) → (names m p.number y ≡ true) ↔ IsNamed (node_of ns p) q s y

@@ -36,7 +36,7 @@ use Rattle.std.specs.BTreeSet.{BTreeSet, contains}
 use Rattle.trie_traversal.proofs.PlaceSteps.{exact_place}
 use Rattle.trie_traversal.specs.Places.{place_cmp, IsPlaced, IsBelowSome, node_of}
 use Rattle.trie_traversal.specs.Wants.{Test, sees, wants, points, fields_point, entity_points, Adds}
-use Rattle.store_slices.specs.Reached.{IsReached, either_wants, IsExplored, IsAnswerLed, AreReached, AreThere}
+use Rattle.store_slices.specs.Reached.{IsReached, either_wants, IsExplored, IsAnswerLed, AreReachedAsked, AreThere}
 use Rattle.store_slices.proofs.PointSteps.{points_more, points_any, field_points, entity_points_or, entity_points_none, entity_points_when}
 
 -- the edges behind a path
@@ -227,7 +227,7 @@ module _ (ns : Table) (q : Request) (s : Store) where
         let r = flat_map_out (λ w. walk s w ms) (entity x) (step s v n) h in
         walked b ms r.from (λ c. u (edge_of n ∷ c)) (one_step b v u f n r.from r.among) x a r.gives p
 
-    pub all_reached : AreReached ns q s reached
+    pub all_reached : AreReachedAsked ns q s reached
     all_reached b x a = (
       λ h. t.sound b x a (or_left_true (wants b ns reached x a) false h),
       λ r. walked b r.path.steps (root_value q r.path.root) (λ c. sees b (whole ns) (Root r.path.root ∷ c)) (λ y c h. at_last b y c (t.begun b r.path.root y c h)) x a r.reached r.passes,

@@ -50,18 +50,18 @@ along_nodes ns m = record {
 }
 
 -- ids, by the numbers of nodes
-abbrev pub Named : Type 0
-Named = BTreeMap ℕ (BTreeSet EntityUID)
+abbrev pub NamedIds : Type 0
+NamedIds = BTreeMap ℕ (BTreeSet EntityUID)
 
 -- whether the id is among those of some node
-abbrev pub names : Named → ℕ → EntityUID → Bool
+abbrev pub names : NamedIds → ℕ → EntityUID → Bool
 names m i y = option_map_or (λ ids. contains uid_cmp ids y) (get nat_cmp m i) false
 
-abbrev pub some_names : Named → List ℕ → EntityUID → Bool
+abbrev pub some_names : NamedIds → List ℕ → EntityUID → Bool
 some_names m is y = list_any (λ i. names m i y) is
 
 -- and the ancestors that some of the nodes names
-abbrev pub with_names : Table → Numbers → Named → Keep
+abbrev pub with_names : Table → Numbers → NamedIds → Keep
 with_names ns m named = record (along_nodes ns m) { ancestors = λ x. some_names named (numbers_at m x) }
 
 -- exactly the entities with numbers have nodes that are there
@@ -69,6 +69,6 @@ abbrev pub AreNodes : Table → Numbers → Type 0
 AreNodes ns m = (x : EntityUID) → is_some (get uid_cmp m x) ≡ some_leads ns (numbers_at m x) []
 
 -- the ids that the ancestors' tries of each place name, where they are followed in what is kept
-abbrev pub AreNamed : Table → Request → List Place → BTreeMap EntityUID StoredEntity → Named → Type 0
+abbrev pub AreNamed : Table → Request → List Place → BTreeMap EntityUID StoredEntity → NamedIds → Type 0
 AreNamed ns q ps kept m =
     (s : Store) → IsKept kept s → (p : Place) → IsIn p ps → (y : EntityUID) → (names m p.number y ≡ true) ↔ IsNamed (node_of ns p) q s y

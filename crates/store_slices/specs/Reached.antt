@@ -40,8 +40,9 @@ IsAnswerLed v None = Unit {0}
 IsAnswerLed v (Some e) = IsLed v (entity_points e) (EntityLeads e)
 
 -- exactly what paths of the trie reach is asked for at some place
-abbrev pub AreReached : Table → Request → Store → List Place → Type 0
-AreReached ns q s ps = (b : Bool) (x : EntityUID) (a : Address) → (wants b ns ps x a ≡ true) ↔ IsReached b ns q s x a
+abbrev pub AreReachedAsked : Table → Request → Store → List Place → Type 0
+AreReachedAsked ns q s ps =
+    (b : Bool) (x : EntityUID) (a : Address) → (wants b ns ps x a ≡ true) ↔ IsReached b ns q s x a
 
 -- each place is at a node
 abbrev pub AreThere : Table → List Place → Type 0

@@ -8,9 +8,9 @@ ghost use Rattle.entity_store.specs.Store.{entity_at};
 ghost use Rattle.entity_store.specs.declared.request.Request.{Request};
 ghost use Rattle.trie_traversal.specs.declared.place.Place.{Place};
 ghost use Rattle.trie_traversal.specs.Answered.{answer_points};
-ghost use Rattle.trie_traversal.specs.Places.{IsBelow, IsBelowSome, node_of};
+ghost use Rattle.trie_traversal.specs.Places.{IsPlaceBelow, IsBelowSome, node_of};
 ghost use Rattle.trie_traversal.specs.Wants.{Adds};
-ghost use Rattle.store_slices.specs.Reached.{IsExplored, IsAnswerLed, AreReached, AreThere};
+ghost use Rattle.store_slices.specs.Reached.{IsExplored, IsAnswerLed, AreReachedAsked, AreThere};
 
 use access_tries::{Node, RootAccessTrie, TrieRef};
 use entity_store::{Entities, Request};
@@ -26,7 +26,7 @@ pub(crate) fn reached_places(
     entities: &Entities,
 ) -> Result<BTreeSet<Place>, AllocError>
     requires { IsWhole request.now }
-    ensures reached { IfOk result (λ places. AreReached trie.now request.now entities.now places.keys) }
+    ensures reached { IfOk result (λ places. AreReachedAsked trie.now request.now entities.now places.keys) }
     ensures there { IfOk result (λ places. AreThere trie.now places.keys) }
 {
     let nodes = trie.nodes();
@@ -78,7 +78,7 @@ fn follow_place(
         (Adds nodes.now (answer_points (entity_at entities.now place.now.uid)
         (node_of nodes.now place.now)) next.old.keys next.new.keys) }
     ensures below { OnOk result ((p : Place) → IsIn p next.new.keys → IsIn p next.old.keys ⊎
-        IsBelow (node_of nodes.now place.now) p) }
+        IsPlaceBelow (node_of nodes.now place.now) p) }
     ensures leads { OnOk result
         (IsAnswerLed (node_of nodes.now place.now) (entity_at entities.now place.now.uid)) }
 {

@@ -47,5 +47,5 @@ abbrev pub tags_at : Tables → EntityUID → Fields
 tags_at t u = option_map_or (λ e. e.tags) (entity_at (store_of t) u) no_fields
 
 -- the entity has the ancestor in that store
-abbrev pub HasAncestor : Tables → EntityUID → EntityUID → Type 0
-HasAncestor t u y = IsSomeAnd (entity_at (store_of t) u) (λ e. Contains e.ancestors y)
+abbrev pub TablesHaveAncestor : Tables → EntityUID → EntityUID → Type 0
+TablesHaveAncestor t u y = IsSomeAnd (entity_at (store_of t) u) (λ e. Contains e.ancestors y)

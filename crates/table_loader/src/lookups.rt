@@ -5,7 +5,7 @@ ghost use Rattle.std.specs.Option.{option_and_then, option_copied};
 ghost use Rattle.policy_values.specs.Value.{field_at, fields_of};
 ghost use Rattle.entity_store.specs.Store.{entity_at};
 ghost use Rattle.table_loader.specs.Tables.{tables_of, store_of};
-ghost use Rattle.table_loader.specs.State.{has_entity, attribute_at, tags_at, HasAncestor};
+ghost use Rattle.table_loader.specs.State.{has_entity, attribute_at, tags_at, TablesHaveAncestor};
 
 use crate::laws::tables_of_stores_stand_for_them;
 use entity_store::Entities;
@@ -54,7 +54,7 @@ pub(crate) fn tags_of(
 
 // Whether the entity has the ancestor; not where there is no such entity.
 pub(crate) fn has_ancestor(entities: &Entities, uid: &EntityUID, ancestor: &EntityUID) -> bool
-    ensures { IsTrue result ↔ HasAncestor (tables_of entities.now) uid.now ancestor.now }
+    ensures { IsTrue result ↔ TablesHaveAncestor (tables_of entities.now) uid.now ancestor.now }
 {
     tables_stand_for(entities);
     match entities.entity(uid) {

@@ -3,7 +3,7 @@
 ghost use Rattle.std.specs.Prelude.{◌≡◌, ◌↔◌, Some, IfOk, IsTrue};
 ghost use Rattle.policy_values.specs.Value.{fields_of};
 ghost use Rattle.table_loader.specs.Tables.{Tables};
-ghost use Rattle.table_loader.specs.State.{RowsContinue, IsCounted, has_failed, has_entity, attribute_at, tags_at, HasAncestor};
+ghost use Rattle.table_loader.specs.State.{RowsContinue, IsCounted, has_failed, has_entity, attribute_at, tags_at, TablesHaveAncestor};
 ghost use Rattle.table_loader.specs.Memory.{memory_state, IsCall};
 
 use crate::lookups::{attribute_of, has_ancestor, has_entity, tags_of};
@@ -121,7 +121,7 @@ impl Rows for MemoryRows<'_> {
         ensures goes_on { RowsContinue (memory_state self.old) (memory_state self.new) }
         ensures counted { IsCounted (has_failed result) (memory_state self.old) (memory_state self.new) }
         ensures answer { (t : Tables) → (memory_state self.new).told ≡ Some t →
-            IfOk result (λ b. IsTrue b ↔ HasAncestor t uid.now ancestor.now) }
+            IfOk result (λ b. IsTrue b ↔ TablesHaveAncestor t uid.now ancestor.now) }
     {
         if self.count_call() {
             return Err(RowsError::Failed);

@@ -3,7 +3,7 @@
 ghost use Rattle.std.specs.Prelude.{◌≡◌, ◌↔◌, Some, IfOk, IsTrue};
 ghost use Rattle.policy_values.specs.Value.{fields_of};
 ghost use Rattle.table_loader.specs.Tables.{Tables};
-ghost use Rattle.table_loader.specs.State.{RowsState, RowsContinue, IsCounted, has_failed, has_entity, attribute_at, tags_at, HasAncestor};
+ghost use Rattle.table_loader.specs.State.{RowsState, RowsContinue, IsCounted, has_failed, has_entity, attribute_at, tags_at, TablesHaveAncestor};
 
 use policy_values::{EntityUID, Text, Value};
 use std::alloc::Global;
@@ -57,5 +57,5 @@ pub trait Rows {
         ensures goes_on { RowsContinue (state self.old) (state self.new) }
         ensures counted { IsCounted (has_failed result) (state self.old) (state self.new) }
         ensures answer { (t : Tables) → (state self.new).told ≡ Some t →
-            IfOk result (λ b. IsTrue b ↔ HasAncestor t uid.now ancestor.now) };
+            IfOk result (λ b. IsTrue b ↔ TablesHaveAncestor t uid.now ancestor.now) };
 }

@@ -13,7 +13,7 @@ use Rattle.reads_spec.proofs.Lists.{IsIn}
 use Rattle.trie_traversal.specs.declared.place.Place.{Place}
 use Rattle.trie_traversal.specs.declared.follow.FollowError.{FollowError}
 use Rattle.trie_traversal.specs.declared.follow.FollowError.TheVariants as error
-use Rattle.trie_traversal.specs.Places.{IsPlaced, IsAtOrBelow, IsBelow}
+use Rattle.trie_traversal.specs.Places.{IsPlaced, IsAtOrBelow, IsPlaceBelow}
 use Rattle.trie_traversal.specs.Wants.{Test, sees, wants, points, Adds}
 use Rattle.trie_traversal.specs.Stuck.{tests_of, behind, RefusedBy}
 use Rattle.trie_traversal.proofs.PointSteps.{points_none, any_point_none, no_mark}
@@ -94,11 +94,11 @@ module _ (e : Edge) (v : ViewData) (l : LeadsNowhere e v) where
 pub at_itself : (v : ViewData) (p : Place) → p.number ≡ v.number → view_leads v [] ≡ true → IsAtOrBelow v p
 at_itself v p e h = rw e (record { late = omega arith; there = within_of_is_some v.nodes v.number h; allows = λ n m a. a })
 
-pub at_or_below : (v : ViewData) (p : Place) → IsBelow v p → IsAtOrBelow v p
+pub at_or_below : (v : ViewData) (p : Place) → IsPlaceBelow v p → IsAtOrBelow v p
 at_or_below v p b = record { late = omega (arith, b.later); there = b.there; allows = λ n m a ns h. omega (arith, b.allows n m a ns h) }
 
 -- below what a step leads to
-pub below_step : (n : Step) (v w : ViewData) (p : Place) → LeadsTo (edge_of n) v w → IsAtOrBelow w p → IsBelow v p
+pub below_step : (n : Step) (v w : ViewData) (p : Place) → LeadsTo (edge_of n) v w → IsAtOrBelow w p → IsPlaceBelow v p
 below_step n v w p l b = record {
   later = omega (arith, l.later, b.late);
   there = rw (sym l.table) b.there;

@@ -27,7 +27,8 @@ AnswerSticks None t u = ⊥
 AnswerSticks (Some e) t u = EntitySticks e t u
 
 -- a path cannot go on from a value of some answer, where it was asked for at some place
-pub record SomeAnswerSticks (ns : Table) (found : EntityUID → Option StoredEntity) (ps : List Place) (u : Val) : Type 0 where
+pub record SomeAnswerSticks (ns : Table) (found : EntityUID → Option StoredEntity)
+    (ps : List Place) (u : Val) : Type 0 where
   pub place : Place
   pub among : IsIn place ps
   pub sticks : AnswerSticks (found place.uid) (tests_of (node_of ns place)) u

@@ -24,11 +24,13 @@ root_points b v q e x a = false
 
 -- where the value of some root leads along the trie
 abbrev pub roots_point : Table → Request → Bool → EntityUID → Test
-roots_point ns q b x a = list_any (λ l. root_points b (record { nodes = ns; number = l.number }) q l.edge x a) (links_at ns 0)
+roots_point ns q b x a =
+    list_any (λ l. root_points b (record { nodes = ns; number = l.number }) q l.edge x a) (links_at ns 0)
 
 -- no path of the trie has more than n steps
 abbrev pub PathsWithin : Table → ℕ → Type 0
-PathsWithin ns n = (r : EntityRoot) (ms : List Step) → leads ns (Root r ∷ map edge_of ms) ≡ true → length ms ≤ n
+PathsWithin ns n =
+    (r : EntityRoot) (ms : List Step) → leads ns (Root r ∷ map edge_of ms) ≡ true → length ms ≤ n
 
 -- the place is at a node of the trie
 pub record IsFirst (ns : Table) (p : Place) : Type 0 where

@@ -16,7 +16,8 @@ use Rattle.reads_spec.specs.Restrict.{step_in_entity, step_in_record, walk, root
 use Rattle.reads_spec.specs.Among.{IsIn}
 use Rattle.trie_traversal.specs.Wants.{Test, sees, points}
 
--- from the value steps lead to the entity, whatever the store, and with this address behind them they pass the test
+-- from the value steps lead to the entity, whatever the store, and with this address behind them they pass
+-- the test
 pub record Leads (v : Val) (t : Test) (x : EntityUID) (a : Address) : Type 0 where
   pub steps : List Step
   pub reaches : (s : Store) → IsIn (entity x) (walk s v steps)
@@ -49,7 +50,8 @@ pub record RootLeads (ns : Table) (q : Request) (b : Bool) (x : EntityUID) (a : 
 
 -- where the first says that something is pointed at along the trie, the second has the steps that lead there
 abbrev pub IsLed : ViewData → (Test → EntityUID → Test) → (Test → EntityUID → Address → Type 0) → Type 0
-IsLed v points leads = (b : Bool) (x : EntityUID) (a : Address) → points (sees b v) x a ≡ true → leads (sees b v) x a
+IsLed v points leads =
+    (b : Bool) (x : EntityUID) (a : Address) → points (sees b v) x a ≡ true → leads (sees b v) x a
 
 -- where an edge begins a path, and the value of its root points somewhere, steps lead there
 abbrev pub IsEdgeLed : ViewData → Request → Edge → Type 0

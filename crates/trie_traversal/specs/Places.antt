@@ -35,7 +35,7 @@ pub record IsAtOrBelow (v : ViewData) (p : Place) : Type 0 where
   pub allows : (n m : ℕ) → Allows n m v → Allows n m (record { nodes = v.nodes; number = p.number })
 
 -- the place is at a node below it
-pub record IsBelow (v : ViewData) (p : Place) : Type 0 where
+pub record IsPlaceBelow (v : ViewData) (p : Place) : Type 0 where
   pub later : v.number < p.number
   pub there : p.number < length v.nodes
   pub allows : (n m : ℕ) → Allows n m v → Allows n (m + 1) (record { nodes = v.nodes; number = p.number })
@@ -44,4 +44,4 @@ pub record IsBelow (v : ViewData) (p : Place) : Type 0 where
 pub record IsBelowSome (ns : Table) (ps : List Place) (q : Place) : Type 0 where
   pub from : Place
   pub among : IsIn from ps
-  pub below : IsBelow (node_of ns from) q
+  pub below : IsPlaceBelow (node_of ns from) q

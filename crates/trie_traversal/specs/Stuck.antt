@@ -41,8 +41,8 @@ MarksSome t = (ns : List Step) × (t.marks (map edge_of ns) ≡ true)
 abbrev pub Demands : Tests → Type 0
 Demands t = (r : EntityRoot) × (ns : List Step) × (t.marks (Root r ∷ map edge_of ns) ≡ true)
 
--- in the value v, through fields of records along the trie, there stands u, below which a path goes on though it is neither id
--- nor record, or of which ancestors are asked for though it is no id
+-- in the value v, through fields of records along the trie, there stands u, below which a path goes on though
+-- it is neither id nor record, or of which ancestors are asked for though it is no id
 abbrev mutual
   pub Sticks : Val → Tests → Val → Type 0
   Sticks (entity y) t u = ⊥

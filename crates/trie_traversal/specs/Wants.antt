@@ -26,7 +26,8 @@ sees true v = view_marks v
 abbrev pub wants : Bool → Table → List Place → EntityUID → Test
 wants b ns ps x a = list_any (λ p. uid_eq p.uid x && sees b (node_of ns p) a) ps
 
--- whether the value leads, through records alone and along addresses that go on to pass the test, to the entity, with that address left
+-- whether the value leads, through records alone and along addresses that go on to pass the test, to the
+-- entity, with that address left
 abbrev mutual
   pub points : Val → Test → EntityUID → Test
   points (entity y) t x a = uid_eq y x && t a
@@ -39,8 +40,10 @@ abbrev mutual
 
 -- whether attributes, or tags, of the entity do
 abbrev pub entity_points : StoredEntity → Test → EntityUID → Test
-entity_points e t x a = fields_point e.attrs t x a || list_any (λ v. points v (λ b. t (AnyTag ∷ b)) x a) (values_in e.tags)
+entity_points e t x a =
+    fields_point e.attrs t x a || list_any (λ v. points v (λ b. t (AnyTag ∷ b)) x a) (values_in e.tags)
 
 -- the new places ask what the old ones ask, or this, and nothing else
 pub record Adds (ns : Table) (more : Bool → EntityUID → Test) (old new : List Place) : Type 0 where
-  pub each : (b : Bool) (x : EntityUID) (a : Address) → wants b ns new x a ≡ (wants b ns old x a || more b x a)
+  pub each : (b : Bool) (x : EntityUID) (a : Address) →
+      wants b ns new x a ≡ (wants b ns old x a || more b x a)

@@ -25,8 +25,8 @@ use policy_values::EntityUID;
 use std::alloc::{AllocError, Global};
 use std::collections::BTreeSet;
 
-/// The places that are asked for first, as [`root_places`] gives them. Refused where a path cannot go on from a value of the
-/// context.
+/// The places that are asked for first, as [`root_places`] gives them. Refused where a path cannot go on from
+/// a value of the context.
 pub fn first_places(
     alloc: Global,
     request: &Request,

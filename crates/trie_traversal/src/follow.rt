@@ -7,7 +7,7 @@ ghost use Rattle.reads_spec.specs.Among.{IsIn};
 ghost use Rattle.reads_spec.specs.Restrict.{values_in};
 ghost use Rattle.policy_values.specs.Value.{fields_of};
 ghost use Rattle.trie_traversal.specs.declared.place.Place.{Place};
-ghost use Rattle.trie_traversal.specs.Places.{IsAtOrBelow, IsBelow};
+ghost use Rattle.trie_traversal.specs.Places.{IsAtOrBelow, IsPlaceBelow};
 ghost use Rattle.trie_traversal.specs.Wants.{Adds, sees, points, fields_point, entity_points};
 ghost use Rattle.trie_traversal.specs.Leads.{Leads, FieldsLead, SomeLeads, EntityLeads, IsLed};
 
@@ -48,7 +48,7 @@ pub fn follow_entity(
         (Adds trie.now.nodes
         (λ b. entity_points entity.now (sees b trie.now)) next.old.keys next.new.keys) }
     ensures below { OnOk result ((q : Place) → IsIn q next.new.keys → IsIn q next.old.keys ⊎
-        IsBelow trie.now q) }
+        IsPlaceBelow trie.now q) }
     ensures leads { OnOk result (IsLed trie.now (entity_points entity.now) (EntityLeads entity.now)) }
 {
     follow_fields(entity.attrs(), trie, next)?;
@@ -94,7 +94,7 @@ pub(crate) fn follow_fields(
         (λ b. fields_point (fields_of fields.now.entries)
         (sees b trie.now)) next.old.keys next.new.keys) }
     ensures below { OnOk result ((q : Place) → IsIn q next.new.keys → IsIn q next.old.keys ⊎
-        IsBelow trie.now q) }
+        IsPlaceBelow trie.now q) }
     ensures leads { OnOk result
         (IsLed trie.now (fields_point (fields_of fields.now.entries))
         (FieldsLead (fields_of fields.now.entries))) }

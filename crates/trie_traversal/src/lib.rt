@@ -1,4 +1,5 @@
-//! Where values lead along tries: the entities to load, the ids that ancestors' tries name, values that a path cannot go on from.
+//! Where values lead along tries: the entities to load, the ids that ancestors' tries name, values that a
+//! path cannot go on from.
 #![tactic(auto)]
 
 mod begin;

@@ -40,7 +40,8 @@ pub(crate) fn name_each_entity(
     Ok(())
 }
 
-// From an id: the id where the node is marked, and what is named from attributes and tags that are kept of its entity.
+// From an id: the id where the node is marked, and what is named from attributes and tags that are kept of
+// its entity.
 fn name_entity(
     alloc: Global,
     uid: &EntityUID,

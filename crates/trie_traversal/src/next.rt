@@ -7,7 +7,7 @@ ghost use Rattle.reads_spec.specs.Among.{IsIn};
 ghost use Rattle.std.specs.BTreeMap.{get};
 ghost use Rattle.std.specs.Option.{option_copied};
 ghost use Rattle.trie_traversal.specs.declared.place.Place.{Place};
-ghost use Rattle.trie_traversal.specs.Places.{IsBelow, IsBelowSome, node_of};
+ghost use Rattle.trie_traversal.specs.Places.{IsPlaceBelow, IsBelowSome, node_of};
 ghost use Rattle.trie_traversal.specs.Stuck.{tests_of, RefusedBy};
 ghost use Rattle.trie_traversal.specs.Answered.{answer_points, answers_point, AnswerSticks, SomeAnswerSticks};
 ghost use Rattle.trie_traversal.specs.Wants.{Adds};
@@ -57,7 +57,7 @@ fn follow_answer(
         (Adds trie.now.nodes
         (answer_points (option_copied answer.entry) trie.now) next.old.keys next.new.keys) }
     ensures below { OnOk result ((q : Place) → IsIn q next.new.keys → IsIn q next.old.keys ⊎
-        IsBelow trie.now q) }
+        IsPlaceBelow trie.now q) }
     ensures why { IfErr result
         (RefusedBy (AnswerSticks (option_copied answer.entry) (tests_of trie.now))) }
 {

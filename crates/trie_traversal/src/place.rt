@@ -7,8 +7,8 @@ use policy_values::EntityUID;
 use std::alloc::AllocError;
 use std::collections::BTreeSet;
 
-/// An entity that is asked for, and the number of a node of a table: what stands there along the trie is asked of it.
-/// Places are ordered by their ids, and then by their numbers.
+/// An entity that is asked for, and the number of a node of a table: what stands there along the trie is
+/// asked of it. Places are ordered by their ids, and then by their numbers.
 #[derive(Debug, Drop, PartialEq, Eq, PartialOrd, Ord)]
 pub struct Place {
     /// The id of the entity.

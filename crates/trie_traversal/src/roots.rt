@@ -22,8 +22,8 @@ use policy_values::EntityUID;
 use std::alloc::{AllocError, Global};
 use std::collections::{BTreeMap, BTreeSet};
 
-/// The ids that are asked for as ancestors at the node: those that its ancestors' tries name, followed in the request and in
-/// what is kept of entities.
+/// The ids that are asked for as ancestors at the node: those that its ancestors' tries name, followed in the
+/// request and in what is kept of entities.
 pub fn named_ids(
     alloc: Global,
     request: &Request,
@@ -43,7 +43,8 @@ pub fn named_ids(
     Ok(ids)
 }
 
-// From the ids that wait, those at the least number first: as each node leads to later ones, each id waits at a node once.
+// From the ids that wait, those at the least number first: as each node leads to later ones, each id waits at
+// a node once.
 fn name_waiting(
     alloc: Global,
     nodes: &[Node],

@@ -16,8 +16,8 @@ use policy_values::{Text, Value, ValueKind, try_clone_fields};
 use std::alloc::{AllocError, Global};
 use std::collections::BTreeMap;
 
-/// A value in the context from which a path of the trie cannot go on; none where there is no such value. The value of any other
-/// root is an id, from which each path goes on.
+/// A value in the context from which a path of the trie cannot go on; none where there is no such value. The
+/// value of any other root is an id, from which each path goes on.
 pub fn stuck_in_context(
     alloc: Global,
     request: &Request,
@@ -51,8 +51,8 @@ fn stuck_below(
     }
 }
 
-/// A value in the attributes or the tags of the entity from which a path of the trie cannot go on; none where there is no such
-/// value.
+/// A value in the attributes or the tags of the entity from which a path of the trie cannot go on; none where
+/// there is no such value.
 pub fn stuck_in_entity<'a>(entity: &'a Entity, trie: &TrieRef<'_>) -> Option<&'a Value>
     ensures { IsStuck (EntitySticks entity.now (tests_of trie.now)) (option_copied result) }
 {

@@ -57,4 +57,5 @@ abbrev mutual
   -- each key of the left is on the right with a consistent type, or is optional, or the right is open
   pub agree : OpenTag → Attrs → Attrs → Bool
   agree p no_attrs ys = true
-  agree p (attr k s q xs) ys = agrees_at (not q || is_open p) (attr_at ys k) (consistent s (type_of (attr_at ys k))) && agree p xs ys
+  agree p (attr k s q xs) ys =
+      agrees_at (not q || is_open p) (attr_at ys k) (consistent s (type_of (attr_at ys k))) && agree p xs ys

@@ -54,7 +54,8 @@ is_entity t = false
 
 -- why types of two kinds have no join
 abbrev pub apart : Ty → Ty → LubHelp
-apart t u = cond (is_entity t && is_entity u) EntityType (cond ((is_entity t && is_record u) || (is_record t && is_entity u)) EntityRecord Other)
+apart t u = cond (is_entity t && is_entity u) EntityType
+    (cond ((is_entity t && is_record u) || (is_record t && is_entity u)) EntityRecord Other)
 
 -- a primitive type with a truth value's type
 abbrev pub join_bool : Primitive → Result Ty LubHelp
@@ -78,12 +79,17 @@ join_entities Strict ms ns = cond (texts_eq ms ns) (Ok (entity ms)) (Err EntityT
 join_entities Permissive ms ns = Ok (entity (union ms ns))
 
 -- actions of one type: the strict join of their attributes
-abbrev pub join_actions : SubtypeMode → List ℕ → List ℕ → Attrs → Attrs → Result Attrs LubHelp → Result Ty LubHelp
-join_actions m k n xs ys joined = cond (text_eq k n) (cond (same_keys xs ys) (result_map (action k) joined) (Err RecordWidth)) (join_apart m)
+abbrev pub join_actions : SubtypeMode → List ℕ → List ℕ →
+    Attrs → Attrs → Result Attrs LubHelp → Result Ty LubHelp
+join_actions m k n xs ys joined = cond (text_eq k n)
+    (cond (same_keys xs ys) (result_map (action k) joined) (Err RecordWidth)) (join_apart m)
 
--- strict: records of the same keys, with the joined attributes; permissive: with those that both have and that have a join
-abbrev pub join_records : SubtypeMode → Attrs → Attrs → OpenTag → OpenTag → Result Attrs LubHelp → Attrs → Result Ty LubHelp
-join_records Strict xs ys o p joined shared = cond (same_keys xs ys) (result_map (λ zs. record_of zs (either_open o p)) joined) (Err RecordWidth)
+-- strict: records of the same keys, with the joined attributes; permissive: with those that both have and
+-- that have a join
+abbrev pub join_records : SubtypeMode → Attrs → Attrs → OpenTag →
+    OpenTag → Result Attrs LubHelp → Attrs → Result Ty LubHelp
+join_records Strict xs ys o p joined shared =
+    cond (same_keys xs ys) (result_map (λ zs. record_of zs (either_open o p)) joined) (Err RecordWidth)
 join_records Permissive xs ys o p joined shared = Ok (record_of shared (wide_open o p xs ys shared))
 
 -- strict: one attribute in front, where both or neither is required
@@ -135,16 +141,19 @@ abbrev mutual
   join m (extension k) (extension n) = cond (text_eq k n) (Ok (extension k)) (Err Other)
   join m t u = Err (apart t u)
 
-  -- the strict join of attributes with the same keys: the first key whose types or marks don't join tells why there is none
+  -- the strict join of attributes with the same keys: the first key whose types or marks don't join tells why
+  -- there is none
   pub join_attrs : Attrs → Attrs → Result Attrs LubHelp
   join_attrs (attr k t q xs) (attr l u r ys) = join_first k q r (join Strict t u) (join_attrs xs ys)
   join_attrs xs ys = Ok no_attrs
 
-  -- the permissive join of ascending attributes: the common keys whose types have a join, each required where both are
+  -- the permissive join of ascending attributes: the common keys whose types have a join, each required where
+  -- both are
   pub shared : Attrs → Attrs → Attrs
   shared no_attrs ys = no_attrs
   shared (attr k t q xs) no_attrs = no_attrs
-  shared (attr k t q xs) (attr l u r ys) = match_ordering (text_cmp k l) (shared xs (attr l u r ys)) (keep k (q && r) (join Permissive t u) (shared xs ys)) (shared (attr k t q xs) ys)
+  shared (attr k t q xs) (attr l u r ys) = match_ordering (text_cmp k l) (shared xs (attr l u r ys))
+      (keep k (q && r) (join Permissive t u) (shared xs ys)) (shared (attr k t q xs) ys)
 
 -- a list is joined from the left
 abbrev pub join_rest : SubtypeMode → Result Ty LubHelp → List Ty → Result Ty LubHelp

@@ -31,7 +31,8 @@ abbrev mutual
 
 -- where there is a join, both types are below it
 abbrev pub JoinIsAbove : Type 0
-JoinIsAbove = (m : SubtypeMode) (t u : Ty) → NoActions t → NoActions u → IfOk (join m t u) (λ v. Subtype m t v × Subtype m u v)
+JoinIsAbove = (m : SubtypeMode) (t u : Ty) → NoActions t → NoActions u →
+    IfOk (join m t u) (λ v. Subtype m t v × Subtype m u v)
 
 -- where one type is strictly below the other, the strict join is the greater
 abbrev pub JoinIsGreater : Type 0
@@ -56,7 +57,8 @@ abbrev mutual
 
 -- where names and attributes ascend and one type is below the other, the permissive join is the greater
 abbrev pub PermissiveJoinIsGreater : Type 0
-PermissiveJoinIsGreater = (t u : Ty) → Ascends t → Ascends u → Subtype Permissive t u → (join Permissive t u ≡ Ok u) × (join Permissive u t ≡ Ok u)
+PermissiveJoinIsGreater = (t u : Ty) → Ascends t → Ascends u → Subtype Permissive t u →
+    (join Permissive t u ≡ Ok u) × (join Permissive u t ≡ Ok u)
 
 -- a member of a type is a member of each type strictly above it
 abbrev pub MemberOfSubtype : Type 0

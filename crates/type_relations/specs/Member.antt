@@ -37,8 +37,8 @@ HasRequired no_attrs fs = Unit {0}
 HasRequired (attr k t q xs) fs = IsTrue (not q || has_field fs k) × HasRequired xs fs
 
 abbrev mutual
-  -- a record has each required key, and each field is of its declared type; an undeclared one is of an open record alone; a
-  -- value of an extension is of the type of its name
+  -- a record has each required key, and each field is of its declared type; an undeclared one is of an open
+  -- record alone; a value of an extension is of the type of its name
   pub Member : Ty → Val → Type 0
   Member true_type (truth b) = IsTrue b
   Member false_type (truth b) = b ≡ false
@@ -64,4 +64,6 @@ abbrev mutual
   -- each field is of its declared type, or undeclared in an open record
   pub Typed : OpenTag → Attrs → Fields → Type 0
   Typed o xs no_fields = Unit {0}
-  Typed o xs (field n v fs) = (Undeclared o (attr_at xs n) ⊎ (IsDeclared (attr_at xs n) × Member (type_of (attr_at xs n)) v)) × Typed o xs fs
+  Typed o xs (field n v fs) =
+      (Undeclared o (attr_at xs n) ⊎ (IsDeclared (attr_at xs n) × Member (type_of (attr_at xs n)) v)) ×
+      Typed o xs fs

@@ -33,7 +33,8 @@ SubEntity Strict ms ns = ms ≡ ns
 SubEntity Permissive ms ns = AreAmong ms ns
 
 abbrev mutual
-  -- a record below another: with the same keys and each type below, or, permissive and where the right is open, with more keys
+  -- a record below another: with the same keys and each type below, or, permissive and where the right is
+  -- open, with more keys
   pub Subtype : SubtypeMode → Ty → Ty → Type 0
   Subtype m never u = Unit {0}
   Subtype m true_type true_type = Unit {0}
@@ -44,7 +45,8 @@ abbrev mutual
   Subtype m any_set any_set = Unit {0}
   Subtype m (set_of t) any_set = Unit {0}
   Subtype m (set_of t) (set_of u) = Subtype m t u
-  Subtype m (record_of xs o) (record_of ys p) = SubOpen o p × ((IsPermissive m × IsOpen p × Covers m xs ys) ⊎ SubAttrs m xs ys)
+  Subtype m (record_of xs o) (record_of ys p) =
+      SubOpen o p × ((IsPermissive m × IsOpen p × Covers m xs ys) ⊎ SubAttrs m xs ys)
   Subtype m any_entity any_entity = Unit {0}
   Subtype m (entity ns) any_entity = IsPermissive m
   Subtype m (entity ms) (entity ns) = SubEntity m ms ns
@@ -63,4 +65,5 @@ abbrev mutual
   pub Covers : SubtypeMode → Attrs → Attrs → Type 0
   Covers m xs no_attrs = Unit {0}
   Covers m no_attrs (attr l u r ys) = ⊥
-  Covers m (attr k t q xs) (attr l u r ys) = ((k ≡ l) × Subtype m t u × SubRequired m q r × Covers m xs ys) ⊎ Covers m xs (attr l u r ys)
+  Covers m (attr k t q xs) (attr l u r ys) =
+      ((k ≡ l) × Subtype m t u × SubRequired m q r × Covers m xs ys) ⊎ Covers m xs (attr l u r ys)

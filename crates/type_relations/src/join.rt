@@ -51,9 +51,10 @@ pub fn least_upper_bound(
     b: &Type,
     mode: SubtypeMode,
 ) -> Result<Type, LubError>
-    ensures { MatchResult result (λ t. join mode a.now b.now ≡ Ok t) (λ e. IsLubError (join mode a.now b.now) e) }
+    ensures { MatchResult result (λ t. join mode a.now b.now ≡ Ok t)
+        (λ e. IsLubError (join mode a.now b.now) e) }
 {
-    match join(alloc, a, b, mode)? {
+    match join_at_once(alloc, a, b, mode)? {
         Ok(t) => Ok(t),
         Err(help) => Err(LubError::Help(help)),
     }
@@ -65,7 +66,8 @@ pub fn reduce_to_least_upper_bound(
     types: &[Type],
     mode: SubtypeMode,
 ) -> Result<Type, LubError>
-    ensures { MatchResult result (λ t. join_all mode types.now ≡ Ok t) (λ e. IsLubError (join_all mode types.now) e) }
+    ensures { MatchResult result (λ t. join_all mode types.now ≡ Ok t)
+        (λ e. IsLubError (join_all mode types.now) e) }
 {
     match join_list(alloc, types, mode)? {
         Ok(t) => Ok(t),
@@ -82,12 +84,27 @@ fn join_list(
 {
     let mut joined = Type::never();
     for t in types {
-        match join(alloc, &joined, t, mode)? {
+        match join_at_once(alloc, &joined, t, mode)? {
             Ok(next) => joined = next,
             Err(help) => return Ok(Err(help)),
         }
     }
     Ok(Ok(joined))
+}
+
+// The join. The strict one of equal types is either, and need not be made part by part.
+fn join_at_once(
+    alloc: Global,
+    a: &Type,
+    b: &Type,
+    mode: SubtypeMode,
+) -> Result<Result<Type, LubHelp>, AllocError>
+    ensures { IfOk result (λ r. r ≡ join mode a.now b.now) }
+{
+    match mode {
+        SubtypeMode::Strict if a == b => Ok(Ok(a.try_clone(alloc)?)),
+        _ => join(alloc, a, b, mode),
+    }
 }
 
 #[cycle(join)]
@@ -284,7 +301,8 @@ fn join_entries(
     a: &BTreeMap<Text, AttributeType>,
     b: &BTreeMap<Text, AttributeType>,
 ) -> Result<Result<BTreeMap<Text, AttributeType>, LubHelp>, AllocError>
-    ensures { IfOk result (λ r. result_map (λ m. attrs_of m.entries) r ≡ join_attrs (attrs_of a.now.entries) (attrs_of b.now.entries)) }
+    ensures { IfOk result (λ r. result_map (λ m. attrs_of m.entries) r ≡
+        join_attrs (attrs_of a.now.entries) (attrs_of b.now.entries)) }
 {
     let mut joined = BTreeMap::new(alloc);
     let mut rest = b.iter();
@@ -330,7 +348,8 @@ fn shared_entries(
     a: &BTreeMap<Text, AttributeType>,
     b: &BTreeMap<Text, AttributeType>,
 ) -> Result<BTreeMap<Text, AttributeType>, AllocError>
-    ensures { IfOk result (λ m. attrs_of m.entries ≡ shared (attrs_of a.now.entries) (attrs_of b.now.entries)) }
+    ensures { IfOk result
+        (λ m. attrs_of m.entries ≡ shared (attrs_of a.now.entries) (attrs_of b.now.entries)) }
 {
     let mut kept = BTreeMap::new(alloc);
     let mut left = a.iter();
@@ -364,7 +383,8 @@ fn keep_shared(
     y: &AttributeType,
 ) -> Result<(), AllocError>
     requires { IsNext key.now (keys kept.old) }
-    ensures { OnOk result (kept.new.entries ≡ kept.old.entries ++ kept_entry key.now (x.now.is_required && y.now.is_required) (join Permissive x.now.attr_type y.now.attr_type)) }
+    ensures { OnOk result (kept.new.entries ≡ kept.old.entries ++ kept_entry key.now
+        (x.now.is_required && y.now.is_required) (join Permissive x.now.attr_type y.now.attr_type)) }
 {
     match join(alloc, &x.attr_type, &y.attr_type, SubtypeMode::Permissive)? {
         Ok(attr_type) => {

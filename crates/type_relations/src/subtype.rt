@@ -162,7 +162,8 @@ fn is_sub_kind(a: &EntityRecordKind, b: &EntityRecordKind, mode: SubtypeMode) ->
 // Attributes of the same keys are also among those of an open record, so one walk is enough.
 #[cycle(subtype)]
 fn is_sub_attributes(a: &Attributes, b: &Attributes, p: OpenTag, mode: SubtypeMode) -> bool
-    ensures { IsTrue result ↔ ((IsPermissive mode × IsOpen p × Covers mode a.now b.now) ⊎ SubAttrs mode a.now b.now) }
+    ensures { IsTrue result ↔
+        ((IsPermissive mode × IsOpen p × Covers mode a.now b.now) ⊎ SubAttrs mode a.now b.now) }
 {
     if is_permissive(mode) && is_open(p) {
         covers(a, b, mode)
@@ -194,7 +195,8 @@ fn is_sub_attrs(a: &Attributes, b: &Attributes, mode: SubtypeMode) -> bool
 
 #[cycle(subtype)]
 fn is_below(x: &AttributeType, y: &AttributeType, mode: SubtypeMode) -> bool
-    ensures { IsTrue result ↔ (Subtype mode x.now.attr_type y.now.attr_type × SubRequired mode x.now.is_required y.now.is_required) }
+    ensures { IsTrue result ↔ (Subtype mode x.now.attr_type y.now.attr_type ×
+        SubRequired mode x.now.is_required y.now.is_required) }
 {
     is_subtype(&x.attr_type, &y.attr_type, mode)
         && is_sub_required(mode, x.is_required, y.is_required)

@@ -29,7 +29,8 @@ pub trait TypeRelations: Sized {
         other: &Self,
         mode: SubtypeMode,
     ) -> Result<Type, LubError>
-        ensures { MatchResult result (λ t. join mode (tree self.now) (tree other.now) ≡ Ok t) (λ e. IsLubError (join mode (tree self.now) (tree other.now)) e) };
+        ensures { MatchResult result (λ t. join mode (tree self.now) (tree other.now) ≡ Ok t)
+            (λ e. IsLubError (join mode (tree self.now) (tree other.now)) e) };
 
     /// The join of a list of types, from the type of no value on, or why there is none.
     fn reduce_to_least_upper_bound(
@@ -37,7 +38,8 @@ pub trait TypeRelations: Sized {
         types: &[Self],
         mode: SubtypeMode,
     ) -> Result<Type, LubError>
-        ensures { MatchResult result (λ t. join_all mode (map tree types.now) ≡ Ok t) (λ e. IsLubError (join_all mode (map tree types.now)) e) };
+        ensures { MatchResult result (λ t. join_all mode (map tree types.now) ≡ Ok t)
+            (λ e. IsLubError (join_all mode (map tree types.now)) e) };
 
     /// Whether it is sure that no value is of both types.
     fn are_types_disjoint(&self, other: &Self) -> bool

@@ -53,11 +53,13 @@ module _ {T : Type 0} where
     SameBelow (lit l a) (lit m b) = Unit {0}
     SameBelow (var v a) (var w b) = Unit {0}
     SameBelow (slot i a) (slot j b) = Unit {0}
-    SameBelow (ite x y z a) (ite u v w b) = (SameNote x u × SameBelow x u) × (SameNote y v × SameBelow y v) × (SameNote z w × SameBelow z w)
+    SameBelow (ite x y z a) (ite u v w b) =
+        (SameNote x u × SameBelow x u) × (SameNote y v × SameBelow y v) × (SameNote z w × SameBelow z w)
     SameBelow (conj x y a) (conj u v b) = (SameNote x u × SameBelow x u) × (SameNote y v × SameBelow y v)
     SameBelow (disj x y a) (disj u v b) = (SameNote x u × SameBelow x u) × (SameNote y v × SameBelow y v)
     SameBelow (unary o x a) (unary p u b) = SameNote x u × SameBelow x u
-    SameBelow (binary o x y a) (binary p u v b) = (SameNote x u × SameBelow x u) × (SameNote y v × SameBelow y v)
+    SameBelow (binary o x y a) (binary p u v b) =
+        (SameNote x u × SameBelow x u) × (SameNote y v × SameBelow y v)
     SameBelow (attr x m a) (attr u n b) = SameNote x u × SameBelow x u
     SameBelow (has x m a) (has u n b) = SameNote x u × SameBelow x u
     SameBelow (like x p a) (like u q b) = SameNote x u × SameBelow x u
@@ -95,4 +97,5 @@ same_typed x y = same_stored (coded_typed.code (unplaced x)) (coded_typed.code (
 
 -- answers are equal
 abbrev pub same_answer : TypecheckAnswer → TypecheckAnswer → Bool
-same_answer a b = beq (is_success a) (is_success b) && (same_typed (expr_of a) (expr_of b) && same_known (known_of a) (known_of b))
+same_answer a b = beq (is_success a) (is_success b) &&
+    (same_typed (expr_of a) (expr_of b) && same_known (known_of a) (known_of b))

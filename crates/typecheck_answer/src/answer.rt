@@ -10,7 +10,8 @@ use schema_types::Type;
 use std::alloc::Global;
 use typing_spec::CapabilitySet;
 
-/// What typing an expression comes to. The type of each part of the expression, where it is known, is the part's note.
+/// What typing an expression comes to. The type of each part of the expression, where it is known, is the
+/// part's note.
 #[derive(Debug, Drop)]
 pub enum TypecheckAnswer<'a> {
     /// The expression has a type.
@@ -20,7 +21,8 @@ pub enum TypecheckAnswer<'a> {
         /// What is known once the expression is true.
         expr_capability: CapabilitySet<'a>,
     },
-    /// The expression has no type. What stands above it may go on with the type that it would have, where there is one.
+    /// The expression has no type. What stands above it may go on with the type that it would have, where
+    /// there is one.
     TypecheckFail {
         /// The expression, with types.
         expr_recovery_type: Expr<Option<Type>>,

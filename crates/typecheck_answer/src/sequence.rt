@@ -49,7 +49,8 @@ impl<'a> TypecheckAnswer<'a> {
         after(ok, f(expr, known))
     }
 
-    /// What f answers to the expressions and to what is known after each; a failure, where one of the answers is one.
+    /// What f answers to the expressions and to what is known after each; a failure, where one of the
+    /// answers is one.
     pub fn sequence_all_then_typecheck<
         F: FnOnce(Vec<(Expr<Option<Type>>, CapabilitySet<'a>)>) -> TypecheckAnswer<'a> + Drop,
     >(

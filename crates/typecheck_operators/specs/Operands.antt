@@ -25,7 +25,8 @@ use Rattle.typecheck_operators.specs.declared.attr.Access.{Access}
 use Rattle.typecheck_operators.specs.declared.binary.Operator.{Operator}
 
 -- with a type of its own, by how its expression is made of a mark
-abbrev pub ended_as : Bool → Ty → List Capability → (Mark (Option Ty) → Typed) → Mark (Unit {0}) → List Finding → Walked
+abbrev pub ended_as : Bool → Ty → List Capability →
+    (Mark (Option Ty) → Typed) → Mark (Unit {0}) → List Finding → Walked
 ended_as ok t cs part m fs = cond ok (Success (typing t cs (part (at t m)))) (Fail (part (at t m)) fs)
 
 -- of one operand
@@ -82,7 +83,9 @@ declared_typing o d x =
 abbrev pub absence_found : Access → AttributeType → Typed → List Finding
 absence_found o d x =
     if_none (safe_type (is_known o) d)
-    (one (finding.UnsafeOptionalAttributeAccess (access.attribute_access (env_data_of o.env.now) x o.name.now)) o.loc)
+    (one
+    (finding.UnsafeOptionalAttributeAccess (access.attribute_access (env_data_of o.env.now) x o.name.now))
+    o.loc)
 
 abbrev pub declared_of : Access → AttributeType → Bool → Typed → List Finding → Walked
 declared_of o d ok x fs =
@@ -92,15 +95,18 @@ declared_of o d ok x fs =
 -- of two operands
 abbrev pub binary_walked : Operator → Walked → Walked → Walked
 binary_walked o v w =
-    definition.binary_walked o.schema.now (env_data_of o.env.now) o.op o.known o.left.now o.right.now (mark o.loc) v w
+    definition.binary_walked o.schema.now (env_data_of o.env.now)
+    o.op o.known o.left.now o.right.now (mark o.loc) v w
 
 abbrev pub binary_fitting : Operator → Walked → Walked → Walked
 binary_fitting o v w =
-    definition.binary_fitting o.schema.now (env_data_of o.env.now) o.op o.known o.left.now o.right.now (mark o.loc) v w
+    definition.binary_fitting o.schema.now (env_data_of o.env.now)
+    o.op o.known o.left.now o.right.now (mark o.loc) v w
 
 abbrev pub binary_typing : Operator → Typing → Typing → Option Typing
 binary_typing o a b =
-    definition.binary_typing o.schema.now (env_data_of o.env.now) o.op o.known o.left.now o.right.now (mark o.loc) a b
+    definition.binary_typing o.schema.now (env_data_of o.env.now)
+    o.op o.known o.left.now o.right.now (mark o.loc) a b
 
 abbrev pub binary_type : Operator → Option Ty → Option Ty → Option Ty
 binary_type o t u =
@@ -112,7 +118,8 @@ binary_lent o t =
 
 abbrev pub binary_own : Operator → Option Ty → Option Ty → List Finding
 binary_own o t u =
-    definition.binary_own o.schema.now (env_data_of o.env.now) o.op o.known o.left.now o.right.now (mark o.loc) t u
+    definition.binary_own o.schema.now (env_data_of o.env.now)
+    o.op o.known o.left.now o.right.now (mark o.loc) t u
 
 abbrev pub binary_tree : Operator → Typed → Typed → Option Ty → Typed
 binary_tree o x y t = binary o.op x y (lends t (mark o.loc))

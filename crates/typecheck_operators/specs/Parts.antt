@@ -22,7 +22,8 @@ types_lent ws = all_some (map type_lent ws)
 
 abbrev pub fields_lent : Fields → Option (List (List ℕ × Ty))
 fields_lent [] = Some []
-fields_lent (e ∷ es) = option_and_then (λ t. option_map (λ ts. (e.0, t) ∷ ts) (fields_lent es)) (type_lent e.1)
+fields_lent (e ∷ es) =
+    option_and_then (λ t. option_map (λ ts. (e.0, t) ∷ ts) (fields_lent es)) (type_lent e.1)
 
 -- the expressions of fields
 abbrev pub trees_in_fields : Fields → List (List ℕ × Typed)
@@ -38,24 +39,32 @@ abbrev pub set_by : Mark (Unit {0}) → Trees (Mark (Option Ty)) → List Ty →
 set_by m xs ts = option_map (λ t. typing t [] (set xs (at t m))) (set_type ts)
 
 abbrev pub set_by_type : Mark (Unit {0}) → Bool → Option Ty → Trees (Mark (Option Ty)) → List Finding → Walked
-set_by_type m ok t xs fs = ended ok (option_map (λ u. typing u [] (set xs (at u m))) t) (set xs (lends None m)) fs
+set_by_type m ok t xs fs =
+    ended ok (option_map (λ u. typing u [] (set xs (at u m))) t) (set xs (lends None m)) fs
 
-abbrev pub set_in_parts : Mark (Unit {0}) → Bool → Option (List Ty) → Trees (Mark (Option Ty)) → List Finding → Walked
-set_in_parts m ok ts xs fs = ended ok (option_and_then (set_by m xs) ts) (set xs (lends None m)) (fs ++ option_map_or (set_found m.loc) ts [])
+abbrev pub set_in_parts : Mark (Unit {0}) → Bool → Option (List Ty) →
+    Trees (Mark (Option Ty)) → List Finding → Walked
+set_in_parts m ok ts xs fs = ended ok (option_and_then (set_by m xs) ts)
+    (set xs (lends None m)) (fs ++ option_map_or (set_found m.loc) ts [])
 
 -- a record literal
 abbrev pub record_by : Mark (Unit {0}) → Named (Mark (Option Ty)) → List (List ℕ × Ty) → Typing
-record_by m xs ts = typing (record_of (required_attrs ts) ClosedAttributes) [] (rec xs (at (record_of (required_attrs ts) ClosedAttributes) m))
+record_by m xs ts = typing (record_of (required_attrs ts) ClosedAttributes)
+    [] (rec xs (at (record_of (required_attrs ts) ClosedAttributes) m))
 
-abbrev pub record_in_parts : Mark (Unit {0}) → Bool → Option (List (List ℕ × Ty)) → Named (Mark (Option Ty)) → List Finding → Walked
+abbrev pub record_in_parts : Mark (Unit {0}) → Bool →
+    Option (List (List ℕ × Ty)) → Named (Mark (Option Ty)) → List Finding → Walked
 record_in_parts m ok ts xs fs = ended ok (option_map (record_by m xs) ts) (rec xs (lends None m)) fs
 
 -- a call, with all that is found
 abbrev pub call_by : List ℕ → Mark (Unit {0}) → Trees (Mark (Option Ty)) → Ty → Typing
 call_by f m ys t = typing t [] (call f ys (at t m))
 
-abbrev pub call_by_type : List ℕ → ExtensionFunction → Mark (Unit {0}) → Bool → Option Ty → Trees (Mark (Option Ty)) → List Finding → Walked
-call_by_type f g m ok t ys fs = ended ok (option_map (call_by f m ys) t) (call f ys (lends (Some (signature_of g).result) m)) fs
+abbrev pub call_by_type : List ℕ → ExtensionFunction → Mark (Unit {0}) →
+    Bool → Option Ty → Trees (Mark (Option Ty)) → List Finding → Walked
+call_by_type f g m ok t ys fs =
+    ended ok (option_map (call_by f m ys) t) (call f ys (lends (Some (signature_of g).result) m)) fs
 
-abbrev pub call_in_parts : List ℕ → ExtensionFunction → Trees (Mark (Unit {0})) → Mark (Unit {0}) → Bool → Option (List Ty) → Trees (Mark (Option Ty)) → List Finding → Walked
+abbrev pub call_in_parts : List ℕ → ExtensionFunction → Trees (Mark (Unit {0})) →
+    Mark (Unit {0}) → Bool → Option (List Ty) → Trees (Mark (Option Ty)) → List Finding → Walked
 call_in_parts f g xs m ok ts ys fs = call_by_type f g m ok (option_and_then (call_type (Some g) xs) ts) ys fs

@@ -36,7 +36,8 @@ field_of e = (e.0, walked_of e.1)
 abbrev pub lent_as : Option Ty → List Capability → Typed → Option definition.Typing
 lent_as o cs t = option_map (λ u. typing u cs t) o
 
--- an operand taken apart: whether there is a typing, the type that is lent, what is known, the expression, what is found
+-- an operand taken apart: whether there is a typing, the type that is lent, what is known, the expression,
+-- what is found
 pub record Operand : Type 0 where
   pub ok : Bool
   pub of : Option Ty
@@ -45,7 +46,8 @@ pub record Operand : Type 0 where
   pub found : List Finding
 
 abbrev pub operand_of : Part → Operand
-operand_of p = record { ok = p.ok; of = p.of; caps = p.caps; tree = p.tree; found = findings_from p.found.items }
+operand_of p =
+    record { ok = p.ok; of = p.of; caps = p.caps; tree = p.tree; found = findings_from p.found.items }
 
 -- what it lends
 abbrev pub lent : Operand → Option definition.Typing

@@ -14,7 +14,7 @@ use Rattle.typecheck_rules.specs.Operators.{place}
 use Rattle.typecheck_rules.specs.Walk.{walked}
 use Rattle.typecheck_rules.specs.Check as check
 use Rattle.typecheck_rules.specs.Check.{check_of, check_by, check_walked, condition_walked, CheckIsExact, TellsWhy, RefusalIsTold}
-use Rattle.typecheck_rules.specs.Laws.{IsTold}
+use Rattle.typecheck_rules.specs.Laws.{HasTypingOrFinding}
 use Rattle.typecheck_rules.proofs.Failure.{failure_told}
 use Rattle.typecheck_rules.proofs.Exact.{exact}
 
@@ -52,7 +52,7 @@ typed_tells l (primitive String) cs x = tt
 typed_tells l _ cs x = tt
 
 -- what has no typing has a finding
-walked_tells : (l : Option Loc) (w : Walked) → IsTold (typing_of w) (findings_of w) → TellsWhy (check_walked (expect a_boolean l w))
+walked_tells : (l : Option Loc) (w : Walked) → HasTypingOrFinding (typing_of w) (findings_of w) → TellsWhy (check_walked (expect a_boolean l w))
 walked_tells l (Success a) h = typed_tells l a.type a.caps a.tree
 walked_tells l (Fail t []) h = absurd h
 walked_tells l (Fail t (f ∷ fs)) h = of_lent (mark_of t).note
@@ -70,4 +70,4 @@ refusal_told schema env known e names = by (nat_lt 200 (depth_of e))
   where
     by : (b : Bool) → TellsWhy (if b then check.TooDeep else check_walked (condition_walked schema env e))
     by true = tt
-    by false = walked_tells (place e) (walked schema env [] e) (subst (λ o. IsTold o (findings_of (walked schema env [] e))) (sym (exact schema env [] e)) (failure_told schema env known [] e names))
+    by false = walked_tells (place e) (walked schema env [] e) (subst (λ o. HasTypingOrFinding o (findings_of (walked schema env [] e))) (sym (exact schema env [] e)) (failure_told schema env known [] e names))

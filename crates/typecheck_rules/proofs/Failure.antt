@@ -14,7 +14,7 @@ use Rattle.typing_spec.specs.Typing.{Typed, attribute_known, tag_known}
 use Rattle.typecheck_rules.specs.Walked.{Walked, Success, Fail, typing_of, findings_of}
 use Rattle.typecheck_rules.specs.Operators.{place, leaf_walked, parts_of}
 use Rattle.typecheck_rules.specs.Walk.{walked, walked_all, walked_named}
-use Rattle.typecheck_rules.specs.Laws.{IsTold, FailureIsTold}
+use Rattle.typecheck_rules.specs.Laws.{HasTypingOrFinding, FailureIsTold}
 use Rattle.typecheck_rules.proofs.KnownNames.{HasKnownNames, HaveKnownNames, FieldsHaveKnownNames, names_known}
 use Rattle.typecheck_rules.proofs.Found.{HasFinding}
 use Rattle.typecheck_rules.proofs.Failing.{unary_told, like_told, is_told, has_told, attr_told, binary_told, and_is_told, or_is_told, if_is_told, HaveFindings, set_told, record_told}
@@ -64,10 +64,10 @@ module _ (schema : SchemaData) (env : EnvData) (known : IsSome (action_type_in s
     found_named cs no_named h = tt
     found_named cs (named k x xs) h = (found cs x h.0, found_named cs xs h.1)
 
-told_of : (w : Walked) → HasFinding w → IsTold (typing_of w) (findings_of w)
+told_of : (w : Walked) → HasFinding w → HasTypingOrFinding (typing_of w) (findings_of w)
 told_of (Success a) h = tt
 told_of (Fail t []) h = absurd h
 told_of (Fail t (f ∷ fs)) h = tt
 
 pub failure_told : FailureIsTold
-failure_told schema env known cs e h = subst (λ t. IsTold t (findings_of (walked schema env cs e))) (exact schema env cs e) (told_of (walked schema env cs e) (found schema env known cs e (names_known schema e h)))
+failure_told schema env known cs e h = subst (λ t. HasTypingOrFinding t (findings_of (walked schema env cs e))) (exact schema env cs e) (told_of (walked schema env cs e) (found schema env known cs e (names_known schema e h)))

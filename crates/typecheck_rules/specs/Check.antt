@@ -44,13 +44,16 @@ check_walked (walk.Success a) = check_of a.type a.tree []
 check_walked (walk.Fail t fs) = Fail fs
 
 abbrev pub checked : SchemaData → EnvData → Plain → Check
-checked schema env e = if nat_lt 200 (depth_of e) then TooDeep else check_walked (condition_walked schema env e)
+checked schema env e =
+    if nat_lt 200 (depth_of e) then TooDeep else check_walked (condition_walked schema env e)
 
--- a condition that is not too deep succeeds where it is typed True or Bool, is irrelevant where it is typed False, and fails elsewhere
+-- a condition that is not too deep succeeds where it is typed True or Bool, is irrelevant where it is typed
+-- False, and fails elsewhere
 abbrev pub CheckIsExact : Type 0
 CheckIsExact =
     (schema : SchemaData) (env : EnvData) (e : Plain) →
-    checked schema env e ≡ (if nat_lt 200 (depth_of e) then TooDeep else check_by (types schema env [] e) (findings_of (condition_walked schema env e)))
+    checked schema env e ≡ (if nat_lt 200 (depth_of e) then TooDeep
+    else check_by (types schema env [] e) (findings_of (condition_walked schema env e)))
 
 -- a check that fails tells why
 abbrev pub TellsWhy : Check → Type 0
@@ -59,4 +62,5 @@ TellsWhy c = ⊤
 
 -- where each name is known and the environment's action is declared, every check that fails tells why
 abbrev pub RefusalIsTold : Type 0
-RefusalIsTold = (schema : SchemaData) (env : EnvData) → IsSome (action_type_in schema env) → (e : Plain) → IsTrue (has_known_names schema e) → TellsWhy (checked schema env e)
+RefusalIsTold = (schema : SchemaData) (env : EnvData) → IsSome (action_type_in schema env) →
+    (e : Plain) → IsTrue (has_known_names schema e) → TellsWhy (checked schema env e)

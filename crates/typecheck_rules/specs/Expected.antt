@@ -13,7 +13,8 @@ use Rattle.typing_spec.specs.Rules.{is_string, is_set, is_entity_set}
 use Rattle.findings.specs.declared.helps.UnexpectedTypeHelp.{UnexpectedTypeHelp}
 use Rattle.findings.specs.declared.helps.UnexpectedTypeHelp.TheVariants.{TryUsingLike, TryUsingContains, TryUsingSingleContains, TryUsingHas, TryUsingIs, TryUsingIn, TryUsingEqEmptyString, TypeTestNotSupported, ConcatenationNotSupported, SetOperationsNotSupported}
 
--- the types that are named to the reader, the test that an operand's type has to pass, and what may help where it fails
+-- the types that are named to the reader, the test that an operand's type has to pass, and what may help
+-- where it fails
 pub record Expected : Type 0 where
   pub types : List Ty
   pub fits : Ty → Bool
@@ -73,7 +74,8 @@ a_set help = expected (any_set ∷ []) is_set help
 
 -- the left operand of `contains`, and that of `containsAll` and `containsAny`
 abbrev pub contains_help : Ty → Option UnexpectedTypeHelp
-contains_help t = when (is_entity t) TryUsingIn (when (is_record t) TryUsingHas (when (is_string t) TryUsingLike None))
+contains_help t =
+    when (is_entity t) TryUsingIn (when (is_record t) TryUsingHas (when (is_string t) TryUsingLike None))
 
 abbrev pub a_typed_set : Expected
 a_typed_set = expected (any_set ∷ []) is_typed_set contains_help

@@ -12,25 +12,29 @@ use Rattle.typecheck_rules.specs.Walk.{walked}
 use Rattle.typecheck_rules.specs.Faults.{faults}
 
 -- the walk gives the typing, where there is one, and tells each fault
-pub record Agrees (w : Walked) (t : Option Typing) (fs : List Finding) : Type 0 where
+pub record WalkAgrees (w : Walked) (t : Option Typing) (fs : List Finding) : Type 0 where
   pub exact : typing_of w ≡ t
   pub told : (f : Finding) → Contains fs f → Contains (findings_of w) f
 
 abbrev pub WalkIsExact : Type 0
-WalkIsExact = (schema : SchemaData) (env : EnvData) (cs : List Capability) (e : Plain) → Agrees (walked schema env cs e) (types schema env cs e) (faults schema env cs e)
+WalkIsExact = (schema : SchemaData) (env : EnvData) (cs : List Capability) (e : Plain) →
+    WalkAgrees (walked schema env cs e) (types schema env cs e) (faults schema env cs e)
 
 -- an expression that has a type has no faults
 abbrev pub TypedHasNoFaults : Type 0
-TypedHasNoFaults = (schema : SchemaData) (env : EnvData) (cs : List Capability) (e : Plain) → IfSome (types schema env cs e) (λ a. faults schema env cs e ≡ [])
+TypedHasNoFaults = (schema : SchemaData) (env : EnvData) (cs : List Capability) (e : Plain) →
+    IfSome (types schema env cs e) (λ a. faults schema env cs e ≡ [])
 
 -- there is a typing or a finding
-abbrev pub IsTold : Option Typing → List Finding → Type 0
-IsTold (Some a) fs = ⊤
-IsTold None [] = ⊥
-IsTold None (f ∷ fs) = ⊤
+abbrev pub HasTypingOrFinding : Option Typing → List Finding → Type 0
+HasTypingOrFinding (Some a) fs = ⊤
+HasTypingOrFinding None [] = ⊥
+HasTypingOrFinding None (f ∷ fs) = ⊤
 
--- where each name is known and the environment's action is declared, an expression without a type has a finding
+-- where each name is known and the environment's action is declared, an expression without a type has
+-- a finding
 abbrev pub FailureIsTold : Type 0
 FailureIsTold =
-    (schema : SchemaData) (env : EnvData) → IsSome (action_type_in schema env) → (cs : List Capability) (e : Plain) → IsTrue (has_known_names schema e) →
-    IsTold (types schema env cs e) (findings_of (walked schema env cs e))
+    (schema : SchemaData) (env : EnvData) → IsSome (action_type_in schema env) →
+    (cs : List Capability) (e : Plain) → IsTrue (has_known_names schema e) →
+    HasTypingOrFinding (types schema env cs e) (findings_of (walked schema env cs e))

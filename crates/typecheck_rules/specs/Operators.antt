@@ -81,10 +81,13 @@ is_walked n m l v = is_fitting n m (expect (an_entity test_help) l v)
 module _ (schema : SchemaData) where
   -- `has`, by whether the attribute is known to be there
   abbrev pub has_typing_of : Bool → Plain → List ℕ → Mark (Unit {0}) → Typing → Option Typing
-  has_typing_of known x n m a = option_map (λ t. typing t (has_caps (is_some (attribute_of schema a.type n)) x n) (has a.tree n (at t m))) (rule.has_type schema known a.type n)
+  has_typing_of known x n m a = option_map
+      (λ t. typing t (has_caps (is_some (attribute_of schema a.type n)) x n) (has a.tree n (at t m)))
+      (rule.has_type schema known a.type n)
 
   abbrev pub has_fitting : Bool → Plain → List ℕ → Mark (Unit {0}) → Walked → Walked
-  has_fitting known x n m v = one_walked (has_typing_of known x n m) (has (tree_of v) n (lends (Some bool_type) m)) [] v
+  has_fitting known x n m v =
+      one_walked (has_typing_of known x n m) (has (tree_of v) n (lends (Some bool_type) m)) [] v
 
   abbrev pub has_walked : Bool → Plain → List ℕ → Mark (Unit {0}) → Walked → Walked
   has_walked known x n m v = has_fitting known x n m (expect (an_owner contents_help) (place x) v)
@@ -92,25 +95,31 @@ module _ (schema : SchemaData) where
   module _ (env : EnvData) where
     -- `.`, by whether the attribute is known to be there; an attribute that may be absent lends its type
     abbrev pub attr_typing : Bool → List ℕ → Mark (Unit {0}) → Typing → Option Typing
-    attr_typing known n m a = option_map (λ t. typing t [] (attr a.tree n (at t m))) (rule.attr_type schema known a.type n)
+    attr_typing known n m a =
+        option_map (λ t. typing t [] (attr a.tree n (at t m))) (rule.attr_type schema known a.type n)
 
     abbrev pub attr_lent : List ℕ → Ty → Option Ty
     attr_lent n t = option_map (λ a. a.attr_type) (attribute_of schema t n)
 
     abbrev pub attr_found : Bool → List ℕ → Mark (Unit {0}) → Typing → List Finding
-    attr_found known n m a = attribute_found schema (attribute_access env a.tree n) known n m.loc a.type (attribute_of schema a.type n)
+    attr_found known n m a = attribute_found schema (attribute_access env a.tree n)
+        known n m.loc a.type (attribute_of schema a.type n)
 
     abbrev pub attr_fitting : Bool → List ℕ → Mark (Unit {0}) → Walked → Walked
     attr_fitting known n m v =
-        one_walked (attr_typing known n m) (attr (tree_of v) n (lends (option_and_then (attr_lent n) (type_lent v)) m)) (option_map_or (attr_found known n m) (lent_by v) []) v
+        one_walked (attr_typing known n m)
+        (attr (tree_of v) n (lends (option_and_then (attr_lent n) (type_lent v)) m))
+        (option_map_or (attr_found known n m) (lent_by v) []) v
 
     abbrev pub attr_walked : Bool → List ℕ → Mark (Unit {0}) → Option Loc → Walked → Walked
     attr_walked known n m l v = attr_fitting known n m (expect (an_owner no_help) l v)
 
-    -- an operator of two operands, both of which are walked, by whether the tag that they name is known to be there; where it has no
-    -- type it lends Bool, but arithmetic a long, `==` what is known of the ids, `hasTag` what its left operand's type gives, and `getTag` nothing
+    -- an operator of two operands, both of which are walked, by whether the tag that they name is known to be
+    -- there; where it has no type it lends Bool, but arithmetic a long, `==` what is known of the ids,
+    -- `hasTag` what its left operand's type gives, and `getTag` nothing
     abbrev pub binary_lent : BinaryOp → Plain → Plain → Option Ty → Option Ty
-    binary_lent Eq x y t = Some (option_map_or truth_type (are_one (known_id env x) (known_id env y)) bool_type)
+    binary_lent Eq x y t =
+        Some (option_map_or truth_type (are_one (known_id env x) (known_id env y)) bool_type)
     binary_lent Add x y t = Some long_type
     binary_lent Sub x y t = Some long_type
     binary_lent Mul x y t = Some long_type
@@ -118,22 +127,31 @@ module _ (schema : SchemaData) where
     binary_lent HasTag x y t = option_map (λ u. rule.possible (rule.may_have_tags schema u)) t
     binary_lent o x y t = Some bool_type
 
-    abbrev pub binary_typing : BinaryOp → Bool → Plain → Plain → Mark (Unit {0}) → Typing → Typing → Option Typing
-    binary_typing o known x y m a b = option_map (λ t. typing t (binary_caps o x y) (binary o a.tree b.tree (at t m))) (rule.binary_type schema env o known x y a.type b.type)
+    abbrev pub binary_typing : BinaryOp → Bool → Plain → Plain →
+        Mark (Unit {0}) → Typing → Typing → Option Typing
+    binary_typing o known x y m a b =
+        option_map (λ t. typing t (binary_caps o x y) (binary o a.tree b.tree (at t m)))
+        (rule.binary_type schema env o known x y a.type b.type)
 
     -- the type by the rule, of the types that are lent
     abbrev pub binary_type_lent : BinaryOp → Bool → Plain → Plain → Option Ty → Option Ty → Option Ty
-    binary_type_lent o known x y t u = option_and_then (λ s. option_and_then (rule.binary_type schema env o known x y s) u) t
+    binary_type_lent o known x y t u =
+        option_and_then (λ s. option_and_then (rule.binary_type schema env o known x y s) u) t
 
-    abbrev pub binary_own : BinaryOp → Bool → Plain → Plain → Mark (Unit {0}) → Option Ty → Option Ty → List Finding
-    binary_own o known x y m t u = binary_found schema o known y (binary_type_lent o known x y t u) (place x) (place y) m.loc t u
+    abbrev pub binary_own : BinaryOp → Bool → Plain → Plain →
+        Mark (Unit {0}) → Option Ty → Option Ty → List Finding
+    binary_own o known x y m t u =
+        binary_found schema o known y (binary_type_lent o known x y t u) (place x) (place y) m.loc t u
 
     abbrev pub binary_fitting : BinaryOp → Bool → Plain → Plain → Mark (Unit {0}) → Walked → Walked → Walked
     binary_fitting o known x y m v w =
-        two_walked (binary_typing o known x y m) (binary o (tree_of v) (tree_of w) (lends (binary_lent o x y (type_lent v)) m)) (binary_own o known x y m (type_lent v) (type_lent w)) v w
+        two_walked (binary_typing o known x y m)
+        (binary o (tree_of v) (tree_of w) (lends (binary_lent o x y (type_lent v)) m))
+        (binary_own o known x y m (type_lent v) (type_lent w)) v w
 
     abbrev pub binary_walked : BinaryOp → Bool → Plain → Plain → Mark (Unit {0}) → Walked → Walked → Walked
-    binary_walked o known x y m v w = binary_fitting o known x y m (expect_if (left_of o) (place x) v) (expect_if (right_of o) (place y) w)
+    binary_walked o known x y m v w =
+        binary_fitting o known x y m (expect_if (left_of o) (place x) v) (expect_if (right_of o) (place y) w)
 
 -- an operand that is reached unless the first operand is false, and one that is reached unless it is true
 abbrev pub unless_false : Ty → Walked → Walked
@@ -144,7 +162,8 @@ abbrev pub unless_true : Ty → Walked → Walked
 unless_true true_type w = skipped
 unless_true t w = w
 
--- behind a first operand that has to be true: with what it makes known; with what was known before, where it failed
+-- behind a first operand that has to be true: with what it makes known; with what was known before, where
+-- it failed
 abbrev pub reached_after : Walked → (List Capability → Walked) → Walked → Walked
 reached_after (Success a) after before = unless_false a.type (after a.caps)
 reached_after (Fail t fs) after before = before
@@ -157,16 +176,19 @@ reached_besides (Fail t fs) w = w
 -- `&&`
 abbrev pub and_sides : Mark (Unit {0}) → Walked → Walked → Walked
 and_sides m v w =
-    ended (has_typing v && has_typing w) (option_and_then (λ a. and_typing a.type a.caps a.tree m (lent_by w)) (lent_by v))
+    ended (has_typing v && has_typing w)
+    (option_and_then (λ a. and_typing a.type a.caps a.tree m (lent_by w)) (lent_by v))
     (conj (tree_of v) (tree_of w) (lends (Some bool_type) m)) (findings_of v ++ findings_of w)
 
 abbrev pub and_walked : Mark (Unit {0}) → Option Loc → Walked → (List Capability → Walked) → Walked → Walked
-and_walked m r v after before = and_sides m v (reached_after v (λ ds. expect a_boolean r (after ds)) (expect a_boolean r before))
+and_walked m r v after before =
+    and_sides m v (reached_after v (λ ds. expect a_boolean r (after ds)) (expect a_boolean r before))
 
 -- `||`
 abbrev pub or_sides : Mark (Unit {0}) → Walked → Walked → Walked
 or_sides m v w =
-    ended (has_typing v && has_typing w) (option_and_then (λ a. or_typing a.type a.caps a.tree m (lent_by w)) (lent_by v))
+    ended (has_typing v && has_typing w)
+    (option_and_then (λ a. or_typing a.type a.caps a.tree m (lent_by w)) (lent_by v))
     (disj (tree_of v) (tree_of w) (lends (Some bool_type) m)) (findings_of v ++ findings_of w)
 
 abbrev pub or_walked : Mark (Unit {0}) → Option Loc → Walked → Walked → Walked
@@ -187,8 +209,10 @@ if_typing_of m a b c = if_typing a.type a.caps a.tree m b c
 
 abbrev pub if_parts : Mark (Unit {0}) → Walked → Walked → Walked → Walked
 if_parts m u v w =
-    ended (has_typing u && (has_typing v && has_typing w)) (if_typing_of m (test_lent u) (lent_by v) (lent_by w))
-    (ite (tree_of u) (tree_of v) (tree_of w) (lends None m)) (findings_of u ++ (findings_of v ++ (findings_of w ++ branches_found m (test_lent u).type (type_lent v) (type_lent w))))
+    ended (has_typing u && (has_typing v && has_typing w))
+    (if_typing_of m (test_lent u) (lent_by v) (lent_by w))
+    (ite (tree_of u) (tree_of v) (tree_of w) (lends None m)) (findings_of u ++ (findings_of v ++
+    (findings_of w ++ branches_found m (test_lent u).type (type_lent v) (type_lent w))))
 
 abbrev pub if_walked : Mark (Unit {0}) → Walked → (List Capability → Walked) → Walked → Walked → Walked
 if_walked m u after before w = if_parts m u (reached_after u after before) (reached_besides u w)
@@ -199,7 +223,8 @@ set_typing m ys = option_map (λ t. typing t [] (set (trees_in ys) (at t m))) (r
 
 abbrev pub set_walked : Mark (Unit {0}) → List Walked → Walked
 set_walked m ws =
-    all_walked (set_typing m) (set (trees_walked ws) (lends None m)) (findings_of_all ws ++ option_map_or (λ ys. set_found m.loc (types_in ys)) (lent_by_all ws) []) ws
+    all_walked (set_typing m) (set (trees_walked ws) (lends None m))
+    (findings_of_all ws ++ option_map_or (λ ys. set_found m.loc (types_in ys)) (lent_by_all ws) []) ws
 
 -- a record literal
 abbrev pub Fields : Type 0
@@ -222,7 +247,8 @@ record_walked m es =
 
 -- the arguments have to be of the types, one after another
 abbrev pub arguments_fitting : List Ty → Trees (Mark (Unit {0})) → List Walked → List Walked
-arguments_fitting (t ∷ ts) (tree x xs) (w ∷ ws) = expect (an_argument t) (place x) w ∷ arguments_fitting ts xs ws
+arguments_fitting (t ∷ ts) (tree x xs) (w ∷ ws) =
+    expect (an_argument t) (place x) w ∷ arguments_fitting ts xs ws
 arguments_fitting ts xs ws = ws
 
 -- only where the call has no finding of its own
@@ -230,13 +256,19 @@ abbrev pub arguments_walked : List Finding → List Ty → Trees (Mark (Unit {0}
 arguments_walked [] ts xs ws = arguments_fitting ts xs ws
 arguments_walked (f ∷ fs) ts xs ws = ws
 
-abbrev pub call_typing : List ℕ → Option ExtensionFunction → Trees (Mark (Unit {0})) → Mark (Unit {0}) → List Typing → Option Typing
-call_typing f o xs m ys = option_map (λ t. typing t [] (call f (trees_in ys) (at t m))) (call_type o xs (types_in ys))
+abbrev pub call_typing : List ℕ → Option ExtensionFunction →
+    Trees (Mark (Unit {0})) → Mark (Unit {0}) → List Typing → Option Typing
+call_typing f o xs m ys =
+    option_map (λ t. typing t [] (call f (trees_in ys) (at t m))) (call_type o xs (types_in ys))
 
-abbrev pub call_fitting : List ℕ → ExtensionFunction → Trees (Mark (Unit {0})) → Mark (Unit {0}) → List Finding → List Walked → Walked
-call_fitting f g xs m own ws = all_walked (call_typing f (Some g) xs m) (call f (trees_walked ws) (lends (Some (signature_of g).result) m)) (own ++ findings_of_all ws) ws
+abbrev pub call_fitting : List ℕ → ExtensionFunction → Trees (Mark (Unit {0})) →
+    Mark (Unit {0}) → List Finding → List Walked → Walked
+call_fitting f g xs m own ws = all_walked (call_typing f (Some g) xs m)
+    (call f (trees_walked ws) (lends (Some (signature_of g).result) m)) (own ++ findings_of_all ws) ws
 
 -- the arguments of an undefined function are not looked at
-abbrev pub call_walked : List ℕ → Option ExtensionFunction → Trees (Mark (Unit {0})) → Mark (Unit {0}) → List Walked → Walked
+abbrev pub call_walked : List ℕ → Option ExtensionFunction →
+    Trees (Mark (Unit {0})) → Mark (Unit {0}) → List Walked → Walked
 call_walked f None xs m ws = Fail (call f no_trees (lends None m)) (one (UndefinedFunction f) m.loc)
-call_walked f (Some g) xs m ws = call_fitting f g xs m (call_found g xs m.loc) (arguments_walked (call_found g xs m.loc) (signature_of g).arguments xs ws)
+call_walked f (Some g) xs m ws = call_fitting f g xs m (call_found g xs m.loc)
+    (arguments_walked (call_found g xs m.loc) (signature_of g).arguments xs ws)

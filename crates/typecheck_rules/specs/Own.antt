@@ -1,5 +1,5 @@
--- What is found of an operator itself, by the types of its operands: joins that are not there, operands that can't be compared,
--- attributes and tags that are not safe, calls of another form.
+-- What is found of an operator itself, by the types of its operands: joins that are not there, operands that
+-- can't be compared, attributes and tags that are not safe, calls of another form.
 use Rattle.std.specs.Prelude.{ℕ, Bool, true, false, ◌||◌, List, [], ◌∷◌, ◌++◌, Option, Some, None, Result, Ok, Err, codes, length, fold, if◌then◌else◌}
 use Rattle.std.specs.Option.{option_map_or, option_and_then}
 use Rattle.std.specs.BTreeSet.{insert_key}
@@ -75,15 +75,17 @@ is_comparable t = same_type t datetime_type || same_type t duration_type
 abbrev pub wrong : List Ty → Option Loc → Ty → List Finding
 wrong ts l t = one (UnexpectedType ts t None) l
 
--- `<` and `<=`, by the first case that applies: one side is a long, and the other has to be; the left side can be compared, or the right
--- one, and the other has to be of its type; else both have to be of a type that can be compared
+-- `<` and `<=`, by the first case that applies: one side is a long, and the other has to be; the left side
+-- can be compared, or the right one, and the other has to be of its type; else both have to be of a type that
+-- can be compared
 abbrev pub order_wrong : Option Loc → Option Loc → Ty → Ty → List Finding
 order_wrong l r t u =
     if same_type t long_type then wrong (long_type ∷ []) r u else
     (if same_type u long_type then wrong (long_type ∷ []) l t else
     (if is_comparable t then wrong (t ∷ []) r u else
     (if is_comparable u then wrong (u ∷ []) l t else
-    (wrong (datetime_type ∷ duration_type ∷ long_type ∷ []) l t ++ wrong (datetime_type ∷ duration_type ∷ long_type ∷ []) r u))))
+    (wrong (datetime_type ∷ duration_type ∷ long_type ∷ []) l t ++
+    wrong (datetime_type ∷ duration_type ∷ long_type ∷ []) r u))))
 
 abbrev pub order_found : Option Loc → Option Loc → Ty → Ty → List Finding
 order_found l r t u = if_none (order_type t u) (order_wrong l r t u)
@@ -101,10 +103,13 @@ entity_names t = None
 -- `getTag`, by whether the tag is known to be there, the left operand's type, and the tag's expression
 abbrev pub tag_found : SchemaData → {A : Type 0} → Bool → Tree A → Option Loc → Ty → List Finding
 tag_found schema false k l t = one (UnsafeTagAccess (entity_names t) (tag_text k)) l
-tag_found schema true k l t = if_none (tag_type schema t) (one (NoTagsAllowed (option_and_then only_name (names_of t))) l)
+tag_found schema true k l t =
+    if_none (tag_type schema t) (one (NoTagsAllowed (option_and_then only_name (names_of t))) l)
 
--- an operator of two operands: by the places of these, the tag that they name, its own place, and the types that they lend
-abbrev pub binary_found : SchemaData → {A : Type 0} → BinaryOp → Bool → Tree A → Option Ty → Option Loc → Option Loc → Option Loc → Option Ty → Option Ty → List Finding
+-- an operator of two operands: by the places of these, the tag that they name, its own place, and the types
+-- that they lend
+abbrev pub binary_found : SchemaData → {A : Type 0} → BinaryOp → Bool → Tree A →
+    Option Ty → Option Loc → Option Loc → Option Loc → Option Ty → Option Ty → List Finding
 binary_found schema Eq known k type l r m t u = of_both (equal_found type m) t u
 binary_found schema Less known k type l r m t u = of_both (order_found l r) t u
 binary_found schema LessEq known k type l r m t u = of_both (order_found l r) t u
@@ -114,10 +119,17 @@ binary_found schema ContainsAny known k type l r m t u = of_both (no_join contex
 binary_found schema GetTag known k type l r m t u = option_map_or (tag_found schema known k m) t []
 binary_found schema o known k type l r m t u = []
 
+-- an attribute that is not declared
+abbrev pub undeclared_found : SchemaData → AttributeAccess → List ℕ → Option Loc → Ty → List Finding
+undeclared_found schema access n l t =
+    one (UnsafeAttributeAccess access (may_have (declared_attributes schema) t n)) l
+
 -- `.`: an attribute that is not declared, or that may be absent
-abbrev pub attribute_found : SchemaData → AttributeAccess → Bool → List ℕ → Option Loc → Ty → Option AttributeType → List Finding
-attribute_found schema access known n l t None = one (UnsafeAttributeAccess access (may_have (declared_attributes schema) t n)) l
-attribute_found schema access known n l t (Some a) = if_none (safe_type known a) (one (UnsafeOptionalAttributeAccess access) l)
+abbrev pub attribute_found : SchemaData → AttributeAccess → Bool →
+    List ℕ → Option Loc → Ty → Option AttributeType → List Finding
+attribute_found schema access known n l t None = undeclared_found schema access n l t
+attribute_found schema access known n l t (Some a) =
+    if_none (safe_type known a) (one (UnsafeOptionalAttributeAccess access) l)
 
 -- a set literal: without elements, or without a join of their types, where each has one
 abbrev pub set_found : Option Loc → List Ty → List Finding
@@ -133,9 +145,15 @@ abbrev pub text_found : ExtensionFunction → Option Loc → Option (List ℕ) �
 text_found f l None = []
 text_found f l (Some text) = one (unreadable f text) l
 
--- a call, before its arguments are looked at: their number, a text that can't be read, arguments of a constructor that are no literals
+-- a call of another number of arguments
+abbrev pub count_found : {A : Type 0} → ExtensionFunction → Trees A → Option Loc → List Finding
+count_found f xs l =
+    if_not (has_count f xs) (one (WrongNumberArguments (length (signature_of f).arguments) (count_of xs)) l)
+
+-- a call, before its arguments are looked at: their number, a text that can't be read, arguments of a
+-- constructor that are no literals
 abbrev pub call_found : {A : Type 0} → ExtensionFunction → Trees A → Option Loc → List Finding
 call_found f xs l =
-    if_not (has_count f xs) (one (WrongNumberArguments (length (signature_of f).arguments) (count_of xs)) l) ++
+    count_found f xs l ++
     (if_not (has_readable f xs) (text_found f l (only_text xs)) ++
     if_not (has_literals f xs) (one NonLitExtConstructor l))

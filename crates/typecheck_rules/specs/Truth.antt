@@ -1,4 +1,5 @@
--- What findings say is so: each names a part of the expression, the types that its operands lend, and the rule that they break.
+-- What findings say is so: each names a part of the expression, the types that its operands lend, and the
+-- rule that they break.
 use Rattle.std.specs.Prelude.{◌≡◌, ⊤, ℕ, false, ◌==◌, List, [], ◌∷◌, ◌++◌, length, None, Some, Err, Contains, All, IsSomeAnd}
 use Rattle.std.specs.Option.{option_and_then}
 use Rattle.schema_types.specs.Names.{only_name}
@@ -56,13 +57,15 @@ module _ (schema : SchemaData) (env : EnvData) where
   abbrev pub tested : List Capability → Plain → Walked
   tested cs x = expect a_boolean (place x) (walked schema env cs x)
 
-  -- the expression and all its parts: what a test makes known is known in the branch behind it, what the left side of `&&` does in its right one
+  -- the expression and all its parts: what a test makes known is known in the branch behind it, what the left
+  -- side of `&&` does in its right one
   abbrev mutual
     pub parts : List Capability → Plain → List Part
     parts cs (lit l m) = part cs (lit l m) ∷ []
     parts cs (var v m) = part cs (var v m) ∷ []
     parts cs (slot i m) = part cs (slot i m) ∷ []
-    parts cs (ite x y z m) = part cs (ite x y z m) ∷ (parts cs x ++ (parts (known_after cs (tested cs x)) y ++ parts cs z))
+    parts cs (ite x y z m) =
+        part cs (ite x y z m) ∷ (parts cs x ++ (parts (known_after cs (tested cs x)) y ++ parts cs z))
     parts cs (conj x y m) = part cs (conj x y m) ∷ (parts cs x ++ parts (known_after cs (tested cs x)) y)
     parts cs (disj x y m) = part cs (disj x y m) ∷ (parts cs x ++ parts cs y)
     parts cs (unary o x m) = part cs (unary o x m) ∷ parts cs x
@@ -93,8 +96,8 @@ module _ (schema : SchemaData) (env : EnvData) where
   LendEach cs (tree x xs) (t ∷ ts) = Lends cs x t × LendEach cs xs ts
   LendEach cs xs ts = ⊥
 
-  -- the types of which a part wants a join: of the branches of an `if`, of a set's elements, of the elements of the left operand of `contains` and of
-  -- its right operand, of the operands of another operator
+  -- the types of which a part wants a join: of the branches of an `if`, of a set's elements, of the elements
+  -- of the left operand of `contains` and of its right operand, of the operands of another operator
   abbrev pub IsToJoin : List Capability → Plain → List Ty → Type 0
   IsToJoin cs (ite x y z m) (t ∷ u ∷ []) = Lends (known_after cs (tested cs x)) y t × Lends cs z u
   IsToJoin cs (set xs m) ts = LendEach cs xs ts
@@ -105,20 +108,28 @@ module _ (schema : SchemaData) (env : EnvData) where
   -- what a finding of the kind says of the part at which it stands, with what is known before that
   abbrev pub IsSo : List Capability → Plain → Kind → Type 0
   IsSo cs e (UnexpectedType expected actual help) = Lends cs e actual × NoneAbove actual expected
-  IsSo cs e (IncompatibleTypes types why context) = (ts : List Ty) × IsToJoin cs e ts × (types ≡ ascending ts) × (join_all Strict ts ≡ Err why)
+  IsSo cs e (IncompatibleTypes types why context) =
+      (ts : List Ty) × IsToJoin cs e ts × (types ≡ ascending ts) × (join_all Strict ts ≡ Err why)
   IsSo cs (attr x n m) (UnsafeAttributeAccess access may_exist) =
-      (t : Ty) × Lends cs x t × (attribute_of schema t n ≡ None) × (may_exist ≡ may_have (declared_attributes schema) t n)
+      (t : Ty) × Lends cs x t × (attribute_of schema t n ≡ None) ×
+      (may_exist ≡ may_have (declared_attributes schema) t n)
   IsSo cs (attr x n m) (UnsafeOptionalAttributeAccess access) =
-      (t : Ty) × Lends cs x t × IsSomeAnd (attribute_of schema t n) (λ a. a.is_required ≡ false) × (has_cap cs (attribute_known x n) ≡ false)
+      (t : Ty) × Lends cs x t × IsSomeAnd (attribute_of schema t n) (λ a. a.is_required ≡ false) ×
+      (has_cap cs (attribute_known x n) ≡ false)
   IsSo cs (binary GetTag x k m) (UnsafeTagAccess types tag) =
-      (t : Ty) × Lends cs x t × (types ≡ entity_names t) × (tag ≡ tag_text k) × (has_cap cs (tag_known x k) ≡ false)
-  IsSo cs (binary GetTag x k m) (NoTagsAllowed type) = (t : Ty) × Lends cs x t × (type ≡ option_and_then only_name (names_of t)) × (tag_type schema t ≡ None)
+      (t : Ty) × Lends cs x t × (types ≡ entity_names t) ×
+      (tag ≡ tag_text k) × (has_cap cs (tag_known x k) ≡ false)
+  IsSo cs (binary GetTag x k m) (NoTagsAllowed type) =
+      (t : Ty) × Lends cs x t × (type ≡ option_and_then only_name (names_of t)) × (tag_type schema t ≡ None)
   IsSo cs (call f xs m) (UndefinedFunction name) = (name ≡ f) × (function_of f ≡ None)
   IsSo cs (call f xs m) (WrongNumberArguments expected actual) =
-      (g : ExtensionFunction) × (function_of f ≡ Some g) × (expected ≡ length (signature_of g).arguments) × (actual ≡ count_of xs) × ((actual == expected) ≡ false)
+      (g : ExtensionFunction) × (function_of f ≡ Some g) × (expected ≡ length (signature_of g).arguments) ×
+      (actual ≡ count_of xs) × ((actual == expected) ≡ false)
   IsSo cs (call f xs m) (FunctionArgumentValidation text) =
-      (g : ExtensionFunction) × (function_of f ≡ Some g) × (s : List ℕ) × (only_text xs ≡ Some s) × (FunctionArgumentValidation text ≡ unreadable g s) × (is_readable g s ≡ false)
-  IsSo cs (call f xs m) NonLitExtConstructor = (g : ExtensionFunction) × (function_of f ≡ Some g) × (has_literals g xs ≡ false)
+      (g : ExtensionFunction) × (function_of f ≡ Some g) × (s : List ℕ) × (only_text xs ≡ Some s) ×
+      (FunctionArgumentValidation text ≡ unreadable g s) × (is_readable g s ≡ false)
+  IsSo cs (call f xs m) NonLitExtConstructor =
+      (g : ExtensionFunction) × (function_of f ≡ Some g) × (has_literals g xs ≡ false)
   IsSo cs (set xs m) EmptySetForbidden = xs ≡ no_trees
   IsSo cs e k = ⊥
 
@@ -130,4 +141,5 @@ pub record IsTrueAt (schema : SchemaData) (env : EnvData) (ps : List Part) (f : 
   pub so : IsSo schema env part.known part.is f.kind
 
 abbrev pub FindingsAreTrue : Type 0
-FindingsAreTrue = (schema : SchemaData) (env : EnvData) (cs : List Capability) (e : Plain) → All (IsTrueAt schema env (parts schema env cs e)) (findings_of (walked schema env cs e))
+FindingsAreTrue = (schema : SchemaData) (env : EnvData) (cs : List Capability) (e : Plain) →
+    All (IsTrueAt schema env (parts schema env cs e)) (findings_of (walked schema env cs e))

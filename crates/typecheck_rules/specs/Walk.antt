@@ -1,4 +1,5 @@
--- The walk through an expression: its typing, or what is found. An operand that failed lends its type to the operator above.
+-- The walk through an expression: its typing, or what is found. An operand that failed lends its type to the
+-- operator above.
 use Rattle.std.specs.Prelude.{List, [], ◌∷◌, ◌++◌}
 use Rattle.schema_core.specs.Schema.{SchemaData}
 use Rattle.schema_core.specs.EnvData.{EnvData}
@@ -19,12 +20,16 @@ module _ (schema : SchemaData) (env : EnvData) where
     walked cs (lit l m) = leaf_walked (lit l) m (type_of_literal schema l)
     walked cs (var v m) = leaf_walked (var v) m (type_of_variable schema env v)
     walked cs (slot i m) = Success (typing (type_of_slot env i) [] (slot i (at (type_of_slot env i) m)))
-    walked cs (ite x y z m) = if_walked m (expect a_boolean (place x) (walked cs x)) (λ ds. walked (cs ++ ds) y) (walked cs y) (walked cs z)
-    walked cs (conj x y m) = and_walked m (place y) (expect a_boolean (place x) (walked cs x)) (λ ds. walked (cs ++ ds) y) (walked cs y)
+    walked cs (ite x y z m) = if_walked m (expect a_boolean (place x) (walked cs x))
+        (λ ds. walked (cs ++ ds) y) (walked cs y) (walked cs z)
+    walked cs (conj x y m) = and_walked m (place y)
+        (expect a_boolean (place x) (walked cs x)) (λ ds. walked (cs ++ ds) y) (walked cs y)
     walked cs (disj x y m) = or_walked m (place y) (expect a_boolean (place x) (walked cs x)) (walked cs y)
     walked cs (unary o x m) = unary_walked o m (place x) (walked cs x)
-    walked cs (binary o x y m) = binary_walked schema env o (has_cap cs (tag_known x y)) x y m (walked cs x) (walked cs y)
-    walked cs (attr x n m) = attr_walked schema env (has_cap cs (attribute_known x n)) n m (place x) (walked cs x)
+    walked cs (binary o x y m) =
+        binary_walked schema env o (has_cap cs (tag_known x y)) x y m (walked cs x) (walked cs y)
+    walked cs (attr x n m) =
+        attr_walked schema env (has_cap cs (attribute_known x n)) n m (place x) (walked cs x)
     walked cs (has x n m) = has_walked schema (has_cap cs (attribute_known x n)) x n m (walked cs x)
     walked cs (like x p m) = like_walked p m (place x) (walked cs x)
     walked cs (is_type x n m) = is_walked n m (place x) (walked cs x)

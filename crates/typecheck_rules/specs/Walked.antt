@@ -1,4 +1,5 @@
--- What a walk through an expression comes to, and how what operands come to makes what their operator comes to.
+-- What a walk through an expression comes to, and how what operands come to makes what their operator
+-- comes to.
 use Rattle.std.specs.Prelude.{Bool, true, false, ◌&&◌, List, [], ◌∷◌, ◌++◌, Option, Some, None, cond, map, option_map}
 use Rattle.std.specs.List.{list_all, flat_map}
 use Rattle.std.specs.Option.{option_and_then}
@@ -12,7 +13,8 @@ use Rattle.typecheck_rules.specs.Expected.{Expected}
 pub data Walked : Type 0 where
   -- the typing
   Success : Typing → Walked
-  -- the expression with the types that are known of its parts, of which its own is lent to the operator above; and what is found
+  -- the expression with the types that are known of its parts, of which its own is lent to the operator
+  -- above; and what is found
   Fail : Typed → List Finding → Walked
 
 abbrev pub typing_of : Walked → Option Typing
@@ -31,7 +33,8 @@ abbrev pub has_typing : Walked → Bool
 has_typing (Success a) = true
 has_typing (Fail t fs) = false
 
--- what the operator above takes for the operand's typing: after a failure the type that is known, if any, with which nothing is known
+-- what the operator above takes for the operand's typing: after a failure the type that is known, if any,
+-- with which nothing is known
 abbrev pub lent_tree : Typed → Option Typing
 lent_tree t = option_map (λ u. typing u [] t) (mark_of t).note
 
@@ -68,21 +71,23 @@ abbrev pub expect_if : Option Expected → Option Loc → Walked → Walked
 expect_if None l w = w
 expect_if (Some x) l w = expect x l w
 
--- how an operator ends, by whether all its operands have a typing, its own typing over what they lend, what it lends where it has
--- none, and all that is found
+-- how an operator ends, by whether all its operands have a typing, its own typing over what they lend, what
+-- it lends where it has none, and all that is found
 abbrev pub ended : Bool → Option Typing → Typed → List Finding → Walked
 ended b (Some a) t fs = cond b (Success a) (Fail a.tree fs)
 ended b None t fs = Fail t fs
 
 -- an operator of one operand, and of two: what is found of the operands, and then of the operator itself
 abbrev pub one_walked : (Typing → Option Typing) → Typed → List Finding → Walked → Walked
-one_walked rule failed own v = ended (has_typing v) (option_and_then rule (lent_by v)) failed (findings_of v ++ own)
+one_walked rule failed own v =
+    ended (has_typing v) (option_and_then rule (lent_by v)) failed (findings_of v ++ own)
 
 abbrev pub both : (Typing → Typing → Option Typing) → Option Typing → Option Typing → Option Typing
 both rule a b = option_and_then (λ x. option_and_then (rule x) b) a
 
 abbrev pub two_walked : (Typing → Typing → Option Typing) → Typed → List Finding → Walked → Walked → Walked
-two_walked rule failed own v w = ended (has_typing v && has_typing w) (both rule (lent_by v) (lent_by w)) failed (findings_of v ++ (findings_of w ++ own))
+two_walked rule failed own v w = ended (has_typing v && has_typing w)
+    (both rule (lent_by v) (lent_by w)) failed (findings_of v ++ (findings_of w ++ own))
 
 -- all of several, where each is there
 abbrev pub all_some : {A : Type 0} → List (Option A) → Option (List A)
@@ -100,4 +105,5 @@ findings_of_all ws = flat_map findings_of ws
 
 -- an operator of several, with all that is found
 abbrev pub all_walked : (List Typing → Option Typing) → Typed → List Finding → List Walked → Walked
-all_walked rule failed found ws = ended (list_all has_typing ws) (option_and_then rule (lent_by_all ws)) failed found
+all_walked rule failed found ws =
+    ended (list_all has_typing ws) (option_and_then rule (lent_by_all ws)) failed found

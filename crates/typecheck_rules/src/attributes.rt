@@ -3,12 +3,13 @@
 ghost use Rattle.std.specs.Prelude.{◌≡◌, ◌∷◌, [], IfOk, IfSome, option_copied};
 ghost use Rattle.std.specs.List.{list_all};
 ghost use Rattle.schema_core.specs.RequestEnvs.{env_data_of};
-ghost use Rattle.type_relations.specs.Attributes.{attrs_in, may_have, union_attrs};
+ghost use Rattle.type_relations.specs.Attributes.{attrs_in, union_attrs};
 ghost use Rattle.type_relations.specs.Join.{text_eq};
 ghost use Rattle.typing_spec.specs.Environment.{declared_attributes};
 ghost use Rattle.typing_spec.specs.Rules as rule;
 ghost use Rattle.findings.specs.Access as access;
 ghost use Rattle.findings.specs.Finding as finding;
+ghost use Rattle.typecheck_rules.specs.Own as own;
 ghost use Rattle.typecheck_rules.specs.Walked as walked;
 ghost use Rattle.typecheck_rules.specs.Found.{findings_from};
 
@@ -78,7 +79,8 @@ fn copied(
     }
 }
 
-/// The type of `has`, by whether the attribute is known to be there, and by the attribute that the operand's type declares.
+/// The type of `has`, by whether the attribute is known to be there, and by the attribute that the operand's
+/// type declares.
 pub fn has_type(
     schema: &ValidatorSchema,
     known: bool,
@@ -171,7 +173,9 @@ pub fn optional_found(
     n: &Text,
     loc: Option<Loc>,
 ) -> Result<Vec<Finding>, AllocError>
-    ensures { IfOk result (λ r. findings_from r.items ≡ walked.one (finding.UnsafeOptionalAttributeAccess (access.attribute_access (env_data_of env.now) tree.now n.now)) loc) }
+    ensures { IfOk result (λ r. findings_from r.items ≡ walked.one
+        (finding.UnsafeOptionalAttributeAccess (access.attribute_access (env_data_of env.now) tree.now n.now))
+        loc) }
 {
     let access = AttributeAccess::from_expr(alloc, env, tree, n.try_clone()?)?;
     one(
@@ -191,7 +195,9 @@ pub fn undeclared_found(
     n: &Text,
     loc: Option<Loc>,
 ) -> Result<Vec<Finding>, AllocError>
-    ensures { IfOk result (λ r. findings_from r.items ≡ walked.one (finding.UnsafeAttributeAccess (access.attribute_access (env_data_of env.now) tree.now n.now) (may_have (declared_attributes schema.now) t.now n.now)) loc) }
+    ensures { IfOk result (λ r. findings_from r.items ≡
+        own.undeclared_found schema.now (access.attribute_access (env_data_of env.now) tree.now n.now)
+        n.now loc t.now) }
 {
     let access = AttributeAccess::from_expr(alloc, env, tree, n.try_clone()?)?;
     let may_exist = may_have_attr(schema, t, n);

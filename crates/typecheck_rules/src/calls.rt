@@ -1,11 +1,11 @@
 //! Calls of extension functions.
 
-ghost use Rattle.std.specs.Prelude.{◌≡◌, ◌&&◌, ℕ, List, IfOk, Some, length, option_map};
+ghost use Rattle.std.specs.Prelude.{◌≡◌, ℕ, List, IfOk, Some, option_map};
 ghost use Rattle.std.specs.Coded.{Coded-set, coded_list};
 ghost use Rattle.schema_types.specs.TyCode.{coded_ty};
 ghost use Rattle.policy_expressions.specs.Functions.{function_of};
 ghost use Rattle.policy_expressions.specs.Tree.{trees_of};
-ghost use Rattle.typing_spec.specs.Signatures.{signature_of, is_constructor, are_literals, is_literal, same_types, has_count, has_literals, has_readable, only_text, count_of};
+ghost use Rattle.typing_spec.specs.Signatures.{signature_of, is_constructor, are_literals, is_literal, same_types, has_count, has_literals, has_readable, is_formed, only_text};
 ghost use Rattle.typing_spec.specs.Signatures as definition;
 ghost use Rattle.typing_spec.specs.Table.{check_of, function_at, typed};
 ghost use Rattle.findings.specs.Finding as finding;
@@ -41,7 +41,8 @@ pub fn called_function<'a>(
     extensions: &ExtensionSchemas<'a>,
     name: &Name,
 ) -> Option<CalledFunction<'a>>
-    requires { (n : List ℕ) → function_at extensions.now.function_types n ≡ option_map (typed n) (function_of n) }
+    requires { (n : List ℕ) →
+        function_at extensions.now.function_types n ≡ option_map (typed n) (function_of n) }
     ensures { option_map (λ c. c.function) result ≡ function_of name.now }
 {
     match extension_function(name.as_str()) {
@@ -77,7 +78,8 @@ pub fn call_type(
     arguments: &[Expr<()>],
     types: &[Type],
 ) -> Result<Option<Type>, AllocError>
-    ensures { IfOk result (λ o. o ≡ definition.call_type (Some f.entry.function) (trees_of arguments.now) types.now) }
+    ensures { IfOk result
+        (λ o. o ≡ definition.call_type (Some f.entry.function) (trees_of arguments.now) types.now) }
 {
     if is_formed(alloc, f, arguments)? && are_same_types(types, argument_types(f)) {
         Ok(Some(result_type(alloc, f)?))
@@ -86,13 +88,14 @@ pub fn call_type(
     }
 }
 
-// Whether the number of the arguments is right, those of a constructor are literals, and a single string literal can be read.
+// Whether the number of the arguments is right, those of a constructor are literals, and a single string
+// literal can be read.
 fn is_formed(
     alloc: Global,
     f: CalledFunction<'_>,
     arguments: &[Expr<()>],
 ) -> Result<bool, AllocError>
-    ensures { IfOk result (λ b. b ≡ (has_count f.entry.function (trees_of arguments.now) && (has_literals f.entry.function (trees_of arguments.now) && has_readable f.entry.function (trees_of arguments.now)))) }
+    ensures { IfOk result (λ b. b ≡ is_formed f.entry.function (trees_of arguments.now)) }
 {
     if has_count(f, arguments) && has_literals(f.function, arguments) {
         has_readable(alloc, f, arguments)
@@ -190,7 +193,8 @@ pub fn call_found(
     arguments: &[Expr<()>],
     loc: Option<Loc>,
 ) -> Result<Vec<Finding>, AllocError>
-    ensures { IfOk result (λ r. findings_from r.items ≡ own.call_found f.entry.function (trees_of arguments.now) loc) }
+    ensures { IfOk result
+        (λ r. findings_from r.items ≡ own.call_found f.entry.function (trees_of arguments.now) loc) }
 {
     let count = count_found(alloc, f, arguments, loc)?;
     let text = text_found(alloc, f, arguments, loc)?;
@@ -205,7 +209,8 @@ fn count_found(
     arguments: &[Expr<()>],
     loc: Option<Loc>,
 ) -> Result<Vec<Finding>, AllocError>
-    ensures { IfOk result (λ r. findings_from r.items ≡ if_not (has_count f.entry.function (trees_of arguments.now)) (walked.one (finding.WrongNumberArguments (length (signature_of f.entry.function).arguments) (count_of (trees_of arguments.now))) loc)) }
+    ensures { IfOk result (λ r. findings_from r.items ≡
+        own.count_found f.entry.function (trees_of arguments.now) loc) }
 {
     if has_count(f, arguments) {
         Ok(Vec::new(alloc))
@@ -222,7 +227,9 @@ fn text_found(
     arguments: &[Expr<()>],
     loc: Option<Loc>,
 ) -> Result<Vec<Finding>, AllocError>
-    ensures { IfOk result (λ r. findings_from r.items ≡ if_not (has_readable f.entry.function (trees_of arguments.now)) (text_found f.entry.function loc (only_text (trees_of arguments.now)))) }
+    ensures { IfOk result
+        (λ r. findings_from r.items ≡ if_not (has_readable f.entry.function (trees_of arguments.now))
+        (text_found f.entry.function loc (only_text (trees_of arguments.now)))) }
 {
     match f.signature.check_arguments(alloc, arguments)? {
         Ok(()) => Ok(Vec::new(alloc)),
@@ -236,7 +243,8 @@ fn literals_found(
     arguments: &[Expr<()>],
     loc: Option<Loc>,
 ) -> Result<Vec<Finding>, AllocError>
-    ensures { IfOk result (λ r. findings_from r.items ≡ if_not (has_literals f (trees_of arguments.now)) (walked.one finding.NonLitExtConstructor loc)) }
+    ensures { IfOk result (λ r. findings_from r.items ≡
+        if_not (has_literals f (trees_of arguments.now)) (walked.one finding.NonLitExtConstructor loc)) }
 {
     if has_literals(f, arguments) {
         Ok(Vec::new(alloc))

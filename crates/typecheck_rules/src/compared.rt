@@ -42,7 +42,8 @@ pub fn equal_type(
     t: &Type,
     u: &Type,
 ) -> Result<Option<Type>, AllocError>
-    ensures { IfOk result (λ o. o ≡ rule.equal_type (option_copied x.entry) (option_copied y.entry) t.now u.now) }
+    ensures { IfOk result
+        (λ o. o ≡ rule.equal_type (option_copied x.entry) (option_copied y.entry) t.now u.now) }
 {
     if are_disjoint(t, u) {
         return Ok(Some(Type::singleton_boolean(false)));

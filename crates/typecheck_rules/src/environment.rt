@@ -86,13 +86,15 @@ pub fn known_id<'a>(env: &RequestEnv<'a>, e: &'a Expr<()>) -> Option<&'a EntityU
     }
 }
 
-/// The ids that an expression lists: those of the elements of a set, or its own alone; none where one is not known.
+/// The ids that an expression lists: those of the elements of a set, or its own alone; none where one is
+/// not known.
 pub fn listed_ids<'a>(
     alloc: Global,
     env: &RequestEnv<'a>,
     e: &'a Expr<()>,
 ) -> Result<Option<Vec<EntityUID>>, AllocError>
-    ensures { IfOk result (λ o. option_map (λ us. us.items) o ≡ environment.listed_ids (env_data_of env.now) e.now) }
+    ensures { IfOk result
+        (λ o. option_map (λ us. us.items) o ≡ environment.listed_ids (env_data_of env.now) e.now) }
 {
     match e.kind() {
         ExprKind::Set(elements) => known_ids(alloc, env, elements),
@@ -102,7 +104,8 @@ pub fn listed_ids<'a>(
 
 // The id alone, where it is known.
 fn own_id(alloc: Global, uid: Option<&EntityUID>) -> Result<Option<Vec<EntityUID>>, AllocError>
-    ensures { IfOk result (λ o. option_map (λ us. us.items) o ≡ option_map (λ u. u ∷ []) (option_copied uid.entry)) }
+    ensures { IfOk result
+        (λ o. option_map (λ us. us.items) o ≡ option_map (λ u. u ∷ []) (option_copied uid.entry)) }
 {
     match uid {
         Some(uid) => {
@@ -120,7 +123,8 @@ fn known_ids<'a>(
     env: &RequestEnv<'a>,
     elements: &'a [Expr<()>],
 ) -> Result<Option<Vec<EntityUID>>, AllocError>
-    ensures { IfOk result (λ o. option_map (λ us. us.items) o ≡ environment.known_ids (env_data_of env.now) (trees_of elements.now)) }
+    ensures { IfOk result (λ o. option_map (λ us. us.items) o ≡
+        environment.known_ids (env_data_of env.now) (trees_of elements.now)) }
 {
     let mut ids = Vec::new(alloc);
     for element in elements {

@@ -59,7 +59,8 @@ pub fn one(alloc: Global, kind: FindingKind, loc: Option<Loc>) -> Result<Vec<Fin
 
 /// These, and then those.
 pub fn joined(mut found: Vec<Finding>, mut more: Vec<Finding>) -> Result<Vec<Finding>, AllocError>
-    ensures { IfOk result (λ r. findings_from r.items ≡ findings_from found.items ++ findings_from more.items) }
+    ensures { IfOk result
+        (λ r. findings_from r.items ≡ findings_from found.items ++ findings_from more.items) }
 {
     found.append(&mut more)?;
     Ok(found)

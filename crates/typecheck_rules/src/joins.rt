@@ -87,7 +87,8 @@ fn incompatible(
     t: &Type,
     u: &Type,
 ) -> Result<Vec<Finding>, AllocError>
-    ensures { IfOk result (λ r. findings_from r.items ≡ own.incompatible place loc (t.now ∷ u.now ∷ []) (Err why)) }
+    ensures { IfOk result
+        (λ r. findings_from r.items ≡ own.incompatible place loc (t.now ∷ u.now ∷ []) (Err why)) }
 {
     let mut types = BTreeSet::new(alloc);
     types.insert(t.try_clone(alloc)?)?;

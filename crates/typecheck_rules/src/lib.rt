@@ -1,4 +1,5 @@
-//! The rules of typing over types, and what is found of an operator itself and of expressions that have no type.
+//! The rules of typing over types, and what is found of an operator itself and of expressions that have
+//! no type.
 #![tactic(auto)]
 
 mod attributes;

@@ -58,7 +58,8 @@ fn in_listed<'a>(
 }
 
 fn known_in(schema: &ValidatorSchema, uid: Option<&EntityUID>, ids: &[EntityUID]) -> Type
-    ensures { result ≡ option_map_or (λ u. rule.id_in schema.now u ids.now) (option_copied uid.entry) bool_type }
+    ensures { result ≡
+        option_map_or (λ u. rule.id_in schema.now u ids.now) (option_copied uid.entry) bool_type }
 {
     match uid {
         Some(uid) => id_in(schema, uid, ids),

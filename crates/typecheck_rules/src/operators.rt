@@ -16,8 +16,8 @@ use schema_core::{RequestEnv, ValidatorSchema};
 use schema_types::Type;
 use std::alloc::{AllocError, Global};
 
-/// The type of an operator, by whether the tag that its operands name is known to be there, by the operands and by their
-/// types.
+/// The type of an operator, by whether the tag that its operands name is known to be there, by the operands
+/// and by their types.
 pub fn binary_type<'a>(
     alloc: Global,
     schema: &ValidatorSchema,
@@ -29,7 +29,8 @@ pub fn binary_type<'a>(
     t: &Type,
     u: &Type,
 ) -> Result<Option<Type>, AllocError>
-    ensures { IfOk result (λ o. o ≡ rule.binary_type schema.now (env_data_of env.now) op known x.now y.now t.now u.now) }
+    ensures { IfOk result
+        (λ o. o ≡ rule.binary_type schema.now (env_data_of env.now) op known x.now y.now t.now u.now) }
 {
     match op {
         BinaryOp::Eq => equal_type(alloc, known_id(env, x), known_id(env, y), t, u),
@@ -43,7 +44,8 @@ pub fn binary_type<'a>(
     }
 }
 
-/// The type that an operator lends where it has none, by its operands and by the type that the left one lends.
+/// The type that an operator lends where it has none, by its operands and by the type that the left
+/// one lends.
 pub fn binary_lent<'a>(
     schema: &ValidatorSchema,
     env: &RequestEnv<'a>,

@@ -83,7 +83,8 @@ fn other_type(
 
 // An operand that has to be of a type that can be compared.
 fn not_ordered(alloc: Global, loc: Option<Loc>, t: &Type) -> Result<Vec<Finding>, AllocError>
-    ensures { IfOk result (λ r. findings_from r.items ≡ own.wrong (datetime_type ∷ duration_type ∷ long_type ∷ []) loc t.now) }
+    ensures { IfOk result (λ r. findings_from r.items ≡
+        own.wrong (datetime_type ∷ duration_type ∷ long_type ∷ []) loc t.now) }
 {
     let mut types = Vec::new(alloc);
     types.push(extension_type(alloc, "datetime")?)?;

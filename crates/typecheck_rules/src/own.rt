@@ -21,8 +21,8 @@ use schema_core::{RequestEnv, ValidatorSchema};
 use schema_types::Type;
 use std::alloc::{AllocError, Global};
 
-/// What is found of an operator itself, by whether the tag that its operands name is known to be there, by the operands and
-/// by the types that they lend.
+/// What is found of an operator itself, by whether the tag that its operands name is known to be there, by
+/// the operands and by the types that they lend.
 pub fn binary_own<'a>(
     alloc: Global,
     schema: &ValidatorSchema,
@@ -35,7 +35,8 @@ pub fn binary_own<'a>(
     t: &Option<Type>,
     u: &Option<Type>,
 ) -> Result<Vec<Finding>, AllocError>
-    ensures { IfOk result (λ r. findings_from r.items ≡ definition.binary_own schema.now (env_data_of env.now) op known x.now y.now (record { note = tt; loc = loc }) t.now u.now) }
+    ensures { IfOk result (λ r. findings_from r.items ≡ definition.binary_own schema.now
+        (env_data_of env.now) op known x.now y.now (record { note = tt; loc = loc }) t.now u.now) }
 {
     match op {
         BinaryOp::Eq => match t {
@@ -85,7 +86,8 @@ fn order_own(
     t: &Option<Type>,
     u: &Option<Type>,
 ) -> Result<Vec<Finding>, AllocError>
-    ensures { IfOk result (λ r. findings_from r.items ≡ own.of_both (own.order_found left right) t.now u.now) }
+    ensures { IfOk result
+        (λ r. findings_from r.items ≡ own.of_both (own.order_found left right) t.now u.now) }
 {
     match t {
         Some(t) => match u {
@@ -119,7 +121,8 @@ fn sets_own(
     t: &Option<Type>,
     u: &Option<Type>,
 ) -> Result<Vec<Finding>, AllocError>
-    ensures { IfOk result (λ r. findings_from r.items ≡ own.of_both (own.no_join context.ContainsAnyAll loc) t.now u.now) }
+    ensures { IfOk result (λ r. findings_from r.items ≡
+        own.of_both (own.no_join context.ContainsAnyAll loc) t.now u.now) }
 {
     match t {
         Some(t) => match u {
@@ -138,7 +141,8 @@ fn tag_own(
     loc: Option<Loc>,
     t: &Option<Type>,
 ) -> Result<Vec<Finding>, AllocError>
-    ensures { IfOk result (λ r. findings_from r.items ≡ option_map_or (own.tag_found schema.now known tag.now loc) t.now []) }
+    ensures { IfOk result (λ r. findings_from r.items ≡
+        option_map_or (own.tag_found schema.now known tag.now loc) t.now []) }
 {
     match t {
         Some(t) => tag_found(alloc, schema, known, tag, loc, t),

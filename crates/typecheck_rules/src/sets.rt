@@ -100,7 +100,8 @@ fn elements_found(
     loc: Option<Loc>,
     types: &[Type],
 ) -> Result<Vec<Finding>, AllocError>
-    ensures { IfOk result (λ r. findings_from r.items ≡ own.incompatible context.Set loc types.now (join_all Strict types.now)) }
+    ensures { IfOk result (λ r. findings_from r.items ≡
+        own.incompatible context.Set loc types.now (join_all Strict types.now)) }
 {
     match strict_join_all(alloc, types)? {
         Ok(joined) => {
@@ -117,7 +118,8 @@ fn incompatible_elements(
     why: LubHelp,
     types: &[Type],
 ) -> Result<Vec<Finding>, AllocError>
-    ensures { IfOk result (λ r. findings_from r.items ≡ own.incompatible context.Set loc types.now (Err why)) }
+    ensures { IfOk result
+        (λ r. findings_from r.items ≡ own.incompatible context.Set loc types.now (Err why)) }
 {
     let types = ascending(alloc, types)?;
     one(

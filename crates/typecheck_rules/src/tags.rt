@@ -117,7 +117,8 @@ pub fn get_tag_type(
     }
 }
 
-/// What is found of `getTag`, by whether the tag is known to be there, the tag's expression and the entity's type.
+/// What is found of `getTag`, by whether the tag is known to be there, the tag's expression and the
+/// entity's type.
 pub fn tag_found(
     alloc: Global,
     schema: &ValidatorSchema,
@@ -143,7 +144,8 @@ fn no_tags_found(
     loc: Option<Loc>,
     t: &Type,
 ) -> Result<Vec<Finding>, AllocError>
-    ensures { IfOk result (λ r. findings_from r.items ≡ own.if_none (rule.tag_type schema.now t.now) (walked.one (finding.NoTagsAllowed (option_and_then only_name (names_of t.now))) loc)) }
+    ensures { IfOk result (λ r. findings_from r.items ≡ own.if_none (rule.tag_type schema.now t.now)
+        (walked.one (finding.NoTagsAllowed (option_and_then only_name (names_of t.now))) loc)) }
 {
     match tag_type(alloc, schema, t)? {
         Some(tags) => {

@@ -6,4 +6,5 @@ use Rattle.typing_spec.specs.Table.{function_at, typed}
 
 -- each extension function is found under its name, with its signature
 abbrev pub KnowsFunctions : Extensions → Type 0
-KnowsFunctions e = (name : List ℕ) → function_at e.function_types name ≡ option_map (typed name) (function_of name)
+KnowsFunctions e =
+    (name : List ℕ) → function_at e.function_types name ≡ option_map (typed name) (function_of name)

@@ -58,7 +58,8 @@ pub fn check_walk<'a>(
 {
     match walk_condition(at, e) {
         Ok(told) => answer(at.alloc, id, told),
-        // An expression with types is no deeper than the expression itself, so that there is memory alone to want.
+        // An expression with types is no deeper than the expression itself, so that there is memory alone
+        // to want.
         Err(_) => Err(AllocError),
     }
 }

@@ -1,5 +1,5 @@
-//! The walk through a condition in an environment, which gives its type or tells what it found, and the operators of which
-//! an operand may not be reached: `&&`, `||` and `if`.
+//! The walk through a condition in an environment, which gives its type or tells what it found, and the
+//! operators of which an operand may not be reached: `&&`, `||` and `if`.
 #![tactic(auto)]
 
 mod and;

@@ -5,7 +5,7 @@ use policy_expressions::Expr;
 use schema_types::Type;
 
 /// What typing the condition of a policy comes to, in an environment.
-#[derive(Drop)]
+#[derive(Debug, Drop)]
 pub enum PolicyCheck {
     /// It may be true: the condition, with the types of its parts.
     Success(Expr<Option<Type>>),

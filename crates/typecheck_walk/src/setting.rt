@@ -13,7 +13,7 @@ use typecheck_rules::{CalledFunction, called_function};
 use typing_spec::ExtensionSchemas;
 
 /// Extensions in which every extension function is found.
-#[derive(Drop)]
+#[derive(Debug, Drop)]
 pub struct Extensions<'a, 'x> {
     schemas: &'a ExtensionSchemas<'x>,
 }

@@ -1,13 +1,15 @@
 //! The walk.
 
-ghost use Rattle.std.specs.Prelude.{◌≡◌, ◌++◌, IfOk, map};
+ghost use Rattle.std.specs.Prelude.{◌≡◌, IfOk, map};
 ghost use Rattle.schema_core.specs.RequestEnvs.{env_data_of};
 ghost use Rattle.policy_expressions.specs.Tree.{attr, binary, call, conj, disj, has, is_type, ite, like, named_of, rec, set, trees_of, unary};
 ghost use Rattle.typecheck_rules.specs.Expected.{a_boolean};
 ghost use Rattle.typecheck_rules.specs.Walk.{walked, walked_all, walked_named};
 ghost use Rattle.typecheck_rules.specs.Walked.{expect};
-ghost use Rattle.typecheck_rules.specs.Operators.{place, reached_after, reached_besides};
+ghost use Rattle.typecheck_rules.specs.Operators.{place, reached_besides};
 ghost use Rattle.typecheck_operators.specs.Told.{all_of, field_of, mark, walked_of};
+ghost use Rattle.typecheck_walk.specs.Branches.{first_branch_walked};
+ghost use Rattle.typecheck_walk.specs.Sides.{right_side_walked};
 
 use crate::known::knows_tag;
 use crate::setting::Setting;
@@ -25,8 +27,8 @@ use typecheck_operators::{
 use typecheck_rules::Expected;
 use typing_spec::CapabilitySet;
 
-// The walk through an expression: its typing, or what is found. Each kind has a function of its own, which keeps proofs short;
-// so does dropping by a call what was told of one part when the walk of the next fails.
+// The walk through an expression: its typing, or what is found. Each kind has a function of its own, which
+// keeps proofs short; so does dropping by a call what was told of one part when the walk of the next fails.
 #[cycle(walk)]
 pub(crate) fn walk<'a>(
     at: &Setting<'a, '_, '_, '_>,
@@ -155,9 +157,7 @@ fn walk_after<'a>(
     y: &'a Expr<()>,
 ) -> Result<Told<'a>, BuildError>
     ensures { IfOk result (λ r. walked_of r ≡
-        reached_after (walked_of v.now)
-        (λ ds. walked at.now.schema.now (env_data_of at.now.env.now) (caps.now ++ ds) y.now)
-        (walked at.now.schema.now (env_data_of at.now.env.now) caps.now y.now)) }
+        first_branch_walked at.now.schema.now (env_data_of at.now.env.now) caps.now (walked_of v.now) y.now) }
 {
     match v {
         Told::Success(a) => match a.of.kind() {
@@ -201,11 +201,7 @@ fn walk_right_of_and<'a>(
     y: &'a Expr<()>,
 ) -> Result<Told<'a>, BuildError>
     ensures { IfOk result (λ r. walked_of r ≡
-        reached_after (walked_of v.now)
-        (λ ds. expect a_boolean (place y.now)
-        (walked at.now.schema.now (env_data_of at.now.env.now) (caps.now ++ ds) y.now))
-        (expect a_boolean (place y.now)
-        (walked at.now.schema.now (env_data_of at.now.env.now) caps.now y.now))) }
+        right_side_walked at.now.schema.now (env_data_of at.now.env.now) caps.now (walked_of v.now) y.now) }
 {
     match v {
         Told::Success(a) => match a.of.kind() {

@@ -11,7 +11,7 @@ use Rattle.schema_core.specs.EnvData.{LinkedEnvironment, declared_action}
 use Rattle.schema_core.specs.Schema.{ActionData, action_at}
 use Rattle.type_relations.specs.declared.mode.SubtypeMode.TheVariants.{Permissive}
 use Rattle.type_relations.specs.Subtype.{SubOpen, Subtype}
-use Rattle.typing_spec.specs.Operands.{is_boolean, is_long, Tests, IsInhabited, TestsAreSubtyping, TypedIsInhabited}
+use Rattle.typing_spec.specs.Operands.{is_boolean, is_long, IsTestOf, IsInhabited, TestsAreSubtyping, TypedIsInhabited}
 use Rattle.typing_spec.specs.Rules.{is_string, is_set, is_entity_set}
 use Rattle.typing_spec.specs.Signatures.{bool_type, long_type, string_type, same_type}
 use Rattle.typing_spec.specs.Typing.{Typing, types}
@@ -21,7 +21,7 @@ use Rattle.typing_spec.proofs.KeptTypes.{types_kept}
 use Rattle.typing_spec.proofs.Operators.{same_types_are_one}
 use Rattle.typing_spec.proofs.Stored.{context_kept}
 
-boolean : (t : Ty) → IsInhabited t → Tests t bool_type (is_boolean t)
+boolean : (t : Ty) → IsInhabited t → IsTestOf t bool_type (is_boolean t)
 boolean never a = absurd a
 boolean true_type a = (λ h. refl, λ h. refl)
 boolean false_type a = (λ h. refl, λ h. refl)
@@ -30,7 +30,7 @@ boolean (primitive Long) a = (λ h. absurd (cc), λ h. absurd (cc))
 boolean (primitive String) a = (λ h. absurd (cc), λ h. absurd (cc))
 boolean t a = (λ h. absurd h, λ h. absurd (cc))
 
-long : (t : Ty) → IsInhabited t → Tests t long_type (is_long t)
+long : (t : Ty) → IsInhabited t → IsTestOf t long_type (is_long t)
 long never a = absurd a
 long true_type a = (λ h. absurd (cc), λ h. absurd (cc))
 long false_type a = (λ h. absurd (cc), λ h. absurd (cc))
@@ -39,7 +39,7 @@ long (primitive Long) a = (λ h. refl, λ h. refl)
 long (primitive String) a = (λ h. absurd (cc), λ h. absurd (cc))
 long t a = (λ h. absurd h, λ h. absurd (cc))
 
-string : (t : Ty) → IsInhabited t → Tests t string_type (is_string t)
+string : (t : Ty) → IsInhabited t → IsTestOf t string_type (is_string t)
 string never a = absurd a
 string true_type a = (λ h. absurd (cc), λ h. absurd (cc))
 string false_type a = (λ h. absurd (cc), λ h. absurd (cc))
@@ -48,13 +48,13 @@ string (primitive Long) a = (λ h. absurd (cc), λ h. absurd (cc))
 string (primitive String) a = (λ h. refl, λ h. refl)
 string t a = (λ h. absurd h, λ h. absurd (cc))
 
-set : (t : Ty) → IsInhabited t → Tests t any_set (is_set t)
+set : (t : Ty) → IsInhabited t → IsTestOf t any_set (is_set t)
 set never a = absurd a
 set any_set a = (λ h. refl, λ h. tt)
 set (set_of t) a = (λ h. refl, λ h. tt)
 set t a = (λ h. absurd h, λ h. absurd (cc))
 
-some_entity : (t : Ty) → (t ≡ never → ⊥) → Tests t any_entity (is_entity t)
+some_entity : (t : Ty) → (t ≡ never → ⊥) → IsTestOf t any_entity (is_entity t)
 some_entity never a = absurd (a refl)
 some_entity any_entity a = (λ h. refl, λ h. tt)
 some_entity (entity ns) a = (λ h. refl, λ h. tt)
@@ -67,7 +67,7 @@ no_never t a e = subst IsInhabited e a
 no_never_inside : (t : Ty) → IsInhabited (set_of t) → t ≡ never → ⊥
 no_never_inside t a e = subst (λ u. IsInhabited (set_of u)) e a
 
-entity_set : (t : Ty) → IsInhabited t → Tests t (set_of any_entity) (is_entity_set t)
+entity_set : (t : Ty) → IsInhabited t → IsTestOf t (set_of any_entity) (is_entity_set t)
 entity_set never a = absurd a
 entity_set (set_of t) a = some_entity t (no_never_inside t a)
 entity_set t a = (λ h. absurd h, λ h. absurd (cc))
@@ -76,7 +76,7 @@ any_open : (o : OpenTag) → SubOpen o OpenAttributes
 any_open OpenAttributes = tt
 any_open ClosedAttributes = tt
 
-rec : (t : Ty) → IsInhabited t → Tests t (record_of no_attrs OpenAttributes) (is_record t)
+rec : (t : Ty) → IsInhabited t → IsTestOf t (record_of no_attrs OpenAttributes) (is_record t)
 rec never a = absurd a
 rec (record_of xs o) a = (λ h. refl, λ h. (any_open o, inl (tt, tt, tt)))
 rec t a = (λ h. absurd h, λ h. absurd (cc))

@@ -25,7 +25,8 @@ value_text Datetime = codes "a datetime value"
 value_text Duration = codes "a duration value"
 
 abbrev pub message : ArgumentCheck → List ℕ → List ℕ
-message check text = codes "Failed to parse as " ++ (value_text check ++ (codes ": `\"" ++ (escaped text ++ codes "\"`")))
+message check text =
+    codes "Failed to parse as " ++ (value_text check ++ (codes ": `\"" ++ (escaped text ++ codes "\"`")))
 
 -- what is said of the text, where the constructor does not read it
 abbrev pub unreadable : ArgumentCheck → List ℕ → Option (List ℕ)

@@ -15,11 +15,13 @@ module _ {A B : Type 0} where
     bare_alike (lit l a) (lit m b) h = λ i. lit (h i) unmarked
     bare_alike (var v a) (var w b) h = λ i. var (h i) unmarked
     bare_alike (slot i a) (slot j b) h = λ k. slot (h k) unmarked
-    bare_alike (ite x y z a) (ite u v w b) h = λ i. ite (bare_alike x u h.0 i) (bare_alike y v h.1 i) (bare_alike z w h.2 i) unmarked
+    bare_alike (ite x y z a) (ite u v w b) h =
+        λ i. ite (bare_alike x u h.0 i) (bare_alike y v h.1 i) (bare_alike z w h.2 i) unmarked
     bare_alike (conj x y a) (conj u v b) h = λ i. conj (bare_alike x u h.0 i) (bare_alike y v h.1 i) unmarked
     bare_alike (disj x y a) (disj u v b) h = λ i. disj (bare_alike x u h.0 i) (bare_alike y v h.1 i) unmarked
     bare_alike (unary o x a) (unary p u b) h = λ i. unary (h.0 i) (bare_alike x u h.1 i) unmarked
-    bare_alike (binary o x y a) (binary p u v b) h = λ i. binary (h.0 i) (bare_alike x u h.1 i) (bare_alike y v h.2 i) unmarked
+    bare_alike (binary o x y a) (binary p u v b) h =
+        λ i. binary (h.0 i) (bare_alike x u h.1 i) (bare_alike y v h.2 i) unmarked
     bare_alike (attr x m a) (attr u n b) h = λ i. attr (bare_alike x u h.0 i) (h.1 i) unmarked
     bare_alike (has x m a) (has u n b) h = λ i. has (bare_alike x u h.0 i) (h.1 i) unmarked
     bare_alike (like x p a) (like u q b) h = λ i. like (bare_alike x u h.0 i) (h.1 i) unmarked
@@ -36,7 +38,8 @@ module _ {A B : Type 0} where
 
     pub named_alike : (xs : Named A) (us : Named B) → SameNamed xs us → bare_named xs ≡ bare_named us
     named_alike no_named no_named h = refl
-    named_alike (named m x xs) (named n u us) h = λ i. named (h.0 i) (bare_alike x u h.1 i) (named_alike xs us h.2 i)
+    named_alike (named m x xs) (named n u us) h =
+        λ i. named (h.0 i) (bare_alike x u h.1 i) (named_alike xs us h.2 i)
     named_alike xs us h = absurd h
 
   mutual
@@ -73,14 +76,17 @@ pub stored_decides : (x y : Gv) → Decides (same_stored x y) (x ≡ y)
 stored_decides gnil gnil = (λ h. refl, λ h. refl)
 stored_decides (gnum m) (gnum n) = let d = unsigned_Decides m n in (λ h. ap gnum (d.0 h), λ h. d.1 (cc))
 stored_decides (gcons a b) (gcons c d) =
-    Decides-like (same_stored a c && same_stored b d) (λ h i. gcons (h.0 i) (h.1 i)) (λ h. (cc, cc)) (Decides-and (same_stored a c) (same_stored b d) (stored_decides a c) (stored_decides b d))
+    Decides-like (same_stored a c && same_stored b d) (λ h i. gcons (h.0 i) (h.1 i)) (λ h. (cc, cc))
+    (Decides-and (same_stored a c) (same_stored b d) (stored_decides a c) (stored_decides b d))
 stored_decides x y = (λ h. absurd (cc), λ h. absurd (cc))
 
 -- the test on expressions decides whether they have one shape
 pub same_tree_decides : {A B : Type 0} → (x : Tree A) (u : Tree B) → Decides (same_tree x u) (SameShape x u)
 same_tree_decides x u =
-    let d = stored_decides (coded_plain.code (bare x)) (coded_plain.code (bare u)) in
-    (λ h. same_shape x u (coded_plain.inj (bare x) (bare u) (d.0 h)), λ h. d.1 (ap coded_plain.code (bare_alike x u h)))
+    let d = stored_decides (coded_plain.code (bare x)) (coded_plain.code (bare u)) in (
+      λ h. same_shape x u (coded_plain.inj (bare x) (bare u) (d.0 h)),
+      λ h. d.1 (ap coded_plain.code (bare_alike x u h)),
+    )
 
 pub same_stored_equiv : IsEquivalence same_stored
 same_stored_equiv = decided same_stored stored_decides

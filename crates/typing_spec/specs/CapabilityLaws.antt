@@ -25,16 +25,20 @@ same_accesses x y p = cc
 
 pub same_access_decides : (x y : Access) → Decides (same_access x y) (SameAccess x y)
 same_access_decides x y =
-    let d = stored_decides (coded_access.code (bare_access x)) (coded_access.code (bare_access y)) in
-    (λ h. same_accesses x y (coded_access.inj (bare_access x) (bare_access y) (d.0 h)), λ h. d.1 (ap coded_access.code (access_alike x y h)))
+    let d = stored_decides (coded_access.code (bare_access x)) (coded_access.code (bare_access y)) in (
+      λ h. same_accesses x y (coded_access.inj (bare_access x) (bare_access y) (d.0 h)),
+      λ h. d.1 (ap coded_access.code (access_alike x y h)),
+    )
 
 pub alike_decides : (k m : Capability) → Decides (is_alike k m) (AreAlike k m)
 alike_decides k m =
-    Decides-and (same_tree k.on m.on) (same_access k.what m.what) (same_tree_decides k.on m.on) (same_access_decides k.what m.what)
+    Decides-and (same_tree k.on m.on) (same_access k.what m.what)
+    (same_tree_decides k.on m.on) (same_access_decides k.what m.what)
 
 pub alike_equiv : IsEquivalence is_alike
 alike_equiv =
-    and_equiv (on_equiv (λ k. k.on) same_tree_equiv) (on_equiv (λ k. coded_access.code (bare_access k.what)) same_stored_equiv)
+    and_equiv (on_equiv (λ k. k.on) same_tree_equiv)
+    (on_equiv (λ k. coded_access.code (bare_access k.what)) same_stored_equiv)
 
 -- the test for known capabilities decides whether they are known
 pub known_decides : (cs : List Capability) (k : Capability) → Decides (has_cap cs k) (IsKnown cs k)
@@ -42,7 +46,8 @@ known_decides [] k = (λ h. absurd (cc), λ h. absurd h)
 known_decides (c ∷ cs) k = Decides-or (is_alike k c) (has_cap cs k) (alike_decides k c) (known_decides cs k)
 
 -- a list and another behind it know what either knows
-pub known_append : (cs ds : List Capability) (k : Capability) → IsKnown (cs ++ ds) k ↔ (IsKnown cs k ⊎ IsKnown ds k)
+pub known_append : (cs ds : List Capability) (k : Capability) →
+    IsKnown (cs ++ ds) k ↔ (IsKnown cs k ⊎ IsKnown ds k)
 known_append [] ds k = (inr, elim [ inl h ↦ absurd h | inr h ↦ h ])
 known_append (c ∷ cs) ds k =
     let e = known_append cs ds k in (
@@ -61,11 +66,13 @@ chosen false true false d h = sym (h refl)
 chosen true false s d h = refl
 chosen false false s d h = refl
 
-has_cond : (t : Bool) (c : Capability) (cs : List Capability) (k : Capability) → has_cap (cond t (c ∷ cs) cs) k ≡ ((t && is_alike k c) || has_cap cs k)
+has_cond : (t : Bool) (c : Capability) (cs : List Capability) (k : Capability) →
+    has_cap (cond t (c ∷ cs) cs) k ≡ ((t && is_alike k c) || has_cap cs k)
 has_cond true c cs k = refl
 has_cond false c cs k = refl
 
-has_common : (cs ds : List Capability) (k : Capability) → has_cap (common cs ds) k ≡ (has_cap cs k && has_cap ds k)
+has_common : (cs ds : List Capability) (k : Capability) →
+    has_cap (common cs ds) k ≡ (has_cap cs k && has_cap ds k)
 has_common [] ds k = refl
 has_common (c ∷ cs) ds k =
     has_cond (has_cap ds c) c (common cs ds) k
@@ -73,10 +80,12 @@ has_common (c ∷ cs) ds k =
     ∙ chosen (has_cap ds c) (is_alike k c) (has_cap cs k) (has_cap ds k) (λ h. has_alike ds k c h)
 
 -- what two lists have in common are those that both know
-pub known_common : (cs ds : List Capability) (k : Capability) → IsKnown (common cs ds) k ↔ (IsKnown cs k × IsKnown ds k)
+pub known_common : (cs ds : List Capability) (k : Capability) →
+    IsKnown (common cs ds) k ↔ (IsKnown cs k × IsKnown ds k)
 known_common cs ds k =
     let d = known_decides (common cs ds) k in
-    let e = Decides-at (has_cap (common cs ds) k) (has_cap cs k && has_cap ds k) (has_common cs ds k) (Decides-and (has_cap cs k) (has_cap ds k) (known_decides cs k) (known_decides ds k)) in
+    let e = Decides-at (has_cap (common cs ds) k) (has_cap cs k && has_cap ds k) (has_common cs ds k)
+    (Decides-and (has_cap cs k) (has_cap ds k) (known_decides cs k) (known_decides ds k)) in
     (λ h. e.0 (d.1 h), λ h. d.0 (e.1 h))
 
 or_left : (a b : Bool) → a ≡ true → (a || b) ≡ true
@@ -87,7 +96,8 @@ or_right : (a b : Bool) → b ≡ true → (a || b) ≡ true
 or_right true b h = refl
 or_right false b h = h
 
-covered_from : (cs ds : List Capability) → ((k : Capability) → has_cap cs k ≡ true → has_cap ds k ≡ true) → is_covered cs ds ≡ true
+covered_from : (cs ds : List Capability) →
+    ((k : Capability) → has_cap cs k ≡ true → has_cap ds k ≡ true) → is_covered cs ds ≡ true
 covered_from [] ds h = refl
 covered_from (c ∷ cs) ds h =
     (Decides-and (has_cap ds c) (is_covered cs ds) (λ p. p, λ p. p) (λ p. p, λ p. p)).1 (
@@ -95,14 +105,17 @@ covered_from (c ∷ cs) ds h =
       covered_from cs ds (λ k e. h k (or_right (is_alike k c) (has_cap cs k) e)),
     )
 
-covered_step : (ds : List Capability) (c k : Capability) (a s : Bool) → a ≡ is_alike k c → has_cap ds c ≡ true → (s ≡ true → has_cap ds k ≡ true) → (a || s) ≡ true → has_cap ds k ≡ true
+covered_step : (ds : List Capability) (c k : Capability) (a s : Bool) → a ≡ is_alike k c →
+    has_cap ds c ≡ true → (s ≡ true → has_cap ds k ≡ true) → (a || s) ≡ true → has_cap ds k ≡ true
 covered_step ds c k true s e h r p = has_alike ds k c (sym e) ∙ h
 covered_step ds c k false s e h r p = r p
 
-covered_has : (cs ds : List Capability) → is_covered cs ds ≡ true → (k : Capability) → has_cap cs k ≡ true → has_cap ds k ≡ true
+covered_has : (cs ds : List Capability) → is_covered cs ds ≡ true →
+    (k : Capability) → has_cap cs k ≡ true → has_cap ds k ≡ true
 covered_has [] ds h k p = cc
 covered_has (c ∷ cs) ds h k p =
-    covered_step ds c k (is_alike k c) (has_cap cs k) refl (first_so (has_cap ds c) (is_covered cs ds) h) (covered_has cs ds (second_so (has_cap ds c) (is_covered cs ds) h) k) p
+    covered_step ds c k (is_alike k c) (has_cap cs k) refl (first_so (has_cap ds c) (is_covered cs ds) h)
+    (covered_has cs ds (second_so (has_cap ds c) (is_covered cs ds) h) k) p
 
 and_swap : (a b : Bool) → (a && b) ≡ (b && a)
 and_swap true true = refl
@@ -111,12 +124,15 @@ and_swap false true = refl
 and_swap false false = refl
 
 -- lists know the same exactly where each capability is known to both or to neither
-pub same_known_decides : (cs ds : List Capability) → Decides (same_known cs ds) ((k : Capability) → IsKnown cs k ↔ IsKnown ds k)
+pub same_known_decides : (cs ds : List Capability) →
+    Decides (same_known cs ds) ((k : Capability) → IsKnown cs k ↔ IsKnown ds k)
 same_known_decides cs ds = (
   λ h k.
       let c = known_decides cs k in
-      let d = known_decides ds k in
-      (λ p. d.0 (covered_has cs ds (first_so (is_covered cs ds) (is_covered ds cs) h) k (c.1 p)), λ p. c.0 (covered_has ds cs (second_so (is_covered cs ds) (is_covered ds cs) h) k (d.1 p))),
+      let d = known_decides ds k in (
+        λ p. d.0 (covered_has cs ds (first_so (is_covered cs ds) (is_covered ds cs) h) k (c.1 p)),
+        λ p. c.0 (covered_has ds cs (second_so (is_covered cs ds) (is_covered ds cs) h) k (d.1 p)),
+      ),
   λ h. (Decides-and (is_covered cs ds) (is_covered ds cs) (λ p. p, λ p. p) (λ p. p, λ p. p)).1 (
     covered_from cs ds (λ k p. (known_decides ds k).1 ((h k).0 ((known_decides cs k).0 p))),
     covered_from ds cs (λ k p. (known_decides cs k).1 ((h k).1 ((known_decides ds k).0 p))),

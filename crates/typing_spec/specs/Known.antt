@@ -22,7 +22,8 @@ TypedTheSame None None = ⊤
 TypedTheSame (Some a) (Some b) = AreSame a b
 TypedTheSame a b = ⊥
 
--- where the same is known before an expression, it has the same typing: the order of capabilities, and how often each is listed, do not matter
+-- where the same is known before an expression, it has the same typing: the order of capabilities, and how
+-- often each is listed, do not matter
 abbrev pub WhatIsKnownDecides : Type 0
 WhatIsKnownDecides =
     (schema : SchemaData) (env : EnvData) (cs ds : List Capability) → KnowTheSame cs ds → (e : Plain) →

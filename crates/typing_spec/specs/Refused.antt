@@ -5,6 +5,6 @@ use Rattle.typing_spec.specs.declared.extensions.ExtensionInitializationError.{E
 use Rattle.typing_spec.specs.declared.extensions.ExtensionInitializationError.TheVariants.{FuncMultiplyDefined, OutOfMemory}
 
 -- a name of the functions stands twice, and the first that does is told
-abbrev pub IsRefused : List (List ℕ) → ExtensionInitializationError → Type 0
-IsRefused names (FuncMultiplyDefined e) = IsFirstRepeated names e.name
-IsRefused names OutOfMemory = ⊤
+abbrev pub IsInitializationRefused : List (List ℕ) → ExtensionInitializationError → Type 0
+IsInitializationRefused names (FuncMultiplyDefined e) = IsFirstRepeated names e.name
+IsInitializationRefused names OutOfMemory = ⊤

@@ -71,7 +71,11 @@ abbrev pub ip_extension : Extension
 ip_extension = record { name = codes "ipaddr"; function_types = all_typed ranges; overloading = [] }
 
 abbrev pub datetime_extension : Extension
-datetime_extension = record { name = codes "datetime"; function_types = all_typed times; overloading = codes "datetime" ∷ codes "duration" ∷ [] }
+datetime_extension = record {
+  name = codes "datetime";
+  function_types = all_typed times;
+  overloading = codes "datetime" ∷ codes "duration" ∷ [];
+}
 
 abbrev pub all_extensions : List Extension
 all_extensions = decimal_extension ∷ ip_extension ∷ datetime_extension ∷ []

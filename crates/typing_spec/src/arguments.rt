@@ -32,7 +32,8 @@ pub(crate) fn check_text(
     check: ArgumentCheck,
     text: Option<&Text>,
 ) -> Result<Result<(), Text>, AllocError>
-    ensures { IfOk result (λ checked. result_err checked ≡ option_and_then (unreadable check) (option_copied text.entry)) }
+    ensures { IfOk result (λ checked. result_err checked ≡
+        option_and_then (unreadable check) (option_copied text.entry)) }
 {
     match text {
         Some(text) if !check.reads(text.as_str()) => Ok(Err(check.message(alloc, text)?)),

@@ -12,8 +12,8 @@ use std::alloc::{AllocError, Global};
 use std::hash::{DefaultHasher, Hash, Hasher};
 use std::marker::Model;
 
-/// That an expression has an attribute, or the tag that another expression names. Capabilities are equal where their
-/// expressions have one shape: notes and places do not matter.
+/// That an expression has an attribute, or the tag that another expression names. Capabilities are equal
+/// where their expressions have one shape: notes and places do not matter.
 #[derive(Debug)]
 pub struct Capability<'a> {
     on: &'a Expr<()>,
@@ -193,7 +193,8 @@ impl<'a> Hash for Capability<'a> {
 
 #[tactic(auto, using(policy_values::proofs::HashSteps::fold_both))]
 fn feed<H: Hasher>(on: &Expr<()>, what: &Known<'_>, state: &mut H)
-    ensures { state.new ≡ fold H.write state.old (capability_fed (record { on = on.now; what = access_of what.now })) }
+    ensures { state.new ≡
+        fold H.write state.old (capability_fed (record { on = on.now; what = access_of what.now })) }
 {
     feed_path(on, state);
     feed_known(what, state);

@@ -9,8 +9,8 @@ use crate::part::Part;
 use std::alloc::{AllocError, Global};
 use std::marker::Model;
 
-/// The capabilities that are known at a place of a condition. They are kept in parts that a union shares with the sets
-/// that it was made of.
+/// The capabilities that are known at a place of a condition. They are kept in parts that a union shares with
+/// the sets that it was made of.
 #[derive(Debug)]
 pub struct CapabilitySet<'a> {
     parts: Vec<Part<'a>>,
@@ -73,7 +73,8 @@ impl<'a> CapabilitySet<'a> {
     /// The capabilities that either knows: these, and then the others.
     pub fn union(&self, other: &CapabilitySet<'a>) -> Result<CapabilitySet<'a>, AllocError>
         ensures list { IfOk result (λ s. s ≡ self.now ++ other.now) }
-        ensures known { IfOk result (λ s. (k : Known) → IsKnown s k ↔ (IsKnown self.now k ⊎ IsKnown other.now k)) }
+        ensures known { IfOk result
+            (λ s. (k : Known) → IsKnown s k ↔ (IsKnown self.now k ⊎ IsKnown other.now k)) }
     {
         let mut parts = Vec::new(*self.parts.allocator());
         share_all(&mut parts, &self.parts)?;
@@ -84,7 +85,8 @@ impl<'a> CapabilitySet<'a> {
     /// The capabilities that both know: those of these that the other knows too.
     pub fn intersect(&self, other: &CapabilitySet<'a>) -> Result<CapabilitySet<'a>, AllocError>
         ensures list { IfOk result (λ s. s ≡ common self.now other.now) }
-        ensures known { IfOk result (λ s. (k : Known) → IsKnown s k ↔ (IsKnown self.now k × IsKnown other.now k)) }
+        ensures known { IfOk result
+            (λ s. (k : Known) → IsKnown s k ↔ (IsKnown self.now k × IsKnown other.now k)) }
     {
         let alloc = *self.parts.allocator();
         let items = known_to(alloc, &self.parts, other)?;
@@ -122,8 +124,8 @@ impl<'a> Eq for CapabilitySet<'a> {
     ghost laws = { known_equiv };
 }
 
-// A part that is shorter than this one, beside another such one, is copied and not shared: of many short parts few
-// longer ones are made.
+// A part that is shorter than this one, beside another such one, is copied and not shared: of many short
+// parts few longer ones are made.
 const SHORT: usize = 128;
 
 #[tactic(auto, using(crate::proofs::PartSteps::together_push))]
@@ -237,7 +239,8 @@ fn push_known<'a>(
 
 #[tactic(auto, using(crate::proofs::PartSteps::together_more))]
 fn share_all<'a>(parts: &mut Vec<Part<'a>>, others: &Vec<Part<'a>>) -> Result<(), AllocError>
-    ensures { IfOk result (λ _. together parts.new.items ≡ together parts.old.items ++ together others.now.items) }
+    ensures { IfOk result
+        (λ _. together parts.new.items ≡ together parts.old.items ++ together others.now.items) }
 {
     for part in others {
         share(parts, part)?;

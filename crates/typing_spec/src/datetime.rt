@@ -71,7 +71,8 @@ fn constructors(alloc: Global) -> Result<Vec<ExtensionFunctionType>, AllocError>
 
 // A point in time, later by a duration.
 fn offset(alloc: Global) -> Result<ExtensionFunctionType, AllocError>
-    ensures { IfOk result (λ f. f ≡ unchecked (codes "offset") (datetime_type ∷ duration_type ∷ []) datetime_type) }
+    ensures { IfOk result
+        (λ f. f ≡ unchecked (codes "offset") (datetime_type ∷ duration_type ∷ []) datetime_type) }
 {
     let left = datetime(alloc)?;
     let right = duration(alloc)?;
@@ -81,7 +82,8 @@ fn offset(alloc: Global) -> Result<ExtensionFunctionType, AllocError>
 
 // The time from one point to another.
 fn duration_since(alloc: Global) -> Result<ExtensionFunctionType, AllocError>
-    ensures { IfOk result (λ f. f ≡ unchecked (codes "durationSince") (datetime_type ∷ datetime_type ∷ []) duration_type) }
+    ensures { IfOk result
+        (λ f. f ≡ unchecked (codes "durationSince") (datetime_type ∷ datetime_type ∷ []) duration_type) }
 {
     let left = datetime(alloc)?;
     let right = datetime(alloc)?;
@@ -126,7 +128,8 @@ fn add_unit(
     name: &str,
 ) -> Result<(), AllocError>
     requires { IsTrue (is_word name.now) }
-    ensures { OnOk result (functions.new.items ≡ functions.old.items ++ unchecked name.now (duration_type ∷ []) long_type ∷ []) }
+    ensures { OnOk result (functions.new.items ≡
+        functions.old.items ++ unchecked name.now (duration_type ∷ []) long_type ∷ []) }
 {
     let argument = duration(alloc)?;
     let unit = unary(alloc, name, argument, Type::primitive_long())?;

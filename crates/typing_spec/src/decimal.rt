@@ -47,7 +47,8 @@ fn add_comparison(
     name: &str,
 ) -> Result<(), AllocError>
     requires { IsTrue (is_word name.now) }
-    ensures { OnOk result (functions.new.items ≡ functions.old.items ++ unchecked name.now (decimal_type ∷ decimal_type ∷ []) bool_type ∷ []) }
+    ensures { OnOk result (functions.new.items ≡
+        functions.old.items ++ unchecked name.now (decimal_type ∷ decimal_type ∷ []) bool_type ∷ []) }
 {
     let left = decimal(alloc)?;
     let right = decimal(alloc)?;

@@ -24,7 +24,11 @@ impl Model for ExtensionSchema {
     ghost use Rattle.std.specs.BTreeSet.{IsOrdered};
     ghost use Rattle.policy_values.specs.Uid.{text_cmp};
 
-    ghost view = { λ e. record { name = e.name; function_types = e.function_types.items; overloading = e.types_with_operator_overloading.keys } };
+    ghost view = { λ e. record {
+      name = e.name;
+      function_types = e.function_types.items;
+      overloading = e.types_with_operator_overloading.keys;
+    } };
 
     ghost invariant = { λ e. IsOrdered text_cmp e.types_with_operator_overloading };
 }
@@ -40,7 +44,11 @@ impl ExtensionSchema {
         function_types: Vec<ExtensionFunctionType>,
         types_with_operator_overloading: BTreeSet<Name>,
     ) -> ExtensionSchema
-        ensures { result ≡ record { name = name; function_types = function_types.items; overloading = types_with_operator_overloading.keys } }
+        ensures { result ≡ record {
+          name = name;
+          function_types = function_types.items;
+          overloading = types_with_operator_overloading.keys;
+        } }
     {
         let _count = types_with_operator_overloading.len();
         ExtensionSchema {

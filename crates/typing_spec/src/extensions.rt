@@ -50,7 +50,7 @@ impl<T: Drop> From<AllocFailed<T>> for ExtensionInitializationError {
 }
 
 /// Extensions that are used together, no two of whose functions have one name.
-#[derive(Drop)]
+#[derive(Debug, Drop)]
 pub struct ExtensionSchemas<'a> {
     extension_schemas: &'a [ExtensionSchema],
     function_types: BTreeMap<Name, &'a ExtensionFunctionType>,
@@ -69,9 +69,13 @@ impl<'a> Model for ExtensionSchemas<'a> {
     ghost use Rattle.typing_spec.specs.Table.{functions_in};
     ghost use Rattle.typing_spec.specs.ByName.{AreByName};
 
-    ghost view = { λ s. record { function_types = functions_in s.extension_schemas.now; overloading = s.types_with_operator_overloading.keys } };
+    ghost view = { λ s. record {
+      function_types = functions_in s.extension_schemas.now;
+      overloading = s.types_with_operator_overloading.keys;
+    } };
 
-    ghost invariant = { λ s. AreByName (functions_in s.extension_schemas.now) s.function_types × sorted.IsOrdered text_cmp s.types_with_operator_overloading };
+    ghost invariant = { λ s. AreByName (functions_in s.extension_schemas.now) s.function_types ×
+        sorted.IsOrdered text_cmp s.types_with_operator_overloading };
 }
 
 impl<'a> ExtensionSchemas<'a> {
@@ -81,17 +85,18 @@ impl<'a> ExtensionSchemas<'a> {
     ghost use Rattle.policy_values.specs.Uid.{text_cmp};
     ghost use Rattle.policy_expressions.specs.Functions.{function_of};
     ghost use Rattle.typing_spec.specs.Table.{all_extensions, functions_in, overloading_in, function_at, is_function, typed, names_of, AreOnce};
-    ghost use Rattle.typing_spec.specs.Refused.{IsRefused};
+    ghost use Rattle.typing_spec.specs.Refused.{IsInitializationRefused};
 
-    /// These extensions. Errs with `FuncMultiplyDefined` exactly where a function has the name of an earlier one, and
-    /// names the first that has.
+    /// These extensions. Errs with `FuncMultiplyDefined` exactly where a function has the name of an earlier
+    /// one, and names the first that has.
     pub fn specific_extension_schemas(
         alloc: Global,
         extension_schemas: &'a [ExtensionSchema],
     ) -> Result<ExtensionSchemas<'a>, ExtensionInitializationError>
         ensures functions { IfOk result (λ s. s.function_types ≡ functions_in extension_schemas.now) }
         ensures overloading { IfOk result (λ s. s.overloading ≡ overloading_in extension_schemas.now) }
-        ensures repeated { MatchResult result (λ _. AreOnce (names_of (functions_in extension_schemas.now))) (IsRefused (names_of (functions_in extension_schemas.now))) }
+        ensures repeated { MatchResult result (λ _. AreOnce (names_of (functions_in extension_schemas.now)))
+            (IsInitializationRefused (names_of (functions_in extension_schemas.now))) }
     {
         let functions = functions_of(alloc, extension_schemas)?;
         let function_types = by_name(alloc, &functions)?;
@@ -110,7 +115,8 @@ impl<'a> ExtensionSchemas<'a> {
     ) -> Result<ExtensionSchemas<'a>, AllocError>
         requires { objects.now ≡ all_extensions }
         ensures functions { IfOk result (λ s. s.function_types ≡ functions_in all_extensions) }
-        ensures signatures { IfOk result (λ s. (name : List ℕ) → function_at s.function_types name ≡ option_map (typed name) (function_of name)) }
+        ensures signatures { IfOk result (λ s. (name : List ℕ) →
+            function_at s.function_types name ≡ option_map (typed name) (function_of name)) }
         ensures overloading { IfOk result (λ s. s.overloading ≡ codes "datetime" ∷ codes "duration" ∷ []) }
     {
         match ExtensionSchemas::specific_extension_schemas(alloc, objects) {

@@ -25,7 +25,11 @@ impl Model for ExtensionFunctionType {
 
     ghost coded = { coded_function_type };
 
-    ghost view = { λ f. record { name = f.name; signature = record { arguments = f.argument_types.items; result = f.return_type }; check = f.argument_check } };
+    ghost view = { λ f. record {
+      name = f.name;
+      signature = record { arguments = f.argument_types.items; result = f.return_type };
+      check = f.argument_check;
+    } };
 }
 
 impl ExtensionFunctionType {
@@ -34,15 +38,19 @@ impl ExtensionFunctionType {
     ghost use Rattle.policy_expressions.specs.Tree.{trees_of};
     ghost use Rattle.typing_spec.specs.Arguments.{refusal};
 
-    /// The function of a name that takes arguments of these types and gives a value of that type. Where there is an
-    /// argument check, a string literal that is its only argument has to pass it.
+    /// The function of a name that takes arguments of these types and gives a value of that type. Where there
+    /// is an argument check, a string literal that is its only argument has to pass it.
     pub fn new(
         name: Name,
         argument_types: Vec<Type>,
         return_type: Type,
         argument_check: Option<ArgumentCheck>,
     ) -> ExtensionFunctionType
-        ensures { result ≡ record { name = name; signature = record { arguments = argument_types.items; result = return_type }; check = argument_check } }
+        ensures { result ≡ record {
+          name = name;
+          signature = record { arguments = argument_types.items; result = return_type };
+          check = argument_check;
+        } }
     {
         ExtensionFunctionType {
             name,
@@ -80,14 +88,15 @@ impl ExtensionFunctionType {
         self.argument_check.is_some()
     }
 
-    /// Checks the arguments of a call. Errs with what there is to say exactly where there is an argument check, the
-    /// arguments are one string literal, and its text does not pass the check.
+    /// Checks the arguments of a call. Errs with what there is to say exactly where there is an argument
+    /// check, the arguments are one string literal, and its text does not pass the check.
     pub fn check_arguments<T>(
         &self,
         alloc: Global,
         arguments: &[Expr<T>],
     ) -> Result<Result<(), Text>, AllocError>
-        ensures { IfOk result (λ checked. result_err checked ≡ refusal self.now.check (trees_of arguments.now)) }
+        ensures { IfOk result
+            (λ checked. result_err checked ≡ refusal self.now.check (trees_of arguments.now)) }
     {
         match self.argument_check {
             Some(check) => check_text(alloc, check, only_text(arguments)),

@@ -6,7 +6,7 @@ ghost use Rattle.schema_types.specs.Names.{union};
 ghost use Rattle.std.specs.Ordering.{is_eq};
 ghost use Rattle.typing_spec.specs.Table.{is_function, functions_in, overloading_in, names_of, AreOnce};
 ghost use Rattle.typing_spec.specs.ByName.{AreByName, pointed};
-ghost use Rattle.typing_spec.specs.Refused.{IsRefused};
+ghost use Rattle.typing_spec.specs.Refused.{IsInitializationRefused};
 
 use crate::{
     ExtensionFunctionType, ExtensionInitializationError, ExtensionSchema, FuncMultiplyDefinedError,
@@ -35,7 +35,8 @@ fn add_functions<'a>(
     functions: &mut Vec<&'a ExtensionFunctionType>,
     schema: &'a ExtensionSchema,
 ) -> Result<(), AllocError>
-    ensures { OnOk result (pointed functions.new.items ≡ pointed functions.old.items ++ schema.now.function_types) }
+    ensures { OnOk result
+        (pointed functions.new.items ≡ pointed functions.old.items ++ schema.now.function_types) }
 {
     let added = schema.function_types();
     for function in added {
@@ -77,7 +78,8 @@ pub(crate) fn by_name<'a>(
     functions: &[&'a ExtensionFunctionType],
 ) -> Result<BTreeMap<Name, &'a ExtensionFunctionType>, ExtensionInitializationError>
     ensures found { IfOk result (AreByName (pointed functions.now)) }
-    ensures repeated { MatchResult result (λ _. AreOnce (names_of (pointed functions.now))) (IsRefused (names_of (pointed functions.now))) }
+    ensures repeated { MatchResult result (λ _. AreOnce (names_of (pointed functions.now)))
+        (IsInitializationRefused (names_of (pointed functions.now))) }
 {
     let mut by_name = BTreeMap::new(alloc);
     for function in functions {

@@ -48,7 +48,8 @@ fn add_test(
     name: &str,
 ) -> Result<(), AllocError>
     requires { IsTrue (is_word name.now) }
-    ensures { OnOk result (functions.new.items ≡ functions.old.items ++ unchecked name.now (ip_type ∷ []) bool_type ∷ []) }
+    ensures { OnOk result (functions.new.items ≡
+        functions.old.items ++ unchecked name.now (ip_type ∷ []) bool_type ∷ []) }
 {
     let argument = range(alloc)?;
     let test = unary(alloc, name, argument, Type::primitive_boolean())?;

@@ -35,7 +35,8 @@ pub fn conditions_are_sound()
     ensures { ConditionsAreSound }
 {}
 
-/// The order of capabilities, and how often each is listed, do not matter: the same typing follows from all that know the same.
+/// The order of capabilities, and how often each is listed, do not matter: the same typing follows from all
+/// that know the same.
 pub fn what_is_known_decides()
     ensures { WhatIsKnownDecides }
 {}

@@ -1,5 +1,6 @@
-//! Typing of expressions: which type an expression has in an environment, and that typing is sound. Capabilities, which are
-//! what is known of expressions once a condition is true; signatures of extension functions.
+//! Typing of expressions: which type an expression has in an environment, and that typing is sound.
+//! Capabilities, which are what is known of expressions once a condition is true; signatures of extension
+//! functions.
 #![tactic(auto)]
 
 mod argument_check;

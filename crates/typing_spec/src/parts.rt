@@ -37,7 +37,11 @@ pub(crate) fn constructor(
     check: ArgumentCheck,
 ) -> Result<ExtensionFunctionType, AllocError>
     requires { IsTrue (is_word name.now) }
-    ensures { IfOk result (λ f. f ≡ record { name = name.now; signature = record { arguments = string_type ∷ []; result = return_type }; check = Some check }) }
+    ensures { IfOk result (λ f. f ≡ record {
+      name = name.now;
+      signature = record { arguments = string_type ∷ []; result = return_type };
+      check = Some check;
+    }) }
 {
     let name = word(alloc, name)?;
     let argument_types = vec![in alloc; Type::primitive_string()]?;

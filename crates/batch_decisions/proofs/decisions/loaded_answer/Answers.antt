@@ -1,4 +1,4 @@
-use Rattle.batch_decisions.specs.Answers.{IsAnswerTo}
+use Rattle.batch_decisions.specs.Answers.{IsLoaderAnswer}
 use Rattle.batch_decisions.specs.Loaded.{answer_of}
 use Rattle.batch_decisions.proofs.Answered.{answer_is, answered}
 use Rattle.batch_decisions.proofs.decisions.loaded_answer.Goals as goal
@@ -12,6 +12,6 @@ returns-clause-answer g c =
     let new = g.D.EntityLoader.state c.load_for_request-loaded.new.loader in
     let result = c.load_for_request-loaded.result in
     let e = c.load_for_request-loaded.ensures in
-    answer_is (IsAnswerTo schema policies.policies old new q) (answer_of policies.policies q result) c.answer_of.result
+    answer_is (IsLoaderAnswer schema policies.policies old new q) (answer_of policies.policies q result) c.answer_of.result
     c.answer_of.ensures.answer c.answer_of.ensures.memory
     (answered schema policies q c.requires.whole c.requires.conforms old new result e.decided e.cause)

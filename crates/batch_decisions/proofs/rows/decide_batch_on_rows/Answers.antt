@@ -2,7 +2,7 @@ use Rattle.std.proofs.Common.{refl}
 use Rattle.std.specs.List.{AllZip}
 use Rattle.std.proofs.lemmas.Result.{IfOk-weaker}
 use Rattle.row_loader.specs.State.{store_told, loader_state}
-use Rattle.batch_decisions.specs.Answers.{AreAnswers, IsRowAnswer, AreCounted}
+use Rattle.batch_decisions.specs.Answers.{AreLoaderAnswers, IsRowAnswer, AreCounted}
 use Rattle.batch_decisions.proofs.OneAfterAnother.{counted}
 use Rattle.batch_decisions.proofs.ByRows.{row_answers}
 use Rattle.batch_decisions.proofs.rows.decide_batch_on_rows.Goals as goal
@@ -15,7 +15,7 @@ returns-clause-answers g c =
     let r = g.R.Rows.state c.args.loader.now.rows in
     let old = loader_state r c.args.loader.now.rounds c.args.loader.now.lists in
     let new = loader_state (g.R.Rows.state c.decide_batch.new.loader.rows) c.decide_batch.new.loader.rounds c.decide_batch.new.loader.lists in
-    IfOk-weaker c.decide_batch.result (λ answers. AreAnswers schema ps old qs answers.items new)
+    IfOk-weaker c.decide_batch.result (λ answers. AreLoaderAnswers schema ps old qs answers.items new)
     (λ answers. AllZip (IsRowAnswer schema ps (store_told r)) qs answers.items)
     (λ answers h. row_answers schema ps (store_told r) (c.told_stores_are_ordered.ensures r) old new qs answers.items (λ w is. is) refl h)
     c.decide_batch.ensures.answers
@@ -29,6 +29,6 @@ returns-clause-faults g c =
     let s = g.R.Rows.state c.decide_batch.new.loader.rows in
     let old = loader_state r c.args.loader.now.rounds c.args.loader.now.lists in
     let new = loader_state s c.decide_batch.new.loader.rounds c.decide_batch.new.loader.lists in
-    IfOk-weaker c.decide_batch.result (λ answers. AreAnswers schema ps old qs answers.items new)
+    IfOk-weaker c.decide_batch.result (λ answers. AreLoaderAnswers schema ps old qs answers.items new)
     (λ answers. AreCounted answers.items r.faults s.faults)
     (λ answers h. counted schema ps old new qs answers.items h) c.decide_batch.ensures.answers

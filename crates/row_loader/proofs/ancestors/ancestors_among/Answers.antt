@@ -2,7 +2,7 @@ use Rattle.std.proofs.Common.{◌≡◌, ◌+◌, ◌∷◌, ◌++◌, [], List,
 use Rattle.std.specs.Prelude.{◌↔◌, IsTrue}
 use Rattle.std.proofs.lemmas.List.{take_all, take_more}
 use Rattle.policy_values.specs.declared.entity_uid.EntityUID.{EntityUID}
-use Rattle.table_loader.specs.State.{HasAncestor}
+use Rattle.table_loader.specs.State.{TablesHaveAncestor}
 use Rattle.row_loader.specs.Asking.{AreFound}
 use Rattle.row_loader.proofs.Loading.{at_ok, found_more, found_other}
 use Rattle.row_loader.proofs.Rows.{rows_later}
@@ -20,7 +20,7 @@ loop-id-preserved g c =
     record {
       goes_on = rows_later (g.R.Rows.state c.args.rows.now) (g.R.Rows.state c.loop-id.rows) (g.R.Rows.state c.ancestor.new.self) before.goes_on c.ancestor.ensures.goes_on;
       found = λ t told.
-          let has = at_ok (λ b. IsTrue b ↔ HasAncestor t uid id) c.ancestor.result c.in_ok-loaded.field-0 c.in_ok-loaded.ensures.ok (c.ancestor.ensures.answer t told) in
+          let has = at_ok (λ b. IsTrue b ↔ TablesHaveAncestor t uid id) c.ancestor.result c.in_ok-loaded.field-0 c.in_ok-loaded.ensures.ok (c.ancestor.ensures.answer t told) in
           let done = before.found t (c.ancestor.ensures.goes_on.told t told) in
           elim c.if-branch.branch [
             | then-branch+in_ok-try_clone+in_ok-push w ↦

@@ -2,7 +2,7 @@ use Rattle.std.proofs.Common.{inl, inr, subst}
 use Rattle.std.proofs.lemmas.Result.{on_ok_weaker}
 use Rattle.trie_traversal.specs.Answered.{answer_points}
 use Rattle.trie_traversal.specs.Leads.{EntityLeads, IsLed}
-use Rattle.trie_traversal.specs.Places.{IsBelow, node_of}
+use Rattle.trie_traversal.specs.Places.{IsPlaceBelow, node_of}
 use Rattle.trie_traversal.specs.Wants.{Adds, sees, entity_points}
 use Rattle.store_slices.specs.Reached.{IsAnswerLed}
 use Rattle.store_slices.proofs.ReachSteps.{adds_none}
@@ -24,7 +24,7 @@ returns-in-Some-clause-below c =
     on_ok_weaker c.follow_entity.result
     (λ f q h. elim (f q h) [
       | inl before ↦ inl before
-      | inr below ↦ inr (subst (λ v. IsBelow v q) c.new.ensures below)
+      | inr below ↦ inr (subst (λ v. IsPlaceBelow v q) c.new.ensures below)
     ])
     c.follow_entity.ensures.below
 

@@ -1,6 +1,6 @@
 use Rattle.std.proofs.Common.{◌+◌, ◌*◌, ◌≤◌}
 use Rattle.policy_values.specs.Value.{size_of, size_of_fields, fields_of}
-use Rattle.trie_traversal.specs.Places.{IsBelow}
+use Rattle.trie_traversal.specs.Places.{IsPlaceBelow}
 use Rattle.trie_traversal.specs.Wants.{sees, fields_point}
 use Rattle.trie_traversal.proofs.FollowSteps.{IsFollowing}
 use Rattle.trie_traversal.proofs.LedSteps.{IsLeading}
@@ -14,7 +14,7 @@ decreases-follow_fields l = 2 * size_of_fields (fields_of l.fields.now.entries) 
 
 abbrev pub invariant-follow_fields-loop-key : goal.invariant-follow_fields-loop-key
 invariant-follow_fields-loop-key l = record {
-  following : IsFollowing l.trie.nodes (λ b. fields_point (fields_of l.fields.entries) (sees b l.trie)) (λ b. fields_point (fields_of l.key-iterator) (sees b l.trie)) (IsBelow l.trie) l.fn.next.keys l.next.keys;
+  following : IsFollowing l.trie.nodes (λ b. fields_point (fields_of l.fields.entries) (sees b l.trie)) (λ b. fields_point (fields_of l.key-iterator) (sees b l.trie)) (IsPlaceBelow l.trie) l.fn.next.keys l.next.keys;
   leading : IsLeading l.trie l.fields.entries l.key-iterator;
   within : size_of_fields (fields_of l.key-iterator) ≤ size_of_fields (fields_of l.fields.entries);
 }

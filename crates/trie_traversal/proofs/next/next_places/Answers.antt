@@ -2,7 +2,7 @@ use Rattle.std.proofs.Common.{inl, inr, sym, ap, subst, refl}
 use Rattle.std.specs.BTreeMap.{get}
 use Rattle.policy_values.specs.Uid.{uid_cmp}
 use Rattle.reads_spec.proofs.Lists.{IsIn}
-use Rattle.trie_traversal.specs.Places.{IsBelow, node_of}
+use Rattle.trie_traversal.specs.Places.{IsPlaceBelow, node_of}
 use Rattle.trie_traversal.specs.Answered.{answer_points, answers_point, AnswerSticks, SomeAnswerSticks}
 use Rattle.trie_traversal.specs.Stuck.{tests_of}
 use Rattle.trie_traversal.specs.Wants.{Adds}
@@ -35,7 +35,7 @@ loop-place-preserved c =
           (λ b x a. ap (λ l. answers_point ns found l b x a) steps)
           (subst (λ v. Adds v.nodes (answer_points (found p.uid) v) c.loop-place.next.keys c.follow_answer.new.next.keys) c.new-trie.ensures
           (subst (λ o. Adds c.new-trie.result.nodes (answer_points o c.new-trie.result) c.loop-place.next.keys c.follow_answer.new.next.keys) c.get.ensures.value c.in_default.ensures.asked))
-          (λ q h. or_weaker (λ b. record { from = p; among = here; below = subst (λ v. IsBelow v q) c.new-trie.ensures b }) (c.in_default.ensures.below q h));
+          (λ q h. or_weaker (λ b. record { from = p; among = here; below = subst (λ v. IsPlaceBelow v q) c.new-trie.ensures b }) (c.in_default.ensures.below q h));
       among = λ q h. among q (subst (IsIn q) (sym steps) (inr h));
     }
 
