@@ -6,7 +6,7 @@ pub mod loader;
 ghost use Rattle.std.specs.Prelude.{◌≡◌, ◌∷◌, [], IfOk, codes, map, string_bytes};
 ghost use Rattle.json_document.specs.declared.document.Document.{Document};
 ghost use Rattle.json_document.specs.declared.shape.Shape.TheVariants as shape;
-ghost use Rattle.policy_gate.specs.Headline.{IsDocumentOf, KeepsRules, IsSliced};
+ghost use Rattle.policy_gate.specs.Headline.{IsDocumentOf, IsSliced};
 
 use byte_streams::{MemorySink, SliceSource};
 use policy_gate::{Status, run};
@@ -40,7 +40,7 @@ impl From<AllocError> for SliceError {
 /// The decision on the document's request, with a slice of its store on which every policy does what it does on the whole.
 pub fn slice(alloc: Global, document: &[u8]) -> Result<Vec<u8>, SliceError>
     ensures sliced { IfOk result (λ text.
-        (d : Document) × IsDocumentOf shape.Whole document.now d × KeepsRules d × IsSliced d text.items) }
+        (d : Document) × IsDocumentOf shape.Whole document.now d × IsSliced d text.items) }
 {
     let words = words(alloc)?;
     let mut source = SliceSource::new(document);

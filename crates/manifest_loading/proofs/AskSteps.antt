@@ -17,7 +17,7 @@ use Rattle.manifest_loading.specs.declared.lent.Lent.{Lent}
 use Rattle.manifest_loading.specs.Answering.{AreHonest}
 use Rattle.manifest_loading.specs.Keeping.{Found}
 use Rattle.manifest_loading.specs.Lending.{view_in, lent_sees, AreLent, request_of}
-use Rattle.manifest_loading.specs.Rounds.{AsksFor, AreAnswers}
+use Rattle.manifest_loading.specs.Rounds.{AsksFor, AreHonestAt}
 
 module _ (ns : Table) where
   -- what holds of all requests holds of the one for an id
@@ -44,7 +44,7 @@ module _ (ns : Table) where
       by true f g ih = absurd (cc)
       by false f g ih = (λ i. swapped x e.0 f i || ih g i)
 
-  pub are_answers : (exact : Bool) (s : Store) (ps : List Place) (lent : BTreeMap EntityUID Lent) (rs : List EntityRequest) (found : Found) → AreLent ns ps lent → rs ≡ map (request_of ns) lent.entries → AreHonest exact s rs found → AreAnswers exact s ns ps found
+  pub are_answers : (exact : Bool) (s : Store) (ps : List Place) (lent : BTreeMap EntityUID Lent) (rs : List EntityRequest) (found : Found) → AreLent ns ps lent → rs ≡ map (request_of ns) lent.entries → AreHonest exact s rs found → AreHonestAt exact s ns ps found
   are_answers exact s ps lent rs found l e h = record {
     each = λ x asked. seen x (get uid_cmp lent x) refl (l.some x ∙ asked);
     others = λ x not_asked. h.others x (ap (list_any (λ r. uid_eq r.entity_id x)) e ∙ not_requested x lent.entries (none (get uid_cmp lent x) (l.some x ∙ not_asked)));

@@ -31,7 +31,7 @@ use Rattle.entity_loader.specs.Asked.{asked}
 use Rattle.entity_loader.specs.declared.loader.EntityRequest.{EntityRequest}
 use Rattle.manifest_loading.specs.Keeping.{Found, kept_and}
 use Rattle.manifest_loading.specs.KeptPart.{left, along, IsKeptPart}
-use Rattle.manifest_loading.specs.Rounds.{AsksFor, AreAnswers}
+use Rattle.manifest_loading.specs.Rounds.{AsksFor, AreHonestAt}
 
 -- ---- a choice with each front of its chains
 
@@ -214,7 +214,7 @@ left_same x k l f g h (Some d) u =
     same : cut_entity k d ≡ cut_entity l d
     same = same_cut k l d (λ c. subst (λ z. k.chains z c ≡ l.chains z c) (sym (u d refl)) (f c)) (λ y. subst (λ z. k.ancestors z y ≡ l.ancestors z y) (sym (u d refl)) (g y)) (λ c. subst (λ z. k.tags z c ≡ l.tags z c) (sym (u d refl)) (h c))
 
-module _ (exact : Bool) (s : Store) (ns : Table) (ps : List Place) (found : Found) (t : AreAnswers exact s ns ps found) (there : (q : Place) → IsIn q ps → q.number < length ns) (order : HasOrder s) where
+module _ (exact : Bool) (s : Store) (ns : Table) (ps : List Place) (found : Found) (t : AreHonestAt exact s ns ps found) (there : (q : Place) → IsIn q ps → q.number < length ns) (order : HasOrder s) where
   mask : (x : EntityUID) → list_any (λ p. uid_eq p.uid x) ps ≡ true → Mask exact s ns ps x (found x)
   mask x e = let r = t.each x e in mask_of s ns ps x r.0 r.1 exact (found x) r.2
 

@@ -25,7 +25,7 @@ use Rattle.manifest_loading.specs.Keeping.{Found, AreNotTaken, refusal_of}
 use Rattle.manifest_loading.specs.KeptPart.{IsState}
 use Rattle.manifest_loading.specs.Ordered.{HasOrder}
 use Rattle.manifest_loading.specs.Right.{IsStuck, IsRefused}
-use Rattle.manifest_loading.specs.Rounds.{AsksFor, AreAnswers}
+use Rattle.manifest_loading.specs.Rounds.{AsksFor, AreHonestAt}
 use Rattle.manifest_loading.specs.declared.error.EntitySliceError.{EntitySliceError}
 use Rattle.manifest_loading.specs.declared.error.EntitySliceError.TheVariants as error
 use Rattle.manifest_loading.proofs.KeptSteps.{merges}
@@ -40,7 +40,7 @@ right_refused exact s ns ps kept old new (error.WrongNumberOfEntities e) h = abs
 right_refused exact s ns ps kept old new (error.WrongNumberOfAncestors n m) h = absurd h
 right_refused exact s ns ps kept old new (error.InconsistentLoader u k d) h = absurd h
 
-pub taken_refused : (exact : Bool) (s : Store) (ns : Table) (ps : List Place) (kept found : Found) (old new : LoaderState) → AreAnswers exact s ns ps found → (e : EntitySliceError) → AreNotTaken ns ps kept found e → IsRefused exact s ns ps kept old new e
+pub taken_refused : (exact : Bool) (s : Store) (ns : Table) (ps : List Place) (kept found : Found) (old new : LoaderState) → AreHonestAt exact s ns ps found → (e : EntitySliceError) → AreNotTaken ns ps kept found e → IsRefused exact s ns ps kept old new e
 taken_refused exact s ns ps kept found old new t (error.IncompatibleEntityManifest e) h = (found, t, h)
 taken_refused exact s ns ps kept found old new t (error.InconsistentLoader u k d) h = (found, t, h)
 taken_refused exact s ns ps kept found old new t error.OutOfMemory h = tt
@@ -63,7 +63,7 @@ follow_right P Q old new f (follow.Incompatible v) h = f v h
 follow_right P Q old new f follow.OutOfMemory h = tt
 
 module _ (exact : Bool) (ns : Table) (q : Request) (s : Store) (asked ps : List Place) (kept : Found) (t : IsState exact ns q s asked ps kept) (order : HasOrder s) (there : (p : Place) → IsIn p ps → p.number < length ns) where
-  stuck : (found : Found) → AreAnswers exact s ns ps found → (v : Val) → SomeAnswerSticks ns found ps v → IsStuck ns q s v
+  stuck : (found : Found) → AreHonestAt exact s ns ps found → (v : Val) → SomeAnswerSticks ns found ps v → IsStuck ns q s v
   stuck found a v h =
       let r = a.each h.place.uid (any_in (λ p. uid_eq p.uid h.place.uid) h.place ps h.among (uid_self h.place.uid)) in
       by r.0 r.1 (found h.place.uid) r.2 h.sticks

@@ -26,7 +26,7 @@ use Rattle.entity_loader.specs.declared.loader.EntityRequest.{EntityRequest}
 use Rattle.manifest_loading.specs.Keeping.{Found}
 use Rattle.manifest_loading.specs.Ordered.{HasOrder}
 use Rattle.store_slices.specs.Reached.{IsReached}
-use Rattle.manifest_loading.specs.Rounds.{AsksFor, AreAnswers, IsRound, IsComplete, IsSound}
+use Rattle.manifest_loading.specs.Rounds.{AsksFor, AreHonestAt, IsRound, IsComplete, IsSound}
 use Rattle.std.specs.Option.{option_map}
 use Rattle.manifest_loading.specs.KeptPart.{IsState, IsBegun, IsLoaded, AreAlike, along}
 use Rattle.entity_store.specs.FromParents.{without_links}
@@ -34,7 +34,7 @@ use Rattle.manifest_loading.proofs.KeptSteps.{kept_more, kept_start}
 use Rattle.manifest_loading.proofs.PointSteps.{entity_or, entity_any, fields_kept, tags_kept, fields_cut, tags_cut}
 use Rattle.manifest_loading.proofs.ReachSteps.{front_leads, start_reached, entity_leads, further_reached, reached_asked}
 
-module _ (exact : Bool) (s : Store) (ns : Table) (ps : List Place) (found : Found) (t : AreAnswers exact s ns ps found) where
+module _ (exact : Bool) (s : Store) (ns : Table) (ps : List Place) (found : Found) (t : AreHonestAt exact s ns ps found) where
   -- a place whose entity leads there
   record From (b : Bool) (y x : EntityUID) (a : Address) (e : StoredEntity) : Type 0 where
     place : Place

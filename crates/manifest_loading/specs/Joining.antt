@@ -1,5 +1,6 @@
 -- Ancestors of what is kept.
 use Rattle.std.specs.Prelude.{◌≡◌, ◌⊎◌, Bool, true, false, ◌&&◌, ◌||◌, List, [], ◌∷◌, Some, is_some}
+use Rattle.std.specs.BTreeMap.{BTreeMap, get}
 use Rattle.std.specs.List.{list_any}
 use Rattle.std.specs.List.Sorted.{IsStrictlySortedBy}
 use Rattle.std.specs.declared.vec.Vec.{Vec}
@@ -17,6 +18,7 @@ use Rattle.trie_traversal.specs.declared.place.Place.{Place}
 use Rattle.entity_loader.specs.Answers.{HasAncestor}
 use Rattle.entity_loader.specs.declared.loader.AncestorsRequest.{AncestorsRequest}
 use Rattle.manifest_loading.specs.Keeping.{Found}
+use Rattle.manifest_loading.specs.declared.rounds.Loaded.{Loaded}
 
 -- whether the id is among these
 abbrev pub lists : List EntityUID → EntityUID → Bool
@@ -53,3 +55,10 @@ pub record IsJoined (exact : Bool) (s : Store) (asked_for : EntityUID → Entity
   pub enough : (x y : EntityUID) → is_some (old x) ≡ true → asked_for x y → HasAncestor s x y → above (new x) y ≡ true
   pub given : (x y : EntityUID) → above (new x) y ≡ true → (above (old x) y ≡ true) ⊎ HasAncestor s x y
   pub exactly : exact ≡ true → (x y : EntityUID) → above (new x) y ≡ true → (above (old x) y ≡ true) ⊎ asked_for x y
+
+-- the same after the rounds, where what is kept is all of a store, and those ancestors are asked for that the
+-- places' tries name in it
+abbrev pub AreJoined :
+    Bool → Store → Table → Request → Loaded → Store → BTreeMap EntityUID StoredEntity → Type 0
+AreJoined exact s ns q loaded t found =
+    IsJoined exact s (IsAskedFor ns q loaded.asked.keys t) (get uid_cmp loaded.kept) (get uid_cmp found)

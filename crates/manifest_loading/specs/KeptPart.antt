@@ -1,5 +1,5 @@
 -- What is kept of a store after some rounds.
-use Rattle.std.specs.Prelude.{◌≡◌, ℕ, Bool, true, false, List, [], ◌∷◌, map, Option, None, if◌then◌else◌}
+use Rattle.std.specs.Prelude.{◌≡◌, ℕ, Bool, true, false, List, [], ◌∷◌, map, Option, Some, None, if◌then◌else◌}
 use Rattle.std.specs.Option.{option_map}
 use Rattle.policy_values.specs.declared.entity_uid.EntityUID.{EntityUID}
 use Rattle.entity_store.specs.FromParents.{without_links}
@@ -16,6 +16,7 @@ use Rattle.trie_traversal.specs.Begun.{roots_point}
 use Rattle.trie_traversal.specs.Leads.{RootLeads}
 use Rattle.trie_traversal.specs.Wants.{Adds, wants}
 use Rattle.trie_traversal.specs.declared.place.Place.{Place}
+use Rattle.entity_loader.specs.State.{LoaderState}
 use Rattle.manifest_loading.specs.Keeping.{Found}
 use Rattle.manifest_loading.specs.Ordered.{HasOrder}
 use Rattle.store_slices.specs.Reached.{IsReached}
@@ -50,6 +51,10 @@ pub record IsBegun (ns : Table) (q : Request) (s : Store) (start : List Place) :
   pub asked : Adds ns (roots_point ns q) [] start
   pub leads : (b : Bool) (x : EntityUID) (a : Address) → roots_point ns q b x a ≡ true → RootLeads ns q b x a
   pub order : HasOrder s
+
+-- it holds of the store that the loader tells, and of each request whose roots lead to these first places
+abbrev pub WhereBegun : LoaderState → Table → List Place → (Store → Request → Type 0) → Type 0
+WhereBegun l ns start P = (s : Store) → l.store ≡ Some s → (q : Request) → IsBegun ns q s start → P s q
 
 -- the same entities with the same attributes and tags
 abbrev pub AreAlike : Found → Found → Type 0

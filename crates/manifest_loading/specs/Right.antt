@@ -1,5 +1,5 @@
 -- Why loading is refused of a loader that tells its store.
-use Rattle.std.specs.Prelude.{◌≡◌, ◌⊎◌, Bool, true, false, List, Some}
+use Rattle.std.specs.Prelude.{◌≡◌, ◌⊎◌, Bool, true, false, List, Some, Result, IfErr}
 use Rattle.byte_streams.specs.Steps.{Rose}
 use Rattle.policy_values.specs.declared.entity_uid.EntityUID.{EntityUID}
 use Rattle.entity_store.specs.declared.request.Request.{Request}
@@ -14,9 +14,11 @@ use Rattle.trie_traversal.specs.Stuck.{EntitySticks}
 use Rattle.trie_traversal.specs.Wants.{Test}
 use Rattle.trie_traversal.specs.declared.place.Place.{Place}
 use Rattle.entity_loader.specs.State.{LoaderState}
+use Rattle.manifest_loading.specs.Causes.{IsRight}
 use Rattle.manifest_loading.specs.Keeping.{Found, AreNotKept}
+use Rattle.manifest_loading.specs.Ordered.{WhereKeysAscend}
 use Rattle.store_slices.specs.Reached.{IsReached}
-use Rattle.manifest_loading.specs.Rounds.{AreAnswers}
+use Rattle.manifest_loading.specs.Rounds.{AreHonestAt, Sticks}
 use Rattle.manifest_loading.specs.declared.error.EntitySliceError.{EntitySliceError}
 use Rattle.manifest_loading.specs.declared.error.EntitySliceError.TheVariants as error
 
@@ -30,14 +32,30 @@ pub record IsStuck (ns : Table) (q : Request) (s : Store) (u : Val) : Type 0 whe
   pub reached : (b : Bool) (a : Address) → below b a ≡ true → IsReached b ns q s id a
   pub sticks : EntitySticks (cut_entity keep stored) (record { leads = below false; marks = below true }) u
 
+-- a path of the trie cannot go on from the value, which stands in a root or in some entity
+abbrev pub RootOrEntitySticks : Table → Request → Val → Type 0
+RootOrEntitySticks t q v = SomeRootSticks t q v ⊎ Sticks t v
+
 -- a path of the trie cannot go on from the value, which stands in a root or in an entity that paths reach
 abbrev pub SticksAt : Table → Request → Store → Val → Type 0
 SticksAt t q s v = SomeRootSticks t q v ⊎ IsStuck t q s v
 
+-- a loader that tells its store, where keys ascend there, is refused for such a value, a fault that rose or
+-- memory alone
+abbrev pub IsRefusedRightly :
+    Table → Request → LoaderState → LoaderState → Result Store EntitySliceError → Type 0
+IsRefusedRightly t q old new result =
+    WhereKeysAscend old (λ s. IfErr result (IsRight (SticksAt t q s) old new))
+
 -- a round is refused: honest answers lead nowhere on, or do not merge with what is kept, or the loader failed
 abbrev pub IsRefused : Bool → Store → Table → List Place → Found → LoaderState → LoaderState → EntitySliceError → Type 0
-IsRefused exact s ns ps kept old new (error.IncompatibleEntityManifest e) = (found : Found) × AreAnswers exact s ns ps found × SomeAnswerSticks ns found ps e.value
-IsRefused exact s ns ps kept old new (error.InconsistentLoader u k d) = (found : Found) × AreAnswers exact s ns ps found × AreNotKept kept found (error.InconsistentLoader u k d)
+IsRefused exact s ns ps kept old new (error.IncompatibleEntityManifest e) = (found : Found) × AreHonestAt exact s ns ps found × SomeAnswerSticks ns found ps e.value
+IsRefused exact s ns ps kept old new (error.InconsistentLoader u k d) = (found : Found) × AreHonestAt exact s ns ps found × AreNotKept kept found (error.InconsistentLoader u k d)
 IsRefused exact s ns ps kept old new error.LoaderFault = Rose old.faults new.faults
 IsRefused exact s ns ps kept old new error.OutOfMemory = Unit {0}
 IsRefused exact s ns ps kept old new e = ⊥
+
+-- a loader that tells this store is refused in a round
+abbrev pub RoundIsRefused :
+    Store → Table → List Place → Found → LoaderState → LoaderState → EntitySliceError → Type 0
+RoundIsRefused s ns ps kept old new e = IsRefused old.exact s ns ps kept old new e

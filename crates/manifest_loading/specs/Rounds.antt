@@ -30,14 +30,14 @@ pub record AsksFor (ns : Table) (ps : List Place) (x : EntityUID) (r : EntityReq
   pub each : (b : Bool) (a : Address) → sees b r.access_trie a ≡ wants b ns ps x a
 
 -- for each id of the places an honest answer, and nothing else
-pub record AreAnswers (exact : Bool) (s : Store) (ns : Table) (ps : List Place) (found : Found) : Type 0 where
+pub record AreHonestAt (exact : Bool) (s : Store) (ns : Table) (ps : List Place) (found : Found) : Type 0 where
   pub each : (x : EntityUID) → list_any (λ p. uid_eq p.uid x) ps ≡ true → (r : EntityRequest) × AsksFor ns ps x r × IsHonest exact s r (found x)
   pub others : (x : EntityUID) → list_any (λ p. uid_eq p.uid x) ps ≡ false → found x ≡ None
 
 -- honest answers are kept, and what they lead to is asked for next
 pub record IsRound (exact : Bool) (s : Store) (ns : Table) (ps : List Place) (old new : Found) (next : List Place) : Type 0 where
   pub found : Found
-  pub honest : AreAnswers exact s ns ps found
+  pub honest : AreHonestAt exact s ns ps found
   pub kept : (x : EntityUID) → new x ≡ kept_and (old x) (found x)
   pub asked : Adds ns (answers_point ns found ps) [] next
 

@@ -1,5 +1,5 @@
 -- Slices by manifests.
-use Rattle.std.specs.Prelude.{◌≡◌, List, [], Option}
+use Rattle.std.specs.Prelude.{◌≡◌, List, [], Option, Some, Result, MatchResult}
 use Rattle.std.specs.Option.{unwrap_or}
 use Rattle.entity_store.specs.declared.request.Request.{Request}
 use Rattle.entity_store.specs.Request.{IsWhole}
@@ -8,6 +8,7 @@ use Rattle.policy_values.specs.Value.{Val}
 use Rattle.access_tries.specs.Table.{Table}
 use Rattle.reads_spec.specs.Paths.{AccessPath, Demand}
 use Rattle.reads_spec.specs.Restrict.{restrict}
+use Rattle.manifest_core.specs.Manifest.{Manifest, trie_for}
 use Rattle.manifest_loading.specs.declared.error.EntitySliceError.{EntitySliceError}
 use Rattle.manifest_loading.specs.declared.error.EntitySliceError.TheVariants.{PartialRequest, IncompatibleEntityManifest, OutOfMemory}
 use Rattle.store_slices.specs.Blocked.{IsBlocked}
@@ -16,6 +17,10 @@ use Rattle.store_slices.specs.Tries.{IsTrieOf}
 -- the trie, or that of nothing
 abbrev pub trie_or_none : Option Table → Table
 trie_or_none o = unwrap_or o []
+
+-- it holds of the trie that the manifest has for the request, if it has one
+abbrev pub WhereTrie : Manifest → Request → (Table → Type 0) → Type 0
+WhereTrie m q P = (t : Table) → trie_for m q ≡ Some t → P t
 
 -- each entry of the request is known, no path of the trie is blocked, and the store is the one restricted to what the trie is of
 pub record IsSlice (t : Table) (q : Request) (s sliced : Store) : Type 0 where
@@ -29,3 +34,7 @@ IsRefused t q s (PartialRequest e) = ¬ IsWhole q
 IsRefused t q s (IncompatibleEntityManifest e) = IsWhole q × IsBlocked t q s e.value
 IsRefused t q s OutOfMemory = Unit {0}
 IsRefused t q s e = ⊥
+
+-- the result is the slice along the trie, or why there is none
+abbrev pub IsSliceOrWhy : Table → Request → Store → Result Store EntitySliceError → Type 0
+IsSliceOrWhy t q s result = MatchResult result (IsSlice t q s) (IsRefused t q s)

@@ -15,9 +15,10 @@ ghost use Rattle.entity_store.specs.Request.{IsWhole};
 ghost use Rattle.entity_store.specs.Store.{Store};
 ghost use Rattle.manifest_loading.specs.Answering.{AreUnderIds};
 ghost use Rattle.manifest_loading.specs.Causes.{CauseOf, IsRight};
-ghost use Rattle.manifest_loading.specs.Joining.{lists, asks, brings, IsAskedFor, AreAscending, HasMore, IsJoined};
+ghost use Rattle.manifest_loading.specs.Joining.{lists, asks, brings, AreJoined, IsAskedFor, AreAscending, HasMore};
 ghost use Rattle.entity_store.specs.FromParents.{without_links};
 ghost use Rattle.manifest_loading.specs.KeptPart.{AreAlike};
+ghost use Rattle.manifest_loading.specs.Ordered.{WhereTold};
 ghost use Rattle.manifest_loading.specs.Unasked.{DemandNothing, AsksForSome};
 
 use crate::error::EntitySliceError;
@@ -51,14 +52,12 @@ pub(crate) fn with_ancestors<D: EntityLoader>(
     ensures alike { IfOk result (λ found. AreAlike (get uid_cmp found) (get uid_cmp loaded.kept)) }
     ensures ascending { IfOk result (λ found. AreAscending (get uid_cmp loaded.kept) →
         AreAscending (get uid_cmp found)) }
-    ensures honest { (s : Store) → (D.state loader.old).store ≡ Some s → (t : Store) →
-        IsKept loaded.kept t →
+    ensures honest { WhereTold (D.state loader.old) (λ s. (t : Store) → IsKept loaded.kept t →
         IfOk result (λ found.
-        IsJoined (D.state loader.old).exact s (IsAskedFor nodes.now request.now loaded.asked.keys t)
-        (get uid_cmp loaded.kept) (get uid_cmp found)) }
+        AreJoined (D.state loader.old).exact s nodes.now request.now loaded t found)) }
     ensures cause { IfErr result (CauseOf (λ v. ⊥) (D.state loader.old) (D.state loader.new)) }
-    ensures right { (s : Store) → (D.state loader.old).store ≡ Some s →
-        IfErr result (IsRight (λ v. ⊥) (D.state loader.old) (D.state loader.new)) }
+    ensures right { WhereTold (D.state loader.old) (λ s.
+        IfErr result (IsRight (λ v. ⊥) (D.state loader.old) (D.state loader.new))) }
 {
     let Loaded { asked, mut kept } = loaded;
     let requests = ancestors_requests(alloc, nodes, request, &asked, &kept)?;
@@ -123,11 +122,10 @@ fn lists_for<D: EntityLoader>(
     ensures lists { (D.state loader.new).lists ≤ (D.state loader.old).lists + 1 }
     ensures fit { IfOk result (λ lists. length requests.now.items ≡ length lists.items) }
     ensures cause { IfErr result (CauseOf (λ v. ⊥) (D.state loader.old) (D.state loader.new)) }
-    ensures honest { (s : Store) → (D.state loader.old).store ≡ Some s →
-        IfOk result (λ lists.
-        AllZip (IsHonestList (D.state loader.old).exact s) requests.now.items lists.items) }
-    ensures right { (s : Store) → (D.state loader.old).store ≡ Some s →
-        IfErr result (IsRight (λ v. ⊥) (D.state loader.old) (D.state loader.new)) }
+    ensures honest { WhereTold (D.state loader.old) (λ s. IfOk result (λ lists.
+        AllZip (IsHonestList (D.state loader.old).exact s) requests.now.items lists.items)) }
+    ensures right { WhereTold (D.state loader.old) (λ s.
+        IfErr result (IsRight (λ v. ⊥) (D.state loader.old) (D.state loader.new))) }
 {
     let lists = match loader.load_ancestors(alloc, requests) {
         Ok(lists) => lists,

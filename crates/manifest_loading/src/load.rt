@@ -1,23 +1,20 @@
 //! Loading the entities that a trie reads.
 
-ghost use Rattle.std.specs.Prelude.{◌≡◌, ◌⊎◌, ◌≤◌, ◌+◌, ◌↔◌, ℕ, List, Some, map, IfOk, IfErr};
+ghost use Rattle.std.specs.Prelude.{◌≡◌, ◌≤◌, ◌+◌, ◌↔◌, ℕ, map, IfOk, IfErr};
 ghost use Rattle.std.specs.BTreeMap.{get, values};
 ghost use Rattle.std.specs.List.Sorted.{IsStrictlySortedBy};
-ghost use Rattle.trie_traversal.specs.Begun.{PathsWithin, SomeRootSticks};
+ghost use Rattle.trie_traversal.specs.Begun.{PathsWithin};
 ghost use Rattle.entity_loader.specs.State.{Continues};
 ghost use Rattle.policy_values.specs.Uid.{uid_cmp};
 ghost use Rattle.policy_values.specs.declared.entity_uid.EntityUID.{EntityUID};
-ghost use Rattle.reads_spec.specs.Paths.{AccessPath, Demand};
 ghost use Rattle.entity_store.specs.Request.{IsWhole};
-ghost use Rattle.entity_store.specs.Store.{Store, entity_at};
-ghost use Rattle.store_slices.specs.Tries.{IsTrieOf};
+ghost use Rattle.entity_store.specs.Store.{entity_at};
 ghost use Rattle.manifest_loading.specs.Answering.{AreUnderIds};
-ghost use Rattle.manifest_loading.specs.Between.{IsBetween};
-ghost use Rattle.manifest_loading.specs.Causes.{CauseOf, IsPartial, IsRight};
+ghost use Rattle.manifest_loading.specs.Between.{LiesBetween};
+ghost use Rattle.manifest_loading.specs.Causes.{CauseOf, IsPartial};
 ghost use Rattle.manifest_loading.specs.KeptPart.{IsLoaded};
-ghost use Rattle.manifest_loading.specs.Ordered.{HasOrder};
-ghost use Rattle.manifest_loading.specs.Right.{SticksAt};
-ghost use Rattle.manifest_loading.specs.Rounds.{Sticks};
+ghost use Rattle.manifest_loading.specs.Ordered.{WhereIdsAscend, WhereKeysAscend};
+ghost use Rattle.manifest_loading.specs.Right.{IsRefusedRightly, RootOrEntitySticks};
 ghost use Rattle.manifest_loading.specs.Unasked.{DemandsNothing, ReadsNothing};
 
 use crate::ancestors::with_ancestors;
@@ -64,18 +61,15 @@ pub fn load_trie<D: EntityLoader, L: Ledger>(
     ensures partial { IsPartial result ↔ (IsWhole request.now → ⊥) }
     ensures untouched { (IsWhole request.now → ⊥) →
         (D.state loader.new ≡ D.state loader.old) × (steps.new ≡ steps.old) }
-    ensures honest { (s : Store) → (D.state loader.old).store ≡ Some s → HasOrder s →
-        IfOk result (IsLoaded (D.state loader.old).exact trie.now request.now s) }
-    ensures between { (s : Store) → (D.state loader.old).store ≡ Some s → HasOrder s →
-        IsStrictlySortedBy uid_cmp (map (λ e. e.uid) s) →
-        (reads : List AccessPath) (demands : List Demand) → IsTrieOf reads demands trie.now →
-        IfOk result (IsBetween (D.state loader.old).exact reads demands request.now s) }
+    ensures honest { WhereKeysAscend (D.state loader.old) (λ s.
+        IfOk result (IsLoaded (D.state loader.old).exact trie.now request.now s)) }
+    ensures between { WhereIdsAscend (D.state loader.old) (λ s.
+        LiesBetween (D.state loader.old).exact trie.now request.now s result) }
     ensures cause { IsWhole request.now →
-        IfErr result (CauseOf (λ v. SomeRootSticks trie.now request.now v ⊎ Sticks trie.now v)
+        IfErr result (CauseOf (RootOrEntitySticks trie.now request.now)
         (D.state loader.old) (D.state loader.new)) }
-    ensures right { IsWhole request.now → (s : Store) → (D.state loader.old).store ≡ Some s →
-        HasOrder s → IfErr result (IsRight (SticksAt trie.now request.now s) (D.state loader.old)
-        (D.state loader.new)) }
+    ensures right { IsWhole request.now →
+        IsRefusedRightly trie.now request.now (D.state loader.old) (D.state loader.new) result }
 {
     if !request.is_whole() {
         return Err(EntitySliceError::PartialRequest(PartialRequestError {}));
@@ -102,18 +96,13 @@ fn load_whole<D: EntityLoader, L: Ledger>(
         (D.state loader.new).rounds ≤ (D.state loader.old).rounds + (n + 1) }
     ensures steps { (n : ℕ) → PathsWithin trie.now n → steps.new ≤ steps.old + (n + 1) }
     ensures counted { (D.state loader.new).rounds + steps.old ≤ (D.state loader.old).rounds + steps.new }
-    ensures honest { (s : Store) → (D.state loader.old).store ≡ Some s → HasOrder s →
-        IfOk result (IsLoaded (D.state loader.old).exact trie.now request.now s) }
-    ensures between { (s : Store) → (D.state loader.old).store ≡ Some s → HasOrder s →
-        IsStrictlySortedBy uid_cmp (map (λ e. e.uid) s) →
-        (reads : List AccessPath) (demands : List Demand) → IsTrieOf reads demands trie.now →
-        IfOk result (IsBetween (D.state loader.old).exact reads demands request.now s) }
-    ensures cause { IfErr result
-        (CauseOf (λ v. SomeRootSticks trie.now request.now v ⊎ Sticks trie.now v)
+    ensures honest { WhereKeysAscend (D.state loader.old) (λ s.
+        IfOk result (IsLoaded (D.state loader.old).exact trie.now request.now s)) }
+    ensures between { WhereIdsAscend (D.state loader.old) (λ s.
+        LiesBetween (D.state loader.old).exact trie.now request.now s result) }
+    ensures cause { IfErr result (CauseOf (RootOrEntitySticks trie.now request.now)
         (D.state loader.old) (D.state loader.new)) }
-    ensures right { (s : Store) → (D.state loader.old).store ≡ Some s → HasOrder s →
-        IfErr result (IsRight (SticksAt trie.now request.now s) (D.state loader.old)
-        (D.state loader.new)) }
+    ensures right { IsRefusedRightly trie.now request.now (D.state loader.old) (D.state loader.new) result }
 {
     let start = match first_places(alloc, request, trie) {
         Ok(start) => start,

@@ -1,23 +1,17 @@
 //! Loading by the trie of a request's type.
 
-ghost use Rattle.std.specs.Prelude.{◌≡◌, ◌⊎◌, ◌≤◌, ◌+◌, ◌↔◌, ℕ, List, [], Some, None, map, IfOk, IfErr};
-ghost use Rattle.std.specs.List.Sorted.{IsStrictlySortedBy};
+ghost use Rattle.std.specs.Prelude.{◌≡◌, ◌≤◌, ◌+◌, ◌↔◌, ℕ, [], None, IfOk, IfErr};
 ghost use Rattle.std.specs.Option.{option_copied};
-ghost use Rattle.access_tries.specs.Table.{Table};
-ghost use Rattle.trie_traversal.specs.Begun.{PathsWithin, SomeRootSticks};
+ghost use Rattle.trie_traversal.specs.Begun.{PathsWithin};
 ghost use Rattle.entity_loader.specs.State.{Continues};
-ghost use Rattle.manifest_loading.specs.Between.{IsBetween};
-ghost use Rattle.manifest_loading.specs.Causes.{CauseOf, IsPartial, IsRight};
-ghost use Rattle.manifest_loading.specs.Ordered.{HasOrder};
-ghost use Rattle.manifest_loading.specs.Right.{SticksAt};
-ghost use Rattle.manifest_loading.specs.Rounds.{Sticks};
+ghost use Rattle.manifest_loading.specs.Between.{LiesBetween};
+ghost use Rattle.manifest_loading.specs.Causes.{CauseOf, IsPartial};
+ghost use Rattle.manifest_loading.specs.Ordered.{WhereIdsAscend};
+ghost use Rattle.manifest_loading.specs.Right.{IsRefusedRightly, RootOrEntitySticks};
+ghost use Rattle.manifest_loading.specs.Sliced.{WhereTrie};
 ghost use Rattle.manifest_loading.specs.Unasked.{DemandsNothing, ReadsNothing};
 ghost use Rattle.manifest_loading.specs.declared.error.EntitySliceError.TheVariants.{OutOfMemory};
-ghost use Rattle.policy_values.specs.Uid.{uid_cmp};
-ghost use Rattle.reads_spec.specs.Paths.{AccessPath, Demand};
 ghost use Rattle.entity_store.specs.Request.{IsWhole};
-ghost use Rattle.entity_store.specs.Store.{Store};
-ghost use Rattle.store_slices.specs.Tries.{IsTrieOf};
 ghost use Rattle.manifest_core.specs.Manifest.{trie_for};
 
 use crate::{EntitySliceError, PartialRequestError, Steps, load_trie};
@@ -48,30 +42,25 @@ pub fn load_entities<D: EntityLoader, L: Ledger>(
     ensures unasked { trie_for manifest.now request.now ≡ None →
         (D.state loader.new ≡ D.state loader.old) × (steps.new ≡ steps.old) }
     ensures lists { (D.state loader.new).lists ≤ (D.state loader.old).lists + 1 }
-    ensures undemanded { (t : Table) → trie_for manifest.now request.now ≡ Some t →
-        DemandsNothing t → (D.state loader.new).lists ≡ (D.state loader.old).lists }
-    ensures nothing { (t : Table) → trie_for manifest.now request.now ≡ Some t → ReadsNothing t →
-        (D.state loader.new ≡ D.state loader.old) × (steps.new ≡ steps.old) }
+    ensures undemanded { WhereTrie manifest.now request.now (λ t. DemandsNothing t →
+        (D.state loader.new).lists ≡ (D.state loader.old).lists) }
+    ensures nothing { WhereTrie manifest.now request.now (λ t. ReadsNothing t →
+        (D.state loader.new ≡ D.state loader.old) × (steps.new ≡ steps.old)) }
     ensures goes_on { Continues (D.state loader.old) (D.state loader.new) }
-    ensures rounds { (t : Table) → trie_for manifest.now request.now ≡ Some t → (n : ℕ) →
-        PathsWithin t n → (D.state loader.new).rounds ≤ (D.state loader.old).rounds + (n + 1) }
-    ensures steps { (t : Table) → trie_for manifest.now request.now ≡ Some t → (n : ℕ) →
-        PathsWithin t n → steps.new ≤ steps.old + (n + 1) }
+    ensures rounds { WhereTrie manifest.now request.now (λ t. (n : ℕ) → PathsWithin t n →
+        (D.state loader.new).rounds ≤ (D.state loader.old).rounds + (n + 1)) }
+    ensures steps { WhereTrie manifest.now request.now (λ t. (n : ℕ) → PathsWithin t n →
+        steps.new ≤ steps.old + (n + 1)) }
     ensures counted { (D.state loader.new).rounds + steps.old ≤ (D.state loader.old).rounds + steps.new }
-    ensures between { (t : Table) → trie_for manifest.now request.now ≡ Some t → (s : Store) →
-        (D.state loader.old).store ≡ Some s → HasOrder s →
-        IsStrictlySortedBy uid_cmp (map (λ e. e.uid) s) →
-        (reads : List AccessPath) (demands : List Demand) → IsTrieOf reads demands t →
-        IfOk result (IsBetween (D.state loader.old).exact reads demands request.now s) }
-    ensures cause { IsWhole request.now → (t : Table) → trie_for manifest.now request.now ≡ Some t →
-        IfErr result (CauseOf (λ v. SomeRootSticks t request.now v ⊎ Sticks t v)
-        (D.state loader.old) (D.state loader.new)) }
+    ensures between { WhereTrie manifest.now request.now (λ t. WhereIdsAscend (D.state loader.old) (λ s.
+        LiesBetween (D.state loader.old).exact t request.now s result)) }
+    ensures cause { IsWhole request.now → WhereTrie manifest.now request.now (λ t.
+        IfErr result (CauseOf (RootOrEntitySticks t request.now)
+        (D.state loader.old) (D.state loader.new))) }
     ensures cause_without { IsWhole request.now → trie_for manifest.now request.now ≡ None →
         IfErr result (λ e. e ≡ OutOfMemory) }
-    ensures right { IsWhole request.now → (t : Table) → trie_for manifest.now request.now ≡ Some t →
-        (s : Store) → (D.state loader.old).store ≡ Some s → HasOrder s →
-        IfErr result (IsRight (SticksAt t request.now s) (D.state loader.old)
-        (D.state loader.new)) }
+    ensures right { IsWhole request.now → WhereTrie manifest.now request.now (λ t.
+        IsRefusedRightly t request.now (D.state loader.old) (D.state loader.new) result) }
 {
     if !request.is_whole() {
         return Err(EntitySliceError::PartialRequest(PartialRequestError {}));

@@ -1,8 +1,7 @@
 //! Loading in rounds, until nothing is asked for.
 
-ghost use Rattle.std.specs.Prelude.{◌≡◌, ◌≤◌, ◌<◌, ◌+◌, ◌||◌, ℕ, Bool, List, [], length, Some, IfOk, IfErr, OnOk};
+ghost use Rattle.std.specs.Prelude.{◌≡◌, ◌≤◌, ◌+◌, ℕ, [], IfOk, IfErr, OnOk};
 ghost use Rattle.std.specs.BTreeMap.{get};
-ghost use Rattle.std.specs.List.{list_any};
 ghost use Rattle.access_tries.specs.Table.{IsTable};
 ghost use Rattle.trie_traversal.specs.Begun.{PathsWithin, IsFirst};
 ghost use Rattle.trie_traversal.specs.Places.{IsBelowSome};
@@ -10,13 +9,12 @@ ghost use Rattle.trie_traversal.specs.declared.place.Place.{Place};
 ghost use Rattle.entity_loader.specs.State.{Continues};
 ghost use Rattle.policy_values.specs.Uid.{uid_cmp};
 ghost use Rattle.reads_spec.specs.Among.{IsIn};
-ghost use Rattle.entity_store.specs.Store.{Store};
-ghost use Rattle.entity_store.specs.declared.request.Request.{Request};
-ghost use Rattle.manifest_loading.specs.KeptPart.{IsState, IsBegun};
+ghost use Rattle.manifest_loading.specs.KeptPart.{IsState, WhereBegun};
+ghost use Rattle.manifest_loading.specs.Ordered.{WhereTold};
 ghost use Rattle.manifest_loading.specs.Answering.{AreUnderIds};
 ghost use Rattle.manifest_loading.specs.Causes.{CauseOf, IsRight};
-ghost use Rattle.manifest_loading.specs.Right.{IsStuck, IsRefused};
-ghost use Rattle.manifest_loading.specs.Rounds.{AreAnswers, IsRound, Sticks, AreNoted};
+ghost use Rattle.manifest_loading.specs.Right.{IsStuck, RoundIsRefused};
+ghost use Rattle.manifest_loading.specs.Rounds.{AreHonestAt, IsRound, Sticks, AreNoted};
 ghost use Rattle.manifest_loading.specs.Unasked.{DemandNothing};
 
 use crate::answers::answers_for;
@@ -55,11 +53,10 @@ fn answers_at<D: EntityLoader>(
     ensures lists { (D.state loader.new).lists ≡ (D.state loader.old).lists }
     ensures ids { IfOk result AreUnderIds }
     ensures cause { IfErr result (CauseOf (λ v. ⊥) (D.state loader.old) (D.state loader.new)) }
-    ensures honest { (s : Store) → (D.state loader.old).store ≡ Some s →
-        IfOk result (λ found.
-        AreAnswers (D.state loader.old).exact s nodes.now pending.now.keys (get uid_cmp found)) }
-    ensures right { (s : Store) → (D.state loader.old).store ≡ Some s →
-        IfErr result (IsRight (λ v. ⊥) (D.state loader.old) (D.state loader.new)) }
+    ensures honest { WhereTold (D.state loader.old) (λ s. IfOk result (λ found.
+        AreHonestAt (D.state loader.old).exact s nodes.now pending.now.keys (get uid_cmp found))) }
+    ensures right { WhereTold (D.state loader.old) (λ s.
+        IfErr result (IsRight (λ v. ⊥) (D.state loader.old) (D.state loader.new))) }
 {
     let lent = lent_tries(alloc, nodes, pending)?;
     let requests = requests_of(alloc, nodes, &lent)?;
@@ -87,13 +84,12 @@ fn one_round<D: EntityLoader, L: Ledger>(
     ensures quiet { IfOk result (λ next. DemandNothing nodes.now pending.now.keys →
         DemandNothing nodes.now next.keys) }
     ensures cause { IfErr result (CauseOf (Sticks nodes.now) (D.state loader.old) (D.state loader.new)) }
-    ensures honest { (s : Store) → (D.state loader.old).store ≡ Some s →
-        IfOk result (λ next.
+    ensures honest { WhereTold (D.state loader.old) (λ s. IfOk result (λ next.
         IsRound (D.state loader.old).exact s nodes.now pending.now.keys (get uid_cmp kept.old)
-        (get uid_cmp kept.new) next.keys) }
-    ensures right { (s : Store) → (D.state loader.old).store ≡ Some s →
-        IfErr result (IsRefused (D.state loader.old).exact s nodes.now pending.now.keys
-        (get uid_cmp kept.old) (D.state loader.old) (D.state loader.new)) }
+        (get uid_cmp kept.new) next.keys)) }
+    ensures right { WhereTold (D.state loader.old) (λ s. IfErr result
+        (RoundIsRefused s nodes.now pending.now.keys (get uid_cmp kept.old)
+        (D.state loader.old) (D.state loader.new))) }
 {
     steps.tick();
     let found = answers_at(alloc, nodes, pending, loader)?;
@@ -131,14 +127,11 @@ pub(crate) fn load_rounds<D: EntityLoader, L: Ledger>(
     ensures quiet { DemandNothing nodes.now start.keys →
         IfOk result (λ loaded. DemandNothing nodes.now loaded.asked.keys) }
     ensures ids { IfOk result (λ loaded. AreUnderIds loaded.kept) }
-    ensures honest { (s : Store) → (D.state loader.old).store ≡ Some s → (q : Request) →
-        IsBegun nodes.now q s start.keys →
-        IfOk result (λ loaded.
-        IsState (D.state loader.old).exact nodes.now q s loaded.asked.keys []
-        (get uid_cmp loaded.kept)) }
-    ensures right { (s : Store) → (D.state loader.old).store ≡ Some s → (q : Request) →
-        IsBegun nodes.now q s start.keys →
-        IfErr result (IsRight (IsStuck nodes.now q s) (D.state loader.old) (D.state loader.new)) }
+    ensures honest { WhereBegun (D.state loader.old) nodes.now start.keys (λ s q.
+        IfOk result (λ loaded. IsState (D.state loader.old).exact nodes.now q s loaded.asked.keys []
+        (get uid_cmp loaded.kept))) }
+    ensures right { WhereBegun (D.state loader.old) nodes.now start.keys (λ s q.
+        IfErr result (IsRight (IsStuck nodes.now q s) (D.state loader.old) (D.state loader.new))) }
     ensures cause { IfErr result (CauseOf (Sticks nodes.now) (D.state loader.old) (D.state loader.new)) }
 {
     let mut asked = BTreeSet::new(alloc);

@@ -1,9 +1,8 @@
 //! The store restricted to what a manifest reads for a request.
 
-ghost use Rattle.std.specs.Prelude.{MatchResult};
 ghost use Rattle.entity_store.specs.Request.{IsWhole};
 ghost use Rattle.manifest_core.specs.Manifest.{trie_at, trie_for};
-ghost use Rattle.manifest_loading.specs.Sliced.{trie_or_none, IsSlice, IsRefused};
+ghost use Rattle.manifest_loading.specs.Sliced.{trie_or_none, IsSliceOrWhy};
 
 use crate::{EntitySliceError, IncompatibleEntityManifestError, PartialRequestError};
 use access_tries::RootAccessTrie;
@@ -22,9 +21,8 @@ pub fn slice_entities(
     entities: &Entities,
     request: &Request,
 ) -> Result<Entities, EntitySliceError>
-    ensures { MatchResult result
-        (IsSlice (trie_or_none (trie_for manifest.now request.now)) request.now entities.now)
-        (IsRefused (trie_or_none (trie_for manifest.now request.now)) request.now entities.now) }
+    ensures { IsSliceOrWhy (trie_or_none (trie_for manifest.now request.now))
+        request.now entities.now result }
 {
     if !request.is_whole() {
         return Err(EntitySliceError::PartialRequest(PartialRequestError {}));
@@ -43,10 +41,8 @@ fn slice_typed(
     request: &Request,
 ) -> Result<Entities, EntitySliceError>
     requires { IsWhole request.now }
-    ensures { MatchResult result
-        (IsSlice (trie_or_none (trie_at manifest.now request_type.now)) request.now entities.now)
-        (IsRefused (trie_or_none
-        (trie_at manifest.now request_type.now)) request.now entities.now) }
+    ensures { IsSliceOrWhy (trie_or_none (trie_at manifest.now request_type.now))
+        request.now entities.now result }
 {
     match manifest.per_action().get(request_type) {
         Some(trie) => slice_along(alloc, trie, entities, request),
@@ -61,8 +57,7 @@ fn slice_along(
     request: &Request,
 ) -> Result<Entities, EntitySliceError>
     requires { IsWhole request.now }
-    ensures { MatchResult result (IsSlice trie.now request.now entities.now)
-        (IsRefused trie.now request.now entities.now) }
+    ensures { IsSliceOrWhy trie.now request.now entities.now result }
 {
     if let Some(value) = blocked_value(alloc, trie, request, entities)? {
         let error = IncompatibleEntityManifestError { value };

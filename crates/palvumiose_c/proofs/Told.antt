@@ -1,6 +1,6 @@
 -- From what `run` does with a source and a sink in memory to what a call tells.
-use Rattle.std.proofs.Common.{◌≡◌, ℕ, ◌≤◌, List, [], ◌++◌, length, inl, inr, Option, Some, None, append-nil, length-append, sym, ap, ◌∙◌, subst, arith}
-use Rattle.std.specs.Io.KnownBytes.{Appends, Consumes, IsAtEnd, Keeps}
+use Rattle.std.proofs.Common.{◌≡◌, ℕ, ◌≤◌, List, [], length, inl, inr, Option, Some, None, sym, ap, ◌∙◌, subst, arith}
+use Rattle.std.specs.Io.KnownBytes.{Appends, Consumes, Keeps}
 use Rattle.byte_streams.specs.Document.{document_limit, WasRead}
 use Rattle.byte_streams.specs.State.{SinkState, SourceState}
 use Rattle.byte_streams.specs.Steps.{IsQuiet, Rose}

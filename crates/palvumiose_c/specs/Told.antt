@@ -4,9 +4,11 @@ use Rattle.std.specs.List.{slice_split}
 use Rattle.std.specs.Str.{is_utf8}
 use Rattle.byte_streams.specs.Document.{document_limit}
 use Rattle.policy_gate.specs.Answer.{IsAnswer}
-use Rattle.policy_gate.specs.Command.{own_document}
+use Rattle.json_document.specs.declared.document.Document.{Document}
+use Rattle.policy_gate.specs.Command.{command_of, own_document, shape_of}
+use Rattle.policy_gate.specs.Headline.{HasDocument, IsDocumentOf, KeepsRulesOf}
 use Rattle.policy_gate.specs.Reply.{Answer, answer}
-use Rattle.policy_gate.specs.Run.{too_long, usage}
+use Rattle.policy_gate.specs.Run.{Reads, too_long, usage}
 use Rattle.policy_gate.specs.declared.command.Command.{Command}
 use Rattle.policy_gate.specs.declared.status.Status.TheVariants as status
 
@@ -29,6 +31,17 @@ IsDueTo (Some command) document a = IsDueOn (own_document command) command docum
 abbrev pub IsTold : Option Command → List ℕ → Answer → Type 0
 IsTold command document a = IsDueTo command document a ⊎ (a ≡ answer status.OutOfMemory [])
 
+-- the words are a command that reads the caller's document, and that is no longer than one may be, and keeps
+-- every rule of the command
+pub record KeepAllRules (words document : List ℕ) : Type 0 where
+  pub command : Command
+  pub is : command_of (words_in words) ≡ Some command
+  pub reads : Reads command
+  pub few : length document ≤ document_limit
+  pub read : Document
+  pub of : IsDocumentOf (shape_of command) document read
+  pub rules : KeepsRulesOf command read
+
 -- a text over the front of other bytes: as much of it as there is room for, and behind it what was there
 abbrev pub laid_over : List ℕ → List ℕ → List ℕ
 laid_over text bytes = take (length bytes) text ++ drop (length text) bytes
@@ -37,3 +50,8 @@ laid_over text bytes = take (length bytes) text ++ drop (length text) bytes
 pub record IsHanded (text : List ℕ) (size : ℕ) (out out' : List ℕ) : Type 0 where
   pub whole : size ≡ length text
   pub front : out' ≡ laid_over text out
+
+-- the bytes are a document for the command, and the caller is handed a text that says of it what it should
+abbrev pub HandsOut : Command → (Document → List ℕ → Type 0) → List ℕ → ℕ → List ℕ → List ℕ → Type 0
+HandsOut command Is document size out out' =
+    (text : List ℕ) × IsHanded text size out out' × HasDocument command document (λ d. Is d text)

@@ -1,17 +1,13 @@
 //! The library for C: the answer to a command on a document, into memory of the caller.
 #![tactic(auto)]
 
-ghost use Rattle.std.specs.Prelude.{◌≡◌, ◌==◌, ◌≤◌, ◌⊎◌, ℕ, List, length, Some, IfOk, map, string_bytes};
-ghost use Rattle.byte_streams.specs.Document.{document_limit};
-ghost use Rattle.json_document.specs.declared.document.Document.{Document};
-ghost use Rattle.json_document.specs.declared.shape.Shape.TheVariants as shape;
-ghost use Rattle.policy_gate.specs.Command.{command_of, shape_of};
-ghost use Rattle.policy_gate.specs.Headline.{IsDecided, IsDocumentOf, IsSliced, KeepsRules, KeepsRulesOf};
+ghost use Rattle.std.specs.Prelude.{◌≡◌, ◌==◌, ◌⊎◌, Some, IfOk, map, string_bytes};
+ghost use Rattle.policy_gate.specs.Command.{command_of};
+ghost use Rattle.policy_gate.specs.Headline.{HasDocument, IsDecided, IsSliced};
 ghost use Rattle.policy_gate.specs.Reply.{Answer, answer};
-ghost use Rattle.policy_gate.specs.Run.{Reads};
-ghost use Rattle.policy_gate.specs.Status.{code_of};
+ghost use Rattle.policy_gate.specs.Status.{IsUnlessOutOfMemory, code_of};
 ghost use Rattle.std.specs.List.{slice_split};
-ghost use Rattle.palvumiose_c.specs.Told.{IsHanded, IsTold, laid_over, words_in};
+ghost use Rattle.palvumiose_c.specs.Told.{HandsOut, IsHanded, IsTold, KeepAllRules, laid_over, words_in};
 
 use byte_streams::{MemorySink, SliceSource};
 use policy_gate::{Command, Status, run};
@@ -55,16 +51,16 @@ fn own(alloc: Global, texts: &[&str]) -> Result<Vec<String>, AllocError>
 
 // What `run` answers where both document and text are in memory. The sink fails only for want of memory.
 fn reply_to(alloc: Global, command: &[u8], document: &[u8]) -> Result<Reply, AllocError>
-    ensures told { IfOk result (λ r. IsTold (command_of (words_in command.now)) document.now (answer r.status r.text.items)) }
+    ensures told { IfOk result (λ r.
+        IsTold (command_of (words_in command.now)) document.now (answer r.status r.text.items)) }
     ensures headline { command_of (words_in command.now) ≡ Some Command.Slice
         → IfOk result (λ r. r.status ≡ Status.Done
-        → (d : Document) × IsDocumentOf shape.Whole document.now d × KeepsRules d × IsSliced d r.text.items) }
+        → HasDocument Command.Slice document.now (λ d. IsSliced d r.text.items)) }
     ensures decided { command_of (words_in command.now) ≡ Some Command.Decide
         → IfOk result (λ r. r.status ≡ Status.Done
-        → (d : Document) × IsDocumentOf shape.Whole document.now d × KeepsRules d × IsDecided d r.text.items) }
-    ensures complete { (c : Command) (d : Document) → command_of (words_in command.now) ≡ Some c → Reads c
-        → length document.now ≤ document_limit → IsDocumentOf (shape_of c) document.now d → KeepsRulesOf c d
-        → IfOk result (λ r. (r.status ≡ Status.Done) ⊎ (r.status ≡ Status.OutOfMemory)) }
+        → HasDocument Command.Decide document.now (λ d. IsDecided d r.text.items)) }
+    ensures complete { KeepAllRules command.now document.now
+        → IfOk result (λ r. IsUnlessOutOfMemory r.status Status.Done) }
 {
     let words = words_of(alloc, command)?;
     let mut source = SliceSource::new(document);
@@ -82,14 +78,14 @@ fn reply_to(alloc: Global, command: &[u8], document: &[u8]) -> Result<Reply, All
 
 // The same, with no text where memory ran out.
 fn answer_to(alloc: Global, command: &[u8], document: &[u8]) -> Reply
-    ensures told { IsTold (command_of (words_in command.now)) document.now (answer result.status result.text.items) }
+    ensures told { IsTold (command_of (words_in command.now)) document.now
+        (answer result.status result.text.items) }
     ensures headline { command_of (words_in command.now) ≡ Some Command.Slice → result.status ≡ Status.Done
-        → (d : Document) × IsDocumentOf shape.Whole document.now d × KeepsRules d × IsSliced d result.text.items }
+        → HasDocument Command.Slice document.now (λ d. IsSliced d result.text.items) }
     ensures decided { command_of (words_in command.now) ≡ Some Command.Decide → result.status ≡ Status.Done
-        → (d : Document) × IsDocumentOf shape.Whole document.now d × KeepsRules d × IsDecided d result.text.items }
-    ensures complete { (c : Command) (d : Document) → command_of (words_in command.now) ≡ Some c → Reads c
-        → length document.now ≤ document_limit → IsDocumentOf (shape_of c) document.now d → KeepsRulesOf c d
-        → (result.status ≡ Status.Done) ⊎ (result.status ≡ Status.OutOfMemory) }
+        → HasDocument Command.Decide document.now (λ d. IsDecided d result.text.items) }
+    ensures complete { KeepAllRules command.now document.now
+        → IsUnlessOutOfMemory result.status Status.Done }
 {
     match reply_to(alloc, command, document) {
         Ok(reply) => reply,
@@ -143,18 +139,14 @@ pub extern "C" fn palvumiose_c_run(
     // read, with the response; on that slice, and on every store between it and the whole one, every policy has the outcome that
     // it has on the whole store.
     ensures headline { command_of (words_in command.now) ≡ Some Command.Slice → result ≡ 0
-        → (text : List ℕ) × IsHanded text size.new out.old out.new
-        × ((d : Document) × IsDocumentOf shape.Whole document.now d × KeepsRules d × IsSliced d text) }
+        → HandsOut Command.Slice IsSliced document.now size.new out.old out.new }
 
     // Where `decide` answers 0 the document keeps every rule, and the text is the response on its whole store.
     ensures decided { command_of (words_in command.now) ≡ Some Command.Decide → result ≡ 0
-        → (text : List ℕ) × IsHanded text size.new out.old out.new
-        × ((d : Document) × IsDocumentOf shape.Whole document.now d × KeepsRules d × IsDecided d text) }
+        → HandsOut Command.Decide IsDecided document.now size.new out.old out.new }
 
     // And 0 comes wherever every rule of the command holds, unless memory runs out.
-    ensures complete { (c : Command) (d : Document) → command_of (words_in command.now) ≡ Some c → Reads c
-        → length document.now ≤ document_limit → IsDocumentOf (shape_of c) document.now d → KeepsRulesOf c d
-        → (result ≡ 0) ⊎ (result ≡ 10) }
+    ensures complete { KeepAllRules command.now document.now → (result ≡ 0) ⊎ (result ≡ 10) }
 {
     let reply = answer_to(alloc, command, document);
     lay_over(reply.text.as_slice(), out);

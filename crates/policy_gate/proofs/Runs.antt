@@ -4,22 +4,21 @@
 -- status (`usage_for`, `too_long_for`, `exact_for`), and from 0, 1 and 12 to what is written.
 use Rattle.std.proofs.Common.{◌≡◌, ℕ, ◌+◌, ◌<◌, ◌≤◌, List, ◌++◌, length, true≢false, ◌⊎◌, inl, inr, Option, Some, None, append-nil, length-append, sym, ap, ◌∙◌, refl, subst, arith}
 use Rattle.std.specs.Io.KnownBytes.{Appends, Consumes, IsAtEnd}
-use Rattle.byte_streams.specs.Document.{document_limit, WasRead}
+use Rattle.byte_streams.specs.Document.{document_limit}
 use Rattle.byte_streams.specs.State.{SinkState, SourceState}
 use Rattle.byte_streams.specs.Steps.{IsQuiet, Rose}
 use Rattle.policy_gate.specs.Answer.{IsAnswer}
 use Rattle.policy_gate.specs.Reply.{Answer, answer}
-use Rattle.policy_gate.specs.Command.{own_document, shape_of}
+use Rattle.policy_gate.specs.Command.{own_document}
 use Rattle.policy_gate.specs.Laws.{Laws}
-use Rattle.policy_gate.specs.Run.{Cause, Gives, IsDocumentDue, IsDue, IsDueAfterReading, IsDueFor, IsGiven, IsGivenBy, IsToReadBy, IsToWorkOn, Reads, Runs}
-use Rattle.policy_gate.specs.Status.{IsAfterEnd, IsOfDocument, after_fault}
+use Rattle.policy_gate.specs.Run.{Cause, Gives, GivesWhole, IsDocumentDue, IsDue, IsDueAfterReading, IsDueFor, IsGiven, IsGivenBy, IsReader, IsToReadBy, IsToWorkOn, Run, Runs}
+use Rattle.policy_gate.specs.Status.{IsAfterEnd, IsOfDocument, IsUnlessOutOfMemory, after_fault}
 use Rattle.policy_gate.specs.declared.command.Command.{Command}
-use Rattle.policy_gate.specs.declared.command.Command.TheVariants.{Live}
+use Rattle.policy_gate.specs.declared.command.Command.TheVariants.{Live, Sample}
 use Rattle.policy_gate.specs.declared.status.Status.{Status}
 use Rattle.policy_gate.specs.declared.status.Status.TheVariants.{Done, Findings, Usage, Document, Request, Store, PartialRequest, ReadFault, WriteFault, OutOfMemory, TooLong, Edit}
-use Rattle.json_document.specs.declared.document.Document.{Document as ADocument}
-use Rattle.json_document.specs.declared.shape.Shape.TheVariants.{Whole, Live as OfEdits}
-use Rattle.policy_gate.specs.Headline.{HasPoliciesFor, IsDocumentOf, IsRefusedEdit, KeepsRules, KeepsRulesOf, Says}
+use Rattle.json_samples.specs.Sample.{sample_document}
+use Rattle.policy_gate.specs.Headline.{HasDocument, HasPoliciesFor, IsRefusedEdit, IsSampled, KeepsAllRules, OwnSays, Says, WorkedOn}
 use Rattle.policy_gate.proofs.Answers.{status_of_document}
 use Rattle.policy_gate.proofs.Says.{says_done, says_edit, says_refused, kept_is_done}
 
@@ -74,12 +73,12 @@ causes command source source' sink sink' status (inr (a, d, g)) = for_words sour
 
 -- the words are a command, and these are the bytes that it works on
 abbrev IsAtWork : Option Command → SourceState → SourceState → Type 0
-IsAtWork command source source' = (c : Command) × (command ≡ Some c) × ((bytes : List ℕ) × IsGiven c source source' bytes)
+IsAtWork command source source' = (c : Command) × (bytes : List ℕ) × ((command ≡ Some c) × IsGiven c source source' bytes)
 
 -- what is due for a document is due after its bytes were given
 was_given : (command : Option Command) (source source' : SourceState) (status : Status) (text : List ℕ) → IsDocumentDue command source source' status text → IsAtWork command source source'
 was_given None source source' status text due = absurd due
-was_given (Some command) source source' status text (bytes, given, is) = (command, refl, (bytes, given))
+was_given (Some command) source source' status text (bytes, given, is) = (command, bytes, (refl, given))
 
 given_at : (command : Option Command) (source source' : SourceState) (sink sink' : SinkState) (status : Status) → Cause command source source' sink sink' status → IsAfterEnd status → IsAtWork command source source'
 given_at command source source' sink sink' Done (text, due, w) ok = was_given command source source' Done text due
@@ -96,7 +95,7 @@ given_at command source source' sink sink' TooLong why ok = absurd ok
 given_at command source source' sink sink' Edit (text, due) ok = was_given command source source' Edit text due
 
 pub read_for : (command : Option Command) (source source' : SourceState) (sink sink' : SinkState) (status : Status)
-    → Runs command source source' sink sink' status → IsAfterEnd status → (c : Command) × (command ≡ Some c) × ((bytes : List ℕ) × IsGiven c source source' bytes)
+    → Runs command source source' sink sink' status → IsAfterEnd status → (c : Command) × (bytes : List ℕ) × ((command ≡ Some c) × IsGiven c source source' bytes)
 read_for command source source' sink sink' status runs = given_at command source source' sink sink' status (causes command source source' sink sink' status runs)
 
 -- ---- each status comes where its rule says so
@@ -139,7 +138,7 @@ module _ (command : Option Command) (source source' : SourceState) (sink sink' :
       past_for None (inr (inr d)) = stays a TooLong sink sink' status (ap (λ b. b.status) d.0) refl g
       past_for (Some own) (same, is) = let still = ap (λ s. s.taken) same in absurd (omega (arith, still))
 
-  pub too_long_for : Runs command source source' sink sink' status → source.taken + document_limit < source'.taken → (status ≡ TooLong) ⊎ (status ≡ OutOfMemory)
+  pub too_long_for : Runs command source source' sink sink' status → source.taken + document_limit < source'.taken → IsUnlessOutOfMemory status TooLong
   too_long_for (inl d) more = inr d.1
   too_long_for (inr (a, d, g)) more = inl (past command a more d g)
 
@@ -152,9 +151,10 @@ module _ (bytes : List ℕ) (source source' : SourceState) (sink sink' : SinkSta
   past_told c a long (inr (inl d)) g = absurd (quiet source.faults source'.faults q d.1)
   past_told c a long (inr (inr d)) g = stays a TooLong sink sink' status (ap (λ b. b.status) d.0) refl g
 
-  pub too_long_told : (command : Option Command) (c : Command) → Runs command source source' sink sink' status → command ≡ Some c → Reads c → document_limit < length bytes → (status ≡ TooLong) ⊎ (status ≡ OutOfMemory)
-  too_long_told command c (inl d) is reads long = inr d.1
-  too_long_told command c (inr (a, d, g)) is reads long = inl (past_told c a long (subst (λ o. IsDueFor o c source source' a) reads (subst (λ o. IsDue o source source' a) is d)) g)
+  pub too_long_told : (command : Option Command) → Runs command source source' sink sink' status → IsReader command → document_limit < length bytes → IsUnlessOutOfMemory status TooLong
+  too_long_told None runs reads long = absurd reads
+  too_long_told (Some c) (inl d) reads long = inr d.1
+  too_long_told (Some c) (inr (a, d, g)) reads long = inl (past_told c a long (subst (λ o. IsDueFor o c source source' a) reads d) g)
 
 module _ (bytes : List ℕ) (source source' : SourceState) (sink sink' : SinkState) (status : Status) where
   -- which answer to the bytes is written
@@ -180,62 +180,46 @@ module _ (bytes : List ℕ) (source source' : SourceState) (sink sink' : SinkSta
 
 -- ---- what 0 and 1 say, and that 0 comes where every rule holds
 
-module _ (laws : Laws) (command : Option Command) (source source' : SourceState) (sink sink' : SinkState) (status : Status) (runs : Runs command source source' sink sink' status) where
-  -- what was due where the words are the command
-  cause_at : (c : Command) (t : Status) → command ≡ Some c → status ≡ t → Cause (Some c) source source' sink sink' t
-  cause_at c t is ends =
-      subst (λ o. Cause o source source' sink sink' t) is
-      (subst (Cause command source source' sink sink') ends (causes command source source' sink sink' status runs))
+module _ (laws : Laws) (run : Run) (runs : Runs run.command run.source run.source' run.sink run.sink' run.status) where
+  -- why it ends so
+  why : (t : Status) → run.status ≡ t → Cause run.command run.source run.source' run.sink run.sink' t
+  why t ends = subst (Cause run.command run.source run.source' run.sink run.sink') ends (causes run.command run.source run.source' run.sink run.sink' run.status runs)
 
-  pub done_for : (c : Command) → command ≡ Some c → status ≡ Done
-      → (bytes : List ℕ) × (text : List ℕ) × IsGiven c source source' bytes
-      × ((d : ADocument) × IsDocumentOf (shape_of c) bytes d × Says c d text)
-      × Appends sink.holds sink'.holds text
-  done_for c is ends = at (cause_at c Done is ends)
+  pub done_for : (c : Command) → run.command ≡ Some c → run.status ≡ Done
+      → (bytes : List ℕ) × (text : List ℕ) × IsGiven c run.source run.source' bytes
+      × HasDocument c bytes (λ d. Says c d text)
+      × Appends run.sink.holds run.sink'.holds text
+  done_for c is ends = at (subst (λ o. Cause o run.source run.source' run.sink run.sink' Done) is (why Done ends))
     where
-      at : Cause (Some c) source source' sink sink' Done → (bytes : List ℕ) × (text : List ℕ) × IsGiven c source source' bytes × ((d : ADocument) × IsDocumentOf (shape_of c) bytes d × Says c d text) × Appends sink.holds sink'.holds text
+      at : Cause (Some c) run.source run.source' run.sink run.sink' Done → (bytes : List ℕ) × (text : List ℕ) × IsGiven c run.source run.source' bytes × HasDocument c bytes (λ d. Says c d text) × Appends run.sink.holds run.sink'.holds text
       at (text, (bytes, read, answer), written) = (bytes, text, read, says_done laws c bytes text answer, written)
 
-  -- where 0 says two things of a document, each
-  pub both_for : (P : ADocument → List ℕ → Type 0)
-      → ((bytes : List ℕ) × (text : List ℕ) × WasRead source source' bytes × ((d : ADocument) × IsDocumentOf Whole bytes d × (KeepsRules d × P d text)) × Appends sink.holds sink'.holds text)
-      → (bytes : List ℕ) × (text : List ℕ) × WasRead source source' bytes
-      × ((d : ADocument) × IsDocumentOf Whole bytes d × KeepsRules d × P d text)
-      × Appends sink.holds sink'.holds text
-  both_for P (bytes, text, read, (d, of, said), written) = (bytes, text, read, (d, of, said.0, said.1), written)
-
-  -- the same of a document that is the command's own
-  pub own_for : (own : List ℕ) (P : ADocument → List ℕ → Type 0)
-      → ((bytes : List ℕ) × (text : List ℕ) × ((bytes ≡ own) × (source' ≡ source)) × ((d : ADocument) × IsDocumentOf Whole bytes d × (KeepsRules d × P d text)) × Appends sink.holds sink'.holds text)
-      → (text : List ℕ) × (source' ≡ source) × ((d : ADocument) × IsDocumentOf Whole own d × KeepsRules d × P d text) × Appends sink.holds sink'.holds text
-  own_for own P (bytes, text, (is, alone), (d, of, said), written) = (text, alone, (d, subst (λ b. IsDocumentOf Whole b d) is of, said.0, said.1), written)
-
-  pub refused_for : status ≡ Findings
-      → (c : Command) × (command ≡ Some c)
-      × ((bytes : List ℕ) × IsGiven c source source' bytes × ((d : ADocument) × IsDocumentOf (shape_of c) bytes d × (¬ HasPoliciesFor c d)))
-  refused_for ends = at command refl (subst (Cause command source source' sink sink') ends (causes command source source' sink sink' status runs))
+  pub sampled_for : (seed size : ℕ) → OwnSays (sample_document seed size) (Sample seed size) (IsSampled size) run
+  sampled_for seed size is ends = at (done_for (Sample seed size) is ends)
     where
-      at : (o : Option Command) → command ≡ o → Cause o source source' sink sink' Findings → (c : Command) × (command ≡ Some c) × ((bytes : List ℕ) × IsGiven c source source' bytes × ((d : ADocument) × IsDocumentOf (shape_of c) bytes d × (¬ HasPoliciesFor c d)))
+      at : ((bytes : List ℕ) × (text : List ℕ) × ((bytes ≡ sample_document seed size) × (run.source' ≡ run.source)) × HasDocument (Sample seed size) bytes (λ d. IsSampled size d text) × Appends run.sink.holds run.sink'.holds text)
+          → (text : List ℕ) × (run.source' ≡ run.source) × HasDocument (Sample seed size) (sample_document seed size) (λ d. IsSampled size d text) × Appends run.sink.holds run.sink'.holds text
+      at (bytes, text, (same, alone), has, written) = (text, alone, subst (λ b. HasDocument (Sample seed size) b (λ d. IsSampled size d text)) same has, written)
+
+  pub refused_for : run.status ≡ Findings → (c : Command) × WorkedOn c (λ d. ¬ HasPoliciesFor c d) run
+  refused_for ends = at run.command refl (why Findings ends)
+    where
+      at : (o : Option Command) → run.command ≡ o → Cause o run.source run.source' run.sink run.sink' Findings → (c : Command) × WorkedOn c (λ d. ¬ HasPoliciesFor c d) run
       at None is (text, due) = absurd due
-      at (Some c) is (text, (bytes, read, answer)) = (c, is, (bytes, read, says_refused laws c bytes text answer))
+      at (Some c) is (text, (bytes, read, answer)) = (c, (bytes, (is, read), says_refused laws c bytes text answer))
 
-  pub edit_for : status ≡ Edit
-      → (command ≡ Some Live)
-      × ((bytes : List ℕ) × (text : List ℕ) × WasRead source source' bytes × ((d : ADocument) × IsDocumentOf OfEdits bytes d × IsRefusedEdit d text))
-  edit_for ends = at command refl (subst (Cause command source source' sink sink') ends (causes command source source' sink sink' status runs))
+  pub edit_for : run.status ≡ Edit → (text : List ℕ) × WorkedOn Live (λ d. IsRefusedEdit d text) run
+  edit_for ends = at run.command refl (why Edit ends)
     where
-      at : (o : Option Command) → command ≡ o → Cause o source source' sink sink' Edit
-          → (command ≡ Some Live) × ((bytes : List ℕ) × (text : List ℕ) × WasRead source source' bytes × ((d : ADocument) × IsDocumentOf OfEdits bytes d × IsRefusedEdit d text))
+      at : (o : Option Command) → run.command ≡ o → Cause o run.source run.source' run.sink run.sink' Edit → (text : List ℕ) × WorkedOn Live (λ d. IsRefusedEdit d text) run
       at None is (text, due) = absurd due
       at (Some c) is (text, (bytes, read, answer)) =
           let said = says_edit laws c bytes text answer in
-          (is ∙ ap Some said.0, (bytes, text, subst (λ k. IsGiven k source source' bytes) said.0 read, subst (λ k. (d : ADocument) × IsDocumentOf (shape_of k) bytes d × IsRefusedEdit d text) said.0 said.1))
+          (text, (bytes, (is ∙ ap Some said.0, subst (λ k. IsGiven k run.source run.source' bytes) said.0 read), subst (λ k. HasDocument k bytes (λ d. IsRefusedEdit d text)) said.0 said.1))
 
-pub complete_for : (laws : Laws) (bytes : List ℕ) (d : ADocument) (source source' : SourceState) (sink sink' : SinkState) (status : Status) (command : Option Command) (c : Command)
-    → Runs command source source' sink sink' status → command ≡ Some c → IsToWorkOn c source source' bytes → IsQuiet sink.faults sink'.faults
-    → IsDocumentOf (shape_of c) bytes d → KeepsRulesOf c d → (status ≡ Done) ⊎ (status ≡ OutOfMemory)
-complete_for laws bytes d source source' sink sink' status command c runs is work q' of keeps =
-    elim (exact_for bytes source source' sink sink' status command c runs is work q') [
-      | inl (text, answer, written) ↦ inl (kept_is_done laws c bytes d _ of keeps answer)
-      | inr none ↦ inr none
-    ]
+  pub complete_for : KeepsAllRules run → IsUnlessOutOfMemory run.status Done
+  complete_for k = of_exact (exact_for k.bytes run.source run.source' run.sink run.sink' run.status run.command k.command runs k.undisturbed.0 k.undisturbed.1 k.undisturbed.2)
+    where
+      of_exact : GivesWhole k.command k.bytes run ⊎ (run.status ≡ OutOfMemory) → IsUnlessOutOfMemory run.status Done
+      of_exact (inl (text, answer, written)) = inl (kept_is_done laws k.command k.bytes k.document _ k.is k.rules answer)
+      of_exact (inr none) = inr none

@@ -298,10 +298,10 @@ module _ (laws : Laws) (d : Document) where
     enough rules = reads_enough d.request d.entities rules
 
     decided : (text : List ℕ) → KeepsRules d → IsWork Decide d text → IsDecided d text
-    decided text rules is = record { written = is; allowed = allowed d.request d.entities rules }
+    decided text rules is = record { written = is; rules = rules; allowed = allowed d.request d.entities rules }
 
     sliced : (text : List ℕ) → KeepsRules d → IsWork Slice d text → IsSliced d text
-    sliced text rules is = record { written = is; enough = enough rules }
+    sliced text rules is = record { written = is; rules = rules; enough = enough rules }
 
     -- the line on a request that is whole and conforms
     pub line_decided : (q : Request) → IsWhole q → RequestConforms d.schema q → request_line d q ≡ response_text (response d.policies.policies q d.entities)
@@ -314,9 +314,9 @@ module _ (laws : Laws) (d : Document) where
         record { written = is; accepted = at; enough = laws.levels d.schema made.schema n d.policies made.policies made.keys at }
     says Conformance text none is = let both = conforming none in record { written = is; conforms = both; whole = λ whole. request_kept whole both.request }
     says Manifest text none is = record { manifest = is.0; computed = is.1; written = is.2; accepted = accepted none; enough = reads_enough }
-    says Slice text none is = let rules = keeping none in (rules, sliced text rules is)
-    says Decide text none is = let rules = keeping none in (rules, decided text rules is)
-    says (Sample seed size) text none is = let rules = keeping none in (rules, record { written = is; enough = enough rules })
+    says Slice text none is = sliced text (keeping none) is
+    says Decide text none is = decided text (keeping none) is
+    says (Sample seed size) text none is = let rules = keeping none in record { written = is; rules = rules; enough = enough rules }
     says Review text none is =
         let policies = accepted none in
         record {

@@ -39,12 +39,12 @@ use Rattle.policy_review.specs.Matrix.{matrix_of}
 use Rattle.policy_review.specs.declared.rows.PolicyLevel.{PolicyLevel}
 use Rattle.policy_review.specs.declared.rows.ReviewRow.{ReviewRow}
 use Rattle.policy_validate.specs.Accepted.{IsAccepted}
-use Rattle.live_manifest.specs.Edits.{Refusal}
+use Rattle.live_manifest.specs.Edits.{Edit as SetEdit, Refusal, after_edits, no_policies}
 use Rattle.policy_set.specs.PolicySet.{PolicySetData}
 use Rattle.schema_core.specs.Schema.{SchemaData}
 use Rattle.policy_gate.specs.Command.{shape_of}
 use Rattle.policy_gate.specs.Listing.{asked_fault, is_whole_but, list_text}
-use Rattle.policy_gate.specs.Live.{edit_text, policies_after, refused_edit}
+use Rattle.policy_gate.specs.Live.{edit_text, first_refused, policies_after, refused_edit}
 use Rattle.policy_gate.specs.Reply.{Answer, answer}
 use Rattle.policy_gate.specs.declared.command.Command.{Command}
 use Rattle.policy_gate.specs.declared.command.Command.TheVariants.{Check, Level, Request as Conformance, Manifest as Reads, Slice, Decide, Sample, Batch, Live, Review, List as Page}
@@ -173,6 +173,11 @@ sample_text size kept decision =
     codes "entities " ++ (decimal size ++ (codes " kept " ++ (decimal kept ++ (codes " decision "
     ++ (decision_text decision ++ codes "\n")))))
 
+-- the line on the document's slice
+abbrev pub sample_line : ℕ → Document → List ℕ
+sample_line size d =
+    sample_text size (length (slice_of d)) (response d.policies.policies d.request (slice_of d)).decision
+
 -- why there is no response to a request
 abbrev pub refused_json : List ℕ → Data
 refused_json message = object (member (codes "refused") (string message) no_members)
@@ -232,8 +237,7 @@ IsWork Conformance d text = text ≡ codes "conforms\n"
 IsWork Reads d text = (m : Manifest) × IsManifestOf d.schema d.policies.policies m × (text ≡ manifest_text m)
 IsWork Slice d text = text ≡ slice_text (response d.policies.policies d.request (slice_of d)) (slice_of d)
 IsWork Decide d text = text ≡ response_text (response d.policies.policies d.request d.entities)
-IsWork (Sample seed size) d text = text ≡
-    sample_text size (length (slice_of d)) (response d.policies.policies d.request (slice_of d)).decision
+IsWork (Sample seed size) d text = text ≡ sample_line size d
 IsWork Batch d text = text ≡ batch_text d
 IsWork Live d text = IsManifestText d.schema (policies_after d) text
 IsWork Review d text = text ≡ review_text d
@@ -243,6 +247,11 @@ IsWork (Page limit after) d text = text ≡ list_text limit after d
 abbrev pub IsRefusedOr : Option Answer → (List ℕ → Type 0) → Answer → Type 0
 IsRefusedOr None IsDone a = (a.status ≡ status.Done) × IsDone a.text
 IsRefusedOr (Some r) IsDone a = a ≡ r
+
+-- this is due for edits: the first that is refused, or else the manifest of the policies that they leave
+abbrev pub IsAnswerToEdits : SchemaData → List SetEdit → Answer → Type 0
+IsAnswerToEdits schema edits a = IsRefusedOr (refused_first (first_refused schema 0 no_policies edits))
+    (IsManifestText schema (after_edits schema no_policies edits)) a
 
 -- this is due for a document
 abbrev pub IsAnswerTo : Command → Document → Answer → Type 0

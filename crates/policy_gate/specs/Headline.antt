@@ -1,5 +1,7 @@
 -- What status 0 says of each command.
-use Rattle.std.specs.Prelude.{◌≡◌, ℕ, List, length, Option, Some, None, Ok, codes}
+use Rattle.std.specs.Prelude.{◌≡◌, ℕ, List, Option, Some, None, Ok, codes}
+use Rattle.std.specs.Io.KnownBytes.{Appends}
+use Rattle.byte_streams.specs.Document.{WasRead}
 use Rattle.policy_set.specs.Allowed.{AreAllowed}
 use Rattle.policy_set.specs.Response.{response}
 use Rattle.json_document.specs.Reading.{IsRead}
@@ -26,13 +28,20 @@ use Rattle.live_manifest.specs.Edits.{Refusal}
 use Rattle.principal_listing.specs.Allowed.{KeepOtherRules}
 use Rattle.policy_gate.specs.Listing.{list_text}
 use Rattle.policy_gate.specs.Live.{edit_text, policies_after, refused_edit}
-use Rattle.policy_gate.specs.Answer.{batch_text, found_in, found_at, manifest_text, request_fault, request_line, review_text, sample_text, slice_of}
+use Rattle.policy_gate.specs.Answer.{batch_text, found_in, found_at, manifest_text, request_fault, request_line, review_text, sample_line, slice_of}
+use Rattle.policy_gate.specs.Command.{shape_of}
+use Rattle.policy_gate.specs.Run.{IsRunOn, IsUndisturbed, Run}
 use Rattle.policy_gate.specs.declared.command.Command.{Command}
 use Rattle.policy_gate.specs.declared.command.Command.TheVariants.{Check, Level, Request, Manifest, Slice, Decide, Sample, Batch, Live, Review, List as Page}
+use Rattle.policy_gate.specs.declared.status.Status.TheVariants.{Done}
 
 -- the document of the shape that the bytes are
 abbrev pub IsDocumentOf : Shape → List ℕ → Document → Type 0
 IsDocumentOf shape bytes d = (v : Data) × (json_of bytes ≡ Some v) × IsRead shape v (Ok d)
+
+-- the bytes are a document for the command, and it is so
+abbrev pub HasDocument : Command → List ℕ → (Document → Type 0) → Type 0
+HasDocument command bytes Is = (d : Document) × IsDocumentOf (shape_of command) bytes d × Is d
 
 -- the policies of the document are accepted
 abbrev pub HasAcceptedPolicies : Document → Type 0
@@ -126,23 +135,25 @@ pub record IsManifested (d : Document) (text : List ℕ) : Type 0 where
   pub accepted : HasAcceptedPolicies d
   pub enough : ReadsAreEnough d
 
--- the text is the slice with the response on it. The slice is a part of the store, and enough: on it, and on
--- every store between the two, each policy has the outcome that it has on the whole store, which is a truth
--- value, a missing entity or an overflow; so the response is the same
+-- the document keeps every rule, and the text is the slice with the response on it. The slice is a part of
+-- the store, and enough: on it, and on every store between the two, each policy has the outcome that it has
+-- on the whole store, which is a truth value, a missing entity or an overflow; so the response is the same
 pub record IsSliced (d : Document) (text : List ℕ) : Type 0 where
   pub written : text ≡ slice_text (response d.policies.policies d.request (slice_of d)) (slice_of d)
+  pub rules : KeepsRules d
   pub enough : IsEnough d.policies.policies d.request (slice_of d) d.entities
 
--- the text is the response on the whole store, on which the outcome of each policy is a truth value, a
--- missing entity or an overflow
+-- the document keeps every rule, and the text is the response on its whole store, on which the outcome of
+-- each policy is a truth value, a missing entity or an overflow
 pub record IsDecided (d : Document) (text : List ℕ) : Type 0 where
   pub written : text ≡ response_text (response d.policies.policies d.request d.entities)
+  pub rules : KeepsRules d
   pub allowed : AreAllowed d.policies.policies d.request d.entities
 
--- the text is the line on the slice, which is enough as that of `slice` is
+-- the document keeps every rule, and the text is the line on its slice, which is enough as that of `slice` is
 pub record IsSampled (size : ℕ) (d : Document) (text : List ℕ) : Type 0 where
-  pub written : text ≡
-      sample_text size (length (slice_of d)) (response d.policies.policies d.request (slice_of d)).decision
+  pub written : text ≡ sample_line size d
+  pub rules : KeepsRules d
   pub enough : IsEnough d.policies.policies d.request (slice_of d) d.entities
 
 -- the line on a request is the response on the whole store, on which the outcome of each policy is a truth
@@ -195,10 +206,37 @@ Says Check d text = IsChecked d text
 Says (Level n) d text = IsCheckedAt n d text
 Says Request d text = IsConforming d text
 Says Manifest d text = IsManifested d text
-Says Slice d text = KeepsRules d × IsSliced d text
-Says Decide d text = KeepsRules d × IsDecided d text
-Says (Sample seed size) d text = KeepsRules d × IsSampled size d text
+Says Slice d text = IsSliced d text
+Says Decide d text = IsDecided d text
+Says (Sample seed size) d text = IsSampled size d text
 Says Batch d text = IsBatch d text
 Says Live d text = IsLive d text
 Says Review d text = IsReviewed d text
 Says (Page limit after) d text = IsListed limit after d text
+
+-- where a run of the command ends with 0, all bytes of its source were read and are a document, and the text
+-- that is written is so for that
+abbrev pub DoneSays : Command → (Document → List ℕ → Type 0) → Run → Type 0
+DoneSays command Is run = run.command ≡ Some command → run.status ≡ Done
+    → (bytes : List ℕ) × (text : List ℕ) × WasRead run.source run.source' bytes
+    × HasDocument command bytes (λ d. Is d text) × Appends run.sink.holds run.sink'.holds text
+
+-- the same of a command with a document of its own, which these bytes are: its source is left alone
+abbrev pub OwnSays : List ℕ → Command → (Document → List ℕ → Type 0) → Run → Type 0
+OwnSays bytes command Is run = run.command ≡ Some command → run.status ≡ Done
+    → (text : List ℕ) × (run.source' ≡ run.source)
+    × HasDocument command bytes (λ d. Is d text) × Appends run.sink.holds run.sink'.holds text
+
+-- the run is of the command, and the document that it works on is so
+abbrev pub WorkedOn : Command → (Document → Type 0) → Run → Type 0
+WorkedOn command Is run = (bytes : List ℕ) × IsRunOn command bytes run × HasDocument command bytes Is
+
+-- a run of a command is undisturbed, and the bytes that it is to work on are a document that keeps every rule
+-- of the command
+pub record KeepsAllRules (run : Run) : Type 0 where
+  pub command : Command
+  pub bytes : List ℕ
+  pub document : Document
+  pub undisturbed : IsUndisturbed command bytes run
+  pub is : IsDocumentOf (shape_of command) bytes document
+  pub rules : KeepsRulesOf command document

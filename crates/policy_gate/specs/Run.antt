@@ -1,11 +1,13 @@
 -- What a whole run does.
-use Rattle.std.specs.Prelude.{◌≡◌, ℕ, ◌+◌, ◌≤◌, ◌⊎◌, List, length, take, Option, Some, None, IsSome, codes}
+use Rattle.std.specs.Prelude.{◌≡◌, ℕ, ◌+◌, ◌<◌, ◌≤◌, ◌⊎◌, List, length, map, take, Option, Some, None, IsSome, String, codes, string_bytes}
+use Rattle.std.specs.declared.alloc.Global.{Global}
+use Rattle.std.specs.declared.vec.Vec.{Vec}
 use Rattle.std.specs.Io.KnownBytes.{Keeps, Appends}
 use Rattle.byte_streams.specs.Document.{document_limit, TakesTooMany, WasRead}
 use Rattle.byte_streams.specs.State.{SinkState, SourceState}
 use Rattle.byte_streams.specs.Steps.{IsQuiet, Rose}
 use Rattle.policy_gate.specs.Answer.{IsAnswer}
-use Rattle.policy_gate.specs.Command.{own_document}
+use Rattle.policy_gate.specs.Command.{command_of, own_document}
 use Rattle.policy_gate.specs.Reply.{Answer, answer}
 use Rattle.policy_gate.specs.Status.{after_fault}
 use Rattle.policy_gate.specs.declared.command.Command.{Command}
@@ -67,6 +69,11 @@ IsToReadBy (Some own) source source' bytes = bytes ≡ own
 abbrev pub IsToWorkOn : Command → SourceState → SourceState → List ℕ → Type 0
 IsToWorkOn command source source' bytes = IsToReadBy (own_document command) source source' bytes
 
+-- the source has more bytes left than a document may have, and does not fail
+abbrev pub HasTooMany : SourceState → SourceState → Type 0
+HasTooMany source source' = (bytes : List ℕ) × (source.left ≡ Some bytes) × (document_limit < length bytes)
+    × IsQuiet source.faults source'.faults
+
 -- all of the answer's text is written, and its status stands; or the sink's count rose, and a front of the
 -- text is written
 abbrev pub Gives : Answer → SinkState → SinkState → Status → Type 0
@@ -115,3 +122,46 @@ Cause command source source' sink sink' OutOfMemory = Keeps sink.holds sink'.hol
 Cause command source source' sink sink' TooLong = IsReader command × TakesTooMany source source'
 Cause command source source' sink sink' Edit =
     (text : List ℕ) × IsDocumentDue command source source' Edit text
+
+-- what a run is: the command that its words are, if they are one; its source and its sink before and after
+-- it; and the status that it ends with
+pub record Run : Type 0 where
+  pub command : Option Command
+  pub source : SourceState
+  pub source' : SourceState
+  pub sink : SinkState
+  pub sink' : SinkState
+  pub status : Status
+
+-- the run for these words that found and left a source and a sink so, and ended so
+abbrev pub run_of : {S K : Type 0} → (S → SourceState) → (K → SinkState) → Vec (String Global) Global
+    → S → S → K → K → Status → Run
+run_of of_source of_sink words source source' sink sink' status = record {
+  command = command_of (map string_bytes words.items);
+  source = of_source source;
+  source' = of_source source';
+  sink = of_sink sink;
+  sink' = of_sink sink';
+  status = status;
+}
+
+-- the run is of the command, and these are the bytes that it worked on
+abbrev pub IsRunOn : Command → List ℕ → Run → Type 0
+IsRunOn command bytes run =
+    (run.command ≡ Some command) × IsGiven command run.source run.source' bytes
+
+-- the run is of the command, these are the bytes that it is to work on, and neither its source nor its sink
+-- fails
+abbrev pub IsUndisturbed : Command → List ℕ → Run → Type 0
+IsUndisturbed command bytes run = (run.command ≡ Some command)
+    × IsToWorkOn command run.source run.source' bytes × IsQuiet run.sink.faults run.sink'.faults
+
+-- all of the answer that is due for the command and the bytes is written, and its status stands
+abbrev pub GivesWhole : Command → List ℕ → Run → Type 0
+GivesWhole command bytes run = (text : List ℕ) × IsAnswer command bytes (answer run.status text)
+    × Appends run.sink.holds run.sink'.holds text
+
+-- where it is undisturbed, the run gives the whole answer, unless memory ran out
+abbrev pub IsExact : Command → List ℕ → Run → Type 0
+IsExact command bytes run =
+    IsUndisturbed command bytes run → GivesWhole command bytes run ⊎ (run.status ≡ OutOfMemory)

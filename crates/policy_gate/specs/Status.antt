@@ -1,5 +1,5 @@
 -- The numbers of the statuses, and where each comes from.
-use Rattle.std.specs.Prelude.{ℕ}
+use Rattle.std.specs.Prelude.{◌≡◌, ◌⊎◌, ℕ}
 use Rattle.policy_gate.specs.declared.status.Status.{Status}
 use Rattle.policy_gate.specs.declared.status.Status.TheVariants.{Done, Findings, Usage, Document, Request, Store, PartialRequest, ReadFault, WriteFault, OutOfMemory, TooLong, Edit}
 
@@ -32,6 +32,10 @@ after_fault WriteFault = WriteFault
 after_fault OutOfMemory = OutOfMemory
 after_fault TooLong = TooLong
 after_fault Edit = Edit
+
+-- a run ends with the status, unless memory ran out
+abbrev pub IsUnlessOutOfMemory : Status → Status → Type 0
+IsUnlessOutOfMemory ended status = (ended ≡ status) ⊎ (ended ≡ OutOfMemory)
 
 -- the bytes of a document alone decide on such a status
 abbrev pub IsOfDocument : Status → Type 0

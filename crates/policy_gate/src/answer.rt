@@ -1,6 +1,5 @@
 //! From a document's bytes to the reply.
-ghost use Rattle.std.specs.Prelude.{◌≡◌, None, IfOk, length, option_map, string_bytes};
-ghost use Rattle.policy_set.specs.Response.{response};
+ghost use Rattle.std.specs.Prelude.{◌≡◌, None, IfOk, option_map, string_bytes};
 ghost use Rattle.serde_json.specs.View.{view};
 ghost use Rattle.entity_store.specs.Request.{IsWhole};
 ghost use Rattle.conformance.specs.Misfits.{knows};
@@ -8,7 +7,7 @@ ghost use Rattle.conformance.specs.RequestRules.{first_request_fault};
 ghost use Rattle.conformance_errors.specs.Written.{request_text};
 ghost use Rattle.finding_messages.specs.Written.{findings_text};
 ghost use Rattle.json_response.specs.SliceJson.{decision_text};
-ghost use Rattle.policy_gate.specs.Answer.{IsAnswer, IsAnswerFor, IsAnswerTo, IsRefusedOr, IsWellMade, IsWork, found_at, found_in, manifest_text, refused_data, refused_decision, refused_policies, refused_request, refused_store, refused_with, request_fault, sample_text, slice_of, status_of, store_fault};
+ghost use Rattle.policy_gate.specs.Answer.{IsAnswer, IsAnswerFor, IsAnswerTo, IsRefusedOr, IsWellMade, IsWork, found_at, found_in, manifest_text, refused_data, refused_decision, refused_policies, refused_request, refused_store, refused_with, request_fault, sample_line, slice_of, status_of, store_fault};
 ghost use Rattle.policy_gate.specs.Command.{shape_of};
 ghost use Rattle.policy_gate.specs.Headline.{KeepsRules};
 ghost use Rattle.policy_gate.specs.Reply.{reply_view};
@@ -231,8 +230,7 @@ fn sampled(alloc: Global, document: &Document, seed: u64, size: u64) -> Result<R
 fn sample_reply(alloc: Global, document: &Document, size: u64) -> Result<Reply, AllocError>
     requires { refused_decision document.now ≡ None }
     ensures done { IfOk result (λ r. r.status ≡ Status.Done) }
-    ensures work { IfOk result (λ r. string_bytes r.text ≡ sample_text size (length (slice_of document.now))
-        (response document.now.policies.policies document.now.request (slice_of document.now)).decision) }
+    ensures work { IfOk result (λ r. string_bytes r.text ≡ sample_line size document.now) }
 {
     keeps_rules(document);
     let slice = slice_of(alloc, document)?;

@@ -1,10 +1,10 @@
 //! A manifest that is kept under the edits of a document.
 ghost use Rattle.std.specs.Prelude.{◌≡◌, ℕ, List, None, Option, IfOk, IfErr, OnOk, IsOk, Some, map, option_map, string_bytes};
-ghost use Rattle.live_manifest.specs.Edits.{Refusal, after_edits, errors, no_policies, refusal};
+ghost use Rattle.live_manifest.specs.Edits.{Refusal, after_edits, errors, refusal};
 ghost use Rattle.live_manifest.specs.Kept.{IsMade, IsRefusedFor};
 ghost use Rattle.policy_set.specs.PolicySet.{PolicySetData};
 ghost use Rattle.policy_set.specs.Removal.{IsNotRemoved, removal_fault};
-ghost use Rattle.policy_gate.specs.Answer.{IsAnswerTo, IsManifestText, IsRefusedOr, refused_first};
+ghost use Rattle.policy_gate.specs.Answer.{IsAnswerTo, IsAnswerToEdits};
 ghost use Rattle.policy_gate.specs.Live.{edit_for, edit_text, fault_text, first_refused, refusal_text, removal_text};
 ghost use Rattle.policy_gate.specs.Reply.{reply_view};
 ghost use Rattle.policy_gate.specs.declared.command.Command.{Command};
@@ -43,10 +43,7 @@ fn edited<L: Ledger>(
     requires name { blank.name ≡ L.name }
     requires parts { blank.parts ≡ L.parts }
     requires one { blank.parts ≡ 1 }
-    ensures { IfOk result
-        (λ r. IsRefusedOr (refused_first (first_refused schema.now 0 no_policies (map edit_for edits)))
-        (IsManifestText schema.now (after_edits schema.now no_policies (map edit_for edits)))
-        (reply_view r)) }
+    ensures { IfOk result (λ r. IsAnswerToEdits schema.now (map edit_for edits) (reply_view r)) }
 {
     let mut steps = Steps::<L>::new(blank);
     let mut live = LiveManifest::new(alloc, schema);

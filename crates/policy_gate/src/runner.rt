@@ -1,18 +1,13 @@
 //! The whole run, from a source to a sink.
-ghost use Rattle.std.specs.Prelude.{◌≡◌, ◌+◌, ◌<◌, ◌≤◌, ◌⊎◌, ℕ, List, length, Option, Some, None, IfOk, map, string_bytes};
-ghost use Rattle.std.specs.Io.KnownBytes.{Appends};
-ghost use Rattle.byte_streams.specs.Document.{document_limit, TakesFew, WasRead};
-ghost use Rattle.byte_streams.specs.Steps.{IsQuiet};
-ghost use Rattle.policy_gate.specs.Answer.{IsAnswer};
-ghost use Rattle.policy_gate.specs.Command.{command_of, own_document, shape_of};
-ghost use Rattle.json_document.specs.declared.document.Document.{Document};
-ghost use Rattle.json_document.specs.declared.shape.Shape.TheVariants as shape;
-ghost use Rattle.policy_gate.specs.Headline.{HasPoliciesFor, IsBatch, IsChecked, IsCheckedAt, IsConforming, IsDecided, IsDocumentOf, IsListed, IsLive, IsManifested, IsRefusedEdit, IsReviewed, IsSampled, IsSliced, KeepsRules, KeepsRulesOf};
-ghost use Rattle.policy_values.specs.declared.entity_uid.EntityUID.{EntityUID};
-ghost use Rattle.policy_gate.specs.Reply.{answer, reply_view};
-ghost use Rattle.policy_gate.specs.Run.{Cause, Gives, IsDue, IsDueAfterReading, IsDueFor, IsGiven, IsToWorkOn, Reads, Runs};
+ghost use Rattle.std.specs.Prelude.{◌≡◌, ◌+◌, ◌<◌, ℕ, List, Option, Some, None, IfOk, map, string_bytes};
+ghost use Rattle.byte_streams.specs.Document.{document_limit, TakesFew};
 ghost use Rattle.json_samples.specs.Sample.{sample_document};
-ghost use Rattle.policy_gate.specs.Status.{IsAfterEnd};
+ghost use Rattle.policy_gate.specs.Command.{command_of, own_document};
+ghost use Rattle.policy_gate.specs.Headline.{DoneSays, HasPoliciesFor, IsBatch, IsChecked, IsCheckedAt, IsConforming, IsDecided, IsListed, IsLive, IsManifested, IsRefusedEdit, IsReviewed, IsSampled, IsSliced, KeepsAllRules, OwnSays, WorkedOn};
+ghost use Rattle.policy_gate.specs.Reply.{answer, reply_view};
+ghost use Rattle.policy_gate.specs.Run.{Cause, Gives, HasTooMany, IsDueAfterReading, IsDueFor, IsExact, IsReader, IsRunOn, Runs, run_of};
+ghost use Rattle.policy_gate.specs.Status.{IsAfterEnd, IsUnlessOutOfMemory};
+ghost use Rattle.policy_values.specs.declared.entity_uid.EntityUID.{EntityUID};
 
 use crate::answer::reply;
 use crate::command::{Command, command_of, own_document};
@@ -143,9 +138,8 @@ pub fn run<S: Source, K: Sink>(
     // of memory and a document that is too long means that the source was read to its end, or that the
     // command has a document of its own.
     ensures taken { TakesFew (S.state source.old) (S.state source.new) }
-    ensures read { IsAfterEnd result
-        → (command : Command) × (command_of (map string_bytes words.now.items) ≡ Some command)
-        × ((bytes : List ℕ) × IsGiven command (S.state source.old) (S.state source.new) bytes) }
+    ensures read { IsAfterEnd result → (command : Command) × (bytes : List ℕ) × IsRunOn command bytes
+        (run_of S.state K.state words.now source.old source.new sink.old sink.new result) }
 
     // All of the text that was due is written; a front of it where the sink's count rose; and
     // nothing where memory ran out.
@@ -155,142 +149,90 @@ pub fn run<S: Source, K: Sink>(
     // Each status comes where its rule says so, unless memory runs out.
     ensures usage { command_of (map string_bytes words.now.items) ≡ None → result ≡ Status.Usage }
     ensures too_long { (S.state source.old).taken + document_limit < (S.state source.new).taken
-        → (result ≡ Status.TooLong) ⊎ (result ≡ Status.OutOfMemory) }
-    ensures too_long_told { (command : Command) (bytes : List ℕ)
-        → command_of (map string_bytes words.now.items) ≡ Some command → Reads command
-        → (S.state source.old).left ≡ Some bytes → document_limit < length bytes
-        → IsQuiet (S.state source.old).faults (S.state source.new).faults
-        → (result ≡ Status.TooLong) ⊎ (result ≡ Status.OutOfMemory) }
-    ensures exact { (command : Command) (bytes : List ℕ)
-        → command_of (map string_bytes words.now.items) ≡ Some command
-        → IsToWorkOn command (S.state source.old) (S.state source.new) bytes
-        → IsQuiet (K.state sink.old).faults (K.state sink.new).faults
-        → ((text : List ℕ) × IsAnswer command bytes (answer result text)
-        × Appends (K.state sink.old).holds (K.state sink.new).holds text)
-        ⊎ (result ≡ Status.OutOfMemory) }
+        → IsUnlessOutOfMemory result Status.TooLong }
+    ensures too_long_told { IsReader (command_of (map string_bytes words.now.items))
+        → HasTooMany (S.state source.old) (S.state source.new)
+        → IsUnlessOutOfMemory result Status.TooLong }
+    ensures exact { (command : Command) (bytes : List ℕ) → IsExact command bytes
+        (run_of S.state K.state words.now source.old source.new sink.old sink.new result) }
 
     // The headline: where `slice` ends with 0 all bytes were read and are a document that keeps every rule,
     // and the text that is written is its store restricted to what its policies read, with the response; on
     // that slice, and on every store between it and the whole one, every policy has the outcome that it has
     // on the whole store: a truth value, a missing entity or an overflow.
-    ensures headline { command_of (map string_bytes words.now.items) ≡ Some Command.Slice
-        → result ≡ Status.Done
-        → (bytes : List ℕ) × (text : List ℕ) × WasRead (S.state source.old) (S.state source.new) bytes
-        × ((document : Document) × IsDocumentOf shape.Whole bytes document × KeepsRules document
-        × IsSliced document text)
-        × Appends (K.state sink.old).holds (K.state sink.new).holds text }
+    ensures headline { DoneSays Command.Slice IsSliced
+        (run_of S.state K.state words.now source.old source.new sink.old sink.new result) }
 
     // Where `check` ends with 0 the document's policies are accepted, and the text is what is found of them:
     // warnings alone.
-    ensures checked { command_of (map string_bytes words.now.items) ≡ Some Command.Check
-        → result ≡ Status.Done
-        → (bytes : List ℕ) × (text : List ℕ) × WasRead (S.state source.old) (S.state source.new) bytes
-        × ((document : Document) × IsDocumentOf shape.Whole bytes document × IsChecked document text)
-        × Appends (K.state sink.old).holds (K.state sink.new).holds text }
+    ensures checked { DoneSays Command.Check IsChecked
+        (run_of S.state K.state words.now source.old source.new sink.old sink.new result) }
 
     // Where `level` ends with 0 the policies are accepted at the level, and the text is what is found of
     // them: warnings alone. Then on a store cut at the level each policy has the outcome that it has on the
     // whole store, where request and store conform.
-    ensures levelled { (level : ℕ) →
-        command_of (map string_bytes words.now.items) ≡ Some (Command.Level level)
-        → result ≡ Status.Done
-        → (bytes : List ℕ) × (text : List ℕ) × WasRead (S.state source.old) (S.state source.new) bytes
-        × ((document : Document) × IsDocumentOf shape.Whole bytes document × IsCheckedAt level document text)
-        × Appends (K.state sink.old).holds (K.state sink.new).holds text }
+    ensures levelled { (level : ℕ) → DoneSays (Command.Level level) (IsCheckedAt level)
+        (run_of S.state K.state words.now source.old source.new sink.old sink.new result) }
 
     // Where `request` ends with 0 the document's request breaks no rule, and its store conforms; the text
     // says so.
-    ensures conforming { command_of (map string_bytes words.now.items) ≡ Some Command.Request
-        → result ≡ Status.Done
-        → (bytes : List ℕ) × (text : List ℕ) × WasRead (S.state source.old) (S.state source.new) bytes
-        × ((document : Document) × IsDocumentOf shape.Whole bytes document × IsConforming document text)
-        × Appends (K.state sink.old).holds (K.state sink.new).holds text }
+    ensures conforming { DoneSays Command.Request IsConforming
+        (run_of S.state K.state words.now source.old source.new sink.old sink.new result) }
 
     // Where `manifest` ends with 0 the document's policies are accepted, and the text is their manifest: for
     // each environment of the schema what they read and ask for there.
-    ensures manifested { command_of (map string_bytes words.now.items) ≡ Some Command.Manifest
-        → result ≡ Status.Done
-        → (bytes : List ℕ) × (text : List ℕ) × WasRead (S.state source.old) (S.state source.new) bytes
-        × ((document : Document) × IsDocumentOf shape.Whole bytes document × IsManifested document text)
-        × Appends (K.state sink.old).holds (K.state sink.new).holds text }
+    ensures manifested { DoneSays Command.Manifest IsManifested
+        (run_of S.state K.state words.now source.old source.new sink.old sink.new result) }
 
     // Where `decide` ends with 0 the document keeps every rule, and the text is the response on its whole
     // store, on which each policy's outcome is a truth value, a missing entity or an overflow.
-    ensures decided { command_of (map string_bytes words.now.items) ≡ Some Command.Decide
-        → result ≡ Status.Done
-        → (bytes : List ℕ) × (text : List ℕ) × WasRead (S.state source.old) (S.state source.new) bytes
-        × ((document : Document) × IsDocumentOf shape.Whole bytes document × KeepsRules document
-        × IsDecided document text)
-        × Appends (K.state sink.old).holds (K.state sink.new).holds text }
+    ensures decided { DoneSays Command.Decide IsDecided
+        (run_of S.state K.state words.now source.old source.new sink.old sink.new result) }
 
     // Where `sample` ends with 0 the source is left alone, and the document that the seed and the size make
     // keeps every rule; the text is the line on its slice, which is enough as that of `slice` is.
     ensures sampled { (seed size : ℕ) →
-        command_of (map string_bytes words.now.items) ≡ Some (Command.Sample seed size)
-        → result ≡ Status.Done
-        → (text : List ℕ) × (S.state source.new ≡ S.state source.old)
-        × ((document : Document) × IsDocumentOf shape.Whole (sample_document seed size) document
-        × KeepsRules document × IsSampled size document text)
-        × Appends (K.state sink.old).holds (K.state sink.new).holds text }
+        OwnSays (sample_document seed size) (Command.Sample seed size) (IsSampled size)
+        (run_of S.state K.state words.now source.old source.new sink.old sink.new result) }
 
     // Where `batch` ends with 0 the document's store conforms and its policies are accepted, and the text has
     // a line for each of its requests: for one that is whole and conforms the response on the whole store, on
     // which each policy's outcome is a truth value, a missing entity or an overflow.
-    ensures batched { command_of (map string_bytes words.now.items) ≡ Some Command.Batch
-        → result ≡ Status.Done
-        → (bytes : List ℕ) × (text : List ℕ) × WasRead (S.state source.old) (S.state source.new) bytes
-        × ((document : Document) × IsDocumentOf shape.Batch bytes document × IsBatch document text)
-        × Appends (K.state sink.old).holds (K.state sink.new).holds text }
+    ensures batched { DoneSays Command.Batch IsBatch
+        (run_of S.state K.state words.now source.old source.new sink.old sink.new result) }
 
     // Where `review` ends with 0 the document's policies are accepted, and the text says on which types of
     // requests each can be true, and at which least level it passes: what it says never of is true on no
     // request of that type and on no store, where both conform.
-    ensures reviewed { command_of (map string_bytes words.now.items) ≡ Some Command.Review
-        → result ≡ Status.Done
-        → (bytes : List ℕ) × (text : List ℕ) × WasRead (S.state source.old) (S.state source.new) bytes
-        × ((document : Document) × IsDocumentOf shape.Whole bytes document × IsReviewed document text)
-        × Appends (K.state sink.old).holds (K.state sink.new).holds text }
+    ensures reviewed { DoneSays Command.Review IsReviewed
+        (run_of S.state K.state words.now source.old source.new sink.old sink.new result) }
 
     // Where `live` ends with 0 none of the document's edits is refused, and the text is the manifest of the
     // policies that they leave, which are accepted: for each environment of the schema what they read and ask
     // for there.
-    ensures lived { command_of (map string_bytes words.now.items) ≡ Some Command.Live
-        → result ≡ Status.Done
-        → (bytes : List ℕ) × (text : List ℕ) × WasRead (S.state source.old) (S.state source.new) bytes
-        × ((document : Document) × IsDocumentOf shape.Live bytes document × IsLive document text)
-        × Appends (K.state sink.old).holds (K.state sink.new).holds text }
+    ensures lived { DoneSays Command.Live IsLive
+        (run_of S.state K.state words.now source.old source.new sink.old sink.new result) }
 
     // Where `list` ends with 0 every rule holds that does not speak of the principal, and the text is a page
     // of those principals of the store for which the decision on the whole store is Allow.
     ensures listed { (limit : ℕ) (after : Option EntityUID) →
-        command_of (map string_bytes words.now.items) ≡ Some (Command.List limit after)
-        → result ≡ Status.Done
-        → (bytes : List ℕ) × (text : List ℕ) × WasRead (S.state source.old) (S.state source.new) bytes
-        × ((document : Document) × IsDocumentOf shape.Whole bytes document
-        × IsListed limit after document text)
-        × Appends (K.state sink.old).holds (K.state sink.new).holds text }
+        DoneSays (Command.List limit after) (IsListed limit after)
+        (run_of S.state K.state words.now source.old source.new sink.old sink.new result) }
 
     // An edit is refused by `live` alone: the text that is due says which one is the first, and why.
-    ensures edit_refused { result ≡ Status.Edit
-        → (command_of (map string_bytes words.now.items) ≡ Some Command.Live)
-        × ((bytes : List ℕ) × (text : List ℕ) × WasRead (S.state source.old) (S.state source.new) bytes
-        × ((document : Document) × IsDocumentOf shape.Live bytes document × IsRefusedEdit document text)) }
+    ensures edit_refused { result ≡ Status.Edit → (text : List ℕ)
+        × WorkedOn Command.Live (λ d. IsRefusedEdit d text)
+        (run_of S.state K.state words.now source.old source.new sink.old sink.new result) }
 
     // A command finds errors in the policies of no other documents than those whose policies are not
     // accepted, for `level` at the level.
-    ensures refused { result ≡ Status.Findings
-        → (command : Command) × (command_of (map string_bytes words.now.items) ≡ Some command)
-        × ((bytes : List ℕ) × IsGiven command (S.state source.old) (S.state source.new) bytes
-        × ((document : Document) × IsDocumentOf (shape_of command) bytes document
-        × (¬ HasPoliciesFor command document))) }
+    ensures refused { result ≡ Status.Findings → (c : Command) × WorkedOn c (λ d. ¬ HasPoliciesFor c d)
+        (run_of S.state K.state words.now source.old source.new sink.old sink.new result) }
 
     // And 0 comes wherever every rule of the command holds, unless memory runs out.
-    ensures complete { (command : Command) (bytes : List ℕ) (document : Document)
-        → command_of (map string_bytes words.now.items) ≡ Some command
-        → IsToWorkOn command (S.state source.old) (S.state source.new) bytes
-        → IsQuiet (K.state sink.old).faults (K.state sink.new).faults
-        → IsDocumentOf (shape_of command) bytes document → KeepsRulesOf command document
-        → (result ≡ Status.Done) ⊎ (result ≡ Status.OutOfMemory) }
+    ensures complete { KeepsAllRules
+        (run_of S.state K.state words.now source.old source.new sink.old sink.new result)
+        → IsUnlessOutOfMemory result Status.Done }
 {
     laws();
     outcome(alloc, words, source, sink)

@@ -23,5 +23,5 @@ returns-clause-decided c is ends =
     (c.answer_to-reply.result.text.items, handed c, c.answer_to-reply.ensures.decided is (done_from_code c.answer_to-reply.result.status (sym c.code.ensures ∙ ends)))
 
 pub returns-clause-complete : goal.returns-clause-complete
-returns-clause-complete c command d is reads few of keeps =
-    code_of_either c.answer_to-reply.result.status c.code.result c.code.ensures (c.answer_to-reply.ensures.complete command d is reads few of keeps)
+returns-clause-complete c k =
+    code_of_either c.answer_to-reply.result.status c.code.result c.code.ensures (c.answer_to-reply.ensures.complete k)

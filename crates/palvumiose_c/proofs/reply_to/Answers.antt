@@ -1,10 +1,9 @@
 use Rattle.std.proofs.Common.{Some, drop, ap, subst, refl, arith, ◌∙◌}
 use Rattle.byte_streams.specs.Memory.{sink_state, slice_state}
-use Rattle.json_document.specs.declared.document.Document.{Document}
-use Rattle.json_document.specs.declared.shape.Shape.TheVariants.{Whole}
 use Rattle.policy_gate.specs.Command.{command_of}
-use Rattle.policy_gate.specs.Headline.{IsDecided, IsDocumentOf, IsSliced, KeepsRules}
+use Rattle.policy_gate.specs.Headline.{HasDocument, IsDecided, IsSliced}
 use Rattle.policy_gate.specs.Reply.{answer}
+use Rattle.policy_gate.specs.declared.command.Command.TheVariants.{Slice, Decide}
 use Rattle.palvumiose_c.specs.Told.{IsTold}
 use Rattle.palvumiose_c.proofs.Told.{IsInMemory, said_of_both, to_work_on, told_from_runs, took_all}
 use Rattle.palvumiose_c.proofs.reply_to.Goals as goal
@@ -25,14 +24,20 @@ returns-clause-told c =
 
 pub returns-clause-headline : goal.returns-clause-headline
 returns-clause-headline c is ends =
-    said_of_both (in_memory c) (λ bytes text. (d : Document) × IsDocumentOf Whole bytes d × KeepsRules d × IsSliced d text)
+    said_of_both (in_memory c) (λ bytes text. HasDocument Slice bytes (λ d. IsSliced d text))
     (c.run-status.ensures.headline (ap command_of c.in_ok-words.ensures ∙ is) ends)
 
 pub returns-clause-decided : goal.returns-clause-decided
 returns-clause-decided c is ends =
-    said_of_both (in_memory c) (λ bytes text. (d : Document) × IsDocumentOf Whole bytes d × KeepsRules d × IsDecided d text)
+    said_of_both (in_memory c) (λ bytes text. HasDocument Decide bytes (λ d. IsDecided d text))
     (c.run-status.ensures.decided (ap command_of c.in_ok-words.ensures ∙ is) ends)
 
 pub returns-clause-complete : goal.returns-clause-complete
-returns-clause-complete c command d is reads few of keeps =
-    c.run-status.ensures.complete command c.args.document.now d (ap command_of c.in_ok-words.ensures ∙ is) (to_work_on (in_memory c) command reads few) (took_all (in_memory c)) of keeps
+returns-clause-complete c k = c.run-status.ensures.complete (record {
+  command = k.command;
+  bytes = c.args.document.now;
+  document = k.read;
+  undisturbed = (ap command_of c.in_ok-words.ensures ∙ k.is, to_work_on (in_memory c) k.command k.reads k.few, took_all (in_memory c));
+  is = k.of;
+  rules = k.rules;
+})

@@ -11,14 +11,14 @@ use Rattle.trie_traversal.specs.Answered.{answers_point}
 use Rattle.trie_traversal.specs.Wants.{Adds}
 use Rattle.trie_traversal.specs.declared.place.Place.{Place}
 use Rattle.manifest_loading.specs.Keeping.{Found, kept_and}
-use Rattle.manifest_loading.specs.Rounds.{AreAnswers, IsRound}
+use Rattle.manifest_loading.specs.Rounds.{AreHonestAt, IsRound}
 use Rattle.manifest_loading.specs.declared.error.EntitySliceError.{EntitySliceError}
 use Rattle.manifest_loading.proofs.RightSteps.{right_refused, taken_refused}
 use Rattle.manifest_loading.proofs.RoundSteps.{not_taken}
 use Rattle.manifest_loading.proofs.UnaskedSteps.{undemanding_next}
 use Rattle.manifest_loading.proofs.rounds.one_round.Goals as goal
 
-rounded : (exact : Bool) (s : Store) (ns : Table) (ps : List Place) (old new found : Found) → AreAnswers exact s ns ps found → (r : Result (BTreeSet Place) EntitySliceError)
+rounded : (exact : Bool) (s : Store) (ns : Table) (ps : List Place) (old new found : Found) → AreHonestAt exact s ns ps found → (r : Result (BTreeSet Place) EntitySliceError)
     → OnOk r ((x : EntityUID) → new x ≡ kept_and (old x) (found x)) → IfOk r (λ next. Adds ns (answers_point ns found ps) [] next.keys) → IfOk r (λ next. IsRound exact s ns ps old new next.keys)
 rounded exact s ns ps old new found h (Ok next) kept asked = record { found = found; honest = h; kept = kept; asked = asked }
 rounded exact s ns ps old new found h (Err e) kept asked = tt
