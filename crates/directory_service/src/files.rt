@@ -16,7 +16,8 @@ const CONFORMS: &str = "conforms\n";
 // The reply that so many entities were written.
 fn imported(alloc: Global, count: usize) -> Result<Reply, AllocError>
     ensures status { IfOk result (λ r. r.status ≡ Status.Done) }
-    ensures text { IfOk result (λ r. string_bytes r.text ≡ codes "imported " ++ (decimal count ++ codes "\n")) }
+    ensures text { IfOk result
+        (λ r. string_bytes r.text ≡ codes "imported " ++ (decimal count ++ codes "\n")) }
 {
     Ok(Reply {
         status: Status::Done,

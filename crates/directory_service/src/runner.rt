@@ -51,13 +51,14 @@ pub fn run<S: Start, I: Source + Drop, K: Sink>(
         → Gives Status.Usage usage (K.state sink.old) (K.state sink.new) result }
     ensures no_command { result ≡ Status.Usage → asked_for (map string_bytes words.now.items) ≡ None }
 
-    // Where `import` ends with 0 the bytes of the source are a document whose store breaks no rule of its schema,
-    // and the text says how many entities it has.
+    // Where `import` ends with 0 the bytes of the source are a document whose store breaks no rule of its
+    // schema, and the text says how many entities it has.
     ensures imported { asked_for (map string_bytes words.now.items) ≡ Some Command.Import
         → result ≡ Status.Done
         → AnswersDocument IsImported (I.state source).left (K.state sink.old) (K.state sink.new) }
 
-    // Where `check` ends with 0 the bytes of the source are a document, and the text says that a store conforms.
+    // Where `check` ends with 0 the bytes of the source are a document, and the text says that a store
+    // conforms.
     ensures checked { asked_for (map string_bytes words.now.items) ≡ Some Command.Check
         → result ≡ Status.Done
         → AnswersDocument SaysConforms (I.state source).left (K.state sink.old) (K.state sink.new) }

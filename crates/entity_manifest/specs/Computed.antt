@@ -41,7 +41,8 @@ ComputedManifestsFit =
     trie_for m q ≡ Some t → (v : Val) → ¬ SticksAt t q s v
 
 -- a refusal as loading by the manifest promises it of an honest loader of the store
-pub record IsRightRefusal (m : Manifest) (q : Request) (s : Store) (old new : LoaderState) (e : EntitySliceError) : Type 0 where
+pub record IsRightRefusal (m : Manifest) (q : Request) (s : Store)
+    (old new : LoaderState) (e : EntitySliceError) : Type 0 where
   pub without : trie_for m q ≡ None → e ≡ OutOfMemory
   pub right : (t : Table) → trie_for m q ≡ Some t → IsRight (SticksAt t q s) old new e
 

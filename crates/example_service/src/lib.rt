@@ -37,7 +37,8 @@ impl From<AllocError> for SliceError {
     }
 }
 
-/// The decision on the document's request, with a slice of its store on which every policy does what it does on the whole.
+/// The decision on the document's request, with a slice of its store on which every policy does what it does
+/// on the whole.
 pub fn slice(alloc: Global, document: &[u8]) -> Result<Vec<u8>, SliceError>
     ensures sliced { IfOk result (λ text.
         (d : Document) × IsDocumentOf shape.Whole document.now d × IsSliced d text.items) }

@@ -26,8 +26,8 @@ pub trait Database {
     fn is_member(&mut self, uid: &EntityUID, ancestor: &EntityUID) -> Result<bool, LoadError>;
 }
 
-/// A loader over a database. What that holds is not in the loader's value, so it tells no store; and each list of answers counts
-/// as one that may stray, so nothing has to be proved of what it answers.
+/// A loader over a database. What that holds is not in the loader's value, so it tells no store; and each
+/// list of answers counts as one that may stray, so nothing has to be proved of what it answers.
 #[derive(Debug, Drop)]
 pub struct DatabaseLoader<D: Database + Drop> {
     /// The database.
@@ -101,7 +101,8 @@ fn answers<D: Database>(
     Ok(found)
 }
 
-// The entity, where there is one, with all tags and with whole attributes: those with which a path of the trie begins.
+// The entity, where there is one, with all tags and with whole attributes: those with which a path of the
+// trie begins.
 fn answer<D: Database>(
     alloc: Global,
     database: &mut D,

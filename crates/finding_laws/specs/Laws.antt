@@ -5,8 +5,8 @@ use Rattle.findings.specs.declared.error.ValidationWarning.{ValidationWarning}
 use Rattle.findings.specs.contracts.error.ValidationErrorPartialEq.TheImpl as error
 use Rattle.findings.specs.contracts.error.ValidationWarningPartialEq.TheImpl as warning
 
--- `==` holds of two errors exactly where they are the same: of one kind, of one policy, at one place, and alike in
--- all else that they hold
+-- `==` holds of two errors exactly where they are the same: of one kind, of one policy, at one place, and
+-- alike in all else that they hold
 abbrev pub ErrorEqualityIsExact : Type 0
 ErrorEqualityIsExact = (a b : ValidationError) → (error.ghosts.eq a b ≡ true) ↔ (a ≡ b)
 

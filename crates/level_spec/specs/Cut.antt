@@ -41,13 +41,14 @@ is_among us u = list_any (uid_eq u) us
 abbrev pub entities_among : List EntityUID → Store → Store
 entities_among us s = filter (λ e. is_among us e.uid) s
 
--- the ids that are reached in so many steps: those that the request holds, and with each step those that the entities reached
--- so far hold
+-- the ids that are reached in so many steps: those that the request holds, and with each step those that the
+-- entities reached so far hold
 abbrev pub reach : ℕ → Request → Store → List EntityUID
 reach zero q s = ids_asked q
 reach (suc k) q s = reach k q s ++ flat_map ids_held (entities_among (reach k q s) s)
 
--- the store cut at a level: empty at level 0; at each level above it, the entities that are reached in one step fewer, each whole
+-- the store cut at a level: empty at level 0; at each level above it, the entities that are reached in one
+-- step fewer, each whole
 abbrev pub cut : ℕ → Request → Store → Store
 cut zero q s = []
 cut (suc n) q s = entities_among (reach n q s) s

@@ -32,7 +32,8 @@ binary_target GetTag l fs = fs
 binary_target o l fs = literal_target l ∷ []
 
 module _ (action : Option EntityUID) (n : ℕ) where
-  -- in the order of the walk: what is found in the left operand of a dereference, in its right operand, and of the dereference
+  -- in the order of the walk: what is found in the left operand of a dereference, in its right operand, and
+  -- of the dereference
   abbrev mutual
     pub level_faults : Typed → List LevelFault
     level_faults (lit l a) = []
@@ -43,9 +44,12 @@ module _ (action : Option EntityUID) (n : ℕ) where
     level_faults (disj x y a) = level_faults x ++ level_faults y
     level_faults (unary o x a) = level_faults x
     level_faults (binary o x y a) =
-        if asks_store o then target_faults x [] ++ (level_faults y ++ own_fault n (level action x []) a.loc) else level_faults x ++ level_faults y
-    level_faults (attr x k a) = if gives_entity x then target_faults x [] ++ own_fault n (level action x []) a.loc else level_faults x
-    level_faults (has x k a) = if gives_entity x then target_faults x [] ++ own_fault n (level action x []) a.loc else level_faults x
+        if asks_store o then target_faults x [] ++ (level_faults y ++ own_fault n (level action x []) a.loc)
+        else level_faults x ++ level_faults y
+    level_faults (attr x k a) =
+        if gives_entity x then target_faults x [] ++ own_fault n (level action x []) a.loc else level_faults x
+    level_faults (has x k a) =
+        if gives_entity x then target_faults x [] ++ own_fault n (level action x []) a.loc else level_faults x
     level_faults (like x p a) = level_faults x
     level_faults (is_type x t a) = level_faults x
     level_faults (call f xs a) = faults_all xs
@@ -60,12 +64,14 @@ module _ (action : Option EntityUID) (n : ℕ) where
     faults_named no_named = []
     faults_named (named k x xs) = level_faults x ++ faults_named xs
 
-    -- in a target, with pending fields: the dereferences whose levels make up the level of the target are not tested themselves
+    -- in a target, with pending fields: the dereferences whose levels make up the level of the target are not
+    -- tested themselves
     pub target_faults : Typed → List (List ℕ) → List LevelFault
     target_faults (lit l a) fs = target_fault (literal_level action l) a.loc
     target_faults (var v a) fs = []
     target_faults (ite x y z a) fs =
-        level_faults x ++ ((if is_reached y then target_faults y fs else level_faults y) ++ (if is_reached z then target_faults z fs else level_faults z))
+        level_faults x ++ ((if is_reached y then target_faults y fs else level_faults y) ++
+        (if is_reached z then target_faults z fs else level_faults z))
     target_faults (binary o x y a) fs = binary_target o a.loc (target_faults x [] ++ level_faults y)
     target_faults (attr x k a) fs = if gives_entity x then target_faults x [] else target_faults x (k ∷ fs)
     target_faults (rec xs a) fs = named_targets a.loc xs fs
@@ -75,15 +81,17 @@ module _ (action : Option EntityUID) (n : ℕ) where
     pub named_targets : Option Loc → Named (Mark (Option Ty)) → List (List ℕ) → List LevelFault
     named_targets l no_named fs = literal_target l ∷ []
     named_targets l (named k x xs) [] = literal_target l ∷ []
-    named_targets l (named k x xs) (f ∷ fs) = if is_eq (text_cmp f k) then target_faults x fs ++ faults_named xs else level_faults x ++ named_targets l xs (f ∷ fs)
+    named_targets l (named k x xs) (f ∷ fs) =
+        if is_eq (text_cmp f k) then target_faults x fs ++ faults_named xs
+        else level_faults x ++ named_targets l xs (f ∷ fs)
 
 -- one of the list
 abbrev pub IsIn : {A : Type 0} → A → List A → Type 0
 IsIn x [] = ⊥
 IsIn x (y ∷ ys) = (y ≡ x) ⊎ IsIn x ys
 
--- the level that is needed is one more than that of the left operand of some dereference, which is not below the maximum; a literal
--- is told only where some left operand has no level
+-- the level that is needed is one more than that of the left operand of some dereference, which is not below
+-- the maximum; a literal is told only where some left operand has no level
 abbrev pub IsFaultTold : ℕ → List (Option ℕ) → LevelFault → Type 0
 IsFaultTold n os (needs_level j l) = (k : ℕ) × (j ≡ k + 1) × (nat_lt k n ≡ false) × IsIn (Some k) os
 IsFaultTold n os (literal_target l) = IsIn None os
@@ -92,4 +100,5 @@ IsFaultTold n os (literal_target l) = IsIn None os
 abbrev pub LevelFaultsAreExact : Type 0
 LevelFaultsAreExact =
     (action : Option EntityUID) (n : ℕ) (e : Typed) →
-    ((level_faults action n e ≡ []) ↔ (passes action n e ≡ true)) × AllByRecursion (IsFaultTold n (dereferences action e)) (level_faults action n e)
+    ((level_faults action n e ≡ []) ↔ (passes action n e ≡ true)) ×
+    AllByRecursion (IsFaultTold n (dereferences action e)) (level_faults action n e)

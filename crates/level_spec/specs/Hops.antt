@@ -20,22 +20,26 @@ held_by s us = flat_map (held_at s) us
 abbrev pub Within : List EntityUID → List EntityUID → Type 0
 Within us ws = (u : EntityUID) → is_among us u ≡ true → is_among ws u ≡ true
 
--- after so many hops: all that is reached, and what is fresh among it; what the entities hold that are not fresh is reached
+-- after so many hops: all that is reached, and what is fresh among it; what the entities hold that are not
+-- fresh is reached
 pub record IsHop (q : Request) (s : Store) (k : ℕ) (reached fresh : List EntityUID) : Type 0 where
   pub all : (u : EntityUID) → is_among reached u ≡ is_among (reach k q s) u
   pub fresh_reached : Within fresh reached
-  pub old : (u : EntityUID) → is_among reached u ≡ true → is_among fresh u ≡ false → Within (held_at s u) reached
+  pub old : (u : EntityUID) → is_among reached u ≡ true →
+      is_among fresh u ≡ false → Within (held_at s u) reached
 
 -- one hop more: what the fresh entities hold is reached besides, and what was not reached before is fresh
 pub record IsNextHop (s : Store) (reached fresh reached2 fresh2 : List EntityUID) : Type 0 where
   pub all : (u : EntityUID) → is_among reached2 u ≡ (is_among reached u || is_among (held_by s fresh) u)
   pub fresh_reached : Within fresh2 reached2
-  pub newest : (u : EntityUID) → is_among reached2 u ≡ true → is_among fresh2 u ≡ false → is_among reached u ≡ true
+  pub newest : (u : EntityUID) → is_among reached2 u ≡ true →
+      is_among fresh2 u ≡ false → is_among reached u ≡ true
 
 -- hops reach what is to be reached: they begin with what the request holds, go on so, and leave the cut store
 pub record Hops (q : Request) (s : Store) : Type 0 where
   pub first : IsHop q s zero (ids_asked q) (ids_asked q)
-  pub next : (k : ℕ) (us fs vs gs : List EntityUID) → IsHop q s k us fs → IsNextHop s us fs vs gs → IsHop q s (suc k) vs gs
+  pub next : (k : ℕ) (us fs vs gs : List EntityUID) → IsHop q s k us fs →
+      IsNextHop s us fs vs gs → IsHop q s (suc k) vs gs
   pub leave : (k : ℕ) (us fs : List EntityUID) → IsHop q s k us fs → entities_among us s ≡ cut (suc k) q s
 
 -- of a store that ascends by id

@@ -8,4 +8,5 @@ use Rattle.level_spec.specs.Levels.{passes, least_level}
 abbrev pub LeastLevelIsLeast : Type 0
 LeastLevelIsLeast =
     (action : Option EntityUID) (e : Typed) →
-    MatchOption (least_level action e) ((n : ℕ) → passes action n e ≡ false) (λ m. (passes action m e ≡ true) × ((n : ℕ) → n < m → passes action n e ≡ false))
+    MatchOption (least_level action e) ((n : ℕ) → passes action n e ≡ false)
+    (λ m. (passes action m e ≡ true) × ((n : ℕ) → n < m → passes action n e ≡ false))

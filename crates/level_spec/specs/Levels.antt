@@ -71,8 +71,8 @@ module _ (action : Option EntityUID) where
   literal_level (literal.EntityUID u) = option_and_then (λ a. if uid_eq u a then Some 0 else None) action
   literal_level l = None
 
-  -- how many steps from the request the ids are that an expression gives, or those under the pending fields of the record that
-  -- it gives; none where that cannot be told
+  -- how many steps from the request the ids are that an expression gives, or those under the pending fields
+  -- of the record that it gives; none where that cannot be told
   abbrev mutual
     pub level : Typed → List (List ℕ) → Option ℕ
     level (lit l a) fs = literal_level l

@@ -29,16 +29,21 @@ module _ (schema : SchemaData) (n : ℕ) where
   abbrev pub PassesAt : TemplateData → Type 0
   PassesAt t = AllByRecursion (PassesIn (condition_of t)) (linked_envs schema t)
 
--- where an accepted template passes at a level, an accepted link of it has, on the store cut at that level, the outcome that it has on the whole store
+-- where an accepted template passes at a level, an accepted link of it has, on the store cut at that level,
+-- the outcome that it has on the whole store
 abbrev pub LinkLevelsAreSound : Type 0
 LinkLevelsAreSound =
-    (schema : SchemaData) → IsSchema schema → (t : TemplateData) → HasPlainBody t → HasKeysOnce t.body → IsAcceptedTemplate schema t → (n : ℕ) → PassesAt schema n t →
+    (schema : SchemaData) → IsSchema schema → (t : TemplateData) → HasPlainBody t →
+    HasKeysOnce t.body → IsAcceptedTemplate schema t → (n : ℕ) → PassesAt schema n t →
     (w : SlotValues) → Fills w t → IsAcceptedLink schema w t →
-    (q : Request) → RequestConforms schema q → (s : Store) → StoreConforms schema s → eval (own_condition w t) q (cut n q s) ≡ eval (own_condition w t) q s
+    (q : Request) → RequestConforms schema q → (s : Store) → StoreConforms schema s →
+    eval (own_condition w t) q (cut n q s) ≡ eval (own_condition w t) q s
 
 -- so has an accepted policy without slots that passes
 abbrev pub StaticLevelsAreSound : Type 0
 StaticLevelsAreSound =
-    (schema : SchemaData) → IsSchema schema → (t : TemplateData) → HasPlainBody t → HasKeysOnce t.body → asks_slot t.principal ≡ false → asks_slot t.resource ≡ false → IsAcceptedTemplate schema t →
+    (schema : SchemaData) → IsSchema schema → (t : TemplateData) → HasPlainBody t → HasKeysOnce t.body →
+    asks_slot t.principal ≡ false → asks_slot t.resource ≡ false → IsAcceptedTemplate schema t →
     (n : ℕ) → PassesAt schema n t →
-    (q : Request) → RequestConforms schema q → (s : Store) → StoreConforms schema s → eval (condition_of t) q (cut n q s) ≡ eval (condition_of t) q s
+    (q : Request) → RequestConforms schema q → (s : Store) → StoreConforms schema s →
+    eval (condition_of t) q (cut n q s) ≡ eval (condition_of t) q s

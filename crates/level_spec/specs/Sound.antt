@@ -14,11 +14,13 @@ use Rattle.typing_spec.specs.Typing.{types}
 use Rattle.level_spec.specs.Cut.{cut}
 use Rattle.level_spec.specs.Levels.{passes}
 
--- where the request, of the environment, and the store conform, a typed condition without slots that passes at a level has, on
--- the store cut at that level, the outcome that it has on the whole store
+-- where the request, of the environment, and the store conform, a typed condition without slots that passes
+-- at a level has, on the store cut at that level, the outcome that it has on the whole store
 abbrev pub LevelsAreSound : Type 0
 LevelsAreSound =
-    (schema : SchemaData) → IsSchema schema → (env : LinkedEnvironment) (q : Request) → RequestConforms schema q → IsOf schema q env →
+    (schema : SchemaData) → IsSchema schema →
+    (env : LinkedEnvironment) (q : Request) → RequestConforms schema q → IsOf schema q env →
     (s : Store) → StoreConforms schema s → (n : ℕ) →
     (e : Plain) → has_slot e ≡ false → HasKeysOnce e →
-    IfSome (types schema (declared_action env) [] e) (λ r. passes (Some env.environment.action) n r.tree ≡ true → eval e q (cut n q s) ≡ eval e q s)
+    IfSome (types schema (declared_action env) [] e)
+    (λ r. passes (Some env.environment.action) n r.tree ≡ true → eval e q (cut n q s) ≡ eval e q s)

@@ -10,12 +10,14 @@ use link_spec::laws::{
     filled_keeps, links_are_written_out, links_follow_templates, links_have_keys_once,
 };
 
-/// Where a typed condition passes at a level, it has, on the store cut at that level, the outcome that it has on the whole one.
+/// Where a typed condition passes at a level, it has, on the store cut at that level, the outcome that it has
+/// on the whole one.
 pub fn levels_are_sound()
     ensures { LevelsAreSound }
 {}
 
-/// Where a template passes at a level, each of its links has, on the store cut at that level, the outcome that it has on the whole one.
+/// Where a template passes at a level, each of its links has, on the store cut at that level, the outcome
+/// that it has on the whole one.
 pub fn link_levels_are_sound()
     ensures { LinkLevelsAreSound }
 {

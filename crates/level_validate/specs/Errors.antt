@@ -27,7 +27,8 @@ place_of (needs_level k l) = l
 place_of (literal_target l) = l
 
 abbrev pub level_error : List ℕ → ℕ → LevelFault → ValidationError
-level_error id n f = EntityDerefLevelViolation (record { source_loc = place_of f; policy_id = id; violation_kind = kind_at n f })
+level_error id n f = EntityDerefLevelViolation
+    (record { source_loc = place_of f; policy_id = id; violation_kind = kind_at n f })
 
 -- a typed condition, with the action of its environment, where it is known
 abbrev pub Condition : Type 0
@@ -44,14 +45,16 @@ dereferences_in c = dereferences c.0 c.1
 abbrev pub PassesIn : ℕ → Condition → Type 0
 PassesIn n c = passes c.0 n c.1 ≡ true
 
--- the errors of a policy by its conditions in several environments: what is found in one after another, each once
+-- the errors of a policy by its conditions in several environments: what is found in one after another,
+-- each once
 abbrev pub level_errors_in : List ℕ → ℕ → List Condition → List ValidationError
 level_errors_in id n cs = map (level_error id n) (distinct fault_cmp (flat_map (faults_in n) cs))
 
--- by the levels of the left operands of dereferences: the level that is needed is one more than one of these that is not below the
--- level allowed; and of a literal is told only where one has no level
+-- by the levels of the left operands of dereferences: the level that is needed is one more than one of these
+-- that is not below the level allowed; and of a literal is told only where one has no level
 abbrev pub IsToldBy : ℕ → List (Option ℕ) → EntityDerefViolationKind → Type 0
-IsToldBy n os (MaximumLevelExceeded allowed actual) = (allowed.level ≡ n) × ((k : ℕ) × (actual.level ≡ k + 1) × (nat_lt k n ≡ false) × IsIn (Some k) os)
+IsToldBy n os (MaximumLevelExceeded allowed actual) =
+    (allowed.level ≡ n) × ((k : ℕ) × (actual.level ≡ k + 1) × (nat_lt k n ≡ false) × IsIn (Some k) os)
 IsToldBy n os LiteralDerefTarget = IsIn None os
 
 abbrev pub IsToldOf : List ℕ → ℕ → List (Option ℕ) → ValidationError → Type 0
@@ -62,7 +65,8 @@ IsToldOf id n os e = ⊥
 abbrev pub LevelErrorsAreExact : Type 0
 LevelErrorsAreExact =
     (id : List ℕ) (n : ℕ) (cs : List Condition) →
-    ((level_errors_in id n cs ≡ []) ↔ AllByRecursion (PassesIn n) cs) × AllByRecursion (IsToldOf id n (flat_map dereferences_in cs)) (level_errors_in id n cs)
+    ((level_errors_in id n cs ≡ []) ↔ AllByRecursion (PassesIn n) cs) ×
+    AllByRecursion (IsToldOf id n (flat_map dereferences_in cs)) (level_errors_in id n cs)
 
 -- a condition as code has it
 abbrev pub condition_in : RequestEnv × Typed → Condition

@@ -8,4 +8,5 @@ use Rattle.level_spec.specs.Hops.{Within}
 pub record AreFresh (ids reached reached2 fresh : List EntityUID) : Type 0 where
   pub all : (u : EntityUID) → is_among reached2 u ≡ (is_among reached u || is_among ids u)
   pub fresh_reached : Within fresh reached2
-  pub newest : (u : EntityUID) → is_among reached2 u ≡ true → is_among fresh u ≡ false → is_among reached u ≡ true
+  pub newest : (u : EntityUID) → is_among reached2 u ≡ true →
+      is_among fresh u ≡ false → is_among reached u ≡ true

@@ -22,10 +22,11 @@ use std::alloc::{AllocError, Global};
 use std::collections::BTreeSet;
 use std::marker::Model;
 
-/// The errors of a policy that is checked for a level, by its typed conditions in environments: for each dereference that
-/// needs a higher level, and for each that is of a literal or a slot. They stand in the order of the conditions, and in
-/// each in the order of the walk: those in the left operand of a dereference, those in its right operand, and that of the
-/// dereference; equal ones once, at the first place. Of a chain of dereferences only the outermost is told.
+/// The errors of a policy that is checked for a level, by its typed conditions in environments: for each
+/// dereference that needs a higher level, and for each that is of a literal or a slot. They stand in the
+/// order of the conditions, and in each in the order of the walk: those in the left operand of a dereference,
+/// those in its right operand, and that of the dereference; equal ones once, at the first place. Of a chain
+/// of dereferences only the outermost is told.
 pub fn level_errors(
     alloc: Global,
     policy_id: &Text,
@@ -63,8 +64,8 @@ fn faults_in_all(
     Ok(faults)
 }
 
-/// What is found in the typed conditions of a policy that is checked for a level, one after another: each fault once, at
-/// its first place.
+/// What is found in the typed conditions of a policy that is checked for a level, one after another: each
+/// fault once, at its first place.
 #[derive(Drop)]
 pub struct LevelFaults {
     seen: BTreeSet<(Option<u32>, Option<Loc>)>,

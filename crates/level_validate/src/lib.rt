@@ -1,4 +1,5 @@
-//! Levels: what of typed conditions is further from the request than a level allows, and the entity store cut at a level.
+//! Levels: what of typed conditions is further from the request than a level allows, and the entity store cut
+//! at a level.
 #![tactic(auto)]
 
 mod errors;

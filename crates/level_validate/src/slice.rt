@@ -13,9 +13,10 @@ use policy_core::{Entities, Entity, EntityUID, Request, try_clone_fields};
 use std::alloc::{AllocError, Global};
 use std::collections::BTreeSet;
 
-/// The store cut at a level: empty at level 0; at each level above it, the entities that are reached from the request in
-/// one step fewer, each whole. No step reaches what the request holds: its entries, and all ids anywhere in its context.
-/// With each step, all ids anywhere in the attributes and tags of the entities that were reached before are reached too.
+/// The store cut at a level: empty at level 0; at each level above it, the entities that are reached from the
+/// request in one step fewer, each whole. No step reaches what the request holds: its entries, and all ids
+/// anywhere in its context. With each step, all ids anywhere in the attributes and tags of the entities that
+/// were reached before are reached too.
 ///
 /// Each id is looked up once, and so it takes time n log n in the store, and a look at the levels.
 pub fn slice_at_level(

@@ -28,8 +28,8 @@ pub(crate) struct Checked<'a> {
     pub(crate) max_level: u32,
 }
 
-/// Adds what is found in an expression, in the order of the walk: in the left operand of a dereference, in its right
-/// operand, and of the dereference itself.
+/// Adds what is found in an expression, in the order of the walk: in the left operand of a dereference, in
+/// its right operand, and of the dereference itself.
 #[cycle(walk)]
 pub(crate) fn check(
     at: &Checked<'_>,
@@ -176,8 +176,8 @@ fn add_literal(loc: Option<Loc>, found: &mut Vec<Fault>) -> Result<(), AllocErro
     Ok(found.push(fault)?)
 }
 
-// Adds what is found in a target, of whose value these fields are asked for, and answers its level. The dereferences whose
-// levels make up that level are not tested themselves.
+// Adds what is found in a target, of whose value these fields are asked for, and answers its level. The
+// dereferences whose levels make up that level are not tested themselves.
 #[cycle(walk)]
 fn target(
     at: &Checked<'_>,

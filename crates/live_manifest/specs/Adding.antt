@@ -17,7 +17,8 @@ abbrev pub Tries : Type 0
 Tries = BTreeMap (List ℕ) (Vec Table Global)
 
 -- the second set is the first with the policy, whose id was free, and it is accepted
-pub record IsWith (schema : SchemaData) (s : PolicySetData) (p : PolicyData) (new : PolicySetData) : Type 0 where
+pub record IsWith (schema : SchemaData) (s : PolicySetData)
+    (p : PolicyData) (new : PolicySetData) : Type 0 where
   pub policies : new ≡ with_policy p s
   pub free : is_taken s p.id ≡ false
   pub accepted : IsAccepted schema new

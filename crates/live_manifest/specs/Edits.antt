@@ -33,7 +33,8 @@ abbrev pub no_policies : PolicySetData
 no_policies = record { templates = []; policies = [] }
 
 -- the set with the link, where there is the template
-abbrev pub with_link : Option TemplateData → List ℕ → List (SlotId × EntityUID) → PolicySetData → PolicySetData
+abbrev pub with_link : Option TemplateData → List ℕ →
+    List (SlotId × EntityUID) → PolicySetData → PolicySetData
 with_link None id values s = s
 with_link (Some t) id values s = with_policy (linked_policy id (slot_values values) t) s
 

@@ -15,7 +15,8 @@ abbrev pub AreUnderIds : BTreeMap EntityUID StoredEntity → Type 0
 AreUnderIds found = (x : EntityUID) (e : StoredEntity) → get uid_cmp found x ≡ Some e → e.uid ≡ x
 
 -- what comes for the id, where answers stand in the order of requests; else what was there
-abbrev pub answered : Option StoredEntity → List EntityRequest → List (Option StoredEntity) → EntityUID → Option StoredEntity
+abbrev pub answered : Option StoredEntity → List EntityRequest →
+    List (Option StoredEntity) → EntityUID → Option StoredEntity
 answered o [] os x = o
 answered o (r ∷ rs) [] x = o
 answered o (r ∷ rs) (None ∷ os) x = answered o rs os x
@@ -32,7 +33,8 @@ IsStrayAnswer uid (Some e) c = IsStray uid e c
 IsStrayAnswer uid None c = ⊥
 
 -- the answer is put under the id, which is its own; an absent one changes nothing
-abbrev pub IsPut : EntityUID → Option StoredEntity → (EntityUID → Option StoredEntity) → (EntityUID → Option StoredEntity) → Type 0
+abbrev pub IsPut : EntityUID → Option StoredEntity →
+    (EntityUID → Option StoredEntity) → (EntityUID → Option StoredEntity) → Type 0
 IsPut uid (Some e) old new = ((x : EntityUID) → new x ≡ cond (uid_eq uid x) (Some e) (old x)) × (e.uid ≡ uid)
 IsPut uid None old new = (x : EntityUID) → new x ≡ old x
 
@@ -43,6 +45,7 @@ AreStray rs os error.OutOfMemory = Unit {0}
 AreStray rs os c = ⊥
 
 -- for each request an honest answer, and nothing else
-pub record AreHonest (exact : Bool) (s : Store) (rs : List EntityRequest) (found : EntityUID → Option StoredEntity) : Type 0 where
+pub record AreHonest (exact : Bool) (s : Store) (rs : List EntityRequest)
+    (found : EntityUID → Option StoredEntity) : Type 0 where
   pub each : AllByRecursion (λ r. IsHonest exact s r (found r.entity_id)) rs
   pub others : (x : EntityUID) → list_any (λ r. uid_eq r.entity_id x) rs ≡ false → found x ≡ None

@@ -9,8 +9,10 @@ use Rattle.reads_spec.specs.Restrict.{restrict}
 use Rattle.store_slices.specs.Tries.{IsTrieOf}
 use Rattle.manifest_loading.specs.declared.error.EntitySliceError.{EntitySliceError}
 
--- a store that has at least what is read and demanded, and at most what the whole one has; where the loader is exact, just what is read and demanded
-pub record IsBetween (exact : Bool) (reads : List AccessPath) (demands : List Demand) (q : Request) (whole s : Store) : Type 0 where
+-- a store that has at least what is read and demanded, and at most what the whole one has; where the loader
+-- is exact, just what is read and demanded
+pub record IsBetween (exact : Bool) (reads : List AccessPath)
+    (demands : List Demand) (q : Request) (whole s : Store) : Type 0 where
   pub enough : IsPartOf (restrict reads demands q whole) s
   pub part : IsPartOf s whole
   pub exactly : exact ≡ true → s ≡ restrict reads demands q whole

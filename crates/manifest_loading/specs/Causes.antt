@@ -19,7 +19,8 @@ CauseOf P old new (error.PartialRequest e) = ⊥
 CauseOf P old new (error.IncompatibleEntityManifest e) = P e.value
 CauseOf P old new (error.WrongNumberOfEntities e) = (e.expected ≢ e.got) × Rose old.strays new.strays
 CauseOf P old new (error.WrongNumberOfAncestors expected got) = (expected ≢ got) × Rose old.strays new.strays
-CauseOf P old new (error.InconsistentLoader uid kept got) = ((got.uid ≢ uid) × Rose old.strays new.strays) ⊎ IsSomeAnd kept (λ k. Differ uid k got)
+CauseOf P old new (error.InconsistentLoader uid kept got) =
+    ((got.uid ≢ uid) × Rose old.strays new.strays) ⊎ IsSomeAnd kept (λ k. Differ uid k got)
 CauseOf P old new error.LoaderFault = Rose old.faults new.faults
 CauseOf P old new error.OutOfMemory = Unit {0}
 

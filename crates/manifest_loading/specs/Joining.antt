@@ -35,7 +35,8 @@ brings (r ∷ rs) [] x y = false
 brings (r ∷ rs) (l ∷ ls) x y = (uid_eq r.entity_id x && lists l.items y) || brings rs ls x y
 
 -- the ancestors' tries, where the entity was asked for, name the ancestor in the store
-pub record IsAskedFor (ns : Table) (q : Request) (asked : List Place) (t : Store) (x y : EntityUID) : Type 0 where
+pub record IsAskedFor (ns : Table) (q : Request) (asked : List Place)
+    (t : Store) (x y : EntityUID) : Type 0 where
   pub path : AccessPath
   pub marked : wants true ns asked x (address_of path) ≡ true
   pub named : list_any (names_id y) (reach t q path) ≡ true
@@ -49,12 +50,15 @@ pub record HasMore (more : EntityUID → EntityUID → Bool) (old new : Found) :
   pub each : (x y : EntityUID) → above (new x) y ≡ (above (old x) y || (is_some (old x) && more x y))
   pub ascending : AreAscending old → AreAscending new
 
--- at least those ancestors of the store that are asked for, and no others than those of the store; where the loader is exact, no others than
--- those that are asked for
-pub record IsJoined (exact : Bool) (s : Store) (asked_for : EntityUID → EntityUID → Type 0) (old new : Found) : Type 0 where
-  pub enough : (x y : EntityUID) → is_some (old x) ≡ true → asked_for x y → HasAncestor s x y → above (new x) y ≡ true
+-- at least those ancestors of the store that are asked for, and no others than those of the store; where the
+-- loader is exact, no others than those that are asked for
+pub record IsJoined (exact : Bool) (s : Store)
+    (asked_for : EntityUID → EntityUID → Type 0) (old new : Found) : Type 0 where
+  pub enough : (x y : EntityUID) → is_some (old x) ≡ true →
+      asked_for x y → HasAncestor s x y → above (new x) y ≡ true
   pub given : (x y : EntityUID) → above (new x) y ≡ true → (above (old x) y ≡ true) ⊎ HasAncestor s x y
-  pub exactly : exact ≡ true → (x y : EntityUID) → above (new x) y ≡ true → (above (old x) y ≡ true) ⊎ asked_for x y
+  pub exactly : exact ≡ true → (x y : EntityUID) → above (new x) y ≡ true →
+      (above (old x) y ≡ true) ⊎ asked_for x y
 
 -- the same after the rounds, where what is kept is all of a store, and those ancestors are asked for that the
 -- places' tries name in it

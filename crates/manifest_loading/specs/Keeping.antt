@@ -33,13 +33,15 @@ refusal_of follow.OutOfMemory = error.OutOfMemory
 
 -- what is kept of the entity, and what came, do not merge
 abbrev pub IsNotKept : EntityUID → Option StoredEntity → StoredEntity → EntitySliceError → Type 0
-IsNotKept x o e (error.InconsistentLoader uid kept got) = (uid ≡ x) × (got ≡ e) × IsSomeAnd kept (λ k. (o ≡ Some k) × (merge_entities k e ≡ None))
+IsNotKept x o e (error.InconsistentLoader uid kept got) =
+    (uid ≡ x) × (got ≡ e) × IsSomeAnd kept (λ k. (o ≡ Some k) × (merge_entities k e ≡ None))
 IsNotKept x o e error.OutOfMemory = Unit {0}
 IsNotKept x o e c = ⊥
 
 -- of some entity
 abbrev pub AreNotKept : Found → Found → EntitySliceError → Type 0
-AreNotKept old found (error.InconsistentLoader uid kept got) = (found uid ≡ Some got) × IsSomeAnd kept (λ k. (old uid ≡ Some k) × (merge_entities k got ≡ None))
+AreNotKept old found (error.InconsistentLoader uid kept got) =
+    (found uid ≡ Some got) × IsSomeAnd kept (λ k. (old uid ≡ Some k) × (merge_entities k got ≡ None))
 AreNotKept old found error.OutOfMemory = Unit {0}
 AreNotKept old found c = ⊥
 

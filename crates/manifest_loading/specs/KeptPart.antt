@@ -29,19 +29,26 @@ left k x o = if k.chains x [] then option_map (cut_entity k) o else None
 abbrev pub along : Chain → Address
 along c = map edge_of (steps_of c)
 
--- what is kept is what a choice leaves of the store, which has all that was asked for; where the loader is exact, just that
-pub record IsKeptPart (exact : Bool) (s : Store) (ns : Table) (asked : List Place) (kept : Found) : Type 0 where
+-- what is kept is what a choice leaves of the store, which has all that was asked for; where the loader is
+-- exact, just that
+pub record IsKeptPart (exact : Bool) (s : Store) (ns : Table)
+    (asked : List Place) (kept : Found) : Type 0 where
   pub choice : Keep
   pub formed : IsWellFormed choice
   pub is : (x : EntityUID) → kept x ≡ left choice x (entity_at s x)
-  pub chains : (x : EntityUID) (c : Chain) → wants false ns asked x (along c) ≡ true → choice.chains x c ≡ true
-  pub tags : (x : EntityUID) (n : List ℕ) (c : Chain) → wants false ns asked x (AnyTag ∷ along c) ≡ true → choice.tags x (n ∷ c) ≡ true
-  pub only_chains : exact ≡ true → (x : EntityUID) (c : Chain) → choice.chains x c ≡ true → wants false ns asked x (along c) ≡ true
-  pub only_tags : exact ≡ true → (x : EntityUID) (n : List ℕ) (c : Chain) → choice.tags x (n ∷ c) ≡ true → wants false ns asked x (AnyTag ∷ along c) ≡ true
+  pub chains : (x : EntityUID) (c : Chain) → wants false ns asked x (along c) ≡ true →
+      choice.chains x c ≡ true
+  pub tags : (x : EntityUID) (n : List ℕ) (c : Chain) →
+      wants false ns asked x (AnyTag ∷ along c) ≡ true → choice.tags x (n ∷ c) ≡ true
+  pub only_chains : exact ≡ true → (x : EntityUID) (c : Chain) → choice.chains x c ≡ true →
+      wants false ns asked x (along c) ≡ true
+  pub only_tags : exact ≡ true → (x : EntityUID) (n : List ℕ) (c : Chain) →
+      choice.tags x (n ∷ c) ≡ true → wants false ns asked x (AnyTag ∷ along c) ≡ true
   pub bare : exact ≡ true → (x y : EntityUID) → choice.ancestors x y ≡ false
 
 -- after some rounds, where the loader tells its store
-pub record IsState (exact : Bool) (ns : Table) (q : Request) (s : Store) (asked pending : List Place) (kept : Found) : Type 0 where
+pub record IsState (exact : Bool) (ns : Table) (q : Request) (s : Store)
+    (asked pending : List Place) (kept : Found) : Type 0 where
   pub complete : IsComplete ns q s asked pending
   pub sound : IsSound ns q s asked pending
   pub part : IsKeptPart exact s ns asked kept
@@ -60,12 +67,15 @@ WhereBegun l ns start P = (s : Store) → l.store ≡ Some s → (q : Request) �
 abbrev pub AreAlike : Found → Found → Type 0
 AreAlike f g = (x : EntityUID) → option_map without_links (f x) ≡ option_map without_links (g x)
 
--- what is found has, but for ancestors, what a choice leaves of the store: at least what paths of the trie reach; where the loader is exact,
--- just that
+-- what is found has, but for ancestors, what a choice leaves of the store: at least what paths of the trie
+-- reach; where the loader is exact, just that
 pub record IsLoaded (exact : Bool) (ns : Table) (q : Request) (s found : Store) : Type 0 where
   pub choice : Keep
   pub is : AreAlike (entity_at found) (λ x. left choice x (entity_at s x))
   pub chains : (x : EntityUID) (c : Chain) → IsReached false ns q s x (along c) → choice.chains x c ≡ true
-  pub tags : (x : EntityUID) (n : List ℕ) (c : Chain) → IsReached false ns q s x (AnyTag ∷ along c) → choice.tags x (n ∷ c) ≡ true
-  pub only_chains : exact ≡ true → (x : EntityUID) (c : Chain) → choice.chains x c ≡ true → IsReached false ns q s x (along c)
-  pub only_tags : exact ≡ true → (x : EntityUID) (n : List ℕ) (c : Chain) → choice.tags x (n ∷ c) ≡ true → IsReached false ns q s x (AnyTag ∷ along c)
+  pub tags : (x : EntityUID) (n : List ℕ) (c : Chain) →
+      IsReached false ns q s x (AnyTag ∷ along c) → choice.tags x (n ∷ c) ≡ true
+  pub only_chains : exact ≡ true → (x : EntityUID) (c : Chain) → choice.chains x c ≡ true →
+      IsReached false ns q s x (along c)
+  pub only_tags : exact ≡ true → (x : EntityUID) (n : List ℕ) (c : Chain) →
+      choice.tags x (n ∷ c) ≡ true → IsReached false ns q s x (AnyTag ∷ along c)

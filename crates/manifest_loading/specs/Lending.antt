@@ -23,19 +23,23 @@ abbrev pub lent_sees : Bool → Table → Option Lent → Test
 lent_sees b ns None a = false
 lent_sees b ns (Some l) a = sees b (view_in ns l) a
 
--- of each entity is asked what some place asks of it, and nothing else; none is asked for but those of the places
+-- of each entity is asked what some place asks of it, and nothing else; none is asked for but those of
+-- the places
 pub record AreLent (ns : Table) (ps : List Place) (lent : BTreeMap EntityUID Lent) : Type 0 where
-  pub each : (b : Bool) (x : EntityUID) (a : Address) → lent_sees b ns (get uid_cmp lent x) a ≡ wants b ns ps x a
+  pub each : (b : Bool) (x : EntityUID) (a : Address) →
+      lent_sees b ns (get uid_cmp lent x) a ≡ wants b ns ps x a
   pub some : (x : EntityUID) → is_some (get uid_cmp lent x) ≡ list_any (λ p. uid_eq p.uid x) ps
 
 -- the same with one place more
 pub record Lends (ns : Table) (p : Place) (old new : BTreeMap EntityUID Lent) : Type 0 where
-  pub each : (b : Bool) (x : EntityUID) (a : Address) → lent_sees b ns (get uid_cmp new x) a ≡ (lent_sees b ns (get uid_cmp old x) a || (uid_eq p.uid x && sees b (node_of ns p) a))
+  pub each : (b : Bool) (x : EntityUID) (a : Address) → lent_sees b ns (get uid_cmp new x) a ≡
+      (lent_sees b ns (get uid_cmp old x) a || (uid_eq p.uid x && sees b (node_of ns p) a))
   pub some : (x : EntityUID) → is_some (get uid_cmp new x) ≡ (is_some (get uid_cmp old x) || uid_eq p.uid x)
 
 -- what is known of an entity, with what stands at one more node
 pub record IsUnited (ns : Table) (known : Option Lent) (n : ℕ) (l : Lent) : Type 0 where
-  pub each : (b : Bool) (a : Address) → sees b (view_in ns l) a ≡ (lent_sees b ns known a || sees b (record { nodes = ns; number = n }) a)
+  pub each : (b : Bool) (a : Address) → sees b (view_in ns l) a ≡
+      (lent_sees b ns known a || sees b (record { nodes = ns; number = n }) a)
 
 -- the request for an id
 abbrev pub request_of : Table → EntityUID × Lent → EntityRequest

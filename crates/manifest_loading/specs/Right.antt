@@ -22,7 +22,8 @@ use Rattle.manifest_loading.specs.Rounds.{AreHonestAt, Sticks}
 use Rattle.manifest_loading.specs.declared.error.EntitySliceError.{EntitySliceError}
 use Rattle.manifest_loading.specs.declared.error.EntitySliceError.TheVariants as error
 
--- in a part of an entity of the store a value stands from which a path of the trie, that reaches the entity, cannot go on
+-- in a part of an entity of the store a value stands from which a path of the trie, that reaches the entity,
+-- cannot go on
 pub record IsStuck (ns : Table) (q : Request) (s : Store) (u : Val) : Type 0 where
   pub id : EntityUID
   pub stored : StoredEntity
@@ -48,9 +49,12 @@ IsRefusedRightly t q old new result =
     WhereKeysAscend old (λ s. IfErr result (IsRight (SticksAt t q s) old new))
 
 -- a round is refused: honest answers lead nowhere on, or do not merge with what is kept, or the loader failed
-abbrev pub IsRefused : Bool → Store → Table → List Place → Found → LoaderState → LoaderState → EntitySliceError → Type 0
-IsRefused exact s ns ps kept old new (error.IncompatibleEntityManifest e) = (found : Found) × AreHonestAt exact s ns ps found × SomeAnswerSticks ns found ps e.value
-IsRefused exact s ns ps kept old new (error.InconsistentLoader u k d) = (found : Found) × AreHonestAt exact s ns ps found × AreNotKept kept found (error.InconsistentLoader u k d)
+abbrev pub IsRefused : Bool → Store → Table → List Place →
+    Found → LoaderState → LoaderState → EntitySliceError → Type 0
+IsRefused exact s ns ps kept old new (error.IncompatibleEntityManifest e) =
+    (found : Found) × AreHonestAt exact s ns ps found × SomeAnswerSticks ns found ps e.value
+IsRefused exact s ns ps kept old new (error.InconsistentLoader u k d) =
+    (found : Found) × AreHonestAt exact s ns ps found × AreNotKept kept found (error.InconsistentLoader u k d)
 IsRefused exact s ns ps kept old new error.LoaderFault = Rose old.faults new.faults
 IsRefused exact s ns ps kept old new error.OutOfMemory = Unit {0}
 IsRefused exact s ns ps kept old new e = ⊥

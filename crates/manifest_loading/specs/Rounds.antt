@@ -30,12 +30,15 @@ pub record AsksFor (ns : Table) (ps : List Place) (x : EntityUID) (r : EntityReq
   pub each : (b : Bool) (a : Address) → sees b r.access_trie a ≡ wants b ns ps x a
 
 -- for each id of the places an honest answer, and nothing else
-pub record AreHonestAt (exact : Bool) (s : Store) (ns : Table) (ps : List Place) (found : Found) : Type 0 where
-  pub each : (x : EntityUID) → list_any (λ p. uid_eq p.uid x) ps ≡ true → (r : EntityRequest) × AsksFor ns ps x r × IsHonest exact s r (found x)
+pub record AreHonestAt (exact : Bool) (s : Store) (ns : Table)
+    (ps : List Place) (found : Found) : Type 0 where
+  pub each : (x : EntityUID) → list_any (λ p. uid_eq p.uid x) ps ≡ true →
+      (r : EntityRequest) × AsksFor ns ps x r × IsHonest exact s r (found x)
   pub others : (x : EntityUID) → list_any (λ p. uid_eq p.uid x) ps ≡ false → found x ≡ None
 
 -- honest answers are kept, and what they lead to is asked for next
-pub record IsRound (exact : Bool) (s : Store) (ns : Table) (ps : List Place) (old new : Found) (next : List Place) : Type 0 where
+pub record IsRound (exact : Bool) (s : Store) (ns : Table)
+    (ps : List Place) (old new : Found) (next : List Place) : Type 0 where
   pub found : Found
   pub honest : AreHonestAt exact s ns ps found
   pub kept : (x : EntityUID) → new x ≡ kept_and (old x) (found x)
@@ -47,9 +50,13 @@ pub record AreNoted (ps old new : List Place) : Type 0 where
 
 -- all that is needed is asked for, or pending: of the roots' values, and of the entities that were asked for
 pub record IsComplete (ns : Table) (q : Request) (s : Store) (asked pending : List Place) : Type 0 where
-  pub begun : (b : Bool) (x : EntityUID) (a : Address) → roots_point ns q b x a ≡ true → (wants b ns asked x a || wants b ns pending x a) ≡ true
-  pub followed : (b : Bool) (y : EntityUID) (e : StoredEntity) → entity_at s y ≡ Some e → (x : EntityUID) (a : Address) → entity_points e (wants b ns asked y) x a ≡ true → (wants b ns asked x a || wants b ns pending x a) ≡ true
+  pub begun : (b : Bool) (x : EntityUID) (a : Address) → roots_point ns q b x a ≡ true →
+      (wants b ns asked x a || wants b ns pending x a) ≡ true
+  pub followed : (b : Bool) (y : EntityUID) (e : StoredEntity) → entity_at s y ≡ Some e →
+      (x : EntityUID) (a : Address) → entity_points e (wants b ns asked y) x a ≡ true →
+      (wants b ns asked x a || wants b ns pending x a) ≡ true
 
 -- whatever is asked for or pending is reached
 pub record IsSound (ns : Table) (q : Request) (s : Store) (asked pending : List Place) : Type 0 where
-  pub reached : (b : Bool) (x : EntityUID) (a : Address) → (wants b ns asked x a || wants b ns pending x a) ≡ true → IsReached b ns q s x a
+  pub reached : (b : Bool) (x : EntityUID) (a : Address) →
+      (wants b ns asked x a || wants b ns pending x a) ≡ true → IsReached b ns q s x a

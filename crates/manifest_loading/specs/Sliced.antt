@@ -22,11 +22,13 @@ trie_or_none o = unwrap_or o []
 abbrev pub WhereTrie : Manifest → Request → (Table → Type 0) → Type 0
 WhereTrie m q P = (t : Table) → trie_for m q ≡ Some t → P t
 
--- each entry of the request is known, no path of the trie is blocked, and the store is the one restricted to what the trie is of
+-- each entry of the request is known, no path of the trie is blocked, and the store is the one restricted to
+-- what the trie is of
 pub record IsSlice (t : Table) (q : Request) (s sliced : Store) : Type 0 where
   pub whole : IsWhole q
   pub free : (u : Val) → ¬ IsBlocked t q s u
-  pub restricted : (reads : List AccessPath) (demands : List Demand) → IsTrieOf reads demands t → sliced ≡ restrict reads demands q s
+  pub restricted : (reads : List AccessPath) (demands : List Demand) → IsTrieOf reads demands t →
+      sliced ≡ restrict reads demands q s
 
 -- an entry of the request is not known, or a path of the trie is blocked at the value; or memory ran out
 abbrev pub IsRefused : Table → Request → Store → EntitySliceError → Type 0

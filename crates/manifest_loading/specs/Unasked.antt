@@ -18,7 +18,8 @@ DemandsNothing t = (p r : AccessPath) → asks t p r ≡ false
 
 -- from no place a path leads to where ancestors are asked for
 abbrev pub DemandNothing : Table → List Place → Type 0
-DemandNothing ns ps = (x : EntityUID) (ms : List Step) (r : AccessPath) → wants true ns ps x (map edge_of ms ++ address_of r) ≡ false
+DemandNothing ns ps = (x : EntityUID) (ms : List Step) (r : AccessPath) →
+    wants true ns ps x (map edge_of ms ++ address_of r) ≡ false
 
 -- the request asks for some ancestor
 abbrev pub AsksForSome : AncestorsRequest → Type 0

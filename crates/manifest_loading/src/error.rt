@@ -48,8 +48,8 @@ pub enum EntitySliceError {
         /// How many lists came.
         got: usize,
     },
-    /// The loader gave an entity with another id than the one that was asked for, or one that does not merge with what it had
-    /// given before.
+    /// The loader gave an entity with another id than the one that was asked for, or one that does not merge
+    /// with what it had given before.
     #[error("the loader's answers for `{uid}` do not agree")]
     InconsistentLoader {
         /// The id that was asked for.

@@ -31,16 +31,17 @@ use std::sync::ledger::Ledger;
 use step_counts::Steps;
 use trie_traversal::first_places;
 
-/// The entities that the paths of the trie reach on the request, each with what is read of it and those of its ancestors that
-/// are asked for, as a loader gives them. A step is counted for each call of the loader's `load_entities`. Its
-/// `load_ancestors` is called once at most, and not where the trie asks for no ancestors. Along a trie without paths the
-/// loader is not called.
+/// The entities that the paths of the trie reach on the request, each with what is read of it and those of
+/// its ancestors that are asked for, as a loader gives them. A step is counted for each call of the loader's
+/// `load_entities`. Its `load_ancestors` is called once at most, and not where the trie asks for no
+/// ancestors. Along a trie without paths the loader is not called.
 ///
-/// Errs with `PartialRequest` exactly where an entry of the request is not known; with `IncompatibleEntityManifest` for a
-/// value below which a path of the trie goes on, or of which ancestors are asked for, though it has none; with
-/// `WrongNumberOfEntities` or `WrongNumberOfAncestors` where the loader gives more or fewer answers than were asked for; with
-/// `InconsistentLoader` where an entity that it gives has another id than was asked for, or does not merge with what it gave
-/// before; with `LoaderFault` where it fails; and with `OutOfMemory` where memory runs out.
+/// Errs with `PartialRequest` exactly where an entry of the request is not known; with
+/// `IncompatibleEntityManifest` for a value below which a path of the trie goes on, or of which ancestors are
+/// asked for, though it has none; with `WrongNumberOfEntities` or `WrongNumberOfAncestors` where the loader
+/// gives more or fewer answers than were asked for; with `InconsistentLoader` where an entity that it gives
+/// has another id than was asked for, or does not merge with what it gave before; with `LoaderFault` where it
+/// fails; and with `OutOfMemory` where memory runs out.
 pub fn load_trie<D: EntityLoader, L: Ledger>(
     alloc: Global,
     trie: &RootAccessTrie,

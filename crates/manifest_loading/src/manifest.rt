@@ -22,11 +22,12 @@ use manifest_core::EntityManifest;
 use std::alloc::{AllocError, Global};
 use std::sync::ledger::Ledger;
 
-/// The entities that the manifest's trie of the request's type reads on the request, as a loader gives them; without a trie
-/// none, and the loader is not asked; nor is it along a trie without paths. A step is counted for each call of the loader's
-/// `load_entities`.
+/// The entities that the manifest's trie of the request's type reads on the request, as a loader gives them;
+/// without a trie none, and the loader is not asked; nor is it along a trie without paths. A step is counted
+/// for each call of the loader's `load_entities`.
 ///
-/// Errors: `PartialRequest` exactly where an entry of the request is not known; the others as of a trie's loading.
+/// Errors: `PartialRequest` exactly where an entry of the request is not known; the others as of a trie's
+/// loading.
 pub fn load_entities<D: EntityLoader, L: Ledger>(
     alloc: Global,
     manifest: &EntityManifest,

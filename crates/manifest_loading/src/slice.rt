@@ -11,10 +11,10 @@ use manifest_core::EntityManifest;
 use std::alloc::Global;
 use store_slices::{blocked_value, restricted_store};
 
-/// The store restricted to what the manifest reads for a request of this type; the empty store where it has no trie for that
-/// type. Refused with `PartialRequest` exactly where an entry of the request is not known; else with
-/// `IncompatibleEntityManifest`, and such a value, exactly where a path of the trie leads to a value from which it cannot
-/// go on; and with `OutOfMemory` where memory runs out.
+/// The store restricted to what the manifest reads for a request of this type; the empty store where it has
+/// no trie for that type. Refused with `PartialRequest` exactly where an entry of the request is not known;
+/// else with `IncompatibleEntityManifest`, and such a value, exactly where a path of the trie leads to a
+/// value from which it cannot go on; and with `OutOfMemory` where memory runs out.
 pub fn slice_entities(
     alloc: Global,
     manifest: &EntityManifest,

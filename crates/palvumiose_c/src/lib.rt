@@ -106,22 +106,25 @@ fn lay_over(text: &[u8], out: &mut [u8])
 
 /// Answers a command on a document, as the program does: its status and its text.
 ///
-/// `command` is the words that would stand behind the program's name, with a zero byte between two of them, as `decide`, or
-/// `level`, a zero byte and `2`. `document` is the bytes that the program would read. `out` gets the text, or its front where
-/// `out` is shorter; behind the text `out` stays as it was. `size` gets the size of the whole text: where it is more than
-/// `out` has room for, call again with that much room. The result is the program's status. It is never 8 or 9, since nothing
-/// is read or written outside; 10 says that memory ran out, and then there is no text.
+/// `command` is the words that would stand behind the program's name, with a zero byte between two of them,
+/// as `decide`, or `level`, a zero byte and `2`. `document` is the bytes that the program would read. `out`
+/// gets the text, or its front where `out` is shorter; behind the text `out` stays as it was. `size` gets the
+/// size of the whole text: where it is more than `out` has room for, call again with that much room. The
+/// result is the program's status. It is never 8 or 9, since nothing is read or written outside; 10 says that
+/// memory ran out, and then there is no text.
 ///
 /// Nothing is kept between two calls, and nothing is left to free. Calls may run in many threads at a time.
 ///
 /// What the caller owes, and nothing checks:
 ///
-/// - No pointer is null, not even where its size is 0, and each leads to as many bytes as its size says, fewer than 2^63.
-/// - `out` and `size` overlap neither each other nor `command` and `document`. During the call no other thread writes to any of
-///   the four, or reads `out` and `size`.
-/// - `malloc`, `realloc` and `free`, which the call uses, are those of one allocator, and may be called in the thread: not in
-///   a signal handler, and not in a child that was forked from a process with threads.
-/// - The thread has 1 MiB of stack left. A document may be nested so deep that less is not enough, and then the process ends.
+/// - No pointer is null, not even where its size is 0, and each leads to as many bytes as its size says,
+///   fewer than 2^63.
+/// - `out` and `size` overlap neither each other nor `command` and `document`. During the call no other
+///   thread writes to any of the four, or reads `out` and `size`.
+/// - `malloc`, `realloc` and `free`, which the call uses, are those of one allocator, and may be called in
+///   the thread: not in a signal handler, and not in a child that was forked from a process with threads.
+/// - The thread has 1 MiB of stack left. A document may be nested so deep that less is not enough, and then
+///   the process ends.
 #[unsafe(no_mangle)]
 pub extern "C" fn palvumiose_c_run(
     alloc: Global,
@@ -130,18 +133,19 @@ pub extern "C" fn palvumiose_c_run(
     out: &mut [u8],
     size: &mut usize,
 ) -> u8
-    // The answer that is due for the words and the document, or that memory ran out: its status is the result, its text is in
-    // `out` as far as there is room, and `size` is the text's size.
+    // The answer that is due for the words and the document, or that memory ran out: its status is the
+    // result, its text is in `out` as far as there is room, and `size` is the text's size.
     ensures told { (a : Answer) × IsTold (command_of (words_in command.now)) document.now a
         × (result ≡ code_of a.status) × IsHanded a.text size.new out.old out.new }
 
-    // The headline: where `slice` answers 0 the document keeps every rule, and the text is its store restricted to what its policies
-    // read, with the response; on that slice, and on every store between it and the whole one, every policy has the outcome that
-    // it has on the whole store.
+    // The headline: where `slice` answers 0 the document keeps every rule, and the text is its store
+    // restricted to what its policies read, with the response; on that slice, and on every store between it
+    // and the whole one, every policy has the outcome that it has on the whole store.
     ensures headline { command_of (words_in command.now) ≡ Some Command.Slice → result ≡ 0
         → HandsOut Command.Slice IsSliced document.now size.new out.old out.new }
 
-    // Where `decide` answers 0 the document keeps every rule, and the text is the response on its whole store.
+    // Where `decide` answers 0 the document keeps every rule, and the text is the response on its
+    // whole store.
     ensures decided { command_of (words_in command.now) ≡ Some Command.Decide → result ≡ 0
         → HandsOut Command.Decide IsDecided document.now size.new out.old out.new }
 

@@ -16,8 +16,8 @@ use Rattle.table_loader.specs.State.{has_entity, attribute_at, tags_at}
 abbrev pub tags_from_rows : Tables → ViewData → EntityUID → Fields
 tags_from_rows t v u = if asks v (any_tag ∷ []) then tags_at t u else no_fields
 
--- an entity with the attributes of the tables with which the trie goes on, and no others, with all tags where it goes on
--- with any tag, and without ancestors
+-- an entity with the attributes of the tables with which the trie goes on, and no others, with all tags where
+-- it goes on with any tag, and without ancestors
 pub record IsFromRows (t : Tables) (r : EntityRequest) (e : StoredEntity) : Type 0 where
   pub uid : e.uid ≡ r.entity_id
   pub ascending : KeysAscend e.attrs

@@ -1,4 +1,5 @@
--- What contracts see of a loader over rows: the store of the tables that steady rows tell, where it is in order.
+-- What contracts see of a loader over rows: the store of the tables that steady rows tell, where it is
+-- in order.
 use Rattle.std.specs.Prelude.{ℕ, Bool, true, false, ◌&&◌, List, [], ◌∷◌, map, Option, Some, None, if◌then◌else◌}
 use Rattle.std.specs.List.{list_all}
 use Rattle.std.specs.Option.{option_and_then}
@@ -47,7 +48,8 @@ store_in_order t = if is_store_ordered (store_of t) then Some (store_of t) else 
 abbrev pub store_told : RowsState → Option Store
 store_told r = if r.steady then option_and_then store_in_order r.told else None
 
--- a loader over rows that was asked so often for entities, and for ancestors: it may answer more than what is asked, and never strays
+-- a loader over rows that was asked so often for entities, and for ancestors: it may answer more than what is
+-- asked, and never strays
 abbrev pub loader_state : RowsState → ℕ → ℕ → LoaderState
 loader_state r asked listed = record {
   store = store_told r;

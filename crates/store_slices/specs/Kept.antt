@@ -38,7 +38,8 @@ pub record IsGrouped (ps : List Place) (m : Numbers) : Type 0 where
 
 -- one number more for an entity
 pub record IsNumbered (x : EntityUID) (i : ℕ) (old new : Numbers) : Type 0 where
-  pub tests : (f : ℕ → Bool) (y : EntityUID) → list_any f (numbers_at new y) ≡ (list_any f (numbers_at old y) || (uid_eq x y && f i))
+  pub tests : (f : ℕ → Bool) (y : EntityUID) →
+      list_any f (numbers_at new y) ≡ (list_any f (numbers_at old y) || (uid_eq x y && f i))
   pub keys : (y : EntityUID) → is_some (get uid_cmp new y) ≡ (is_some (get uid_cmp old y) || uid_eq x y)
 
 -- what the nodes of each entity lead along, and no ancestors
@@ -71,4 +72,5 @@ AreNodes ns m = (x : EntityUID) → is_some (get uid_cmp m x) ≡ some_leads ns 
 -- the ids that the ancestors' tries of each place name, where they are followed in what is kept
 abbrev pub AreNamed : Table → Request → List Place → BTreeMap EntityUID StoredEntity → NamedIds → Type 0
 AreNamed ns q ps kept m =
-    (s : Store) → IsKept kept s → (p : Place) → IsIn p ps → (y : EntityUID) → (names m p.number y ≡ true) ↔ IsNamed (node_of ns p) q s y
+    (s : Store) → IsKept kept s → (p : Place) → IsIn p ps →
+    (y : EntityUID) → (names m p.number y ≡ true) ↔ IsNamed (node_of ns p) q s y

@@ -17,8 +17,10 @@ use Rattle.trie_traversal.specs.declared.place.Place.{Place}
 use Rattle.trie_traversal.specs.Leads.{EntityLeads, IsLed}
 use Rattle.trie_traversal.specs.Wants.{sees, wants, points, entity_points}
 
--- a path leads to the entity, and the trie goes on from its end with the address, to a marked node if that is asked
-pub record IsReached (b : Bool) (ns : Table) (q : Request) (s : Store) (x : EntityUID) (a : Address) : Type 0 where
+-- a path leads to the entity, and the trie goes on from its end with the address, to a marked node if that
+-- is asked
+pub record IsReached (b : Bool) (ns : Table) (q : Request)
+    (s : Store) (x : EntityUID) (a : Address) : Type 0 where
   pub path : AccessPath
   pub reached : IsIn (entity x) (reach s q path)
   pub passes : sees b (whole ns) (address_of path ++ a) ≡ true
@@ -27,12 +29,17 @@ pub record IsReached (b : Bool) (ns : Table) (q : Request) (s : Store) (x : Enti
 abbrev pub either_wants : Bool → Table → List Place → List Place → EntityUID → Address → Bool
 either_wants b ns reached pending x a = wants b ns reached x a || wants b ns pending x a
 
--- the roots' values, and the entities that were reached, lead to nothing but what was reached or is pending; all that is reached
--- by a path of the trie
+-- the roots' values, and the entities that were reached, lead to nothing but what was reached or is pending;
+-- all that is reached by a path of the trie
 pub record IsExplored (ns : Table) (q : Request) (s : Store) (reached pending : List Place) : Type 0 where
-  pub begun : (b : Bool) (r : EntityRoot) (x : EntityUID) (a : Address) → points (root_value q r) (λ c. sees b (whole ns) (Root r ∷ c)) x a ≡ true → either_wants b ns reached pending x a ≡ true
-  pub followed : (b : Bool) (y : EntityUID) (e : StoredEntity) → entity_at s y ≡ Some e → (x : EntityUID) (a : Address) → entity_points e (wants b ns reached y) x a ≡ true → either_wants b ns reached pending x a ≡ true
-  pub sound : (b : Bool) (x : EntityUID) (a : Address) → either_wants b ns reached pending x a ≡ true → IsReached b ns q s x a
+  pub begun : (b : Bool) (r : EntityRoot) (x : EntityUID) (a : Address) →
+      points (root_value q r) (λ c. sees b (whole ns) (Root r ∷ c)) x a ≡ true →
+      either_wants b ns reached pending x a ≡ true
+  pub followed : (b : Bool) (y : EntityUID) (e : StoredEntity) → entity_at s y ≡ Some e →
+      (x : EntityUID) (a : Address) → entity_points e (wants b ns reached y) x a ≡ true →
+      either_wants b ns reached pending x a ≡ true
+  pub sound : (b : Bool) (x : EntityUID) (a : Address) →
+      either_wants b ns reached pending x a ≡ true → IsReached b ns q s x a
 
 -- the steps along which an answer points lead there
 abbrev pub IsAnswerLed : ViewData → Option StoredEntity → Type 0

@@ -13,8 +13,11 @@ pub record IsTrieOf (reads : List AccessPath) (demands : List Demand) (t : Table
 -- the least trie is one, where each path of which something is demanded is read
 abbrev pub LeastTriesFit : Type 0
 LeastTriesFit =
-    (reads : List AccessPath) (demands : List Demand) (t : Table) → ((d : Demand) → IsIn d demands → IsFrontOfRead reads d.0) → IsLeast reads demands t → IsTrieOf reads demands t
+    (reads : List AccessPath) (demands : List Demand) (t : Table) →
+    ((d : Demand) → IsIn d demands → IsFrontOfRead reads d.0) → IsLeast reads demands t →
+    IsTrieOf reads demands t
 
 -- each trie is one of some paths and demands
 abbrev pub EveryTrieIsOfSome : Type 0
-EveryTrieIsOfSome = (t : Table) → IsTable t → (reads : List AccessPath) × (demands : List Demand) × IsTrieOf reads demands t
+EveryTrieIsOfSome =
+    (t : Table) → IsTable t → (reads : List AccessPath) × (demands : List Demand) × IsTrieOf reads demands t

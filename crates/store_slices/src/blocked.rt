@@ -18,8 +18,9 @@ use std::alloc::{AllocError, Global};
 use std::collections::BTreeSet;
 use trie_traversal::{Place, stuck_in_context, stuck_in_entity};
 
-/// A value to which a path of the trie leads and below which it goes on, though the value is neither id nor record, or of
-/// which ancestors are asked for, though it is no id. None exactly where there is no such value. Errs where memory runs out.
+/// A value to which a path of the trie leads and below which it goes on, though the value is neither id nor
+/// record, or of which ancestors are asked for, though it is no id. None exactly where there is no such
+/// value. Errs where memory runs out.
 pub fn blocked_value(
     alloc: Global,
     trie: &RootAccessTrie,

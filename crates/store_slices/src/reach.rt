@@ -18,7 +18,8 @@ use std::alloc::{AllocError, Global};
 use std::collections::BTreeSet;
 use trie_traversal::{Place, ask, follow_entity, root_places};
 
-/// The places to which the paths of the trie lead in the store: each entity that is reached, with each node at which it is.
+/// The places to which the paths of the trie lead in the store: each entity that is reached, with each node
+/// at which it is.
 pub(crate) fn reached_places(
     alloc: Global,
     request: &Request,
@@ -39,7 +40,8 @@ pub(crate) fn reached_places(
     Ok(reached)
 }
 
-// Follows the places that were not reached before, and adds them to those that were. Answers the places to which they lead.
+// Follows the places that were not reached before, and adds them to those that were. Answers the places to
+// which they lead.
 fn follow_round(
     alloc: Global,
     nodes: &[Node],

@@ -14,8 +14,9 @@ use access_tries::RootAccessTrie;
 use entity_store::{Entities, Request};
 use std::alloc::{AllocError, Global};
 
-/// The store restricted to the paths of a trie: each entity that a path reaches, with the attributes, tags and fields along
-/// which paths go on there, and those of its ancestors that are asked for. Errs where memory runs out.
+/// The store restricted to the paths of a trie: each entity that a path reaches, with the attributes, tags
+/// and fields along which paths go on there, and those of its ancestors that are asked for. Errs where memory
+/// runs out.
 pub fn restricted_store(
     alloc: Global,
     trie: &RootAccessTrie,

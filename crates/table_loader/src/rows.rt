@@ -17,7 +17,8 @@ pub enum RowsError {
     OutOfMemory,
 }
 
-/// Tables of entities: a row for each entity, for each of its attributes and tags, and for each of its ancestors.
+/// Tables of entities: a row for each entity, for each of its attributes and tags, and for each of its
+/// ancestors.
 ///
 /// Where rows tell their tables after a call, they told the same ones before it, and the answer is
 /// what the store of these tables has. Steady rows tell after a call what they told before it. A call
