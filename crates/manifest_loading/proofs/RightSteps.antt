@@ -24,14 +24,14 @@ use Rattle.manifest_loading.specs.Causes.{IsRight}
 use Rattle.manifest_loading.specs.Keeping.{Found, AreNotTaken, refusal_of}
 use Rattle.manifest_loading.specs.KeptPart.{IsState}
 use Rattle.manifest_loading.specs.Ordered.{HasOrder}
-use Rattle.manifest_loading.specs.Right.{IsStuck, IsRefused}
+use Rattle.manifest_loading.specs.Right.{IsStuck, IsRoundError}
 use Rattle.manifest_loading.specs.Rounds.{AsksFor, AreHonestAt}
 use Rattle.manifest_loading.specs.declared.error.EntitySliceError.{EntitySliceError}
 use Rattle.manifest_loading.specs.declared.error.EntitySliceError.TheVariants as error
 use Rattle.manifest_loading.proofs.KeptSteps.{merges}
 use Rattle.manifest_loading.proofs.RoundSteps.{rose_later}
 
-pub right_refused : (exact : Bool) (s : Store) (ns : Table) (ps : List Place) (kept : Found) (old new : LoaderState) (e : EntitySliceError) → IsRight (λ v. ⊥) old new e → IsRefused exact s ns ps kept old new e
+pub right_refused : (exact : Bool) (s : Store) (ns : Table) (ps : List Place) (kept : Found) (old new : LoaderState) (e : EntitySliceError) → IsRight (λ v. ⊥) old new e → IsRoundError exact s ns ps kept old new e
 right_refused exact s ns ps kept old new (error.IncompatibleEntityManifest e) h = absurd h
 right_refused exact s ns ps kept old new error.LoaderFault h = h
 right_refused exact s ns ps kept old new error.OutOfMemory h = tt
@@ -40,7 +40,7 @@ right_refused exact s ns ps kept old new (error.WrongNumberOfEntities e) h = abs
 right_refused exact s ns ps kept old new (error.WrongNumberOfAncestors n m) h = absurd h
 right_refused exact s ns ps kept old new (error.InconsistentLoader u k d) h = absurd h
 
-pub taken_refused : (exact : Bool) (s : Store) (ns : Table) (ps : List Place) (kept found : Found) (old new : LoaderState) → AreHonestAt exact s ns ps found → (e : EntitySliceError) → AreNotTaken ns ps kept found e → IsRefused exact s ns ps kept old new e
+pub taken_refused : (exact : Bool) (s : Store) (ns : Table) (ps : List Place) (kept found : Found) (old new : LoaderState) → AreHonestAt exact s ns ps found → (e : EntitySliceError) → AreNotTaken ns ps kept found e → IsRoundError exact s ns ps kept old new e
 taken_refused exact s ns ps kept found old new t (error.IncompatibleEntityManifest e) h = (found, t, h)
 taken_refused exact s ns ps kept found old new t (error.InconsistentLoader u k d) h = (found, t, h)
 taken_refused exact s ns ps kept found old new t error.OutOfMemory h = tt
@@ -81,7 +81,7 @@ module _ (exact : Bool) (ns : Table) (q : Request) (s : Store) (asked ps : List 
         sticks = subst (λ z. EntitySticks z (tests_of (node_of ns h.place)) v) g.is k;
       }
 
-  pub refused_right : (old mid new : LoaderState) → Continues old mid → (e : EntitySliceError) → IsRefused exact s ns ps kept mid new e → IsRight (IsStuck ns q s) old new e
+  pub refused_right : (old mid new : LoaderState) → Continues old mid → (e : EntitySliceError) → IsRoundError exact s ns ps kept mid new e → IsRight (IsStuck ns q s) old new e
   refused_right old mid new g (error.IncompatibleEntityManifest e) h = stuck h.0 h.1 e.value h.2
   refused_right old mid new g (error.InconsistentLoader u k d) h = by k h.2
     where

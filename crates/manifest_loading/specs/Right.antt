@@ -48,18 +48,19 @@ abbrev pub IsRefusedRightly :
 IsRefusedRightly t q old new result =
     WhereKeysAscend old (λ s. IfErr result (IsRight (SticksAt t q s) old new))
 
--- a round is refused: honest answers lead nowhere on, or do not merge with what is kept, or the loader failed
-abbrev pub IsRefused : Bool → Store → Table → List Place →
+-- why a round is refused: honest answers lead nowhere on, or do not merge with what is kept, or the loader
+-- failed
+abbrev pub IsRoundError : Bool → Store → Table → List Place →
     Found → LoaderState → LoaderState → EntitySliceError → Type 0
-IsRefused exact s ns ps kept old new (error.IncompatibleEntityManifest e) =
+IsRoundError exact s ns ps kept old new (error.IncompatibleEntityManifest e) =
     (found : Found) × AreHonestAt exact s ns ps found × SomeAnswerSticks ns found ps e.value
-IsRefused exact s ns ps kept old new (error.InconsistentLoader u k d) =
+IsRoundError exact s ns ps kept old new (error.InconsistentLoader u k d) =
     (found : Found) × AreHonestAt exact s ns ps found × AreNotKept kept found (error.InconsistentLoader u k d)
-IsRefused exact s ns ps kept old new error.LoaderFault = Rose old.faults new.faults
-IsRefused exact s ns ps kept old new error.OutOfMemory = Unit {0}
-IsRefused exact s ns ps kept old new e = ⊥
+IsRoundError exact s ns ps kept old new error.LoaderFault = Rose old.faults new.faults
+IsRoundError exact s ns ps kept old new error.OutOfMemory = Unit {0}
+IsRoundError exact s ns ps kept old new e = ⊥
 
 -- a loader that tells this store is refused in a round
 abbrev pub RoundIsRefused :
     Store → Table → List Place → Found → LoaderState → LoaderState → EntitySliceError → Type 0
-RoundIsRefused s ns ps kept old new e = IsRefused old.exact s ns ps kept old new e
+RoundIsRefused s ns ps kept old new e = IsRoundError old.exact s ns ps kept old new e

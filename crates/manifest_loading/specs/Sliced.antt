@@ -31,12 +31,12 @@ pub record IsSlice (t : Table) (q : Request) (s sliced : Store) : Type 0 where
       sliced ≡ restrict reads demands q s
 
 -- an entry of the request is not known, or a path of the trie is blocked at the value; or memory ran out
-abbrev pub IsRefused : Table → Request → Store → EntitySliceError → Type 0
-IsRefused t q s (PartialRequest e) = ¬ IsWhole q
-IsRefused t q s (IncompatibleEntityManifest e) = IsWhole q × IsBlocked t q s e.value
-IsRefused t q s OutOfMemory = Unit {0}
-IsRefused t q s e = ⊥
+abbrev pub IsSliceError : Table → Request → Store → EntitySliceError → Type 0
+IsSliceError t q s (PartialRequest e) = ¬ IsWhole q
+IsSliceError t q s (IncompatibleEntityManifest e) = IsWhole q × IsBlocked t q s e.value
+IsSliceError t q s OutOfMemory = Unit {0}
+IsSliceError t q s e = ⊥
 
 -- the result is the slice along the trie, or why there is none
 abbrev pub IsSliceOrWhy : Table → Request → Store → Result Store EntitySliceError → Type 0
-IsSliceOrWhy t q s result = MatchResult result (IsSlice t q s) (IsRefused t q s)
+IsSliceOrWhy t q s result = MatchResult result (IsSlice t q s) (IsSliceError t q s)

@@ -11,7 +11,7 @@ use Rattle.manifest_loading.specs.Rounds.{IsRound}
 use Rattle.manifest_loading.specs.Unasked.{DemandNothing}
 use Rattle.manifest_loading.proofs.KeepSteps.{none_there}
 use Rattle.manifest_loading.proofs.RoundSteps.{AreDeep, deep_first, deep_more, longest, round_within, goes_on_here, goes_later}
-use Rattle.manifest_loading.specs.Right.{IsRefused}
+use Rattle.manifest_loading.specs.Right.{IsRoundError}
 use Rattle.manifest_loading.proofs.RightSteps.{refused_right}
 use Rattle.manifest_loading.proofs.StateSteps.{state_start, state_next}
 use Rattle.manifest_loading.proofs.UnaskedSteps.{undemanding_noted}
@@ -125,7 +125,7 @@ returns-in_err-next-clause-right g c = λ s told q b.
     let exit = err_from_is_err_and c.from_residual.result c.from_residual.ensures.1 in
     rw (exit.1, exit.2)
     (refused_right old.exact ns q s c.rounds.asked.keys ps (get uid_cmp c.rounds.kept) (inv.honest s told q b) b.order inv.deep.there old mid new inv.goes_on c.in_err-next.field-0.0
-    (subst (λ e. IsRefused e s ns ps (get uid_cmp c.rounds.kept) mid new c.in_err-next.field-0.0) inv.goes_on.exact (c.in_err-next.ensures.right s (inv.goes_on.told s told))))
+    (subst (λ e. IsRoundError e s ns ps (get uid_cmp c.rounds.kept) mid new c.in_err-next.field-0.0) inv.goes_on.exact (c.in_err-next.ensures.right s (inv.goes_on.told s told))))
 
 pub returns-in_err-next-clause-counted : goal.returns-in_err-next-clause-counted
 returns-in_err-next-clause-counted g c =
