@@ -1,0 +1,4 @@
+//! What it says that a JSON value is read as a document.
+#![tactic(auto)]
+
+pub mod laws;
