@@ -10,8 +10,8 @@ returns-clause-done g c is =
     let last = c.answer_lines-ended.result.1 in
     let asked = c.args.document.now in (
       last.conn,
-      all.ready,
       (
+        all.ready,
         all.goes_on,
         λ w told ordered conforms.
             (last.faults, answered_all (IsLineOn asked.schema asked.policies.policies w) _ _ _ _ _ _ _ (all.answered w told ordered conforms) ends.0 ends.1),
