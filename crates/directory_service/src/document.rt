@@ -30,10 +30,7 @@ pub fn read_bytes(alloc: Global, bytes: &[u8]) -> Result<Result<Document, Reply>
 fn read_json(alloc: Global, value: Value) -> Result<Result<Document, Reply>, AllocError>
     ensures { IfOk result (IsReadingOf (view value)) }
 {
-    let read = read_document(alloc, &value);
-    // The value takes as much memory as the document.
-    drop(value);
-    match read {
+    match read_document(alloc, value) {
         Ok(document) => Ok(Ok(document)),
         Err(DocumentFault::Place(place)) => Ok(Err(Reply {
             status: Status::Document,

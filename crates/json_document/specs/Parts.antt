@@ -1,7 +1,8 @@
 -- The parts of a document, in JSON.
-use Rattle.std.specs.Prelude.{ℕ, List, [], ◌∷◌, if◌then◌else◌, Option, Some, None, option_map, codes}
-use Rattle.serde_json.specs.Data.{Data, Items}
-use Rattle.serde_json.specs.Find.{get, as_object}
+use Rattle.std.specs.Prelude.{◌≡◌, ℕ, List, [], ◌∷◌, if◌then◌else◌, Option, Some, None, option_map, codes}
+use Rattle.std.specs.Str.{bytes_eq}
+use Rattle.serde_json.specs.Data.{Data, Items, Members}
+use Rattle.serde_json.specs.Find.{get, get_member, as_object}
 use Rattle.serde_json.specs.View.{view, items_view}
 use Rattle.json_values.specs.Json.{◌>>=◌, has_only, list_of}
 use Rattle.json_document.specs.declared.parts.Parts.{Parts}
@@ -18,13 +19,18 @@ pub record DocumentParts : Type 0 where
 
 abbrev pub parts_view : Parts → DocumentParts
 parts_view p = record {
-  schema = view p.schema.now;
-  policies = items_view p.policies.now;
-  entities = items_view p.entities.now;
-  request = option_map (λ v. view v.now) p.request;
-  requests = items_view p.requests.now;
-  edits = items_view p.edits.now;
+  schema = view p.schema;
+  policies = items_view p.policies.items;
+  entities = items_view p.entities.items;
+  request = option_map view p.request;
+  requests = items_view p.requests.items;
+  edits = items_view p.edits.items;
 }
+
+-- the members without the one of the name
+abbrev pub IsWithout : List ℕ → Members → Members → Type 0
+IsWithout name before after = (other : List ℕ) →
+    get_member other after ≡ (if bytes_eq name other then None else get_member other before)
 
 -- the members that a document of the shape may have
 abbrev pub part_names : Shape → List (List ℕ)

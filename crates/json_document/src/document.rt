@@ -16,6 +16,7 @@ use policy_set::{PolicySet, or_drop};
 use schema_core::ValidatorSchema;
 use serde_json::Value;
 use std::alloc::Global;
+use std::mem;
 
 /// A schema, policies or edits to them, entities, and a request or several.
 #[derive(Debug)]
@@ -55,7 +56,7 @@ impl Drop for Document {
 
 fn with_requests(
     alloc: Global,
-    parts: &Parts<'_>,
+    parts: &mut Parts,
     schema: ValidatorSchema,
     policies: PolicySet,
     edits: Edits,
@@ -63,10 +64,10 @@ fn with_requests(
     request: Request,
 ) -> Result<Document, DocumentFault>
     ensures { MayComeTo result
-        (IsReadBehindRequest (parts_view parts.now) schema policies edits entities request) }
+        (IsReadBehindRequest (parts_view parts.old) schema policies edits entities request) }
 {
     let requests = or_drop!(
-        read_requests(alloc, parts.requests),
+        read_requests(alloc, parts.requests.as_slice()),
         schema,
         policies,
         edits,
@@ -85,16 +86,16 @@ fn with_requests(
 
 fn with_request(
     alloc: Global,
-    parts: &Parts<'_>,
+    parts: &mut Parts,
     schema: ValidatorSchema,
     policies: PolicySet,
     edits: Edits,
     entities: Entities,
 ) -> Result<Document, DocumentFault>
     ensures { MayComeTo result
-        (IsReadBehindStore (parts_view parts.now) schema policies edits entities) }
+        (IsReadBehindStore (parts_view parts.old) schema policies edits entities) }
 {
-    let request = read_request(alloc, parts.request);
+    let request = read_request(alloc, parts.request.as_ref());
     let Some(request) = or_drop!(request, schema, policies, edits, entities) else {
         drop(schema);
         drop(policies);
@@ -107,65 +108,70 @@ fn with_request(
 
 fn with_entities(
     alloc: Global,
-    parts: &Parts<'_>,
+    parts: &mut Parts,
     schema: ValidatorSchema,
     policies: PolicySet,
     edits: Edits,
 ) -> Result<Document, DocumentFault>
-    ensures { MayComeTo result (IsReadBehindEdits (parts_view parts.now) schema policies edits) }
+    ensures { MayComeTo result (IsReadBehindEdits (parts_view parts.old) schema policies edits) }
 {
-    let entities = or_drop!(read_store(alloc, parts.entities), schema, policies, edits);
+    let items = mem::replace(&mut parts.entities, Vec::new(alloc));
+    let entities = or_drop!(read_store(alloc, items), schema, policies, edits);
     with_request(alloc, parts, schema, policies, edits, entities)
 }
 
 fn with_edits(
     alloc: Global,
-    parts: &Parts<'_>,
+    parts: &mut Parts,
     schema: ValidatorSchema,
     policies: PolicySet,
 ) -> Result<Document, DocumentFault>
-    ensures { MayComeTo result (IsReadBehindPolicies (parts_view parts.now) schema policies) }
+    ensures { MayComeTo result (IsReadBehindPolicies (parts_view parts.old) schema policies) }
 {
-    let edits = or_drop!(read_edits(alloc, parts.edits), schema, policies);
+    let edits = or_drop!(read_edits(alloc, parts.edits.as_slice()), schema, policies);
     with_entities(alloc, parts, schema, policies, edits)
 }
 
 fn with_policies(
     alloc: Global,
-    parts: &Parts<'_>,
+    parts: &mut Parts,
     schema: ValidatorSchema,
 ) -> Result<Document, DocumentFault>
-    ensures { MayComeTo result (IsReadBehindSchema (parts_view parts.now) schema) }
+    ensures { MayComeTo result (IsReadBehindSchema (parts_view parts.old) schema) }
 {
-    let policies = or_drop!(read_policies(alloc, parts.policies), schema);
+    let items = mem::replace(&mut parts.policies, Vec::new(alloc));
+    let policies = or_drop!(read_policies(alloc, items), schema);
     with_edits(alloc, parts, schema, policies)
 }
 
-fn read_parts(alloc: Global, parts: &Parts<'_>) -> Result<Document, DocumentFault>
-    ensures { MayComeTo result (IsReadFrom (parts_view parts.now)) }
+fn read_parts(alloc: Global, parts: &mut Parts) -> Result<Document, DocumentFault>
+    ensures { MayComeTo result (IsReadFrom (parts_view parts.old)) }
 {
-    let schema = read_schema(alloc, parts.schema)?;
-    with_policies(alloc, parts, schema)
+    let declared = mem::replace(&mut parts.schema, Value::Null);
+    let schema = read_schema(alloc, &declared);
+    drop(declared);
+    with_policies(alloc, parts, schema?)
 }
 
-/// The document of the shape that the value is; else the place of its first fault.
+/// The document of the shape that the value is; else the place of its first fault. What is read of the value is
+/// let go of at once, so that the whole of it does not stand beside the document.
 #[tactic(auto, unfolding(crate::specs::Reading::IsRead))]
 pub fn read_document_as(
     alloc: Global,
     shape: Shape,
-    value: &Value,
+    value: Value,
 ) -> Result<Document, DocumentFault>
-    ensures { MayComeTo result (IsRead shape (view value.now)) }
+    ensures { MayComeTo result (IsRead shape (view value)) }
 {
-    match parts_of(shape, value) {
-        Some(parts) => read_parts(alloc, &parts),
+    match parts_of(alloc, shape, value) {
+        Some(mut parts) => read_parts(alloc, &mut parts),
         None => Err(DocumentFault::Place(Place::Form)),
     }
 }
 
 /// The document with one request that the value is; else the place of its first fault.
-pub fn read_document(alloc: Global, value: &Value) -> Result<Document, DocumentFault>
-    ensures { MayComeTo result (IsRead Shape.Whole (view value.now)) }
+pub fn read_document(alloc: Global, value: Value) -> Result<Document, DocumentFault>
+    ensures { MayComeTo result (IsRead Shape.Whole (view value)) }
 {
     read_document_as(alloc, Shape::Whole, value)
 }

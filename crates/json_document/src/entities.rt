@@ -105,13 +105,13 @@ fn read_entity(
     }
 }
 
-/// The entities of the items; else the place of the first item that is none.
-pub fn read_entities(alloc: Global, items: &[Value]) -> Result<Vec<Entity>, DocumentFault>
-    ensures { ComesTo (λ v. v.items) result (entities_of [] (items_view items.now)) }
+/// The entities of the items, each of which is let go of once it is read; else the place of the first item that is none.
+pub fn read_entities(alloc: Global, items: Vec<Value>) -> Result<Vec<Entity>, DocumentFault>
+    ensures { ComesTo (λ v. v.items) result (entities_of [] (items_view items.items)) }
 {
     let mut entities = Vec::new(alloc);
     for item in items {
-        let Some(entity) = read_entity(alloc, item, entities.last())? else {
+        let Some(entity) = read_entity(alloc, &item, entities.last())? else {
             return Err(DocumentFault::Place(Place::Entity(entities.len())));
         };
         entities.push(entity)?;

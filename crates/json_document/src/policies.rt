@@ -122,13 +122,15 @@ fn add_entry(
     add_read(alloc, policies, index, read)
 }
 
-/// The policies of the items; else the place of the first fault.
-pub fn read_policies(alloc: Global, items: &[Value]) -> Result<PolicySet, DocumentFault>
-    ensures { ComesTo (λ s. s) result (policies_of 0 no_policies (items_view items.now)) }
+/// The policies of the items, each of which is let go of once it is read; else the place of the first fault.
+pub fn read_policies(alloc: Global, items: Vec<Value>) -> Result<PolicySet, DocumentFault>
+    ensures { ComesTo (λ s. s) result (policies_of 0 no_policies (items_view items.items)) }
 {
     let mut policies = PolicySet::new(alloc);
-    for (index, item) in items.iter().enumerate() {
-        add_entry(alloc, &mut policies, index, item)?;
+    let mut index = 0;
+    for item in items {
+        add_entry(alloc, &mut policies, index, &item)?;
+        index += 1;
     }
     Ok(policies)
 }

@@ -21,18 +21,14 @@ const DOCUMENT: &str =
 // What is answered of the document, call by call; nothing where it is none.
 fn answers(alloc: Global) -> Result<String, Fail> {
     match parse_json(alloc, DOCUMENT.as_bytes())? {
-        Some(value) => {
-            let read = read_document(alloc, &value);
-            drop(value);
-            match read {
-                Ok(document) => {
-                    let text = answers_on(alloc, &document);
-                    drop(document);
-                    text
-                }
-                Err(_) => Ok(String::new(alloc)),
+        Some(value) => match read_document(alloc, value) {
+            Ok(document) => {
+                let text = answers_on(alloc, &document);
+                drop(document);
+                text
             }
-        }
+            Err(_) => Ok(String::new(alloc)),
+        },
         None => Ok(String::new(alloc)),
     }
 }

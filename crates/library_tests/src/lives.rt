@@ -233,9 +233,7 @@ fn told_of(alloc: Global, edits: &str) -> Result<(String, u64), Fail> {
     let Some(value) = parse_json(alloc, text.as_bytes())? else {
         return Err(Fail::new("no JSON"));
     };
-    let read = read_document_as(alloc, Shape::Live, &value);
-    drop(value);
-    match read {
+    match read_document_as(alloc, Shape::Live, value) {
         Ok(document) => told::<Brand>(alloc, document, Blank::new(1)),
         Err(error) => {
             drop(error);

@@ -25,16 +25,12 @@ const BOB: &str =
 // The document's store cut at the level, a bar behind each entity.
 fn cut(alloc: Global, level: u32) -> Result<String, Fail> {
     match parse_json(alloc, DOCUMENT.as_bytes())? {
-        Some(value) => {
-            let text = cut_value(alloc, &value, level);
-            drop(value);
-            text
-        }
+        Some(value) => cut_value(alloc, value, level),
         None => Ok(String::new(alloc)),
     }
 }
 
-fn cut_value(alloc: Global, value: &Value, level: u32) -> Result<String, Fail> {
+fn cut_value(alloc: Global, value: Value, level: u32) -> Result<String, Fail> {
     match read_document(alloc, value) {
         Ok(document) => {
             let text = cut_store(alloc, &document, level);

@@ -3,26 +3,14 @@
 use entity_store::{Entities, Entity};
 use json_document::{Document, parse_json, read_document};
 use json_response::write_entity;
-use serde_json::Value;
 use std::alloc::Global;
 use std::test::Fail;
 
 /// The document that a text says.
 pub(crate) fn document_of(alloc: Global, text: &str) -> Result<Option<Document>, Fail> {
     match parse_json(alloc, text.as_bytes())? {
-        Some(value) => {
-            let document = document_in(alloc, &value);
-            drop(value);
-            Ok(document)
-        }
+        Some(value) => Ok(read_document(alloc, value).ok()),
         None => Ok(None),
-    }
-}
-
-fn document_in(alloc: Global, value: &Value) -> Option<Document> {
-    match read_document(alloc, value) {
-        Ok(document) => Some(document),
-        Err(_) => None,
     }
 }
 

@@ -47,12 +47,14 @@ const CONFORMS: &str = "conforms\n";
 pub(crate) const PARTIAL_REQUEST: &str =
     "request: entity slicing requires a fully concrete request. Got a partial request\n";
 
-/// The reply that is due for the command and a document of these bytes.
+/// The reply that is due for the command and a document of these bytes, which are let go of once they are read.
 #[tactic(auto, unfolding(crate::specs::Answer::IsAnswer))]
-pub(crate) fn reply(alloc: Global, command: &Command, bytes: &[u8]) -> Result<Reply, AllocError>
-    ensures { IfOk result (λ r. IsAnswer command.now bytes.now (reply_view r)) }
+pub(crate) fn reply(alloc: Global, command: &Command, bytes: Vec<u8>) -> Result<Reply, AllocError>
+    ensures { IfOk result (λ r. IsAnswer command.now bytes.items (reply_view r)) }
 {
-    match parse_json(alloc, bytes)? {
+    let value = parse_json(alloc, bytes.as_slice());
+    drop(bytes);
+    match value? {
         Some(value) => reply_to_value(alloc, command, value),
         None => reply_with(alloc, Status::Document, NO_JSON),
     }
@@ -62,10 +64,7 @@ pub(crate) fn reply(alloc: Global, command: &Command, bytes: &[u8]) -> Result<Re
 fn reply_to_value(alloc: Global, command: &Command, value: Value) -> Result<Reply, AllocError>
     ensures { IfOk result (λ r. IsAnswerFor command.now (view value) (reply_view r)) }
 {
-    let read = read_document_as(alloc, shape_of(command), &value);
-    // The value takes as much memory as the document: it is let go of before the reply is made.
-    drop(value);
-    match read {
+    match read_document_as(alloc, shape_of(command), value) {
         Ok(mut document) => {
             is_well_made(&document);
             let reply = reply_to(alloc, command, &mut document);

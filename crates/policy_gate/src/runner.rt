@@ -45,7 +45,7 @@ fn from_document<S: Source>(
     ensures taken { TakesFew (S.state source.old) (S.state source.new) }
 {
     match read_document_bytes(alloc, source) {
-        Ok(bytes) => reply(alloc, command, bytes.as_slice()),
+        Ok(bytes) => reply(alloc, command, bytes),
         Err(ReadError::Fault) => reply_with(alloc, Status::ReadFault, READ_FAULT),
         Err(ReadError::TooLong) => reply_with(alloc, Status::TooLong, TOO_LONG),
         Err(ReadError::OutOfMemory) => Err(AllocError),
@@ -64,7 +64,7 @@ fn reply_to<S: Source>(
     ensures taken { TakesFew (S.state source.old) (S.state source.new) }
 {
     match own_document(alloc, command)? {
-        Some(document) => reply(alloc, command, document.as_bytes()),
+        Some(document) => reply(alloc, command, document.into_bytes()),
         None => from_document(alloc, command, source),
     }
 }
