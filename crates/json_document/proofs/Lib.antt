@@ -1,2 +1,3 @@
 mod Added
 pub mod OneReading
+mod Taken

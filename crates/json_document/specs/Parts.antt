@@ -1,7 +1,7 @@
 -- The parts of a document, in JSON.
-use Rattle.std.specs.Prelude.{◌≡◌, ℕ, List, [], ◌∷◌, if◌then◌else◌, Option, Some, None, option_map, codes}
+use Rattle.std.specs.Prelude.{◌≡◌, ℕ, List, [], ◌∷◌, if◌then◌else◌, Option, Some, None, option_map, unwrap_or, codes}
 use Rattle.std.specs.Str.{bytes_eq}
-use Rattle.serde_json.specs.Data.{Data, Items, Members}
+use Rattle.serde_json.specs.Data.{Data, null, Items, no_items, Members}
 use Rattle.serde_json.specs.Find.{get, get_member, as_object}
 use Rattle.serde_json.specs.View.{view, items_view}
 use Rattle.json_values.specs.Json.{◌>>=◌, has_only, list_of}
@@ -31,6 +31,21 @@ parts_view p = record {
 abbrev pub IsWithout : List ℕ → Members → Members → Type 0
 IsWithout name before after = (other : List ℕ) →
     get_member other after ≡ (if bytes_eq name other then None else get_member other before)
+
+-- the items of the list of the name; none where it is absent, or is no list
+abbrev pub items_named : List ℕ → Members → Items
+items_named name ms = unwrap_or (list_of (get_member name ms)) no_items
+
+-- the parts of the members of a document
+abbrev pub parts_in : Members → DocumentParts
+parts_in ms = record {
+  schema = unwrap_or (get_member (codes "schema") ms) null;
+  policies = items_named (codes "policies") ms;
+  entities = items_named (codes "entities") ms;
+  request = get_member (codes "request") ms;
+  requests = items_named (codes "requests") ms;
+  edits = items_named (codes "edits") ms;
+}
 
 -- the members that a document of the shape may have
 abbrev pub part_names : Shape → List (List ℕ)

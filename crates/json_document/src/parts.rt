@@ -1,13 +1,13 @@
 //! The parts of a document, in JSON.
 
-ghost use Rattle.std.specs.Prelude.{◌≡◌, option_map};
-ghost use Rattle.serde_json.specs.Find.{get_member};
+ghost use Rattle.std.specs.Prelude.{◌≡◌, is_some, option_map};
+ghost use Rattle.serde_json.specs.Find.{as_object, get_member};
 ghost use Rattle.serde_json.specs.View.{view, items_view, members_view};
-ghost use Rattle.json_values.specs.Json.{has_only, list_of};
-ghost use Rattle.json_document.specs.Parts.{IsWithout, part_names, parts_of, parts_view};
+ghost use Rattle.json_values.specs.Json.{has_only};
+ghost use Rattle.json_document.specs.Parts.{IsWithout, items_named, part_names, parts_in, parts_of, parts_view};
 
 use crate::Shape;
-use json_values::has_only;
+use json_values::{has_only, list_items};
 use serde_json::{Map, Value};
 use std::alloc::Global;
 
@@ -33,6 +33,24 @@ fn has_part_names(shape: Shape, members: &Map<String, Value>) -> bool
     }
 }
 
+// Something, where the value has the form of a document of the shape.
+#[tactic(auto, unfolding(crate::specs::Parts::parts_of))]
+fn form_of(shape: Shape, value: &Value) -> Option<()>
+    ensures { is_some result ≡ is_some (parts_of shape (view value.now)) }
+{
+    let members = value.as_object()?;
+    value.get("schema")?;
+    list_items(value.get("policies"))?;
+    list_items(value.get("entities"))?;
+    list_items(value.get("requests"))?;
+    list_items(value.get("edits"))?;
+    if has_part_names(shape, members) {
+        Some(())
+    } else {
+        None
+    }
+}
+
 // Takes the member with the name out.
 fn taken(members: &mut Map<String, Value>, name: &str) -> Option<Value>
     ensures value { option_map view result ≡ get_member name.now (members_view members.old.entries) }
@@ -41,46 +59,48 @@ fn taken(members: &mut Map<String, Value>, name: &str) -> Option<Value>
     members.remove(name)
 }
 
-// Takes the list with the name out, and answers its items; an absent one has none.
-fn taken_items(
-    alloc: Global,
-    members: &mut Map<String, Value>,
-    name: &str,
-) -> Option<Vec<Value>>
-    ensures items { option_map (λ vs. items_view vs.items) result ≡
-        list_of (get_member name.now (members_view members.old.entries)) }
+// Takes the list with the name out, and answers its items; one that is absent, or is no list, has none.
+fn taken_items(alloc: Global, members: &mut Map<String, Value>, name: &str) -> Vec<Value>
+    ensures items { items_view result.items ≡ items_named name.now (members_view members.old.entries) }
     ensures others { IsWithout name.now (members_view members.old.entries) (members_view members.new.entries) }
 {
     match taken(members, name) {
-        None => Some(Vec::new(alloc)),
-        Some(Value::Array(items)) => Some(items),
-        Some(_) => None,
+        Some(Value::Array(items)) => items,
+        _ => Vec::new(alloc),
     }
+}
+
+// The parts of the members of a document.
+fn parts_in(alloc: Global, mut members: Map<String, Value>) -> Parts
+    ensures { parts_view result ≡ parts_in (members_view members.entries) }
+{
+    Parts {
+        schema: taken(&mut members, "schema").unwrap_or(Value::Null),
+        policies: taken_items(alloc, &mut members, "policies"),
+        entities: taken_items(alloc, &mut members, "entities"),
+        request: taken(&mut members, "request"),
+        requests: taken_items(alloc, &mut members, "requests"),
+        edits: taken_items(alloc, &mut members, "edits"),
+    }
+}
+
+// The parts of the value, where it is an object.
+fn parts_from(alloc: Global, value: Value) -> Option<Parts>
+    ensures { option_map parts_view result ≡ option_map parts_in (as_object (view value)) }
+{
+    let Value::Object(members) = value else {
+        return None;
+    };
+    Some(parts_in(alloc, members))
 }
 
 /// The parts of the document of the shape that the value is, if it has the form of one.
 pub(crate) fn parts_of(alloc: Global, shape: Shape, value: Value) -> Option<Parts>
     ensures { option_map parts_view result ≡ parts_of shape (view value) }
 {
-    let Value::Object(mut members) = value else {
-        return None;
-    };
-    let named = has_part_names(shape, &members);
-    let schema = taken(&mut members, "schema")?;
-    let policies = taken_items(alloc, &mut members, "policies")?;
-    let entities = taken_items(alloc, &mut members, "entities")?;
-    let requests = taken_items(alloc, &mut members, "requests")?;
-    let edits = taken_items(alloc, &mut members, "edits")?;
-    let request = taken(&mut members, "request");
-    if !named {
+    if form_of(shape, &value).is_none() {
+        drop(value);
         return None;
     }
-    Some(Parts {
-        schema,
-        policies,
-        entities,
-        request,
-        requests,
-        edits,
-    })
+    parts_from(alloc, value)
 }
