@@ -21,9 +21,23 @@ fn read_texts(alloc: Global, items: &[Value]) -> Result<Option<Vec<Text>>, Alloc
         let Some(text) = item.as_str() else {
             return Ok(None);
         };
-        texts.push(Text::from_str(alloc, text)?)?;
+        let text = text_like(alloc, text, texts.last())?;
+        texts.push(text)?;
     }
     Ok(Some(texts))
+}
+
+// The text, which shares its characters with the one before it where it is that text.
+fn text_like(alloc: Global, text: &str, before: Option<&Text>) -> Result<Text, AllocError>
+    ensures { IfOk result (λ t. t ≡ text.now) }
+{
+    if let Some(before) = before {
+        if before.as_str() == text {
+            let shared = before.try_clone()?;
+            return Ok(shared);
+        }
+    }
+    Text::from_str(alloc, text)
 }
 
 /// The texts behind the first item of a list.
