@@ -1,6 +1,6 @@
 //! The parts of expressions in JSON that are no expressions.
 
-ghost use Rattle.std.specs.Prelude.{◌≡◌, ◌++◌, IfOk, map, option_map};
+ghost use Rattle.std.specs.Prelude.{◌≡◌, ◌++◌, ◌∷◌, [], IfOk, OnOk, map, option_map};
 ghost use Rattle.std.specs.Str.{chars};
 ghost use Rattle.policy_expressions.specs.declared.kinds.PatternElem.TheVariants.{Char};
 ghost use Rattle.serde_json.specs.View.{view, items_view};
@@ -21,10 +21,18 @@ fn read_texts(alloc: Global, items: &[Value]) -> Result<Option<Vec<Text>>, Alloc
         let Some(text) = item.as_str() else {
             return Ok(None);
         };
-        let text = text_like(alloc, text, texts.last())?;
-        texts.push(text)?;
+        add_text(alloc, &mut texts, text)?;
     }
     Ok(Some(texts))
+}
+
+// Adds the text behind the others.
+fn add_text(alloc: Global, texts: &mut Vec<Text>, text: &str) -> Result<(), AllocError>
+    ensures { OnOk result (texts.new.items ≡ texts.old.items ++ text.now ∷ []) }
+{
+    let text = text_like(alloc, text, texts.last())?;
+    texts.push(text)?;
+    Ok(())
 }
 
 // The text, which shares its characters with the one before it where it is that text.
