@@ -7,8 +7,10 @@ use policy_scope::ValidationResult;
 use policy_typecheck::{PolicyCheck, Typechecker};
 use policy_types::{SubtypeMode, is_subtype};
 use policy_validate::{
-    CoreSchema, RequestSchema, ValidationMode, Validator, conforms, slice_at_level,
+    ContextSchema, CoreSchema, RequestSchema, ValidationMode, Validator, conforms,
+    context_schema_for_action, slice_at_level,
 };
+use policy_values::{Eid, EntityType, EntityUID, Name, Text};
 use schema_core::Type;
 use std::alloc::Global;
 use std::test::Fail;
@@ -18,17 +20,31 @@ use typing_spec::{ExtensionSchemas, all_objects};
 const DOCUMENT: &str =
     r#"{"schema":{"entityTypes":{"Photo":{"attributes":{"owner":{"entity":"User"}}},"User":{"attributes":{"dept":"String","manager":{"entity":"User"},"name":"String"}}},"actions":[{"id":["Action","view"],"principals":["User"],"resources":["Photo"]}]},"policies":[{"id":"p0","effect":"permit","body":[{"when":{"all":[{"==":[{"get":[{"var":"principal"},"manager","name"]},"m"]},{"==":[{"get":[{"var":"resource"},"owner","dept"]},"d"]}]}}]}],"entities":[{"id":["User","alice"],"attrs":{"dept":"c","manager":{"id":["User","bob"]},"name":"a"}},{"id":["User","bob"],"attrs":{"dept":"d","manager":{"id":["User","bob"]},"name":"m"}},{"id":["Photo","x"],"attrs":{"owner":{"id":["User","bob"]}}}],"request":{"principal":["User","alice"],"action":["Action","view"],"resource":["Photo","x"],"context":{}}}"#;
 
+// One action applies to anything, so there is one environment. An attribute is read that is not declared, a
+// text is compared with a number, and is asked whether it equals one: three errors. The last policy is never
+// true: a warning.
+const FOUND: &str =
+    r#"{"schema":{"entityTypes":{"Photo":{},"User":{}},"actions":[{"id":["Action","view"],"principals":["User"],"resources":["Photo"],"context":{"mfa":"Bool"}},{"id":["Action","edit"]}]},"policies":[{"id":"p0","effect":"permit","body":[{"when":{"get":[{"var":"principal"},"none"]}}]},{"id":"p1","effect":"permit","body":[{"when":{"<":["a",1]}}]},{"id":"p2","effect":"permit","body":[{"when":{"==":["a",1]}}]},{"id":"p3","effect":"permit","body":[{"when":false}]}]}"#;
+
+// The document that the text is; none where it is none.
+fn document_of(alloc: Global, text: &str) -> Result<Option<Document>, Fail> {
+    match parse_json(alloc, text.as_bytes())? {
+        Some(value) => match read_document(alloc, value) {
+            Ok(document) => Ok(Some(document)),
+            Err(_) => Ok(None),
+        },
+        None => Ok(None),
+    }
+}
+
 // What is answered of the document, call by call; nothing where it is none.
 fn answers(alloc: Global) -> Result<String, Fail> {
-    match parse_json(alloc, DOCUMENT.as_bytes())? {
-        Some(value) => match read_document(alloc, value) {
-            Ok(document) => {
-                let text = answers_on(alloc, &document);
-                drop(document);
-                text
-            }
-            Err(_) => Ok(String::new(alloc)),
-        },
+    match document_of(alloc, DOCUMENT)? {
+        Some(document) => {
+            let text = answers_on(alloc, &document);
+            drop(document);
+            text
+        }
         None => Ok(String::new(alloc)),
     }
 }
@@ -121,6 +137,105 @@ fn checks_succeed(alloc: Global, document: &Document) -> Result<bool, Fail> {
         }
     }
     Ok(all)
+}
+
+// How much is found of the policies, and whether each finding equals its copy.
+fn copied_findings(alloc: Global, document: &Document) -> Result<String, Fail> {
+    let found = Validator::new(&document.schema).validate(
+        alloc,
+        &document.policies,
+        ValidationMode::Strict,
+    )?;
+    let equal_errors = errors_are_copied(alloc, &found)?;
+    let equal_warnings = warnings_are_copied(&found)?;
+    let equal = equal_errors && equal_warnings;
+    let errors = found.validation_errors().len();
+    let warnings = found.validation_warnings().len();
+    drop(found);
+    Ok(format!(in alloc; "errors {errors} warnings {warnings} equal {equal}")?)
+}
+
+fn errors_are_copied(alloc: Global, found: &ValidationResult) -> Result<bool, Fail> {
+    let mut equal = true;
+    for error in found.validation_errors() {
+        let copy = error.try_clone(alloc)?;
+        let same = copy == *error;
+        equal = equal && same;
+        drop(copy);
+    }
+    Ok(equal)
+}
+
+fn warnings_are_copied(found: &ValidationResult) -> Result<bool, Fail> {
+    let mut equal = true;
+    for warning in found.validation_warnings() {
+        let copy = warning.try_clone()?;
+        let same = copy == *warning;
+        equal = equal && same;
+        drop(copy);
+    }
+    Ok(equal)
+}
+
+// What the schema tells of the contexts of the action with this eid.
+fn context_of<'a>(
+    alloc: Global,
+    document: &'a Document,
+    eid: &str,
+) -> Result<Option<ContextSchema<'a>>, Fail> {
+    let eid = Eid::new(Text::from_str(alloc, eid)?);
+    match Name::parse(alloc, "Action")? {
+        Some(name) => {
+            let action = EntityUID {
+                entity_type: EntityType::new(name),
+                eid,
+            };
+            let told = context_schema_for_action(&document.schema, &action);
+            drop(action);
+            Ok(told)
+        }
+        None => Ok(None),
+    }
+}
+
+// Whether what is told of the contexts of one action equals its copy, and whether it equals that of another.
+fn copied_contexts(alloc: Global, document: &Document) -> Result<String, Fail> {
+    let Some(view) = context_of(alloc, document, "view")? else {
+        return Ok(String::new(alloc));
+    };
+    let Some(edit) = context_of(alloc, document, "edit")? else {
+        return Ok(String::new(alloc));
+    };
+    let copy = view.try_clone()?;
+    let equal = copy == view;
+    let alike = view == edit;
+    Ok(format!(in alloc; "equal {equal} to another {alike}")?)
+}
+
+#[test]
+fn findings_equal_their_copies(rt: HostRuntime) -> Result<(), Fail> {
+    match document_of(rt.alloc(), FOUND)? {
+        Some(document) => {
+            let text = copied_findings(rt.alloc(), &document);
+            drop(document);
+            assert_eq!(rt; text?.as_str(), "errors 3 warnings 1 equal true");
+        }
+        None => assert!(rt; false),
+    }
+    Ok(())
+}
+
+#[test]
+fn contexts_equal_their_copies(rt: HostRuntime) -> Result<(), Fail> {
+    match document_of(rt.alloc(), FOUND)? {
+        Some(document) => {
+            let text = copied_contexts(rt.alloc(), &document);
+            drop(document);
+            assert_eq!(rt; text?.as_str(), "equal true to another false");
+        }
+        None => assert!(rt; false),
+    }
+    Ok(())
 }
 
 #[test]

@@ -5,7 +5,7 @@ use Rattle.std.specs.Option.{option_map, option_or}
 use Rattle.json_document.specs.declared.edit.Edit.TheVariants.{Policy}
 use Rattle.policy_set.specs.Condition.{has_scope_slot}
 use Rattle.policy_set.specs.Data.{TemplateData}
-use Rattle.policy_set.specs.PolicySet.{PolicySetData}
+use Rattle.policy_set.specs.PolicySet.{PolicySetData, IsPolicySet, AreKeyedOnce}
 use Rattle.policy_set.specs.Removal.{RemovalFault}
 use Rattle.schema_core.specs.Schema.{SchemaData}
 use Rattle.manifest_core.specs.Manifest.{Manifest}
@@ -70,8 +70,13 @@ pub made_end : (o : Option (ℕ × Refusal)) (W : List ℕ → Type 0) (a : Answ
 made_end None W a h ends work = (ends, work)
 made_end (Some r) W a h ends work = absurd (cc h)
 
--- what is kept of the policies that edits leave is their manifest
-pub kept_text : (l : LiveData) (schema : SchemaData) (set : PolicySetData) (m : Manifest) (text : List ℕ) → IsKept l → l.schema ≡ schema → l.policies ≡ set → m ≡ l.manifest → text ≡ manifest_text m → IsManifestText schema set text
-kept_text l schema set m text kept of_schema of_set same written =
-    let here : IsManifestText l.schema l.policies text = (l.manifest, kept.accepted, kept.manifest, written ∙ ap manifest_text same) in
-    subst (λ t. IsManifestText schema t text) of_set (subst (λ t. IsManifestText t l.policies text) of_schema here)
+-- what is kept of a set of policies is their manifest
+pub kept_text : (l : LiveData) (s : PolicySetData) (m : Manifest) (text : List ℕ) → IsKept l → s ≡ l.policies → IsPolicySet s → AreKeyedOnce s.policies → m ≡ l.manifest → text ≡ manifest_text m → IsManifestText l.schema l.policies text
+kept_text l s m text kept is set keys same written = record {
+  manifest = l.manifest;
+  computed = kept.manifest;
+  written = written ∙ ap manifest_text same;
+  set = subst IsPolicySet is set;
+  keys = subst (λ t. AreKeyedOnce t.policies) is keys;
+  accepted = kept.accepted;
+}

@@ -20,7 +20,7 @@ use Rattle.typing_spec.specs.Conforms.{RequestConforms, StoreConforms}
 use Rattle.policy_gate.specs.Answer.{IsAnswer, IsAnswerIf, IsAnswerFor, IsWellMade, IsRefusedOr, IsWork, found_in, found_at, refused_batch, refused_levels, refused_listing, is_whole, partial_message, partial_request, refusal, refused_line, request_line, whole_line, refused_asked, refused_data, refused_decision, refused_entries, refused_first, refused_partial, refused_policies, refused_request, refused_store, refused_with, request_fault, slice_of, store_fault}
 use Rattle.policy_gate.specs.Headline.{Conforms, HasAcceptedPolicies, HasAllowedOutcomes, HasPoliciesAt, HasPoliciesFor, IsDocumentOf, KeepsOtherRules, KeepsRules, KeepsRulesOf, IsSliced, IsDecided, IsReadyForRequests, IsRefusedEdit, ReadsAreEnough, Says}
 use Rattle.policy_gate.specs.Listing.{asked_fault, is_whole_but}
-use Rattle.policy_gate.specs.Live.{edit_text, refused_edit}
+use Rattle.policy_gate.specs.Live.{edit_text, policies_after, refused_edit}
 use Rattle.live_manifest.specs.Edits.{Refusal}
 use Rattle.principal_listing.specs.Allowed.{IsWholeBut}
 use Rattle.json_values.specs.Json.{json_of}
@@ -291,7 +291,7 @@ module _ (laws : Laws) (d : Document) where
     allowed : HasAllowedOutcomes d
     allowed q s rules = laws.outcomes d.schema made.schema d.policies made.policies made.keys q s rules
 
-    reads_enough : ReadsAreEnough d
+    reads_enough : ReadsAreEnough d.schema d.policies
     reads_enough q s rules = laws.slices d.schema made.schema d.policies made.policies made.keys q s rules
 
     enough : KeepsRules d → IsEnough d.policies.policies d.request (slice_of d) d.entities
@@ -330,10 +330,11 @@ module _ (laws : Laws) (d : Document) where
         all_least [] = tt
         all_least (t ∷ ts) = (laws.least d.schema t, all_least ts)
     says Live text none is = record {
-      manifest = is.0;
-      computed = is.2;
-      written = is.3;
-      accepted = is.1;
+      manifest = is.manifest;
+      computed = is.computed;
+      written = is.written;
+      accepted = is.accepted;
+      enough = laws.slices d.schema made.schema (policies_after d) is.set is.keys;
       made = none_inside (λ r. answer status.Edit (edit_text r)) (refused_edit d) none;
     }
     says (Page limit after) text none is = record { written = is; rules = page_rules none }

@@ -162,10 +162,15 @@ slice_of d = slice d.schema d.policies.policies d.request d.entities
 unfoldable pub manifest_text : Manifest → List ℕ
 manifest_text m = compact_text (manifest_data m) ++ codes "\n"
 
--- the policies are accepted, and the text is their manifest
-abbrev pub IsManifestText : SchemaData → PolicySetData → List ℕ → Type 0
-IsManifestText schema set text =
-    (m : Manifest) × IsAccepted schema set × IsManifestOf schema set.policies m × (text ≡ manifest_text m)
+-- the text is the manifest of the policies, which are accepted; they are a set, and each record of a condition
+-- has each of its keys once
+pub record IsManifestText (schema : SchemaData) (policies : PolicySetData) (text : List ℕ) : Type 0 where
+  pub manifest : Manifest
+  pub computed : IsManifestOf schema policies.policies manifest
+  pub written : text ≡ manifest_text manifest
+  pub set : IsPolicySet policies
+  pub keys : AreKeyedOnce policies.policies
+  pub accepted : IsAccepted schema policies
 
 -- the line on a slice: of how many entities the store is made, how many are kept, and the decision
 abbrev pub sample_text : ℕ → ℕ → Decision → List ℕ

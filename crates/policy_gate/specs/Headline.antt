@@ -3,7 +3,9 @@ use Rattle.std.specs.Prelude.{◌≡◌, ℕ, List, Option, Some, None, Ok, code
 use Rattle.std.specs.Io.KnownBytes.{Appends}
 use Rattle.byte_streams.specs.Document.{WasRead}
 use Rattle.policy_set.specs.Allowed.{AreAllowed}
+use Rattle.policy_set.specs.PolicySet.{PolicySetData}
 use Rattle.policy_set.specs.Response.{response}
+use Rattle.schema_core.specs.Schema.{SchemaData}
 use Rattle.json_document.specs.Reading.{IsRead}
 use Rattle.json_document.specs.declared.document.Document.{Document}
 use Rattle.json_document.specs.declared.shape.Shape.{Shape}
@@ -81,9 +83,9 @@ HasAllowedOutcomes d =
 
 -- for each request and store that conform, the store restricted to what the policies read in the request's
 -- environment is enough
-abbrev pub ReadsAreEnough : Document → Type 0
-ReadsAreEnough d = (q : ARequest) (s : Store) → KeepRules d.schema d.policies q s →
-    IsEnough d.policies.policies q (slice d.schema d.policies.policies q s) s
+abbrev pub ReadsAreEnough : SchemaData → PolicySetData → Type 0
+ReadsAreEnough schema set = (q : ARequest) (s : Store) → KeepRules schema set q s →
+    IsEnough set.policies q (slice schema set.policies q s) s
 
 -- the text says that the request and the store conform, and they do; a request that is whole conforms to the
 -- schema
@@ -133,7 +135,7 @@ pub record IsManifested (d : Document) (text : List ℕ) : Type 0 where
   pub computed : IsManifestOf d.schema d.policies.policies manifest
   pub written : text ≡ manifest_text manifest
   pub accepted : HasAcceptedPolicies d
-  pub enough : ReadsAreEnough d
+  pub enough : ReadsAreEnough d.schema d.policies
 
 -- the document keeps every rule, and the text is the slice with the response on it. The slice is a part of
 -- the store, and enough: on it, and on every store between the two, each policy has the outcome that it has
@@ -179,12 +181,14 @@ pub record IsReviewed (d : Document) (text : List ℕ) : Type 0 where
   pub least : LevelsAreLeast d.schema d.policies
 
 -- none of the document's edits is refused, and the text is the manifest of the policies that they leave,
--- which are accepted: what they read and ask for in each environment of the schema
+-- which are accepted: what they read and ask for in each environment of the schema, which is enough to decide
+-- on
 pub record IsLive (d : Document) (text : List ℕ) : Type 0 where
   pub manifest : Tries
   pub computed : IsManifestOf d.schema (policies_after d).policies manifest
   pub written : text ≡ manifest_text manifest
   pub accepted : IsAccepted d.schema (policies_after d)
+  pub enough : ReadsAreEnough d.schema (policies_after d)
   pub made : HasNoRefusedEdit d
 
 -- the text is the page of at most so many principals that comes after the id, of those of the store that may

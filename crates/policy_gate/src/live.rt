@@ -4,7 +4,7 @@ ghost use Rattle.live_manifest.specs.Edits.{Refusal, after_edits, errors, refusa
 ghost use Rattle.live_manifest.specs.Kept.{IsMade, IsRefusedFor};
 ghost use Rattle.policy_set.specs.PolicySet.{PolicySetData};
 ghost use Rattle.policy_set.specs.Removal.{IsNotRemoved, removal_fault};
-ghost use Rattle.policy_gate.specs.Answer.{IsAnswerTo, IsAnswerToEdits};
+ghost use Rattle.policy_gate.specs.Answer.{IsAnswerTo, IsAnswerToEdits, IsManifestText};
 ghost use Rattle.policy_gate.specs.Live.{edit_for, edit_text, fault_text, first_refused, refusal_text, removal_text};
 ghost use Rattle.policy_gate.specs.Reply.{reply_view};
 ghost use Rattle.policy_gate.specs.declared.command.Command.{Command};
@@ -16,6 +16,7 @@ use crate::status::Status;
 use json_document::{Document, Edit, Edits, TemplateLink, slot_pairs};
 use live_manifest::{LiveManifest, LiveManifestError, LiveRemovalError, Steps};
 use policy_scope::{ValidationResult, findings_text};
+use policy_set::laws::{have_keys_once, is_policy_set};
 use policy_set::{PolicySetError, RemovalError, Template};
 use policy_values::Text;
 use schema_core::ValidatorSchema;
@@ -52,8 +53,21 @@ fn edited<L: Ledger>(
             status: Status::Edit,
             text,
         }),
-        None => written_manifest(alloc, live.manifest()),
+        None => manifest_reply(alloc, &live),
     }
+}
+
+// The manifest that is kept, written; with two facts of every set of policies, by which what they read is
+// enough.
+fn manifest_reply(alloc: Global, live: &LiveManifest<'_>) -> Result<Reply, AllocError>
+    ensures done { IfOk result (λ r. r.status ≡ Status.Done) }
+    ensures work { IfOk result (λ r.
+        IsManifestText live.now.schema live.now.policies (string_bytes r.text)) }
+{
+    let policies = live.policies();
+    is_policy_set(policies);
+    have_keys_once(policies);
+    written_manifest(alloc, live.manifest())
 }
 
 // Makes the edits, up to the first that is refused: then the text on it.
