@@ -26,7 +26,7 @@ each_more : (P : Link → Type 0) (ls : List Link) (m : Link) → AllByRecursion
 each_more P [] m h k = (k, tt)
 each_more P (l ∷ ls) m h k = (h.0, each_more P ls m h.1 k)
 
-ascend_more : (ls : List Link) (m : Link) → Ascend ls → AllByRecursion (λ l. IsLinkBefore l m) ls → Ascend (ls ++ m ∷ [])
+pub ascend_more : (ls : List Link) (m : Link) → Ascend ls → AllByRecursion (λ l. IsLinkBefore l m) ls → Ascend (ls ++ m ∷ [])
 ascend_more [] m up h = (tt, tt)
 ascend_more (l ∷ ls) m up h = (each_more (IsLinkBefore l) ls m up.0 h.0, ascend_more ls m up.1 h.1)
 

@@ -8,6 +8,7 @@ pub mod Same
 pub mod SameLaws
 pub mod Show
 pub mod Table
+pub mod Tails
 pub mod Trees
 pub mod Views
 pub mod Walks

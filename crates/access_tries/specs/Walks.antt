@@ -40,12 +40,3 @@ HaveSameFronts xs ys = (es : Address) → list_any (is_front es) xs ≡ list_any
 pub record IsOf (addresses : List Address) (mark : Bool) (t : Table) : Type 0 where
   pub paths : (es : Address) → leads t es ≡ list_any (is_front es) addresses
   pub marks : (es : Address) → is_marked t es ≡ (mark && list_any (is_same es) addresses)
-
--- from this number on each node leads by one edge to the next, and the last one nowhere
-abbrev pub IsChain : Table → ℕ → Address → Bool → Type 0
-IsChain ns k [] mark =
-    (is_some (slice_get ns k) ≡ true) × (links_at ns k ≡ []) × (has_mark (slice_get ns k) ≡ mark)
-IsChain ns k (e ∷ es) mark =
-    (is_some (slice_get ns k) ≡ true) × (links_at ns k ≡ record { edge = e; number = k + 1 } ∷ []) ×
-    (has_mark (slice_get ns k) ≡ false)
-    × IsChain ns (k + 1) es mark

@@ -1,15 +1,20 @@
 //! The least trie that has given paths and demands.
 
-ghost use Rattle.std.specs.Prelude.{◌≡◌, ◌<◌, ◌+◌, ◌++◌, [], ◌∷◌, map, drop, true, false, length, IfOk, OnOk};
-ghost use Rattle.access_tries.specs.Table.{IsClosed, IsTableOrdered};
-ghost use Rattle.access_tries.specs.Walks.{HaveSameFronts, Keeps, IsChain, IsOf, addresses_in};
-ghost use Rattle.access_tries.specs.Paths.{address_of, demand_of, IsLeast};
+ghost use Rattle.std.specs.Prelude.{◌≡◌, ◌≤◌, ◌<◌, ◌+◌, ◌++◌, ◌&&◌, [], ◌∷◌, Option, map, drop, true, false, length, is_some, option_map, slice_index_or, IfOk, OnOk};
+ghost use Rattle.std.specs.List.{list_any};
+ghost use Rattle.std.specs.List.Sorted.{IsPermutation};
+ghost use Rattle.access_tries.specs.Edges.{Address};
+ghost use Rattle.access_tries.specs.Table.{IsClosed, IsTableOrdered, at_path, has_mark};
+ghost use Rattle.access_tries.specs.Walks.{HaveSameFronts, Keeps, IsOf, addresses_in};
+ghost use Rattle.access_tries.specs.Paths.{address_of, demand_of, is_front, is_same, IsLeast};
+ghost use Rattle.access_tries.specs.Tails.{tails, Rise, begins, run};
 
 use crate::edge::{AccessPath, Edge};
-use crate::order::goes_on;
+use crate::order::{compare, goes_on};
 use crate::table::{Link, Node};
 use crate::tries::RootAccessTrie;
 use std::alloc::{AllocError, Global};
+use std::cmp::Ordering;
 
 impl AccessPath {
     /// The trie of this path alone.
@@ -17,7 +22,7 @@ impl AccessPath {
         ensures { IfOk result (IsLeast (self.now ∷ []) []) }
     {
         let edges = address_of(alloc, self)?;
-        trie_of(alloc, &edges, false)
+        trie_of(alloc, &[edges.as_slice()], false)
     }
 }
 
@@ -32,6 +37,9 @@ pub fn least_trie(
 {
     let read = addresses_of(alloc, reads)?;
     let read = all_of(alloc, &read, false)?;
+    if let [] = demands {
+        return Ok(read);
+    }
     let demanded = demands_of(alloc, demands)?;
     let demanded = all_of(alloc, &demanded, true)?;
     read.union(alloc, &demanded)
@@ -94,8 +102,8 @@ fn add_edges(edges: &mut Vec<Edge>, path: &AccessPath) -> Result<(), AllocError>
     Ok(())
 }
 
-/// The trie of all these addresses and their fronts, marked at all their ends or nowhere. It is made half by
-/// half, so that no trie is copied more often than halves are made.
+/// The trie of all these addresses and their fronts, marked at all their ends or nowhere. The addresses are put
+/// in order once, so that those with the same front stand side by side, and each node is made once.
 pub fn all_of(
     alloc: Global,
     addresses: &[Vec<Edge>],
@@ -103,56 +111,123 @@ pub fn all_of(
 ) -> Result<RootAccessTrie, AllocError>
     ensures { IfOk result (IsOf (addresses_in addresses.now) mark) }
 {
-    match addresses {
-        [] => Ok(RootAccessTrie::new(alloc)),
-        [edges] => trie_of(alloc, edges, mark),
-        _ => {
-            let (front, back) = addresses.split_at(addresses.len() / 2);
-            let front = all_of(alloc, front, mark)?;
-            let back = all_of(alloc, back, mark)?;
-            front.union(alloc, &back)
-        }
-    }
+    let ordered = in_order(alloc, addresses)?;
+    trie_of(alloc, &ordered, mark)
 }
 
-// The trie of one address.
-fn trie_of(alloc: Global, edges: &[Edge], mark: bool) -> Result<RootAccessTrie, AllocError>
-    ensures { IfOk result (IsOf (edges.now ∷ []) mark) }
+// The addresses in their order, edge by edge.
+fn in_order<'a>(alloc: Global, addresses: &'a [Vec<Edge>]) -> Result<Vec<&'a [Edge]>, AllocError>
+    ensures same { IfOk result (λ r. IsPermutation (addresses_in addresses.now) (tails 0 r.items)) }
+    ensures rise { IfOk result (λ r. Rise (tails 0 r.items)) }
 {
+    let mut ordered = Vec::with_capacity(alloc, addresses.len())?;
+    for edges in addresses {
+        ordered.push(edges.as_slice())?;
+    }
+    ordered.sort_unstable();
+    Ok(ordered)
+}
+
+// The trie of addresses in their order.
+fn trie_of(alloc: Global, addresses: &[&[Edge]], mark: bool) -> Result<RootAccessTrie, AllocError>
+    requires { Rise (tails 0 addresses.now) }
+    ensures { IfOk result (IsOf (tails 0 addresses.now) mark) }
+{
+    if let [] = addresses {
+        return Ok(RootAccessTrie::new(alloc));
+    }
     let mut nodes = Vec::new(alloc);
-    chain(alloc, &mut nodes, edges, mark)?;
+    append_node(alloc, &mut nodes, addresses, 0, mark)?;
     Ok(RootAccessTrie::from_nodes(nodes))
 }
 
-// Appends one node an edge, and a last one.
-fn chain(alloc: Global, nodes: &mut Vec<Node>, edges: &[Edge], mark: bool) -> Result<(), AllocError>
+// Appends the node to which the first edges of these addresses lead, as many as the depth, with all below it,
+// and answers its number. Addresses that end there come first, and then those with the same next edge stand
+// side by side.
+fn append_node(
+    alloc: Global,
+    nodes: &mut Vec<Node>,
+    addresses: &[&[Edge]],
+    depth: usize,
+    mark: bool,
+) -> Result<usize, AllocError>
+    requires some { 0 < length addresses.now }
+    requires rise { Rise (tails depth addresses.now) }
+    ensures number { IfOk result (λ n. (n ≡ length nodes.old.items) × (n < length nodes.new.items)) }
     ensures kept { OnOk result (Keeps (length nodes.old.items) nodes.old.items nodes.new.items) }
-    ensures longer { OnOk result (length nodes.old.items < length nodes.new.items) }
     ensures closed { OnOk result (IsClosed (length nodes.old.items) nodes.new.items) }
     ensures ordered { OnOk result (IsTableOrdered (length nodes.old.items) nodes.new.items) }
-    ensures chain { OnOk result (IsChain nodes.new.items (length nodes.old.items) edges.now mark) }
+    ensures present { IfOk result (λ n. (a : Address) → at_path is_some nodes.new.items n a ≡
+        list_any (is_front a) (tails depth addresses.now)) }
+    ensures marked { IfOk result (λ n. (a : Address) → at_path has_mark nodes.new.items n a ≡
+        (mark && list_any (is_same a) (tails depth addresses.now))) }
 {
-    match edges {
-        [] => {
-            nodes.push(Node::new(Vec::new(alloc), mark))?;
-            Ok(())
-        }
-        [first, rest @ ..] => {
-            let number = nodes.len() + 1;
-            let node = one_link(alloc, first.try_clone()?, number)?;
-            nodes.push(node)?;
-            chain(alloc, nodes, rest, mark)?;
-            Ok(())
-        }
+    let at = nodes.len();
+    let marked = marks_first(addresses, depth, mark);
+    nodes.push(Node::new(Vec::new(alloc), marked))?;
+    let (_, mut rest) = addresses.split_at(run_of(None, addresses, depth));
+    let mut links = Vec::with_capacity(alloc, room_for(rest, depth))?;
+    while let [first, ..] = rest {
+        let (edge, behind) = edge_at(first, depth);
+        let (group, others) = rest.split_at(run_of(Some(edge), rest, depth));
+        let number = append_node(alloc, nodes, group, behind, mark)?;
+        let edge = edge.try_clone()?;
+        links.push(Link { edge, number })?;
+        rest = others;
+    }
+    nodes[at] = Node::new(links, marked);
+    Ok(at)
+}
+
+// The edge of the address at the depth, and the depth behind it.
+fn edge_at(address: &[Edge], depth: usize) -> (&Edge, usize)
+    requires { depth < length address.now }
+    ensures edge { result.0.now ≡ slice_index_or address.now depth result.0.now }
+    ensures behind { result.1 ≡ depth + 1 }
+{
+    (&address[depth], depth + 1)
+}
+
+// Whether an address ends at the depth, and ends are marked. Where one does, the first one does.
+fn marks_first(addresses: &[&[Edge]], depth: usize, mark: bool) -> bool
+    requires some { 0 < length addresses.now }
+    requires rise { Rise (tails depth addresses.now) }
+    ensures { result ≡ (mark && list_any (is_same []) (tails depth addresses.now)) }
+{
+    mark && goes_along(None, addresses[0], depth)
+}
+
+// For how many links to make room at first: for one where all addresses go along the same edge.
+fn room_for(addresses: &[&[Edge]], depth: usize) -> usize
+    ensures { result ≤ 1 }
+{
+    match addresses {
+        [first, .., last] if goes_along(first.get(depth), last, depth) => 1,
+        [_] => 1,
+        _ => 0,
     }
 }
 
-// A node that leads along one edge.
-fn one_link(alloc: Global, edge: Edge, number: usize) -> Result<Node, AllocError>
-    ensures { IfOk result
-        (λ n. n ≡ record { links = record { edge = edge; number = number } ∷ []; mark = false }) }
+// How many of the addresses, from the first on, have this edge at the depth, or none.
+fn run_of(edge: Option<&Edge>, addresses: &[&[Edge]], depth: usize) -> usize
+    ensures { result ≡ run (option_map (λ e. e.now) edge.entry) (tails depth addresses.now) }
 {
-    let mut links = Vec::new(alloc);
-    links.push(Link { edge, number })?;
-    Ok(Node::new(links, false))
+    let mut count = 0;
+    while count < addresses.len() && goes_along(edge, addresses[count], depth) {
+        count += 1;
+    }
+    count
+}
+
+// Whether the address has this edge at the depth, or none.
+fn goes_along(edge: Option<&Edge>, address: &[Edge], depth: usize) -> bool
+    ensures { result ≡ begins (option_map (λ e. e.now) edge.entry) (drop depth address.now) }
+{
+    if address.len() <= depth {
+        return edge.is_none();
+    }
+    match edge {
+        Some(edge) => compare(&address[depth], edge) == Ordering::Equal,
+        None => false,
+    }
 }

@@ -165,3 +165,59 @@ impl PartialOrd for AccessPath {
         Some(self.cmp(other))
     }
 }
+
+impl PartialEq for Edge {
+    ghost use Rattle.std.specs.Ordering.{is_eq};
+    ghost use Rattle.std.specs.Cmp.{partial_equiv_from_equiv};
+    ghost use Rattle.std.proofs.lemmas.Cmp.{eq_by_cmp_equiv};
+    ghost use Rattle.access_tries.specs.Edges.{edge_cmp};
+    ghost use Rattle.access_tries.specs.EdgeLaws.{edge_total};
+
+    ghost eq = { λ a b. is_eq (edge_cmp a b) };
+
+    ghost laws = { partial_equiv_from_equiv (eq_by_cmp_equiv edge_total) };
+
+    fn eq(&self, other: &Edge) -> bool {
+        self.cmp(other) == Ordering::Equal
+    }
+}
+
+impl Eq for Edge {
+    ghost use Rattle.std.proofs.lemmas.Cmp.{eq_by_cmp_equiv};
+    ghost use Rattle.access_tries.specs.EdgeLaws.{edge_total};
+
+    ghost laws = { eq_by_cmp_equiv edge_total };
+}
+
+impl Ord for Edge {
+    ghost use Rattle.std.proofs.Common.{refl};
+    ghost use Rattle.access_tries.specs.Edges.{edge_cmp};
+    ghost use Rattle.access_tries.specs.EdgeLaws.{edge_total};
+
+    ghost cmp = { edge_cmp };
+
+    ghost total = { edge_total };
+
+    ghost matches_partial_cmp = { λ a b. refl };
+
+    ghost matches_eq = { λ a b. refl };
+
+    fn cmp(&self, other: &Edge) -> Ordering {
+        compare(self, other)
+    }
+}
+
+impl PartialOrd for Edge {
+    ghost use Rattle.std.specs.Ordering.{as_partial_cmp};
+    ghost use Rattle.std.specs.Cmp.{partial_order_from_total};
+    ghost use Rattle.access_tries.specs.Edges.{edge_cmp};
+    ghost use Rattle.access_tries.specs.EdgeLaws.{edge_total};
+
+    ghost partial_cmp = { as_partial_cmp edge_cmp };
+
+    ghost laws = { partial_order_from_total edge_total };
+
+    fn partial_cmp(&self, other: &Edge) -> Option<Ordering> {
+        Some(self.cmp(other))
+    }
+}

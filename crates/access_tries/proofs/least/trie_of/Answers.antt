@@ -1,15 +1,17 @@
-use Rattle.std.proofs.Common.{ap, length, sym, ◌∙◌, ◌&&◌}
-use Rattle.access_tries.specs.Paths.{is_front, is_same}
-use Rattle.plain_lemmas.proofs.Booleans.{or_false}
-use Rattle.access_tries.proofs.Chains.{chain_present, chain_marked}
+use Rattle.std.proofs.Common.{is_some, sym, ap, length, ◌∙◌}
+use Rattle.access_tries.specs.Table.{at_path, has_mark}
+use Rattle.access_tries.proofs.Addresses.{none_in, none_of}
 use Rattle.access_tries.proofs.least.trie_of.Goals as goal
+
+pub returns-in-empty : goal.returns-in-empty
+returns-in-empty c = rw c.new.ensures (rw (none_in c.args.addresses.now c.in-empty.len_below) (none_of c.args.mark))
 
 pub returns : goal.returns
 returns c =
-    let edges = c.args.edges.now in
-    let mark = c.args.mark in
-    let chain = rw (ap length c.new-nodes.ensures.items) at c.in_ok-chain.ensures.chain in
+    let fact = c.in_ok-append_node.ensures in
+    let zero = fact.number.0 ∙ ap length c.new-nodes.ensures.items in
+    let nodes = c.append_node.new.nodes.items in
     rw c.from_nodes.ensures (record {
-      paths = λ es. chain_present edges _ 0 mark chain es ∙ sym (or_false (is_front es edges));
-      marks = λ es. chain_marked edges _ 0 mark chain es ∙ sym (ap (λ b. mark && b) (or_false (is_same es edges)));
+      paths = λ es. ap (λ k. at_path is_some nodes k es) (sym zero) ∙ fact.present es;
+      marks = λ es. ap (λ k. at_path has_mark nodes k es) (sym zero) ∙ fact.marked es;
     })
