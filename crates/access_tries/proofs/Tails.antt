@@ -125,10 +125,10 @@ next_turn d e a (b ∷ bs) some is within there r =
   where
     here : (ts : List Address) → ts ≡ tails d (b ∷ bs) → IsParted e (map (drop 1) (take (run (Some e) ts) ts)) (drop (run (Some e) ts) ts) ts →
         IsParted e (tails (d + 1) (take (run (Some e) ts) (b ∷ bs))) (tails d (drop (run (Some e) ts) (b ∷ bs))) ts
-    here ts is p = 
+    here ts is p =
         let below : map (drop 1) (take (run (Some e) ts) ts) ≡ tails (d + 1) (take (run (Some e) ts) (b ∷ bs)) =
-            let one : suc d ≡ d + 1 = omega arith in
-            ap (λ us. map (drop 1) (take (run (Some e) ts) us)) is ∙ ap (map (drop 1)) (tails_take d (run (Some e) ts) (b ∷ bs)) ∙ tails_next d (take (run (Some e) ts) (b ∷ bs)) ∙ ap (λ k. tails k (take (run (Some e) ts) (b ∷ bs))) one in
+        let one : suc d ≡ d + 1 = omega arith in
+        ap (λ us. map (drop 1) (take (run (Some e) ts) us)) is ∙ ap (map (drop 1)) (tails_take d (run (Some e) ts) (b ∷ bs)) ∙ tails_next d (take (run (Some e) ts) (b ∷ bs)) ∙ ap (λ k. tails k (take (run (Some e) ts) (b ∷ bs))) one in
         let after : drop (run (Some e) ts) ts ≡ tails d (drop (run (Some e) ts) (b ∷ bs)) = ap (drop (run (Some e) ts)) is ∙ tails_drop d (run (Some e) ts) (b ∷ bs) in
         subst (λ us. IsParted e us (tails d (drop (run (Some e) ts) (b ∷ bs))) ts) below (subst (λ us. IsParted e (map (drop 1) (take (run (Some e) ts) ts)) us ts) after p)
 
