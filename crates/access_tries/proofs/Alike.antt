@@ -9,7 +9,7 @@ use Rattle.access_tries.specs.Trees.{Branch, branch, branches_by, branch_at}
 use Rattle.access_tries.specs.Same.{same_branch, same_branches}
 use Rattle.access_tries.proofs.Branching.{branch_is}
 use Rattle.access_tries.proofs.Merging.{head_is}
-use Rattle.plain_lemmas.proofs.Booleans.{and_false, and_false_left}
+use Rattle.plain_lemmas.proofs.Booleans.{and_false}
 
 regroup : (e m s r : Bool) → ((e && (m && s)) && r) ≡ (((e && m) && s) && r)
 regroup true true s r = refl

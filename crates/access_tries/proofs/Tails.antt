@@ -1,6 +1,5 @@
 -- Addresses in their order, group by group.
-use Rattle.std.proofs.Common.{◌≡◌, ℕ, zero, suc, ◌<◌, ◌≤◌, ◌+◌, Bool, true, false, cond, ◌&&◌, ◌||◌, List, [], ◌∷◌, ◌++◌, Option, Some, None, Bor, map, take, drop, length, get_or, refl, sym, ap, ◌∙◌, subst, arith}
-use Rattle.std.specs.Prelude.{option_map, is_some, not}
+use Rattle.std.proofs.Common.{◌≡◌, ℕ, zero, suc, ◌<◌, ◌≤◌, ◌+◌, Bool, true, false, cond, ◌||◌, List, [], ◌∷◌, ◌++◌, Option, Some, None, Bor, map, take, drop, length, get_or, refl, sym, ap, ◌∙◌, subst, arith}
 use Rattle.std.specs.List.{AllByRecursion, list_any}
 use Rattle.std.specs.List.Sorted.{IsSorted}
 use Rattle.std.specs.declared.cmp.Ordering.{Ordering}
@@ -16,7 +15,6 @@ use Rattle.access_tries.specs.SameLaws.{edge_is}
 use Rattle.access_tries.specs.Paths.{is_front, is_same}
 use Rattle.access_tries.specs.Tails.{tails, IsNoSooner, Rise, begins, run}
 use Rattle.access_tries.proofs.Merging.{other_way}
-use Rattle.plain_lemmas.proofs.Booleans.{or_assoc_left, or_false, and_false}
 
 -- how many edges addresses have in all
 abbrev pub edge_count : List Address → ℕ
@@ -125,10 +123,10 @@ next_turn d e a (b ∷ bs) some is within there r =
   where
     here : (ts : List Address) → ts ≡ tails d (b ∷ bs) → IsParted e (map (drop 1) (take (run (Some e) ts) ts)) (drop (run (Some e) ts) ts) ts →
         IsParted e (tails (d + 1) (take (run (Some e) ts) (b ∷ bs))) (tails d (drop (run (Some e) ts) (b ∷ bs))) ts
-    here ts is p = 
+    here ts is p =
         let below : map (drop 1) (take (run (Some e) ts) ts) ≡ tails (d + 1) (take (run (Some e) ts) (b ∷ bs)) =
-            let one : suc d ≡ d + 1 = omega arith in
-            ap (λ us. map (drop 1) (take (run (Some e) ts) us)) is ∙ ap (map (drop 1)) (tails_take d (run (Some e) ts) (b ∷ bs)) ∙ tails_next d (take (run (Some e) ts) (b ∷ bs)) ∙ ap (λ k. tails k (take (run (Some e) ts) (b ∷ bs))) one in
+        let one : suc d ≡ d + 1 = omega arith in
+        ap (λ us. map (drop 1) (take (run (Some e) ts) us)) is ∙ ap (map (drop 1)) (tails_take d (run (Some e) ts) (b ∷ bs)) ∙ tails_next d (take (run (Some e) ts) (b ∷ bs)) ∙ ap (λ k. tails k (take (run (Some e) ts) (b ∷ bs))) one in
         let after : drop (run (Some e) ts) ts ≡ tails d (drop (run (Some e) ts) (b ∷ bs)) = ap (drop (run (Some e) ts)) is ∙ tails_drop d (run (Some e) ts) (b ∷ bs) in
         subst (λ us. IsParted e us (tails d (drop (run (Some e) ts) (b ∷ bs))) ts) below (subst (λ us. IsParted e (map (drop 1) (take (run (Some e) ts) ts)) us ts) after p)
 
@@ -206,22 +204,7 @@ pub first_ends_at : (d : ℕ) (rs : List (Bor Address)) (a : Bor Address) → 0 
 first_ends_at d [] a some is r = absurd (omega (arith, some))
 first_ends_at d (b ∷ bs) a some is r = ap (λ z. begins None (drop d z.now)) is ∙ first_ends (drop d b.now) (tails d bs) r
 
--- an address without an edge there ends there
-nothing_left : (d : ℕ) (a : Address) → length a ≤ d → drop d a ≡ []
-nothing_left zero [] h = refl
-nothing_left (suc d) [] h = refl
-nothing_left zero (x ∷ a) h = absurd (omega (arith, h))
-nothing_left (suc d) (x ∷ a) h = nothing_left d a (omega (arith, h))
-
-begins_nothing : (o : Option (Bor Edge)) (r : Bool) → is_some o ≡ not r → r ≡ begins (option_map (λ e. e.now) o) []
-begins_nothing None true h = refl
-begins_nothing None false h = cc
-begins_nothing (Some e) true h = cc
-begins_nothing (Some e) false h = refl
-
-pub ended : (o : Option (Bor Edge)) (d : ℕ) (a : Address) (r : Bool) → length a ≤ d → is_some o ≡ not r → r ≡ begins (option_map (λ e. e.now) o) (drop d a)
-ended o d a r h is = begins_nothing o r is ∙ sym (ap (begins (option_map (λ e. e.now) o)) (nothing_left d a h))
-
+-- an address with an edge there does not end there
 pub not_ended : (d : ℕ) (a : Address) → d < length a → false ≡ begins None (drop d a)
 not_ended d [] h = absurd (omega (arith, h))
 not_ended zero (x ∷ a) h = refl

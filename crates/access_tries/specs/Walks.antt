@@ -1,5 +1,5 @@
 -- Walks through a table while it grows.
-use Rattle.std.specs.Prelude.{◌≡◌, ℕ, ◌<◌, ◌+◌, ◌⊎◌, ◌&&◌, Bool, true, false, List, [], ◌∷◌, length, drop, slice_get, Option, is_some, map}
+use Rattle.std.specs.Prelude.{◌≡◌, ℕ, ◌<◌, ◌+◌, ◌⊎◌, ◌&&◌, Bool, List, ◌∷◌, length, drop, slice_get, Option, map}
 use Rattle.std.specs.List.{list_any, AllByRecursion}
 use Rattle.std.specs.declared.cmp.Ordering.TheVariants.{Less}
 use Rattle.std.specs.declared.vec.Vec.{Vec}
@@ -7,7 +7,7 @@ use Rattle.std.specs.declared.alloc.Global.{Global}
 use Rattle.access_tries.specs.declared.edge.Edge.{Edge}
 use Rattle.access_tries.specs.declared.table.Link.{Link}
 use Rattle.access_tries.specs.Edges.{Address, edge_cmp, edge_eq}
-use Rattle.access_tries.specs.Table.{Table, NodeData, at_path, links_at, has_mark, leads, is_marked}
+use Rattle.access_tries.specs.Table.{Table, NodeData, at_path, leads, is_marked}
 use Rattle.access_tries.specs.Paths.{is_front, is_same}
 
 -- the first nodes are as before

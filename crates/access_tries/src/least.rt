@@ -202,8 +202,9 @@ fn room_for(addresses: &[&[Edge]], depth: usize) -> usize
     ensures { result ≤ 1 }
 {
     match addresses {
-        [first, .., last] if goes_along(first.get(depth), last, depth) => 1,
+        [] => 0,
         [_] => 1,
+        [first, .., last] if goes_along(first.get(depth), last, depth) => 1,
         _ => 0,
     }
 }

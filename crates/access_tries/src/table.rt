@@ -69,7 +69,7 @@ impl Node {
     pub fn try_clone(&self, alloc: Global) -> Result<Node, AllocError>
         ensures { IfOk result (λ n. n ≡ self.now) }
     {
-        let mut links = Vec::new(alloc);
+        let mut links = Vec::with_capacity(alloc, self.links.len())?;
         for link in &self.links {
             links.push(link.try_clone()?)?;
         }
@@ -228,7 +228,7 @@ pub(crate) fn unite(
     nodes.push(Node::new(Vec::new(alloc), mark))?;
     let xs = links_of(x, i);
     let ys = links_of(y, j);
-    let mut links = Vec::new(alloc);
+    let mut links = Vec::with_capacity(alloc, xs.len().max(ys.len()))?;
     let mut p = 0;
     let mut q = 0;
     while p < xs.len() || q < ys.len() {

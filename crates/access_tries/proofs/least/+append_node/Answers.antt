@@ -1,9 +1,9 @@
-use Rattle.std.proofs.Common.{◌<◌, ◌≡◌, length, drop, rules, Some, None, refl, sym, is_some, subst, ap, ◌∙◌, arith}
+use Rattle.std.proofs.Common.{◌<◌, ◌≡◌, length, rules, Some, None, is_some, subst, ap, ◌∙◌, arith}
 use Rattle.access_tries.specs.Table.{has_mark}
-use Rattle.access_tries.specs.Tails.{tails, run}
+use Rattle.access_tries.specs.Tails.{tails}
 use Rattle.access_tries.proofs.Addresses.{none_in}
 use Rattle.access_tries.proofs.Unions.{nodes_step, kept_at_end, closed_at_end, ordered_at_end}
-use Rattle.access_tries.proofs.Tails.{IsTurn, turn, edges_of, rises_below, edge_count, edges_after_ends, left_of_ends, run_in, tails_length, front_of_none}
+use Rattle.access_tries.proofs.Tails.{turn, edges_of, rises_below, edge_count, edges_after_ends, left_of_ends, run_in, tails_length, front_of_none}
 use Rattle.access_tries.proofs.Groups.{uniting_start, any_front, any_marked, IsGathered, searches_fronts, searches_marked, gather_start, gather_step, gather_end, grouping_start, grouping_step, first_further}
 use Rattle.access_tries.proofs.least.+append_node.Goals as goal
 

@@ -1,5 +1,5 @@
 use Rattle.std.proofs.Common.{arith}
-use Rattle.access_tries.proofs.Tails.{ended, not_ended}
+use Rattle.access_tries.proofs.Tails.{not_ended}
 use Rattle.access_tries.proofs.least.goes_along.Goals as goal
 
 pub returns-in-None : goal.returns-in-None

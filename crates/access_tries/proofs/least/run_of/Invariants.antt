@@ -1,4 +1,4 @@
-use Rattle.std.proofs.Common.{length, drop, map, ◌+◌, ◌-◌, ◌≤◌, ◌≡◌}
+use Rattle.std.proofs.Common.{length, drop, ◌+◌, ◌-◌, ◌≤◌, ◌≡◌}
 use Rattle.std.specs.Prelude.{option_map}
 use Rattle.access_tries.specs.Tails.{tails, run}
 use Rattle.access_tries.proofs.least.run_of.Given as goal

@@ -1,4 +1,4 @@
-use Rattle.std.proofs.Common.{◌<◌, length, Some, rules, sym, ap, ◌∙◌}
+use Rattle.std.proofs.Common.{rules, sym}
 use Rattle.std.proofs.lemmas.Fn.{always_returns_same}
 use Rattle.access_tries.specs.Edges.{edge_cmp}
 use Rattle.access_tries.specs.EdgeView.{edge_in}
