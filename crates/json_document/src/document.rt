@@ -164,7 +164,11 @@ pub fn read_document_as(
     ensures { MayComeTo result (IsRead shape (view value)) }
 {
     match parts_of(alloc, shape, value) {
-        Some(mut parts) => read_parts(alloc, &mut parts),
+        Some(mut parts) => {
+            let read = read_parts(alloc, &mut parts);
+            drop(parts);
+            read
+        }
         None => Err(DocumentFault::Place(Place::Form)),
     }
 }

@@ -12,7 +12,6 @@ use serde_json::{Map, Value};
 use std::alloc::Global;
 
 /// The parts of a document, each of which is let go of once it is read.
-#[derive(Drop)]
 pub(crate) struct Parts {
     pub(crate) schema: Value,
     pub(crate) policies: Vec<Value>,
@@ -20,6 +19,25 @@ pub(crate) struct Parts {
     pub(crate) request: Option<Value>,
     pub(crate) requests: Vec<Value>,
     pub(crate) edits: Vec<Value>,
+}
+
+impl Drop for Parts {
+    fn drop(self) {
+        let Parts {
+            schema,
+            policies,
+            entities,
+            request,
+            requests,
+            edits,
+        } = self;
+        drop(schema);
+        drop(policies);
+        drop(entities);
+        drop(request);
+        drop(requests);
+        drop(edits);
+    }
 }
 
 // Whether the members are all such as a document of the shape may have.
