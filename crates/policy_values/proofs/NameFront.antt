@@ -1,5 +1,5 @@
 -- A name begins with a component, and goes on behind two colons if at all.
-use Rattle.std.proofs.Common.{◌≡◌, ◌≢◌, ℕ, suc, ◌+◌, ◌<◌, ◌≤◌, List, [], ◌∷◌, ◌++◌, length, slice_index, EachIndex, arith, ap, sym, subst, ◌∙◌, refl, inl, inr, codes}
+use Rattle.std.proofs.Common.{◌≡◌, ◌≢◌, ℕ, suc, ◌<◌, List, [], ◌∷◌, ◌++◌, length, slice_index, EachIndex, arith, ap, sym, subst, ◌∙◌, refl, inl, inr, codes}
 use Rattle.std.specs.Prelude.{◌⊎◌, ◌↔◌}
 use Rattle.policy_values.specs.Name.{IsTail, IsComponent, IsName, last, then, IsFront}
 

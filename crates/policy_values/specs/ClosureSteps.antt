@@ -1,5 +1,5 @@
 -- How a closure is found, set by set: only the private functions and their proofs speak of this.
-use Rattle.std.specs.Prelude.{◌≡◌, ◌↔◌, ◌||◌, List, Some, Contains, is_some, IfSome, true}
+use Rattle.std.specs.Prelude.{◌≡◌, ◌↔◌, ◌||◌, List, [], Some, Contains, is_some, IfSome, IsSomeAnd, true}
 use Rattle.std.specs.Ordering.{is_eq}
 use Rattle.std.specs.declared.cmp.Ordering.{Ordering}
 use Rattle.std.specs.Cmp.Lexicographic.{slice_cmp}
@@ -30,6 +30,16 @@ pub record AreReached {K : Type 0} (cmp : K → K → Ordering) (steps : List (K
       (λ set. (x y : K) → at cmp steps x ≡ Some next → Contains set.keys y ↔ Reaches (Leads cmp steps) x y)
   pub ordered : (next : BTreeSet K) →
       IfSome (at (set_cmp cmp) known next) (λ set. IsStrictlySortedBy cmp set.keys)
+
+-- each key of the steps is closed or left, and what is closed is what is reached
+pub record IsPartlyClosed {K : Type 0} (cmp : K → K → Ordering)
+    (steps closed : List (K × BTreeSet K)) (left : List K) : Type 0 where
+  pub keys : (q : K) → (is_some (at cmp closed q) || has cmp left q) ≡ is_some (at cmp steps q)
+  pub whole : AreWhole cmp steps closed
+
+-- an empty set stands at the key
+abbrev pub IsEmptyAt : {K : Type 0} → (K → K → Ordering) → List (K × BTreeSet K) → K → Type 0
+IsEmptyAt cmp sets m = IsSomeAnd (at cmp sets m) (λ set. set.keys ≡ [])
 
 -- the set stands at one of the keys
 abbrev pub IsAtOneOf : {K : Type 0} → (K → K → Ordering) →

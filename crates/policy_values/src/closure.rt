@@ -1,10 +1,10 @@
 // What is reached from each key, where keys with the same steps share one set.
-ghost use Rattle.std.specs.Prelude.{◌≡◌, ◌↔◌, ◌⊎◌, [], Some, Contains, IfOk, IfSome, OnOk};
+ghost use Rattle.std.specs.Prelude.{◌≡◌, ◌↔◌, ◌⊎◌, List, [], Some, true, Contains, IfOk, IfSome, OnOk};
 ghost use Rattle.std.specs.Option.{option_copied};
 ghost use Rattle.std.specs.BTreeMap as tree;
 ghost use Rattle.std.specs.BTreeSet.{IsOrdered};
 ghost use Rattle.policy_values.specs.Reaches.{Reaches, Leads, IsClosure};
-ghost use Rattle.policy_values.specs.ClosureSteps.{AreWhole, IsAdded, AreReached, IsAtOneOf};
+ghost use Rattle.policy_values.specs.ClosureSteps.{AreWhole, IsAdded, AreReached, IsAtOneOf, IsEmptyAt, IsPartlyClosed};
 
 use crate::post_order::post_order;
 use crate::reach::reached_from;
@@ -25,15 +25,37 @@ pub fn closure_of<K: Key>(alloc: Global, steps: &Steps<K>) -> Result<SharedSteps
 {
     let mut closed = BTreeMap::new(alloc);
     let mut known = BTreeMap::new(alloc);
-    for key in &post_order(alloc, steps)? {
-        if let Some(next) = steps.get(key) {
+    for (key, next) in steps {
+        if !closed.contains_key(key) {
+            close_above(alloc, steps, &mut closed, &mut known, next)?;
             close(alloc, steps, &mut closed, &mut known, key, next)?;
         }
     }
-    for (key, next) in steps {
-        close(alloc, steps, &mut closed, &mut known, key, next)?;
-    }
     Ok(closed)
+}
+
+// Closes what the keys lead to and they themselves, so that a key that leads to them finds the most done.
+fn close_above<K: Key>(
+    alloc: Global,
+    steps: &Steps<K>,
+    closed: &mut SharedSteps<K>,
+    known: &mut BTreeMap<BTreeSet<K>, SharedSet<K>>,
+    keys: &BTreeSet<K>,
+) -> Result<(), AllocError>
+    requires closed { AreWhole K.cmp steps.now.entries closed.old.entries }
+    requires known { AreReached K.cmp steps.now.entries known.old.entries }
+    ensures closed { OnOk result ((left : List K) →
+        IsPartlyClosed K.cmp steps.now.entries closed.old.entries left →
+        IsPartlyClosed K.cmp steps.now.entries closed.new.entries left) }
+    ensures whole { OnOk result (AreWhole K.cmp steps.now.entries closed.new.entries) }
+    ensures known { OnOk result (AreReached K.cmp steps.now.entries known.new.entries) }
+{
+    for key in &post_order(alloc, steps, closed, keys)? {
+        if let Some(next) = steps.get(key) {
+            close(alloc, steps, closed, known, key, next)?;
+        }
+    }
+    Ok(())
 }
 
 // Puts what is reached from the key at it.
@@ -77,10 +99,44 @@ fn reached_once<K: Key>(
     if let Some(reached) = known.get(next) {
         return reached.try_clone();
     }
-    let start = largest_copied(alloc, closed, next)?;
-    let reached = SharedSet::new(alloc, reached_from(alloc, steps, key, start)?)?;
+    let reached = SharedSet::new(alloc, reached_anew(alloc, steps, closed, key, next)?)?;
     known.insert(next.clone()?, reached.try_clone()?)?;
     Ok(reached)
+}
+
+// What is reached from the key: where those that it leads to lead no further, just these.
+fn reached_anew<K: Key>(
+    alloc: Global,
+    steps: &Steps<K>,
+    closed: &SharedSteps<K>,
+    key: &K,
+    next: &BTreeSet<K>,
+) -> Result<BTreeSet<K>, AllocError>
+    requires closed { AreWhole K.cmp steps.now.entries closed.now.entries }
+    requires here { tree.get K.cmp steps.now key.now ≡ Some next.now }
+    ensures reached { IfOk result (λ reached. (y : K) →
+        Contains reached.keys y ↔ Reaches (Leads K.cmp steps.now.entries) key.now y) }
+    ensures ordered { IfOk result (IsOrdered K.cmp) }
+{
+    if lead_nowhere(closed, next) {
+        return Ok(next.clone()?);
+    }
+    let start = largest_copied(alloc, closed, next)?;
+    reached_from(alloc, steps, key, start)
+}
+
+// Whether an empty set stands at each of the keys.
+fn lead_nowhere<K: Key>(closed: &SharedSteps<K>, keys: &BTreeSet<K>) -> bool
+    ensures empty { result ≡ true → (m : K) → Contains keys.now.keys m → IsEmptyAt K.cmp closed.now.entries m }
+    ensures ordered { IsOrdered K.cmp keys.now }
+{
+    for key in keys {
+        match closed.get(key) {
+            Some(set) if set.as_set().is_empty() => {}
+            _ => return false,
+        }
+    }
+    true
 }
 
 // A copy of the largest set that stands at a key of the other; empty where none does.

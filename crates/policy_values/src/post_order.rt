@@ -1,5 +1,5 @@
 // The keys in depth-first post-order.
-use crate::{Key, Steps};
+use crate::{Key, SharedSteps, Steps};
 use std::alloc::{AllocError, Global};
 use std::collections::BTreeSet;
 
@@ -10,18 +10,22 @@ enum Turn<'a, K> {
     Leave(&'a K),
 }
 
-/// The keys of the steps in depth-first post-order: each after those that it leads to, unless steps go in a
-/// circle. Who takes them in this order finds the most done already; what is found does not depend on it.
-pub fn post_order<K: Key>(alloc: Global, steps: &Steps<K>) -> Result<Vec<K>, AllocError> {
+/// What the keys lead to and they themselves, but for what is closed, in depth-first post-order: each after
+/// those that it leads to, unless steps go in a circle. Who closes them in this order finds the most done
+/// already; what is found does not depend on it.
+pub fn post_order<K: Key>(
+    alloc: Global,
+    steps: &Steps<K>,
+    closed: &SharedSteps<K>,
+    keys: &BTreeSet<K>,
+) -> Result<Vec<K>, AllocError> {
     let mut order = Vec::new(alloc);
     let mut entered = BTreeSet::new(alloc);
     let mut turns = Vec::new(alloc);
-    for key in steps.keys() {
-        turns.push(Turn::Enter(key))?;
-    }
+    push_open(closed, keys, &mut turns)?;
     for _ in 0..u64::MAX {
         match turns.pop() {
-            Some(Turn::Enter(key)) => enter(steps, key, &mut entered, &mut turns)?,
+            Some(Turn::Enter(key)) => enter(steps, closed, key, &mut entered, &mut turns)?,
             Some(Turn::Leave(key)) => order.push(key.clone()?)?,
             None => break,
         }
@@ -32,6 +36,7 @@ pub fn post_order<K: Key>(alloc: Global, steps: &Steps<K>) -> Result<Vec<K>, All
 // Enters a key that was not entered before: it is left after those that it leads to.
 fn enter<'a, K: Key>(
     steps: &'a Steps<K>,
+    closed: &SharedSteps<K>,
     key: &'a K,
     entered: &mut BTreeSet<&'a K>,
     turns: &mut Vec<Turn<'a, K>>,
@@ -41,8 +46,20 @@ fn enter<'a, K: Key>(
     };
     if entered.insert(key)? {
         turns.push(Turn::Leave(key))?;
-        for other in next {
-            turns.push(Turn::Enter(other))?;
+        push_open(closed, next, turns)?;
+    }
+    Ok(())
+}
+
+// Those of the keys that are not closed are to be entered.
+fn push_open<'a, K: Key>(
+    closed: &SharedSteps<K>,
+    keys: &'a BTreeSet<K>,
+    turns: &mut Vec<Turn<'a, K>>,
+) -> Result<(), AllocError> {
+    for key in keys {
+        if !closed.contains_key(key) {
+            turns.push(Turn::Enter(key))?;
         }
     }
     Ok(())

@@ -1,15 +1,8 @@
-use Rattle.std.proofs.Common.{◌≡◌, inl, inr, sym, ◌∙◌}
+use Rattle.std.proofs.Common.{◌≡◌, sym, ◌∙◌}
 use Rattle.std.proofs.lemmas.List.Elements.{same_from_all_zip}
 use Rattle.std.proofs.lemmas.Result.{IfOk-weaker}
 use Rattle.policy_values.proofs.Known.{known_more}
-use Rattle.policy_values.proofs.Search.{start_empty, start_next}
 use Rattle.policy_values.proofs.closure.reached_once.Goals as goal
-
-pub reached_from-requires : goal.reached_from-requires
-reached_from-requires g c = elim c.in_ok-start.ensures [
-  | inl none ↦ start_empty g.met.K.Ord.total g.met.K.Key.exact c.args.steps.now.entries c.args.key.now _ none
-  | inr among ↦ start_next g.met.K.Ord.total g.met.K.Key.exact c.args.steps.now.entries c.args.closed.now.entries c.args.key.now c.args.next.now _ c.requires.closed c.requires.here among
-]
 
 pub returns-in-Some-clause-reached : goal.returns-in-Some-clause-reached
 returns-in-Some-clause-reached g c =
@@ -25,6 +18,6 @@ pub returns-clause-known : goal.returns-clause-known
 returns-clause-known g c =
     let same = same_from_all_zip _ c.args.next.now.keys c.in_ok-clone.field-0.keys c.in_ok-clone.ensures.cases g.met.K.Key.copies in
     let copied : c.in_ok-clone.field-0 ≡ c.args.next.now = λ j. record { keys = same j } in
-    known_more g.met.K.Key.exact c.args.steps.now.entries _ _ c.args.key.now c.args.next.now c.in_ok-reached_from.field-0 c.requires.known c.requires.here
-    c.in_ok-reached_from.ensures.reached c.in_ok-reached_from.ensures.ordered
+    known_more g.met.K.Key.exact c.args.steps.now.entries _ _ c.args.key.now c.args.next.now c.in_ok-reached_anew.field-0 c.requires.known c.requires.here
+    c.in_ok-reached_anew.ensures.reached c.in_ok-reached_anew.ensures.ordered
     (λ q. rw (copied, c.in_ok-try_clone.ensures ∙ c.in_ok-reached.ensures) at (c.in_ok-insert.ensures.updates.0 q))

@@ -1,6 +1,5 @@
-use Rattle.std.proofs.Common.{◌≡◌, ◌≢◌, ◌==◌, [], length, refl, arith, ap, inl, ◌∙◌, sym}
+use Rattle.std.proofs.Common.{◌≡◌, ◌≢◌, ◌==◌, [], length, refl, arith, ap, inl}
 use Rattle.std.proofs.lemmas.Bool.Decides.{nat_tests}
-use Rattle.policy_values.specs.Name.{IsName}
 use Rattle.policy_values.proofs.NameFront.{name_front, name_from_front, name_step, name_stops, no_length}
 use Rattle.policy_values.proofs.parse.is_name.Goals as goal
 

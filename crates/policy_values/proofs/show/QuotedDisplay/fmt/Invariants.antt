@@ -1,6 +1,4 @@
-use Rattle.std.proofs.Common.{◌≡◌, ◌++◌, length, take}
 use Rattle.std.specs.List.{flat_map}
-use Rattle.std.specs.Str.{chars}
 use Rattle.std.specs.Fmt.{HasWritten, IsPlainFormatter}
 use Rattle.policy_values.specs.Show.{escaped_char}
 use Rattle.policy_values.proofs.show.QuotedDisplay.fmt.Given as goal
