@@ -17,36 +17,36 @@ pub fn findings_text(alloc: Global, findings: &ValidationResult) -> Result<Text,
     let mut text = String::new(alloc);
     let errors = findings.validation_errors();
     for error in errors {
-        let lines = finding_text(alloc, "error", error.kind(), error)?;
-        text.push_str(lines.as_str())?;
+        add_finding(alloc, &mut text, "error", error.kind(), error)?;
     }
     let warnings = findings.validation_warnings();
     for warning in warnings {
-        let lines = finding_text(alloc, "warning", warning.kind(), warning)?;
-        text.push_str(lines.as_str())?;
+        add_finding(alloc, &mut text, "warning", warning.kind(), warning)?;
     }
     add_counts(&mut text, errors.len(), warnings.len())?;
     let text = Text::from_string(text)?;
     Ok(text)
 }
 
-// The lines of a finding.
-fn finding_text<D: Diagnostic>(
+// Adds the lines of a finding.
+fn add_finding<D: Diagnostic>(
     alloc: Global,
+    text: &mut String,
     severity: &str,
     kind: &str,
     finding: &D,
-) -> Result<String, AllocError>
-    ensures { IfOk result (λ text. string_bytes text ≡ finding_text severity.now kind.now
+) -> Result<(), AllocError>
+    ensures { OnOk result (string_bytes text.new ≡
+        string_bytes text.old ++ finding_text severity.now kind.now
         (D.place finding.now) (D.message_text finding.now) (D.help_text finding.now)) }
 {
     let message = finding.message(alloc)?;
     let help = finding.help(alloc)?;
-    let mut text = format!(in alloc; "{severity} {kind}")?;
-    add_place(&mut text, finding.location())?;
-    add_message(&mut text, &message)?;
-    add_help(&mut text, &help)?;
-    Ok(text)
+    write!(text, "{severity} {kind}")?;
+    add_place(text, finding.location())?;
+    add_message(text, &message)?;
+    add_help(text, &help)?;
+    Ok(())
 }
 
 // Adds the message, and ends the line.

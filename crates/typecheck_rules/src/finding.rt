@@ -62,6 +62,10 @@ pub fn joined(mut found: Vec<Finding>, mut more: Vec<Finding>) -> Result<Vec<Fin
     ensures { IfOk result
         (λ r. findings_from r.items ≡ findings_from found.items ++ findings_from more.items) }
 {
+    if found.is_empty() {
+        drop(found);
+        return Ok(more);
+    }
     found.append(&mut more)?;
     Ok(found)
 }

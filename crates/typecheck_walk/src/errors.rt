@@ -17,7 +17,7 @@ pub(crate) fn errors_of(
 ) -> Result<Vec<ValidationError>, AllocError>
     ensures { IfOk result (λ es. es.items ≡ map (error_of id.now) (findings_from found.items)) }
 {
-    let mut errors = Vec::new(alloc);
+    let mut errors = Vec::with_capacity(alloc, found.len())?;
     for finding in found {
         let error = error_of(alloc, finding, id)?;
         errors.push(error)?;
