@@ -7,7 +7,7 @@ ghost use Rattle.directory.specs.OfPolicies.{IsManifestOf};
 ghost use Rattle.directory_service.specs.Decided.{AreDecided, Decides, IsReadFirst};
 ghost use Rattle.directory_service.specs.Run.{IsRefusal};
 
-use crate::document::{NO_JSON, READ_FAULT, TOO_LONG, read_bytes};
+use crate::document::{READ_FAULT, TOO_LONG, read_bytes};
 use crate::reply::{Reply, file_reply, finish, finish_with, reply_with};
 use crate::status::Status;
 use byte_streams::{Sink, Source};
@@ -19,6 +19,8 @@ use json_document::Document;
 use policy_scope::findings_text;
 use sqlite::{Alter, Connection, Start};
 use std::alloc::{AllocError, Global};
+
+const NO_JSON: &str = "document: json\n";
 
 // The document on the first line, or the reply on its first fault.
 fn first_document<I: Source + Drop>(

@@ -1,17 +1,13 @@
 //! Documents, read from bytes.
 ghost use Rattle.std.specs.Prelude.{IfOk};
-ghost use Rattle.serde_json.specs.View.{view};
-ghost use Rattle.directory_service.specs.Documents.{IsReading, IsReadingOf};
+ghost use Rattle.directory_service.specs.Documents.{IsReading};
 ghost use Rattle.directory_service.specs.Run.{IsReadOf};
 
 use crate::reply::{Reply, reply_with};
 use crate::status::Status;
 use byte_streams::{ReadError, Source, read_document_bytes};
-use json_document::{Document, DocumentFault, parse_json, read_document};
-use serde_json::Value;
+use json_document::{Document, DocumentFault, read_document};
 use std::alloc::{AllocError, Global};
-
-pub(crate) const NO_JSON: &str = "document: json\n";
 
 pub(crate) const READ_FAULT: &str = "read fault\n";
 
@@ -21,16 +17,7 @@ pub(crate) const TOO_LONG: &str = "document: more than 16777216 bytes\n";
 pub fn read_bytes(alloc: Global, bytes: &[u8]) -> Result<Result<Document, Reply>, AllocError>
     ensures { IfOk result (IsReading bytes.now) }
 {
-    match parse_json(alloc, bytes)? {
-        Some(value) => read_json(alloc, value),
-        None => Ok(Err(reply_with(alloc, Status::Document, NO_JSON)?)),
-    }
-}
-
-fn read_json(alloc: Global, value: Value) -> Result<Result<Document, Reply>, AllocError>
-    ensures { IfOk result (IsReadingOf (view value)) }
-{
-    match read_document(alloc, value) {
+    match read_document(alloc, bytes) {
         Ok(document) => Ok(Ok(document)),
         Err(DocumentFault::Place(place)) => Ok(Err(Reply {
             status: Status::Document,

@@ -5,9 +5,7 @@ ghost use Rattle.std.specs.Prelude.{◌≡◌};
 
 use crate::manifests::written;
 use entity_manifest::compute_entity_manifest;
-use json_document::{
-    Document, Edit, Edits, Shape, TemplateLink, parse_json, read_document_as, slot_pairs,
-};
+use json_document::{Document, Edit, Edits, Shape, TemplateLink, read_document_as, slot_pairs};
 use live_manifest::{LiveManifest, LiveManifestError, LiveRemovalError, Steps};
 use policy_set::{PolicySet, PolicySetError, RemovalError};
 use policy_values::Text;
@@ -230,10 +228,7 @@ fn told<L: Ledger>(
 
 fn told_of(alloc: Global, edits: &str) -> Result<(String, u64), Fail> {
     let text = format!(in alloc; "{{\"schema\":{SCHEMA},\"edits\":[{edits}]}}")?;
-    let Some(value) = parse_json(alloc, text.as_bytes())? else {
-        return Err(Fail::new("no JSON"));
-    };
-    match read_document_as(alloc, Shape::Live, value) {
+    match read_document_as(alloc, Shape::Live, text.as_bytes()) {
         Ok(document) => told::<Brand>(alloc, document, Blank::new(1)),
         Err(error) => {
             drop(error);

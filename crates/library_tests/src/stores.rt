@@ -5,7 +5,6 @@ use entity_store::{Entities, Entity};
 use json_document::{Document, parse_json, read_document, read_value};
 use json_response::{write_entity, write_value};
 use level_validate::slice_at_level;
-use serde_json::Value;
 use std::alloc::Global;
 use std::test::Fail;
 
@@ -24,14 +23,7 @@ const BOB: &str =
 
 // The document's store cut at the level, a bar behind each entity.
 fn cut(alloc: Global, level: u32) -> Result<String, Fail> {
-    match parse_json(alloc, DOCUMENT.as_bytes())? {
-        Some(value) => cut_value(alloc, value, level),
-        None => Ok(String::new(alloc)),
-    }
-}
-
-fn cut_value(alloc: Global, value: Value, level: u32) -> Result<String, Fail> {
-    match read_document(alloc, value) {
+    match read_document(alloc, DOCUMENT.as_bytes()) {
         Ok(document) => {
             let text = cut_store(alloc, &document, level);
             drop(document);

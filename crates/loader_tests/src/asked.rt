@@ -135,7 +135,7 @@ fn asked_on<L: Ledger>(alloc: Global, document: &Document, blank: Blank) -> Resu
 
 fn asked(alloc: Global, policies: &str) -> Result<String, Fail> {
     let text = format!(in alloc; "{HEAD}{policies}]}}")?;
-    match document_of(alloc, text.as_str())? {
+    match document_of(alloc, text.as_str()) {
         Some(document) => {
             let said = asked_on::<Brand>(alloc, &document, Blank::new(1));
             drop(document);

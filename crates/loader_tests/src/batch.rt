@@ -103,7 +103,7 @@ fn on_store(alloc: Global, document: &Document, requests: &Vec<Request>) -> Resu
 
 // The answers over rows of which this call fails; without one, over the store.
 fn answered(alloc: Global, requests: &str, failing: Option<u64>) -> Result<String, Fail> {
-    match document_of(alloc, GROUP)? {
+    match document_of(alloc, GROUP) {
         Some(document) => {
             let requests = requests_of(alloc, requests)?;
             match failing {

@@ -302,7 +302,7 @@ fn given_from(alloc: Global, document: &Document, giver: Giver) -> Result<String
 }
 
 fn given_of(alloc: Global, text: &str, giver: Giver) -> Result<String, Fail> {
-    match document_of(alloc, text)? {
+    match document_of(alloc, text) {
         Some(document) => {
             let given = given_from(alloc, &document, giver);
             drop(document);

@@ -112,7 +112,7 @@ fn computed_of(
     text: &str,
     schema: &ValidatorSchema,
 ) -> Result<String, Fail> {
-    match document_of(alloc, document)? {
+    match document_of(alloc, document) {
         Some(document) => {
             let said = computed(alloc, &document, text, schema);
             drop(document);
@@ -124,7 +124,7 @@ fn computed_of(
 
 // By the schema of another document.
 fn typed_by(alloc: Global, document: &str, text: &str, other: &str) -> Result<String, Fail> {
-    match document_of(alloc, other)? {
+    match document_of(alloc, other) {
         Some(other) => {
             let said = computed_of(alloc, document, text, &other.schema);
             drop(other);

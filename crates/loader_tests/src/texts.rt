@@ -1,17 +1,14 @@
 //! Documents, and the texts of stores.
 
 use entity_store::{Entities, Entity};
-use json_document::{Document, parse_json, read_document};
+use json_document::{Document, read_document};
 use json_response::write_entity;
 use std::alloc::Global;
 use std::test::Fail;
 
 /// The document that a text says.
-pub(crate) fn document_of(alloc: Global, text: &str) -> Result<Option<Document>, Fail> {
-    match parse_json(alloc, text.as_bytes())? {
-        Some(value) => Ok(read_document(alloc, value).ok()),
-        None => Ok(None),
-    }
+pub(crate) fn document_of(alloc: Global, text: &str) -> Option<Document> {
+    read_document(alloc, text.as_bytes()).ok()
 }
 
 /// The entities of a store, with a bar behind each.
