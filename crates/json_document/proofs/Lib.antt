@@ -1,3 +1,2 @@
 mod Added
 pub mod OneReading
-mod Taken

@@ -1,7 +1,8 @@
 -- A JSON value that is a document is no other document, and has no fault.
-use Rattle.std.proofs.Common.{◌≡◌, List, [], inl, inr, Option, Some, None, Result, Ok, Err, sym, ◌∙◌, ap, subst}
+use Rattle.std.proofs.Common.{◌≡◌, ℕ, List, [], inl, inr, Option, Some, None, Result, Ok, Err, sym, ◌∙◌, ap, subst}
 use Rattle.std.specs.Prelude.{IfSome, IsSomeAnd}
 use Rattle.serde_json.specs.Data.{Data}
+use Rattle.json_values.specs.Json.{json_of}
 use Rattle.policy_values.proofs.Repeated.{earlier_at}
 use Rattle.entity_store.specs.Store.{StoredEntity, Store}
 use Rattle.entity_store.specs.FromParents.{IsFromParents, ids_of}
@@ -22,7 +23,7 @@ use Rattle.json_document.specs.Policies.{no_policies, policies_of}
 use Rattle.json_document.specs.Request.{request_of, requests_of}
 use Rattle.json_document.specs.Entities.{entities_of}
 use Rattle.json_document.specs.Store.{IsStoreFrom, IsStoreFault}
-use Rattle.json_document.specs.Reading.{IsRead, IsReadFrom, IsReadBehindSchema, IsReadBehindPolicies, IsReadBehindEdits, IsReadBehindStore, IsReadBehindRequest, IsSchemaFrom, IsSchemaFault, document, or_place}
+use Rattle.json_document.specs.Reading.{IsRead, IsReadAs, IsReadFrom, IsReadBehindSchema, IsReadBehindPolicies, IsReadBehindEdits, IsReadBehindStore, IsReadBehindRequest, IsSchemaFrom, IsSchemaFault, document, or_place}
 use Rattle.json_document.specs.declared.document.Document.{Document}
 use Rattle.json_document.specs.declared.edit.Edit.{Edit}
 use Rattle.json_document.specs.declared.place.Place.{Place}
@@ -135,3 +136,8 @@ read_from parts = one_then _ _ (schema_once (schema_of parts.schema)) (behind_sc
 pub one_reading : (shape : Shape) (v : Data) (d : Document) (r : Result Document Place) → IsRead shape v (Ok d) → IsRead shape v r → r ≡ Ok d
 unfolding IsRead
 one_reading shape v d r f g = one_then _ _ (one_value (or_place place.Form (parts_of shape v))) read_from d r f g
+
+-- bytes that are a document are no other document, and have no fault
+pub one_reading_of : (shape : Shape) (bytes : List ℕ) (d : Document) (r : Result Document Place) → IsReadAs shape bytes (Ok d) → IsReadAs shape bytes r → r ≡ Ok d
+unfolding IsReadAs
+one_reading_of shape bytes d r f g = one_then _ _ (one_value (or_place place.Json (json_of bytes))) (one_reading shape) d r f g

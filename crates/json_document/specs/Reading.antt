@@ -1,5 +1,5 @@
 -- What a JSON value says as a document, or where its first fault is.
-use Rattle.std.specs.Prelude.{◌≡◌, List, [], Option, Some, None, Result, Ok, Err}
+use Rattle.std.specs.Prelude.{◌≡◌, ℕ, List, [], Option, Some, None, Result, Ok, Err}
 use Rattle.policy_set.specs.PolicySet.{PolicySetData}
 use Rattle.entity_store.specs.Store.{Store}
 use Rattle.entity_store.specs.declared.request.Request.{Request}
@@ -9,6 +9,7 @@ use Rattle.schema_core.specs.Schema.{SchemaData}
 use Rattle.json_schema.specs.Schema.{schema_of}
 use Rattle.schema_core.specs.declared.fault.SchemaFault.TheVariants as refused
 use Rattle.serde_json.specs.Data.{Data}
+use Rattle.json_values.specs.Json.{json_of}
 use Rattle.json_document.specs.Edits.{edits_of}
 use Rattle.json_document.specs.Faults.{Then}
 use Rattle.json_document.specs.Parts.{DocumentParts, parts_of}
@@ -82,3 +83,7 @@ IsReadFrom parts = Then (IsSchemaFrom (schema_of parts.schema)) (IsReadBehindSch
 -- document reading: the document of the shape that the value is, or the place of the first fault
 unfoldable pub IsRead : Shape → Data → Result Document Place → Type 0
 IsRead shape d = Then (λ r. r ≡ or_place place.Form (parts_of shape d)) IsReadFrom
+
+-- the document of the shape that the bytes are as JSON, or the place of the first fault
+unfoldable pub IsReadAs : Shape → List ℕ → Result Document Place → Type 0
+IsReadAs shape bytes = Then (λ r. r ≡ or_place place.Json (json_of bytes)) (IsRead shape)

@@ -1,22 +1,22 @@
 //! Documents.
 
-ghost use Rattle.serde_json.specs.View.{view};
+ghost use Rattle.json_trees.specs.Trees.{tree_view};
 ghost use Rattle.json_document.specs.Faults.{MayComeTo};
 ghost use Rattle.json_document.specs.Parts.{parts_view};
-ghost use Rattle.json_document.specs.Reading.{IsRead, IsReadBehindEdits, IsReadBehindPolicies, IsReadBehindRequest, IsReadBehindSchema, IsReadBehindStore, IsReadFrom};
+ghost use Rattle.json_document.specs.Reading.{IsRead, IsReadAs, IsReadBehindEdits, IsReadBehindPolicies, IsReadBehindRequest, IsReadBehindSchema, IsReadBehindStore, IsReadFrom};
 
 use crate::edits::read_edits;
 use crate::parts::{Parts, parts_of};
 use crate::policies::read_policies;
 use crate::requests::read_requests;
-use crate::schema::read_schema;
-use crate::{DocumentFault, Edits, Place, Requests, Shape, read_request, read_store};
+use crate::request::request_in;
+use crate::schema::schema_in;
+use crate::{DocumentFault, Edits, Place, Requests, Shape, read_store};
 use entity_store::{Entities, Request};
+use json_trees::{Scratch, Tree, read_tree};
 use policy_set::{PolicySet, or_drop};
 use schema_core::ValidatorSchema;
-use serde_json::Value;
 use std::alloc::Global;
-use std::mem;
 
 /// A schema, policies or edits to them, entities, and a request or several.
 #[derive(Debug)]
@@ -56,7 +56,7 @@ impl Drop for Document {
 
 fn with_requests(
     alloc: Global,
-    parts: &mut Parts,
+    parts: &Parts<'_, '_>,
     schema: ValidatorSchema,
     policies: PolicySet,
     edits: Edits,
@@ -64,10 +64,10 @@ fn with_requests(
     request: Request,
 ) -> Result<Document, DocumentFault>
     ensures { MayComeTo result
-        (IsReadBehindRequest (parts_view parts.old) schema policies edits entities request) }
+        (IsReadBehindRequest (parts_view parts.now) schema policies edits entities request) }
 {
     let requests = or_drop!(
-        read_requests(alloc, parts.requests.as_slice()),
+        read_requests(alloc, parts.requests),
         schema,
         policies,
         edits,
@@ -86,16 +86,16 @@ fn with_requests(
 
 fn with_request(
     alloc: Global,
-    parts: &mut Parts,
+    parts: &Parts<'_, '_>,
     schema: ValidatorSchema,
     policies: PolicySet,
     edits: Edits,
     entities: Entities,
 ) -> Result<Document, DocumentFault>
     ensures { MayComeTo result
-        (IsReadBehindStore (parts_view parts.old) schema policies edits entities) }
+        (IsReadBehindStore (parts_view parts.now) schema policies edits entities) }
 {
-    let request = read_request(alloc, parts.request.as_ref());
+    let request = request_in(alloc, parts.request);
     let Some(request) = or_drop!(request, schema, policies, edits, entities) else {
         drop(schema);
         drop(policies);
@@ -108,74 +108,83 @@ fn with_request(
 
 fn with_entities(
     alloc: Global,
-    parts: &mut Parts,
+    parts: &Parts<'_, '_>,
     schema: ValidatorSchema,
     policies: PolicySet,
     edits: Edits,
 ) -> Result<Document, DocumentFault>
-    ensures { MayComeTo result (IsReadBehindEdits (parts_view parts.old) schema policies edits) }
+    ensures { MayComeTo result (IsReadBehindEdits (parts_view parts.now) schema policies edits) }
 {
-    let items = mem::replace(&mut parts.entities, Vec::new(alloc));
-    let entities = or_drop!(read_store(alloc, items), schema, policies, edits);
+    let entities = or_drop!(read_store(alloc, parts.entities), schema, policies, edits);
     with_request(alloc, parts, schema, policies, edits, entities)
 }
 
 fn with_edits(
     alloc: Global,
-    parts: &mut Parts,
+    parts: &Parts<'_, '_>,
     schema: ValidatorSchema,
     policies: PolicySet,
 ) -> Result<Document, DocumentFault>
-    ensures { MayComeTo result (IsReadBehindPolicies (parts_view parts.old) schema policies) }
+    ensures { MayComeTo result (IsReadBehindPolicies (parts_view parts.now) schema policies) }
 {
-    let edits = or_drop!(read_edits(alloc, parts.edits.as_slice()), schema, policies);
+    let edits = or_drop!(read_edits(alloc, parts.edits), schema, policies);
     with_entities(alloc, parts, schema, policies, edits)
 }
 
 fn with_policies(
     alloc: Global,
-    parts: &mut Parts,
+    parts: &Parts<'_, '_>,
     schema: ValidatorSchema,
 ) -> Result<Document, DocumentFault>
-    ensures { MayComeTo result (IsReadBehindSchema (parts_view parts.old) schema) }
+    ensures { MayComeTo result (IsReadBehindSchema (parts_view parts.now) schema) }
 {
-    let items = mem::replace(&mut parts.policies, Vec::new(alloc));
-    let policies = or_drop!(read_policies(alloc, items), schema);
+    let policies = or_drop!(read_policies(alloc, parts.policies), schema);
     with_edits(alloc, parts, schema, policies)
 }
 
-fn read_parts(alloc: Global, parts: &mut Parts) -> Result<Document, DocumentFault>
-    ensures { MayComeTo result (IsReadFrom (parts_view parts.old)) }
+fn read_parts(alloc: Global, parts: &Parts<'_, '_>) -> Result<Document, DocumentFault>
+    ensures { MayComeTo result (IsReadFrom (parts_view parts.now)) }
 {
-    let declared = mem::replace(&mut parts.schema, Value::Null);
-    let schema = read_schema(alloc, &declared);
-    drop(declared);
-    with_policies(alloc, parts, schema?)
+    let schema = schema_in(alloc, parts.schema)?;
+    with_policies(alloc, parts, schema)
 }
 
-/// The document of the shape that the value is; else the place of its first fault. What is read of the value is
-/// let go of at once, so that the whole of it does not stand beside the document.
+// The document of the shape that the tree is; else the place of its first fault.
 #[tactic(auto, unfolding(crate::specs::Reading::IsRead))]
-pub fn read_document_as(
-    alloc: Global,
-    shape: Shape,
-    value: Value,
-) -> Result<Document, DocumentFault>
-    ensures { MayComeTo result (IsRead shape (view value)) }
+fn read_tree_as(alloc: Global, shape: Shape, tree: &Tree<'_>) -> Result<Document, DocumentFault>
+    ensures { MayComeTo result (IsRead shape (tree_view tree.now)) }
 {
-    match parts_of(alloc, shape, value) {
-        Some(mut parts) => {
-            let read = read_parts(alloc, &mut parts);
-            drop(parts);
-            read
-        }
+    let none = Vec::new(alloc);
+    match parts_of(shape, tree, none.as_slice()) {
+        Some(parts) => read_parts(alloc, &parts),
         None => Err(DocumentFault::Place(Place::Form)),
     }
 }
 
-/// The document with one request that the value is; else the place of its first fault.
-pub fn read_document(alloc: Global, value: Value) -> Result<Document, DocumentFault>
-    ensures { MayComeTo result (IsRead Shape.Whole (view value)) }
+/// The document of the shape that the bytes are; else the place of its first fault. The bytes are read once, as a
+/// tree that borrows them; each policy and each entity is made a JSON value when it is its turn, and let go of.
+#[tactic(auto, unfolding(crate::specs::Reading::IsReadAs))]
+pub fn read_document_as(
+    alloc: Global,
+    shape: Shape,
+    bytes: &[u8],
+) -> Result<Document, DocumentFault>
+    ensures { MayComeTo result (IsReadAs shape bytes.now) }
 {
-    read_document_as(alloc, Shape::Whole, value)
+    let mut scratch = Scratch::new(alloc);
+    match read_tree(alloc, bytes, &mut scratch)? {
+        Some(tree) => {
+            let read = read_tree_as(alloc, shape, &tree);
+            drop(tree);
+            read
+        }
+        None => Err(DocumentFault::Place(Place::Json)),
+    }
+}
+
+/// The document with one request that the bytes are; else the place of its first fault.
+pub fn read_document(alloc: Global, bytes: &[u8]) -> Result<Document, DocumentFault>
+    ensures { MayComeTo result (IsReadAs Shape.Whole bytes.now) }
+{
+    read_document_as(alloc, Shape::Whole, bytes)
 }

@@ -1,12 +1,14 @@
 //! Edits to a set of policies, in JSON.
 
 ghost use Rattle.std.specs.Prelude.{◌≡◌, [], IfOk};
-ghost use Rattle.serde_json.specs.View.{view, items_view};
+ghost use Rattle.serde_json.specs.View.{view};
+ghost use Rattle.json_trees.specs.Trees.{tree_view, trees_view};
 ghost use Rattle.json_document.specs.Edits.{addition_at, edit_at, edits_of, removal_at, removed_of};
 ghost use Rattle.json_document.specs.Faults.{ComesTo};
 
 use crate::{DocumentFault, Edit, Place};
 use json_policies::{PolicyRead, read_entry};
+use json_trees::{Tree, value_of};
 use json_values::has_only;
 use policy_values::Text;
 use serde_json::Value;
@@ -98,20 +100,30 @@ fn read_edit(alloc: Global, index: usize, value: &Value) -> Result<Edit, Documen
     removal(index, removed)
 }
 
-fn read_items(alloc: Global, items: &[Value]) -> Result<Vec<Edit>, DocumentFault>
-    ensures { ComesTo (λ v. v.items) result (edits_of [] (items_view items.now)) }
+// The edit that the tree is.
+fn edit_in(alloc: Global, index: usize, tree: &Tree<'_>) -> Result<Edit, DocumentFault>
+    ensures { ComesTo (λ e. e) result (edit_at index (tree_view tree.now)) }
+{
+    let value = value_of(alloc, tree)?;
+    let edit = read_edit(alloc, index, &value);
+    drop(value);
+    edit
+}
+
+fn read_items(alloc: Global, items: &[Tree<'_>]) -> Result<Vec<Edit>, DocumentFault>
+    ensures { ComesTo (λ v. v.items) result (edits_of [] (trees_view items.now)) }
 {
     let mut edits = Vec::new(alloc);
     for item in items {
-        let edit = read_edit(alloc, edits.len(), item)?;
+        let edit = edit_in(alloc, edits.len(), item)?;
         edits.push(edit)?;
     }
     Ok(edits)
 }
 
 /// The edits of the items; else the place of the first fault.
-pub(crate) fn read_edits(alloc: Global, items: &[Value]) -> Result<Edits, DocumentFault>
-    ensures { ComesTo (λ es. es) result (edits_of [] (items_view items.now)) }
+pub(crate) fn read_edits(alloc: Global, items: &[Tree<'_>]) -> Result<Edits, DocumentFault>
+    ensures { ComesTo (λ es. es) result (edits_of [] (trees_view items.now)) }
 {
     let edits = read_items(alloc, items)?;
     Ok(Edits::new(edits))

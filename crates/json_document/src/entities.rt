@@ -2,6 +2,7 @@
 
 ghost use Rattle.std.specs.Prelude.{◌≡◌, [], IfOk, option_map};
 ghost use Rattle.serde_json.specs.View.{view, items_view, members_view};
+ghost use Rattle.json_trees.specs.Trees.{tree_view, trees_view};
 ghost use Rattle.json_values.specs.Json.{has_only};
 ghost use Rattle.json_document.specs.Entities.{entities_of, entity_names, entity_of, given_entity_of, index_from, with_uids};
 ghost use Rattle.policy_values.specs.Uid.{uid_eq};
@@ -11,6 +12,7 @@ ghost use Rattle.json_document.specs.Faults.{ComesTo};
 use crate::fields::read_attrs_and_tags;
 use crate::{DocumentFault, Place};
 use entity_store::Entity;
+use json_trees::{Tree, value_of};
 use json_values::{has_only, list_items, read_uid_like};
 use policy_set::or_drop;
 use policy_values::EntityUID;
@@ -105,13 +107,27 @@ fn read_entity(
     }
 }
 
-/// The entities of the items, each of which is let go of once it is read; else the place of the first item that is none.
-pub fn read_entities(alloc: Global, items: Vec<Value>) -> Result<Vec<Entity>, DocumentFault>
-    ensures { ComesTo (λ v. v.items) result (entities_of [] (items_view items.items)) }
+// The entity that the tree is.
+fn entity_in(
+    alloc: Global,
+    tree: &Tree<'_>,
+    before: Option<&Entity>,
+) -> Result<Option<Entity>, AllocError>
+    ensures { IfOk result (λ o. o ≡ entity_of (tree_view tree.now)) }
+{
+    let value = value_of(alloc, tree)?;
+    let entity = read_entity(alloc, &value, before);
+    drop(value);
+    entity
+}
+
+/// The entities of the items; else the place of the first item that is none.
+pub fn read_entities(alloc: Global, items: &[Tree<'_>]) -> Result<Vec<Entity>, DocumentFault>
+    ensures { ComesTo (λ v. v.items) result (entities_of [] (trees_view items.now)) }
 {
     let mut entities = Vec::new(alloc);
     for item in items {
-        let Some(entity) = read_entity(alloc, &item, entities.last())? else {
+        let Some(entity) = entity_in(alloc, item, entities.last())? else {
             return Err(DocumentFault::Place(Place::Entity(entities.len())));
         };
         entities.push(entity)?;

@@ -23,6 +23,7 @@ pub use edits::Edits;
 pub use entities::read_entities;
 pub use json_policies::{PolicyParts, PolicyRead, TemplateLink, read_entry};
 pub use json_schema::read_declarations;
+pub use json_trees::{Scratch, Tree, read_tree};
 pub use json_values::{parse_json, read_uid, read_value};
 pub use place::{DocumentFault, Place};
 pub use policies::{read_policies, slot_pairs};

@@ -1,124 +1,55 @@
 //! The parts of a document, in JSON.
 
-ghost use Rattle.std.specs.Prelude.{◌≡◌, is_some, option_map};
-ghost use Rattle.serde_json.specs.Find.{as_object, get_member};
-ghost use Rattle.serde_json.specs.View.{view, items_view, members_view};
+ghost use Rattle.std.specs.Prelude.{◌≡◌, [], false, option_map};
+ghost use Rattle.std.specs.Option.{option_map_or};
+ghost use Rattle.serde_json.specs.Find.{as_object};
 ghost use Rattle.json_values.specs.Json.{has_only};
-ghost use Rattle.json_document.specs.Parts.{IsWithout, items_named, part_names, parts_in, parts_of, parts_view};
+ghost use Rattle.json_trees.specs.Trees.{tree_view};
+ghost use Rattle.json_document.specs.Parts.{part_names, parts_of, parts_view};
 
 use crate::Shape;
-use json_values::{has_only, list_items};
-use serde_json::{Map, Value};
-use std::alloc::Global;
+use json_trees::{Tree, get, has_only, items_or};
 
-/// The parts of a document, each of which is let go of once it is read.
-pub(crate) struct Parts {
-    pub(crate) schema: Value,
-    pub(crate) policies: Vec<Value>,
-    pub(crate) entities: Vec<Value>,
-    pub(crate) request: Option<Value>,
-    pub(crate) requests: Vec<Value>,
-    pub(crate) edits: Vec<Value>,
+/// The parts of a document, in the tree of its text.
+pub(crate) struct Parts<'t, 'a> {
+    pub(crate) schema: &'t Tree<'a>,
+    pub(crate) policies: &'t [Tree<'a>],
+    pub(crate) entities: &'t [Tree<'a>],
+    pub(crate) request: Option<&'t Tree<'a>>,
+    pub(crate) requests: &'t [Tree<'a>],
+    pub(crate) edits: &'t [Tree<'a>],
 }
 
-impl Drop for Parts {
-    fn drop(self) {
-        let Parts {
-            schema,
-            policies,
-            entities,
-            request,
-            requests,
-            edits,
-        } = self;
-        drop(schema);
-        drop(policies);
-        drop(entities);
-        drop(request);
-        drop(requests);
-        drop(edits);
-    }
-}
-
-// Whether the members are all such as a document of the shape may have.
-fn has_part_names(shape: Shape, members: &Map<String, Value>) -> bool
-    ensures { result ≡ has_only (part_names shape) (members_view members.now.entries) }
+// Whether the tree is an object with such members alone as a document of the shape may have.
+fn has_part_names(shape: Shape, tree: &Tree<'_>) -> bool
+    ensures { result ≡ option_map_or (has_only (part_names shape)) (as_object (tree_view tree.now)) false }
 {
     match shape {
-        Shape::Whole => has_only(&["schema", "policies", "entities", "request"], members),
-        Shape::Batch => has_only(&["schema", "policies", "entities", "requests"], members),
-        Shape::Live => has_only(&["schema", "edits", "entities", "request"], members),
+        Shape::Whole => has_only(&["schema", "policies", "entities", "request"], tree),
+        Shape::Batch => has_only(&["schema", "policies", "entities", "requests"], tree),
+        Shape::Live => has_only(&["schema", "edits", "entities", "request"], tree),
     }
 }
 
-// Something, where the value has the form of a document of the shape.
+/// The parts of the document of the shape that the tree is, if it has the form of one.
 #[tactic(auto, unfolding(crate::specs::Parts::parts_of))]
-fn form_of(shape: Shape, value: &Value) -> Option<()>
-    ensures { is_some result ≡ is_some (parts_of shape (view value.now)) }
+pub(crate) fn parts_of<'t, 'a>(
+    shape: Shape,
+    tree: &'t Tree<'a>,
+    none: &'t [Tree<'a>],
+) -> Option<Parts<'t, 'a>>
+    requires { none.now ≡ [] }
+    ensures { option_map parts_view result ≡ parts_of shape (tree_view tree.now) }
 {
-    let members = value.as_object()?;
-    value.get("schema")?;
-    list_items(value.get("policies"))?;
-    list_items(value.get("entities"))?;
-    list_items(value.get("requests"))?;
-    list_items(value.get("edits"))?;
-    if has_part_names(shape, members) {
-        Some(())
-    } else {
-        None
-    }
-}
-
-// Takes the member with the name out.
-fn taken(members: &mut Map<String, Value>, name: &str) -> Option<Value>
-    ensures value { option_map view result ≡ get_member name.now (members_view members.old.entries) }
-    ensures others { IsWithout name.now (members_view members.old.entries) (members_view members.new.entries) }
-{
-    members.remove(name)
-}
-
-// Takes the list with the name out, and answers its items; one that is absent, or is no list, has none.
-fn taken_items(alloc: Global, members: &mut Map<String, Value>, name: &str) -> Vec<Value>
-    ensures items { items_view result.items ≡ items_named name.now (members_view members.old.entries) }
-    ensures others { IsWithout name.now (members_view members.old.entries) (members_view members.new.entries) }
-{
-    match taken(members, name) {
-        Some(Value::Array(items)) => items,
-        _ => Vec::new(alloc),
-    }
-}
-
-// The parts of the members of a document.
-fn parts_in(alloc: Global, mut members: Map<String, Value>) -> Parts
-    ensures { parts_view result ≡ parts_in (members_view members.entries) }
-{
-    Parts {
-        schema: taken(&mut members, "schema").unwrap_or(Value::Null),
-        policies: taken_items(alloc, &mut members, "policies"),
-        entities: taken_items(alloc, &mut members, "entities"),
-        request: taken(&mut members, "request"),
-        requests: taken_items(alloc, &mut members, "requests"),
-        edits: taken_items(alloc, &mut members, "edits"),
-    }
-}
-
-// The parts of the value, where it is an object.
-fn parts_from(alloc: Global, value: Value) -> Option<Parts>
-    ensures { option_map parts_view result ≡ option_map parts_in (as_object (view value)) }
-{
-    let Value::Object(members) = value else {
-        return None;
-    };
-    Some(parts_in(alloc, members))
-}
-
-/// The parts of the document of the shape that the value is, if it has the form of one.
-pub(crate) fn parts_of(alloc: Global, shape: Shape, value: Value) -> Option<Parts>
-    ensures { option_map parts_view result ≡ parts_of shape (view value) }
-{
-    if form_of(shape, &value).is_none() {
-        drop(value);
+    if !has_part_names(shape, tree) {
         return None;
     }
-    parts_from(alloc, value)
+    Some(Parts {
+        schema: get(tree, "schema")?,
+        policies: items_or(get(tree, "policies"), none)?,
+        entities: items_or(get(tree, "entities"), none)?,
+        request: get(tree, "request"),
+        requests: items_or(get(tree, "requests"), none)?,
+        edits: items_or(get(tree, "edits"), none)?,
+    })
 }

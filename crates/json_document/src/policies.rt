@@ -2,13 +2,15 @@
 
 ghost use Rattle.std.specs.Prelude.{◌≡◌, IfOk, MatchResult, None, Option};
 ghost use Rattle.policy_set.specs.declared.policy_set.PolicySetError.{PolicySetError};
-ghost use Rattle.serde_json.specs.View.{view, items_view};
+ghost use Rattle.serde_json.specs.View.{view};
+ghost use Rattle.json_trees.specs.Trees.{tree_view, trees_view};
 ghost use Rattle.policy_set.specs.PolicySet.{PolicySetData, id_fault, IsNotAdded};
 ghost use Rattle.json_document.specs.Faults.{ComesTo, Fails};
 ghost use Rattle.json_document.specs.Policies.{added, added_link, added_read, added_template, no_policies, policies_of, slot_pairs, unless_fault, with_written};
 
 use crate::{DocumentFault, Place};
 use json_policies::{PolicyRead, TemplateLink, read_entry};
+use json_trees::{Tree, value_of};
 use policy_expressions::{SlotId, SlotValues};
 use policy_set::{PolicySet, PolicySetError, Template, or_drop};
 use policy_values::EntityUID;
@@ -122,14 +124,29 @@ fn add_entry(
     add_read(alloc, policies, index, read)
 }
 
-/// The policies of the items, each of which is let go of once it is read; else the place of the first fault.
-pub fn read_policies(alloc: Global, items: Vec<Value>) -> Result<PolicySet, DocumentFault>
-    ensures { ComesTo (λ s. s) result (policies_of 0 no_policies (items_view items.items)) }
+// Adds what the tree is.
+fn add_tree(
+    alloc: Global,
+    policies: &mut PolicySet,
+    index: usize,
+    tree: &Tree<'_>,
+) -> Result<(), DocumentFault>
+    ensures { ComesTo (λ _. policies.new) result (added index policies.old (tree_view tree.now)) }
+{
+    let value = value_of(alloc, tree)?;
+    let added = add_entry(alloc, policies, index, &value);
+    drop(value);
+    added
+}
+
+/// The policies of the items; else the place of the first fault.
+pub fn read_policies(alloc: Global, items: &[Tree<'_>]) -> Result<PolicySet, DocumentFault>
+    ensures { ComesTo (λ s. s) result (policies_of 0 no_policies (trees_view items.now)) }
 {
     let mut policies = PolicySet::new(alloc);
     let mut index = 0;
     for item in items {
-        add_entry(alloc, &mut policies, index, &item)?;
+        add_tree(alloc, &mut policies, index, item)?;
         index += 1;
     }
     Ok(policies)

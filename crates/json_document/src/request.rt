@@ -2,9 +2,11 @@
 
 ghost use Rattle.std.specs.Prelude.{◌≡◌, IfOk, option_map};
 ghost use Rattle.serde_json.specs.View.{view};
+ghost use Rattle.json_trees.specs.Trees.{tree_view};
 ghost use Rattle.json_document.specs.Request.{context_of, entries_of, given_request_of, known_of, request_of};
 
 use entity_store::{Context, Request};
+use json_trees::{Tree, value_of};
 use json_values::{has_only, read_fields, read_uid};
 use policy_set::or_drop;
 use policy_values::EntityUID;
@@ -78,7 +80,7 @@ fn read_entries(alloc: Global, value: &Json) -> Result<Option<Request>, AllocErr
 
 /// The request that the value is, if it is one.
 #[tactic(auto, unfolding(crate::specs::Request::given_request_of))]
-pub(crate) fn read_given_request(alloc: Global, value: &Json) -> Result<Option<Request>, AllocError>
+fn read_given_request(alloc: Global, value: &Json) -> Result<Option<Request>, AllocError>
     ensures { IfOk result (λ o. o ≡ given_request_of (view value.now)) }
 {
     let Some(members) = value.as_object() else {
@@ -102,5 +104,31 @@ pub fn read_request(alloc: Global, value: Option<&Json>) -> Result<Option<Reques
             resource: None,
             context: None,
         })),
+    }
+}
+
+/// The request that the tree is, if it is one.
+pub(crate) fn given_request_in(
+    alloc: Global,
+    tree: &Tree<'_>,
+) -> Result<Option<Request>, AllocError>
+    ensures { IfOk result (λ o. o ≡ given_request_of (tree_view tree.now)) }
+{
+    let value = value_of(alloc, tree)?;
+    let request = read_given_request(alloc, &value);
+    drop(value);
+    request
+}
+
+/// The request that the tree is, if it is one; an absent one has no entry.
+pub(crate) fn request_in(
+    alloc: Global,
+    tree: Option<&Tree<'_>>,
+) -> Result<Option<Request>, AllocError>
+    ensures { IfOk result (λ o. o ≡ request_of (option_map (λ t. tree_view t.now) tree.entry)) }
+{
+    match tree {
+        Some(tree) => given_request_in(alloc, tree),
+        None => read_request(alloc, None),
     }
 }

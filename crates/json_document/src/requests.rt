@@ -1,14 +1,14 @@
 //! Lists of requests.
 
 ghost use Rattle.std.specs.Prelude.{◌≡◌, []};
-ghost use Rattle.serde_json.specs.View.{items_view};
+ghost use Rattle.json_trees.specs.Trees.{trees_view};
 ghost use Rattle.json_document.specs.Faults.{ComesTo};
 ghost use Rattle.json_document.specs.Request.{requests_of};
 
-use crate::request::read_given_request;
+use crate::request::given_request_in;
 use crate::{DocumentFault, Place};
 use entity_store::Request;
-use serde_json::Value;
+use json_trees::Tree;
 use std::alloc::Global;
 use std::marker::Model;
 
@@ -47,12 +47,12 @@ impl Requests {
     }
 }
 
-fn read_items(alloc: Global, items: &[Value]) -> Result<Vec<Request>, DocumentFault>
-    ensures { ComesTo (λ v. v.items) result (requests_of [] (items_view items.now)) }
+fn read_items(alloc: Global, items: &[Tree<'_>]) -> Result<Vec<Request>, DocumentFault>
+    ensures { ComesTo (λ v. v.items) result (requests_of [] (trees_view items.now)) }
 {
     let mut requests = Vec::new(alloc);
     for item in items {
-        let Some(request) = read_given_request(alloc, item)? else {
+        let Some(request) = given_request_in(alloc, item)? else {
             return Err(DocumentFault::Place(Place::RequestAt(requests.len())));
         };
         requests.push(request)?;
@@ -61,8 +61,8 @@ fn read_items(alloc: Global, items: &[Value]) -> Result<Vec<Request>, DocumentFa
 }
 
 /// The requests of the items; else the place of the first item that is none.
-pub(crate) fn read_requests(alloc: Global, items: &[Value]) -> Result<Requests, DocumentFault>
-    ensures { ComesTo (λ qs. qs) result (requests_of [] (items_view items.now)) }
+pub(crate) fn read_requests(alloc: Global, items: &[Tree<'_>]) -> Result<Requests, DocumentFault>
+    ensures { ComesTo (λ qs. qs) result (requests_of [] (trees_view items.now)) }
 {
     let requests = read_items(alloc, items)?;
     Ok(Requests::new(requests))

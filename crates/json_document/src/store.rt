@@ -5,7 +5,7 @@ ghost use Rattle.std.specs.Ordering.{nat_cmp};
 ghost use Rattle.policy_values.specs.Least.{IsLeast};
 ghost use Rattle.policy_values.specs.Repeated.{IsRepeated, StandsEarlier};
 ghost use Rattle.policy_values.specs.declared.entity_uid.EntityUID.{EntityUID};
-ghost use Rattle.serde_json.specs.View.{items_view};
+ghost use Rattle.json_trees.specs.Trees.{trees_view};
 ghost use Rattle.json_document.specs.Entities.{entities_of};
 ghost use Rattle.json_document.specs.Faults.{MayComeTo};
 ghost use Rattle.json_document.specs.Store.{IsStoreOf, IsRepeatedIfDuplicate, IsPlaceOf};
@@ -13,8 +13,8 @@ ghost use Rattle.json_document.specs.Store.{IsStoreOf, IsRepeatedIfDuplicate, Is
 use crate::entities::{ids_of, index_of, read_entities};
 use crate::{DocumentFault, Place};
 use entity_store::{Entities, EntitiesError};
+use json_trees::Tree;
 use policy_values::{EntityUID, first_repeated};
-use serde_json::Value;
 use std::alloc::{AllocError, Global};
 
 /// The index of the first id that stands earlier.
@@ -45,8 +45,8 @@ fn refusal(alloc: Global, ids: &Vec<EntityUID>, error: EntitiesError) -> Documen
 
 /// The store that the entities of the items make with their parents; else the place of the first fault: the
 /// first item that is no entity, the first id that stands earlier, or the least id that is its own ancestor.
-pub fn read_store(alloc: Global, items: Vec<Value>) -> Result<Entities, DocumentFault>
-    ensures { MayComeTo result (IsStoreOf (items_view items.items)) }
+pub fn read_store(alloc: Global, items: &[Tree<'_>]) -> Result<Entities, DocumentFault>
+    ensures { MayComeTo result (IsStoreOf (trees_view items.now)) }
 {
     let entities = read_entities(alloc, items)?;
     let ids = ids_of(alloc, &entities)?;

@@ -1,8 +1,6 @@
 -- What is known of every answer to a document.
 use Rattle.std.proofs.Common.{ℕ, List, inl, inr, Option, Some, None, sym, subst}
-use Rattle.serde_json.specs.Data.{Data}
-use Rattle.policy_gate.specs.Answer.{IsAnswer, IsAnswerIf, IsAnswerFor, IsRefusedOr, IsWork, refusal}
-use Rattle.json_values.specs.Json.{json_of}
+use Rattle.policy_gate.specs.Answer.{IsAnswer, IsRefusedOr, IsWork, refusal}
 use Rattle.policy_gate.specs.Reply.{Answer}
 use Rattle.policy_gate.specs.Status.{IsOfDocument}
 use Rattle.std.specs.Prelude.{IfSome}
@@ -30,15 +28,8 @@ of_answer : (c : Command) (r : Option Answer) (W : List ℕ → Type 0) (a : Ans
 of_answer c None W a h is = subst IsOfDocument (sym is.0) tt
 of_answer c (Some r) W a h is = subst IsOf (sym is) (of_refusal c r.status h)
 
-of_value : (c : Command) (v : Data) (a : Answer) → IsAnswerFor c v a → IsOf a
-of_value c v a (inl (place, reads, is)) = subst IsOf (sym is) tt
-of_value c v a (inr (d, reads, made, is)) = of_answer c (refusal c d) (IsWork c d) a (refuses c d) is
-
-of_bytes : (c : Command) (o : Option Data) (a : Answer) → IsAnswerIf c o a → IsOf a
-of_bytes c None a is = subst IsOf (sym is) tt
-of_bytes c (Some v) a is = of_value c v a is
-
 -- the bytes of a document alone decide on the status of its answer
 pub status_of_document : (c : Command) (bytes : List ℕ) (a : Answer) → IsAnswer c bytes a → IsOfDocument a.status
 unfolding IsAnswer
-status_of_document c bytes a is = of_bytes c (json_of bytes) a is
+status_of_document c bytes a (inl (place, reads, is)) = subst IsOf (sym is) tt
+status_of_document c bytes a (inr (d, reads, made, is)) = of_answer c (refusal c d) (IsWork c d) a (refuses c d) is

@@ -31,7 +31,7 @@ use Rattle.policy_gate.specs.declared.status.Status.{Status}
 use Rattle.policy_gate.specs.declared.status.Status.TheVariants as status
 use Rattle.policy_gate.specs.declared.command.Command.{Command}
 use Rattle.policy_gate.specs.declared.command.Command.TheVariants.{Check, Level, Request as Conformance, Manifest, Slice, Decide, Sample, Batch, Live, Review, List as Page}
-use Rattle.json_document.proofs.OneReading.{one_reading}
+use Rattle.json_document.proofs.OneReading.{one_reading_of}
 use Rattle.conformance.specs.RequestRules.{first_request_fault}
 use Rattle.policy_set.specs.Response.{response}
 use Rattle.json_response.specs.SliceJson.{response_text}
@@ -439,57 +439,32 @@ edit_of c d text h is = absurd (not_edit (refusal c d) (IsWork c d) text h is)
 -- ---- over the bytes
 
 module _ (laws : Laws) (c : Command) (bytes text : List ℕ) where
-  abbrev SaysDone : Type 0
-  SaysDone = (d : Document) × IsDocumentOf (shape_of c) bytes d × Says c d text
-
-  done_value : (o : Option Data) → json_of bytes ≡ o → IsAnswerIf c o (answer status.Done text) → SaysDone
-  done_value None json is = absurd (cc (ap (λ b. b.status) is))
-  done_value (Some v) json (inl (place, reads, is)) = absurd (cc (ap (λ b. b.status) is))
-  done_value (Some v) json (inr (d, reads, made, is)) =
-      let past = done c (refusal c d) (IsWork c d) text (refuses c d) is in
-      (d, (v, json, reads), says laws d made c text past.0 past.1)
-
   -- where 0 is due, it says this
   pub says_done : IsAnswer c bytes (answer status.Done text) → (d : Document) × IsDocumentOf (shape_of c) bytes d × Says c d text
   unfolding IsAnswer
-  says_done is = done_value (json_of bytes) refl is
-
-  abbrev SaysRefused : Type 0
-  SaysRefused = (d : Document) × IsDocumentOf (shape_of c) bytes d × (¬ HasPoliciesFor c d)
-
-  refused_value : (o : Option Data) → json_of bytes ≡ o → IsAnswerIf c o (answer status.Findings text) → SaysRefused
-  refused_value None json is = absurd (cc (ap (λ b. b.status) is))
-  refused_value (Some v) json (inl (place, reads, is)) = absurd (cc (ap (λ b. b.status) is))
-  refused_value (Some v) json (inr (d, reads, made, is)) =
-      (d, (v, json, reads), found_policies laws c d (found_answer (refusal c d) (IsWork c d) text is))
+  says_done (inl (place, reads, is)) = absurd (cc (ap (λ b. b.status) is))
+  says_done (inr (d, reads, made, is)) =
+      let past = done c (refusal c d) (IsWork c d) text (refuses c d) is in
+      (d, reads, says laws d made c text past.0 past.1)
 
   -- where 1 is due, the policies are not accepted
   pub says_refused : IsAnswer c bytes (answer status.Findings text) → (d : Document) × IsDocumentOf (shape_of c) bytes d × (¬ HasPoliciesFor c d)
   unfolding IsAnswer
-  says_refused is = refused_value (json_of bytes) refl is
-
-  abbrev SaysEdit : Type 0
-  SaysEdit = (c ≡ Live) × ((d : Document) × IsDocumentOf (shape_of c) bytes d × IsRefusedEdit d text)
-
-  edit_value : (o : Option Data) → json_of bytes ≡ o → IsAnswerIf c o (answer status.Edit text) → SaysEdit
-  edit_value None json is = absurd (cc (ap (λ b. b.status) is))
-  edit_value (Some v) json (inl (place, reads, is)) = absurd (cc (ap (λ b. b.status) is))
-  edit_value (Some v) json (inr (d, reads, made, is)) = let edit = edit_of c d text (refuses c d) is in (edit.0, (d, (v, json, reads), edit.1))
+  says_refused (inl (place, reads, is)) = absurd (cc (ap (λ b. b.status) is))
+  says_refused (inr (d, reads, made, is)) = (d, reads, found_policies laws c d (found_answer (refusal c d) (IsWork c d) text is))
 
   -- where 12 is due, an edit is refused
   pub says_edit : IsAnswer c bytes (answer status.Edit text) → (c ≡ Live) × ((d : Document) × IsDocumentOf (shape_of c) bytes d × IsRefusedEdit d text)
   unfolding IsAnswer
-  says_edit is = edit_value (json_of bytes) refl is
+  says_edit (inl (place, reads, is)) = absurd (cc (ap (λ b. b.status) is))
+  says_edit (inr (d, reads, made, is)) = let edit = edit_of c d text (refuses c d) is in (edit.0, (d, reads, edit.1))
 
 module _ (laws : Laws) (c : Command) where
-  for_value : (v : Data) (d : Document) (a : Answer) → IsRead (shape_of c) v (Ok d) → KeepsRulesOf c d → IsAnswerFor c v a → a.status ≡ status.Done
-  for_value v d a reads rules (inl (place, faulty, is)) = absurd (cc (one_reading (shape_of c) v d (Err place) reads faulty))
-  for_value v d a reads rules (inr (e, again, made, is)) =
-      let same : e ≡ d = cc (one_reading (shape_of c) v d (Ok e) reads again) in
-      let none = kept_all laws e made c (subst (KeepsRulesOf c) (sym same) rules) in
-      (subst (λ r. IsRefusedOr r (IsWork c e) a) none is).0
-
   -- where every rule of the command holds, 0 is due
   pub kept_is_done : (bytes : List ℕ) (d : Document) (a : Answer) → IsDocumentOf (shape_of c) bytes d → KeepsRulesOf c d → IsAnswer c bytes a → a.status ≡ status.Done
   unfolding IsAnswer
-  kept_is_done bytes d a (v, json, reads) rules is = for_value v d a reads rules (subst (λ o. IsAnswerIf c o a) json is)
+  kept_is_done bytes d a reads rules (inl (place, faulty, is)) = absurd (cc (one_reading_of (shape_of c) bytes d (Err place) reads faulty))
+  kept_is_done bytes d a reads rules (inr (e, again, made, is)) =
+      let same : e ≡ d = cc (one_reading_of (shape_of c) bytes d (Ok e) reads again) in
+      let none = kept_all laws e made c (subst (KeepsRulesOf c) (sym same) rules) in
+      (subst (λ r. IsRefusedOr r (IsWork c e) a) none is).0

@@ -3,7 +3,6 @@ use Rattle.std.specs.Prelude.{◌≡◌, ◌⊎◌, ◌&&◌, ℕ, Bool, true, L
 use Rattle.std.specs.Option.{option_or}
 use Rattle.std.specs.List.{flat_map}
 use Rattle.serde_json.specs.Data.{Data, object, string, member, no_members}
-use Rattle.json_values.specs.Json.{json_of}
 use Rattle.policy_values.specs.declared.entity_uid.EntityUID.{EntityUID}
 use Rattle.entity_store.specs.declared.request.Request.{Request}
 use Rattle.entity_store.specs.Store.{Store}
@@ -13,7 +12,7 @@ use Rattle.policy_set.specs.Response.{response}
 use Rattle.policy_set.specs.declared.response.Decision.{Decision}
 use Rattle.std.specs.Fmt.{decimal}
 use Rattle.json_document.specs.PlaceText.{place_text}
-use Rattle.json_document.specs.Reading.{IsRead}
+use Rattle.json_document.specs.Reading.{IsReadAs}
 use Rattle.json_document.specs.declared.document.Document.{Document}
 use Rattle.json_document.specs.declared.place.Place.{Place}
 use Rattle.finding_messages.specs.Findings.{Findings}
@@ -269,17 +268,8 @@ pub record IsWellMade (d : Document) : Type 0 where
   pub policies : IsPolicySet d.policies
   pub keys : AreKeyedOnce d.policies.policies
 
--- what is due for a JSON value: the place of the first fault, where it is no document
-abbrev pub IsAnswerFor : Command → Data → Answer → Type 0
-IsAnswerFor c v a = ((place : Place) × IsRead (shape_of c) v (Err place)
-    × (a ≡ answer status.Document (place_text place ++ codes "\n")))
-    ⊎ ((d : Document) × IsRead (shape_of c) v (Ok d) × IsWellMade d × IsAnswerTo c d a)
-
--- what is due where the bytes may be JSON
-abbrev pub IsAnswerIf : Command → Option Data → Answer → Type 0
-IsAnswerIf c None a = a ≡ answer status.Document (codes "document: json\n")
-IsAnswerIf c (Some v) a = IsAnswerFor c v a
-
--- this status and text are due for a document of these bytes
+-- this status and text are due for a document of these bytes: the place of the first fault, where they are none
 unfoldable pub IsAnswer : Command → List ℕ → Answer → Type 0
-IsAnswer c bytes a = IsAnswerIf c (json_of bytes) a
+IsAnswer c bytes a = ((place : Place) × IsReadAs (shape_of c) bytes (Err place)
+    × (a ≡ answer status.Document (place_text place ++ codes "\n")))
+    ⊎ ((d : Document) × IsReadAs (shape_of c) bytes (Ok d) × IsWellMade d × IsAnswerTo c d a)

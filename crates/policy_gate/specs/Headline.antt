@@ -6,7 +6,7 @@ use Rattle.policy_set.specs.Allowed.{AreAllowed}
 use Rattle.policy_set.specs.PolicySet.{PolicySetData}
 use Rattle.policy_set.specs.Response.{response}
 use Rattle.schema_core.specs.Schema.{SchemaData}
-use Rattle.json_document.specs.Reading.{IsRead}
+use Rattle.json_document.specs.Reading.{IsReadAs}
 use Rattle.json_document.specs.declared.document.Document.{Document}
 use Rattle.json_document.specs.declared.shape.Shape.{Shape}
 use Rattle.entity_store.specs.Request.{IsWhole}
@@ -21,7 +21,6 @@ use Rattle.manifest_computation.specs.Enough.{IsEnough}
 use Rattle.manifest_computation.specs.Rules.{KeepRules}
 use Rattle.manifest_computation.specs.Slice.{slice}
 use Rattle.json_response.specs.SliceJson.{slice_text, response_text}
-use Rattle.json_values.specs.Json.{json_of}
 use Rattle.manifest_core.specs.Manifest.{Manifest as Tries}
 use Rattle.manifest_computation.specs.Computed.{IsManifestOf}
 use Rattle.policy_review.specs.Laws.{NeversAreNeverTrue, LevelsAreLeast}
@@ -39,7 +38,7 @@ use Rattle.policy_gate.specs.declared.status.Status.TheVariants.{Done}
 
 -- the document of the shape that the bytes are
 abbrev pub IsDocumentOf : Shape → List ℕ → Document → Type 0
-IsDocumentOf shape bytes d = (v : Data) × (json_of bytes ≡ Some v) × IsRead shape v (Ok d)
+IsDocumentOf shape bytes d = IsReadAs shape bytes (Ok d)
 
 -- the bytes are a document for the command, and it is so
 abbrev pub HasDocument : Command → List ℕ → (Document → Type 0) → Type 0

@@ -7,7 +7,7 @@ ghost use Rattle.conformance.specs.RequestRules.{first_request_fault};
 ghost use Rattle.conformance_errors.specs.Written.{request_text};
 ghost use Rattle.finding_messages.specs.Written.{findings_text};
 ghost use Rattle.json_response.specs.SliceJson.{decision_text};
-ghost use Rattle.policy_gate.specs.Answer.{IsAnswer, IsAnswerFor, IsAnswerTo, IsRefusedOr, IsWellMade, IsWork, found_at, found_in, manifest_text, refused_data, refused_decision, refused_policies, refused_request, refused_store, refused_with, request_fault, sample_line, slice_of, status_of, store_fault};
+ghost use Rattle.policy_gate.specs.Answer.{IsAnswer, IsAnswerTo, IsRefusedOr, IsWellMade, IsWork, found_at, found_in, manifest_text, refused_data, refused_decision, refused_policies, refused_request, refused_store, refused_with, request_fault, sample_line, slice_of, status_of, store_fault};
 ghost use Rattle.policy_gate.specs.Command.{shape_of};
 ghost use Rattle.policy_gate.specs.Headline.{KeepsRules};
 ghost use Rattle.policy_gate.specs.Reply.{reply_view};
@@ -26,7 +26,7 @@ use conformance::{
     request_text, validate_request,
 };
 use entity_store::Entities;
-use json_document::{Document, DocumentFault, parse_json, read_document_as};
+use json_document::{Document, DocumentFault, read_document_as};
 use json_response::{response_text, slice_text};
 use manifest_computation::{EntityManifestError, compute_entity_manifest, restricted_to_reads};
 use manifest_core::EntityManifest;
@@ -40,31 +40,20 @@ use serde_json::Value;
 use std::alloc::{AllocError, Global};
 use typing_spec::{ExtensionSchemas, all_objects};
 
-const NO_JSON: &str = "document: json\n";
-
 const CONFORMS: &str = "conforms\n";
 
 pub(crate) const PARTIAL_REQUEST: &str =
     "request: entity slicing requires a fully concrete request. Got a partial request\n";
 
-/// The reply that is due for the command and a document of these bytes, which are let go of once they are read.
+/// The reply that is due for the command and a document of these bytes, which are let go of once they are read: the
+/// place of its first fault, or what is due for the document that they are.
 #[tactic(auto, unfolding(crate::specs::Answer::IsAnswer))]
 pub(crate) fn reply(alloc: Global, command: &Command, bytes: Vec<u8>) -> Result<Reply, AllocError>
     ensures { IfOk result (λ r. IsAnswer command.now bytes.items (reply_view r)) }
 {
-    let value = parse_json(alloc, bytes.as_slice());
+    let read = read_document_as(alloc, shape_of(command), bytes.as_slice());
     drop(bytes);
-    match value? {
-        Some(value) => reply_to_value(alloc, command, value),
-        None => reply_with(alloc, Status::Document, NO_JSON),
-    }
-}
-
-// The reply to a JSON value: the place of its first fault, or what is due for the document that it is.
-fn reply_to_value(alloc: Global, command: &Command, value: Value) -> Result<Reply, AllocError>
-    ensures { IfOk result (λ r. IsAnswerFor command.now (view value) (reply_view r)) }
-{
-    match read_document_as(alloc, shape_of(command), value) {
+    match read {
         Ok(mut document) => {
             is_well_made(&document);
             let reply = reply_to(alloc, command, &mut document);

@@ -1,8 +1,8 @@
 use Rattle.std.proofs.Common.{◌≡◌, [], drop}
-use Rattle.serde_json.specs.View.{items_view}
+use Rattle.json_trees.specs.Trees.{trees_view}
 use Rattle.json_document.specs.Edits.{edits_of}
 use Rattle.json_document.proofs.edits.read_items.Given as goal
 
 -- behind the edits so far, what is left gives all
 abbrev pub invariant-loop-item : goal.invariant-loop-item
-invariant-loop-item l = edits_of l.edits.items (items_view (drop l.item-index l.items)) ≡ edits_of [] (items_view l.items)
+invariant-loop-item l = edits_of l.edits.items (trees_view (drop l.item-index l.items)) ≡ edits_of [] (trees_view l.items)
