@@ -38,7 +38,10 @@ fn values_of(alloc: Global, items: &Vec<Tree<'_>>) -> Result<Vec<Value>, AllocEr
 }
 
 #[cycle(values)]
-fn members_of(alloc: Global, members: &Vec<(&str, Tree<'_>)>) -> Result<Map<String, Value>, AllocError>
+fn members_of(
+    alloc: Global,
+    members: &Vec<(&str, Tree<'_>)>,
+) -> Result<Map<String, Value>, AllocError>
     ensures { IfOk result (λ m. members_view m.entries ≡
         members_data (tree.members_view members.now.items) no_members) }
 {

@@ -1,4 +1,4 @@
-use Rattle.std.proofs.Common.{◌≡◌, ap, sym, ◌∙◌}
+use Rattle.std.proofs.Common.{ap, sym, ◌∙◌}
 use Rattle.json_trees.proofs.Said.{bytes_read, bytes_refused, text_tree}
 use Rattle.json_trees.proofs.trees.read_tree.Goals as goal
 
