@@ -160,6 +160,11 @@ check; {"schema":{"entityTypes":{"F":{"enum":["\u00"]}}}} => Document document: 
 check; $tab{"schema" :$tab{"entityTypes":{"F":{"enum":["$mark$feed","\ud83d\ude00","\u0000"]}}}} => Document document: json|
 check; $tab{"schema" :$tab{"entityTypes":{"F":{"enum":["$mark$blank","\ud83d\ude00","\u0000"]}}}} => Done errors 0, warnings 0|
 check; {"\u0073chema":{},"policies":[{"\u0069d":"\u0070","effect":"\u0070ermit"}]} => Findings error InvalidActionApplication: for policy `p`, unable to find an applicable action given the policy scope constraints|warning ImpossiblePolicy: for policy `p`, policy is impossible: the policy expression evaluates to false for all valid requests|errors 1, warnings 1|
+# of the members of one name the last counts
+check; {"schema":[],"schema":{}} => Done errors 0, warnings 0|
+check; {"schema":{},"schema":[]} => Document document: schema|
+check; {"schema":{},"policies":7,"policies":[]} => Done errors 0, warnings 0|
+check; {"schema":{},"policies":[],"policies":7} => Document document: form|
 # no JSON numbers
 check; $when{"<":[01,2]}}]}]} => Document document: json|
 check; $when{"<":[+1,2]}}]}]} => Document document: json|

@@ -11,6 +11,7 @@ use crate::Shape;
 use json_trees::{Tree, get, has_only, items_or};
 
 /// The parts of a document, in the tree of its text.
+#[derive(Clone, Copy)]
 pub(crate) struct Parts<'t, 'a> {
     pub(crate) schema: &'t Tree<'a>,
     pub(crate) policies: &'t [Tree<'a>],
