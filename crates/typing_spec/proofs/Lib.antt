@@ -1,5 +1,6 @@
 pub mod HoldSteps
 pub mod PartSteps
+mod LentSteps
 mod Basics
 pub mod Booleans
 mod Fields

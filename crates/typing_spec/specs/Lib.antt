@@ -10,6 +10,7 @@ pub mod Conditions
 pub mod Conforms
 pub mod Environment
 pub mod Known
+pub mod Lent
 pub mod Operands
 pub mod Rules
 pub mod Signatures

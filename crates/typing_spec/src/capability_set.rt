@@ -5,6 +5,7 @@ ghost use Rattle.typing_spec.specs.Capability.{Capability as Known, IsKnown, has
 
 use crate::Capability;
 use crate::capability::are_alike;
+use crate::known::{are_many, known_to_many};
 use crate::part::Part;
 use std::alloc::{AllocError, Global};
 use std::marker::Model;
@@ -206,8 +207,22 @@ fn are_known(items: &Vec<Capability<'_>>, other: &CapabilitySet<'_>) -> bool
 }
 
 // The capabilities that the other set knows too.
-#[tactic(auto, using(crate::proofs::PartSteps::common_more))]
 fn known_to<'a>(
+    alloc: Global,
+    parts: &Vec<Part<'a>>,
+    other: &CapabilitySet<'a>,
+) -> Result<Vec<Capability<'a>>, AllocError>
+    ensures { IfOk result (λ v. v.items ≡ common (together parts.now.items) other.now) }
+{
+    if are_many(parts) && are_many(&other.parts) {
+        known_to_many(alloc, parts, &other.parts)
+    } else {
+        known_to_few(alloc, parts, other)
+    }
+}
+
+#[tactic(auto, using(crate::proofs::PartSteps::common_more))]
+fn known_to_few<'a>(
     alloc: Global,
     parts: &Vec<Part<'a>>,
     other: &CapabilitySet<'a>,

@@ -15,6 +15,7 @@ mod extensions;
 mod function_type;
 mod gathered;
 pub mod ipaddr;
+mod known;
 pub mod laws;
 mod objects;
 mod part;
