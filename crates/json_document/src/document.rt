@@ -8,8 +8,8 @@ ghost use Rattle.json_document.specs.Reading.{IsRead, IsReadAs, IsReadBehindEdit
 use crate::edits::read_edits;
 use crate::parts::{Parts, parts_of};
 use crate::policies::read_policies;
-use crate::requests::read_requests;
 use crate::request::request_in;
+use crate::requests::read_requests;
 use crate::schema::schema_in;
 use crate::{DocumentFault, Edits, Place, Requests, Shape, read_store};
 use entity_store::{Entities, Request};
