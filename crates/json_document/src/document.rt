@@ -161,8 +161,8 @@ fn read_tree_as(alloc: Global, shape: Shape, tree: &Tree<'_>) -> Result<Document
     }
 }
 
-/// The document of the shape that the bytes are; else the place of its first fault. The bytes are read once, as a
-/// tree that borrows them; each policy and each entity is made a JSON value when it is its turn, and let go of.
+/// The document of the shape that the bytes are; else the place of its first fault. The bytes are read once, as
+/// a tree that borrows them; each policy and each entity is made a JSON value in its turn, and let go of.
 #[tactic(auto, unfolding(crate::specs::Reading::IsReadAs))]
 pub fn read_document_as(
     alloc: Global,

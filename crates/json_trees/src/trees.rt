@@ -16,8 +16,8 @@ use std::alloc::{AllocError, Global};
 // How deep arrays and objects may nest.
 const MAX_DEPTH: usize = 127;
 
-/// The tree of the value that the bytes spell in UTF-8, where they are one JSON value and blanks around it. Texts
-/// without escapes are borrowed from the bytes, the others from the scratch.
+/// The tree of the value that the bytes spell in UTF-8, where they are one JSON value and blanks around it.
+/// Texts without escapes are borrowed from the bytes, the others from the scratch.
 pub fn read_tree<'a>(
     alloc: Global,
     bytes: &'a [u8],
@@ -34,8 +34,8 @@ pub fn read_tree<'a>(
 
 // The tree, unless a number of it is out of range.
 fn in_range(tree: Option<Tree<'_>>) -> Option<Tree<'_>>
-    ensures { option_map tree_view result ≡
-        option_and_then (λ j. if in_range j then Some (data_of j) else None) (option_map value_view tree.entry) }
+    ensures { option_map tree_view result ≡ option_and_then
+        (λ j. if in_range j then Some (data_of j) else None) (option_map value_view tree.entry) }
 {
     let tree = tree?;
     if is_in_range(&tree) {

@@ -268,7 +268,8 @@ pub record IsWellMade (d : Document) : Type 0 where
   pub policies : IsPolicySet d.policies
   pub keys : AreKeyedOnce d.policies.policies
 
--- this status and text are due for a document of these bytes: the place of the first fault, where they are none
+-- this status and text are due for a document of these bytes: the place of the first fault, where they are
+-- none
 unfoldable pub IsAnswer : Command → List ℕ → Answer → Type 0
 IsAnswer c bytes a = ((place : Place) × IsReadAs (shape_of c) bytes (Err place)
     × (a ≡ answer status.Document (place_text place ++ codes "\n")))

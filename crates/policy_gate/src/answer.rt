@@ -45,8 +45,8 @@ const CONFORMS: &str = "conforms\n";
 pub(crate) const PARTIAL_REQUEST: &str =
     "request: entity slicing requires a fully concrete request. Got a partial request\n";
 
-/// The reply that is due for the command and a document of these bytes, which are let go of once they are read: the
-/// place of its first fault, or what is due for the document that they are.
+/// The reply that is due for the command and a document of these bytes, which are let go of once they are read:
+/// the place of its first fault, or what is due for the document that they are.
 #[tactic(auto, unfolding(crate::specs::Answer::IsAnswer))]
 pub(crate) fn reply(alloc: Global, command: &Command, bytes: Vec<u8>) -> Result<Reply, AllocError>
     ensures { IfOk result (λ r. IsAnswer command.now bytes.items (reply_view r)) }
