@@ -6,24 +6,21 @@
 -- only that of an edit 12. Last, the same of bytes in place of a document.
 use Rattle.std.proofs.Common.{◌≡◌, ◌&&◌, ℕ, Bool, true, false, List, [], ◌∷◌, inl, inr, Option, Some, None, is_some, IfSome, IsSomeAnd, Ok, Err, sym, ap, refl, subst, if◌then◌else◌}
 use Rattle.std.specs.Option.{option_or, option_map}
-use Rattle.serde_json.specs.Data.{Data}
 use Rattle.policy_values.specs.declared.entity_uid.EntityUID.{EntityUID}
 use Rattle.policy_values.specs.Value.{Fields}
 use Rattle.entity_store.specs.declared.request.Request.{Request}
 use Rattle.entity_store.specs.Request.{IsWhole}
-use Rattle.json_document.specs.Reading.{IsRead}
 use Rattle.json_document.specs.declared.document.Document.{Document}
 use Rattle.finding_messages.specs.Findings.{Findings}
 use Rattle.findings.specs.declared.error.ValidationError.{ValidationError}
 use Rattle.conformance_errors.specs.Written.{request_text, entity_text}
 use Rattle.typing_spec.specs.Conforms.{RequestConforms, StoreConforms}
-use Rattle.policy_gate.specs.Answer.{IsAnswer, IsAnswerIf, IsAnswerFor, IsWellMade, IsRefusedOr, IsWork, found_in, found_at, refused_batch, refused_levels, refused_listing, is_whole, partial_message, partial_request, refusal, refused_line, request_line, whole_line, refused_asked, refused_data, refused_decision, refused_entries, refused_first, refused_partial, refused_policies, refused_request, refused_store, refused_with, request_fault, slice_of, store_fault}
+use Rattle.policy_gate.specs.Answer.{IsAnswer, IsWellMade, IsRefusedOr, IsWork, found_in, found_at, refused_batch, refused_levels, refused_listing, is_whole, partial_message, partial_request, refusal, refused_line, request_line, whole_line, refused_asked, refused_data, refused_decision, refused_entries, refused_first, refused_partial, refused_policies, refused_request, refused_store, refused_with, request_fault, slice_of, store_fault}
 use Rattle.policy_gate.specs.Headline.{Conforms, HasAcceptedPolicies, HasAllowedOutcomes, HasPoliciesAt, HasPoliciesFor, IsDocumentOf, KeepsOtherRules, KeepsRules, KeepsRulesOf, IsSliced, IsDecided, IsReadyForRequests, IsRefusedEdit, ReadsAreEnough, Says}
 use Rattle.policy_gate.specs.Listing.{asked_fault, is_whole_but}
 use Rattle.policy_gate.specs.Live.{edit_text, policies_after, refused_edit}
 use Rattle.live_manifest.specs.Edits.{Refusal}
 use Rattle.principal_listing.specs.Allowed.{IsWholeBut}
-use Rattle.json_values.specs.Json.{json_of}
 use Rattle.policy_gate.specs.Command.{shape_of}
 use Rattle.policy_gate.specs.Laws.{Laws}
 use Rattle.policy_gate.specs.Reply.{Answer, answer}
