@@ -5,6 +5,7 @@ use Rattle.std.specs.declared.cmp.Ordering.{Ordering}
 use Rattle.std.specs.declared.cmp.Ordering.TheVariants.{Less, Equal}
 use Rattle.std.specs.Ordering.{is_eq, is_lt}
 use Rattle.std.specs.Cmp.{IsTotalOrder}
+use Rattle.std.specs.BTreeSet.{BTreeSet, IsFromIterResult}
 use Rattle.std.specs.FinMap.Entries.{is_sorted, below_all, same_entries, find as found_in}
 use Rattle.std.specs.List.{AllByRecursion}
 use Rattle.std.specs.List.Sorted.{IsStrictlySortedBy}
@@ -65,3 +66,7 @@ module _ {K : Type 0} (cmp : K → K → Ordering) (total : IsTotalOrder cmp) (e
   pub same_sorted : (xs ys : List K) → IsStrictlySortedBy cmp xs → IsStrictlySortedBy cmp ys → ((q : K) → has cmp xs q ≡ has cmp ys q) → xs ≡ ys
   same_sorted xs ys h k same =
       same_values cmp total exact (λ x. x) xs ys (rw (itself xs) h) (rw (itself ys) k) (λ q. found_itself xs q ∙ ap (λ b. cond b (Some q) None) (same q) ∙ sym (found_itself ys q))
+
+  -- a set that is made of ascending keys has just these
+  pub made_of_sorted : (xs : List K) (made : BTreeSet K) → IsStrictlySortedBy cmp xs → IsFromIterResult cmp xs made → made.keys ≡ xs
+  made_of_sorted xs made h (members, ordered) = same_sorted made.keys xs ordered h members

@@ -127,7 +127,8 @@ fn reached_anew<K: Key>(
 
 // Whether an empty set stands at each of the keys.
 fn lead_nowhere<K: Key>(closed: &SharedSteps<K>, keys: &BTreeSet<K>) -> bool
-    ensures empty { result ≡ true → (m : K) → Contains keys.now.keys m → IsEmptyAt K.cmp closed.now.entries m }
+    ensures empty { result ≡ true →
+        (m : K) → Contains keys.now.keys m → IsEmptyAt K.cmp closed.now.entries m }
     ensures ordered { IsOrdered K.cmp keys.now }
 {
     for key in keys {
@@ -148,9 +149,28 @@ fn largest_copied<K: Key>(
     ensures { IfOk result (λ set. (set.keys ≡ []) ⊎ IsAtOneOf K.cmp closed.now.entries keys.now.keys set) }
 {
     match largest_of(closed, keys) {
-        Some(set) => set.as_set().clone(),
+        Some(set) => packed(alloc, set.as_set()),
         None => Ok(BTreeSet::new(alloc)),
     }
+}
+
+// An equal set whose nodes are full: a copy would leave as much room in them as there is in those of the set.
+fn packed<K: Key>(alloc: Global, set: &BTreeSet<K>) -> Result<BTreeSet<K>, AllocError>
+    ensures { IfOk result (λ s. s.keys ≡ set.now.keys) }
+{
+    let keys = keys_of(alloc, set)?;
+    keys.into_iter().collect(alloc)
+}
+
+fn keys_of<K: Key>(alloc: Global, set: &BTreeSet<K>) -> Result<Vec<K>, AllocError>
+    ensures keys { IfOk result (λ v. v.items ≡ set.now.keys) }
+    ensures ordered { IsOrdered K.cmp set.now }
+{
+    let mut keys = Vec::with_capacity(alloc, set.len())?;
+    for key in set {
+        keys.push(key.clone()?)?;
+    }
+    Ok(keys)
 }
 
 // The largest set that stands at a key of the other.
