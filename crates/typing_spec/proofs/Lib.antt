@@ -1,6 +1,7 @@
 pub mod HoldSteps
 pub mod PartSteps
 mod LentSteps
+mod PlaceSteps
 mod Basics
 pub mod Booleans
 mod Fields

@@ -6,6 +6,7 @@ pub mod CapabilityLaws
 pub mod Holds
 pub mod Path
 pub mod PathLaws
+pub mod Places
 pub mod Conditions
 pub mod Conforms
 pub mod Environment

@@ -80,6 +80,13 @@ impl<'a> Capability<'a> {
         new_capability(on_expr, Known::OwnedTag(tag))
     }
 
+    // Equal capabilities have one print.
+    pub(crate) fn print(&self) -> u64
+        ensures { result ≡ print_of self.now }
+    {
+        self.print
+    }
+
     /// An equal capability.
     pub fn try_clone(&self, alloc: Global) -> Result<Capability<'a>, AllocError>
         ensures { IfOk result (λ k. k ≡ self.now) }

@@ -4,9 +4,8 @@ ghost use Rattle.std.specs.Prelude.{◌≡◌, ◌↔◌, ◌⊎◌, ◌++◌, �
 ghost use Rattle.typing_spec.specs.Capability.{Capability as Known, IsKnown, has_cap, common, is_covered, is_nothing, same_known, together};
 
 use crate::Capability;
-use crate::capability::are_alike;
 use crate::known::{are_many, known_to_many};
-use crate::part::Part;
+use crate::part::{Part, SHORT};
 use std::alloc::{AllocError, Global};
 use std::marker::Model;
 
@@ -125,10 +124,6 @@ impl<'a> Eq for CapabilitySet<'a> {
     ghost laws = { known_equiv };
 }
 
-// A part that is shorter than this one, beside another such one, is copied and not shared: of many short
-// parts few longer ones are made.
-const SHORT: usize = 128;
-
 #[tactic(auto, using(crate::proofs::PartSteps::together_push))]
 fn set_of<'a>(alloc: Global, items: Vec<Capability<'a>>) -> Result<CapabilitySet<'a>, AllocError>
     ensures { IfOk result (λ s. s ≡ items.entry.items) }
@@ -165,18 +160,7 @@ fn some_has(parts: &Vec<Part<'_>>, e: &Capability<'_>) -> bool
     ensures { result ≡ has_cap (together parts.now.items) e.now }
 {
     for part in parts {
-        if has_equal(part.items(), e) {
-            return true;
-        }
-    }
-    false
-}
-
-fn has_equal(items: &Vec<Capability<'_>>, e: &Capability<'_>) -> bool
-    ensures { result ≡ has_cap items.now.items e.now }
-{
-    for k in items {
-        if are_alike(e, k) {
+        if part.contains(e) {
             return true;
         }
     }

@@ -1,6 +1,6 @@
 use Rattle.std.proofs.Common.{◌≡◌, drop}
 use Rattle.typing_spec.specs.Capability.{has_cap}
-use Rattle.typing_spec.proofs.capability_set.has_equal.Given as goal
+use Rattle.typing_spec.proofs.part.has_equal.Given as goal
 
 -- what is left decides
 abbrev pub invariant-loop-k : goal.invariant-loop-k
