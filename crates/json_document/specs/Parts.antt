@@ -18,12 +18,12 @@ pub record DocumentParts : Type 0 where
 
 abbrev pub parts_view : Parts → DocumentParts
 parts_view p = record {
-  schema = tree_view p.schema.now;
-  policies = trees_view p.policies.now;
-  entities = trees_view p.entities.now;
-  request = option_map (λ t. tree_view t.now) p.request;
-  requests = trees_view p.requests.now;
-  edits = trees_view p.edits.now;
+  schema = tree_view p.schema;
+  policies = trees_view p.policies.items;
+  entities = trees_view p.entities.items;
+  request = option_map tree_view p.request;
+  requests = trees_view p.requests.items;
+  edits = trees_view p.edits.items;
 }
 
 -- the members that a document of the shape may have

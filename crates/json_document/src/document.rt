@@ -17,6 +17,7 @@ use json_trees::{Scratch, Tree, read_tree};
 use policy_set::{PolicySet, or_drop};
 use schema_core::ValidatorSchema;
 use std::alloc::Global;
+use std::mem;
 
 /// A schema, policies or edits to them, entities, and a request or several.
 #[derive(Debug)]
@@ -56,7 +57,7 @@ impl Drop for Document {
 
 fn with_requests(
     alloc: Global,
-    parts: &Parts<'_, '_>,
+    parts: &mut Parts<'_>,
     schema: ValidatorSchema,
     policies: PolicySet,
     edits: Edits,
@@ -64,10 +65,10 @@ fn with_requests(
     request: Request,
 ) -> Result<Document, DocumentFault>
     ensures { MayComeTo result
-        (IsReadBehindRequest (parts_view parts.now) schema policies edits entities request) }
+        (IsReadBehindRequest (parts_view parts.old) schema policies edits entities request) }
 {
     let requests = or_drop!(
-        read_requests(alloc, parts.requests),
+        read_requests(alloc, mem::replace(&mut parts.requests, Vec::new(alloc))),
         schema,
         policies,
         edits,
@@ -86,16 +87,16 @@ fn with_requests(
 
 fn with_request(
     alloc: Global,
-    parts: &Parts<'_, '_>,
+    parts: &mut Parts<'_>,
     schema: ValidatorSchema,
     policies: PolicySet,
     edits: Edits,
     entities: Entities,
 ) -> Result<Document, DocumentFault>
     ensures { MayComeTo result
-        (IsReadBehindStore (parts_view parts.now) schema policies edits entities) }
+        (IsReadBehindStore (parts_view parts.old) schema policies edits entities) }
 {
-    let request = request_in(alloc, parts.request);
+    let request = request_in(alloc, parts.request.take());
     let Some(request) = or_drop!(request, schema, policies, edits, entities) else {
         drop(schema);
         drop(policies);
@@ -108,61 +109,65 @@ fn with_request(
 
 fn with_entities(
     alloc: Global,
-    parts: &Parts<'_, '_>,
+    parts: &mut Parts<'_>,
     schema: ValidatorSchema,
     policies: PolicySet,
     edits: Edits,
 ) -> Result<Document, DocumentFault>
-    ensures { MayComeTo result (IsReadBehindEdits (parts_view parts.now) schema policies edits) }
+    ensures { MayComeTo result (IsReadBehindEdits (parts_view parts.old) schema policies edits) }
 {
-    let entities = or_drop!(read_store(alloc, parts.entities), schema, policies, edits);
+    let entities = or_drop!(read_store(alloc, mem::replace(&mut parts.entities, Vec::new(alloc))), schema, policies, edits);
     with_request(alloc, parts, schema, policies, edits, entities)
 }
 
 fn with_edits(
     alloc: Global,
-    parts: &Parts<'_, '_>,
+    parts: &mut Parts<'_>,
     schema: ValidatorSchema,
     policies: PolicySet,
 ) -> Result<Document, DocumentFault>
-    ensures { MayComeTo result (IsReadBehindPolicies (parts_view parts.now) schema policies) }
+    ensures { MayComeTo result (IsReadBehindPolicies (parts_view parts.old) schema policies) }
 {
-    let edits = or_drop!(read_edits(alloc, parts.edits), schema, policies);
+    let edits = or_drop!(read_edits(alloc, mem::replace(&mut parts.edits, Vec::new(alloc))), schema, policies);
     with_entities(alloc, parts, schema, policies, edits)
 }
 
 fn with_policies(
     alloc: Global,
-    parts: &Parts<'_, '_>,
+    parts: &mut Parts<'_>,
     schema: ValidatorSchema,
 ) -> Result<Document, DocumentFault>
-    ensures { MayComeTo result (IsReadBehindSchema (parts_view parts.now) schema) }
+    ensures { MayComeTo result (IsReadBehindSchema (parts_view parts.old) schema) }
 {
-    let policies = or_drop!(read_policies(alloc, parts.policies), schema);
+    let policies = or_drop!(read_policies(alloc, mem::replace(&mut parts.policies, Vec::new(alloc))), schema);
     with_edits(alloc, parts, schema, policies)
 }
 
-fn read_parts(alloc: Global, parts: &Parts<'_, '_>) -> Result<Document, DocumentFault>
-    ensures { MayComeTo result (IsReadFrom (parts_view parts.now)) }
+fn read_parts(alloc: Global, parts: &mut Parts<'_>) -> Result<Document, DocumentFault>
+    ensures { MayComeTo result (IsReadFrom (parts_view parts.old)) }
 {
-    let schema = schema_in(alloc, parts.schema)?;
+    let schema = schema_in(alloc, mem::replace(&mut parts.schema, Tree::Null))?;
     with_policies(alloc, parts, schema)
 }
 
 // The document of the shape that the tree is; else the place of its first fault.
 #[tactic(auto, unfolding(crate::specs::Reading::IsRead))]
-fn read_tree_as(alloc: Global, shape: Shape, tree: &Tree<'_>) -> Result<Document, DocumentFault>
-    ensures { MayComeTo result (IsRead shape (tree_view tree.now)) }
+fn read_tree_as(alloc: Global, shape: Shape, tree: Tree<'_>) -> Result<Document, DocumentFault>
+    ensures { MayComeTo result (IsRead shape (tree_view tree.entry)) }
 {
-    let none = Vec::new(alloc);
-    match parts_of(shape, tree, none.as_slice()) {
-        Some(parts) => read_parts(alloc, &parts),
+    match parts_of(alloc, shape, tree) {
+        Some(mut parts) => {
+            let read = read_parts(alloc, &mut parts);
+            drop(parts);
+            read
+        }
         None => Err(DocumentFault::Place(Place::Form)),
     }
 }
 
 /// The document of the shape that the bytes are; else the place of its first fault. The bytes are read once, as
-/// a tree that borrows them; each policy and each entity is made a JSON value in its turn, and let go of.
+/// a tree that borrows them; each policy and each entity is made a JSON value in its turn, which takes the place
+/// of its tree, and is let go of once it is read.
 #[tactic(auto, unfolding(crate::specs::Reading::IsReadAs))]
 pub fn read_document_as(
     alloc: Global,
@@ -173,11 +178,7 @@ pub fn read_document_as(
 {
     let mut scratch = Scratch::new(alloc);
     match read_tree(alloc, bytes, &mut scratch)? {
-        Some(tree) => {
-            let read = read_tree_as(alloc, shape, &tree);
-            drop(tree);
-            read
-        }
+        Some(tree) => read_tree_as(alloc, shape, tree),
         None => Err(DocumentFault::Place(Place::Json)),
     }
 }

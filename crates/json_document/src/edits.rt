@@ -101,8 +101,8 @@ fn read_edit(alloc: Global, index: usize, value: &Value) -> Result<Edit, Documen
 }
 
 // The edit that the tree is.
-fn edit_in(alloc: Global, index: usize, tree: &Tree<'_>) -> Result<Edit, DocumentFault>
-    ensures { ComesTo (λ e. e) result (edit_at index (tree_view tree.now)) }
+fn edit_in(alloc: Global, index: usize, tree: Tree<'_>) -> Result<Edit, DocumentFault>
+    ensures { ComesTo (λ e. e) result (edit_at index (tree_view tree.entry)) }
 {
     let value = value_of(alloc, tree)?;
     let edit = read_edit(alloc, index, &value);
@@ -110,8 +110,8 @@ fn edit_in(alloc: Global, index: usize, tree: &Tree<'_>) -> Result<Edit, Documen
     edit
 }
 
-fn read_items(alloc: Global, items: &[Tree<'_>]) -> Result<Vec<Edit>, DocumentFault>
-    ensures { ComesTo (λ v. v.items) result (edits_of [] (trees_view items.now)) }
+fn read_items(alloc: Global, items: Vec<Tree<'_>>) -> Result<Vec<Edit>, DocumentFault>
+    ensures { ComesTo (λ v. v.items) result (edits_of [] (trees_view items.entry.items)) }
 {
     let mut edits = Vec::new(alloc);
     for item in items {
@@ -122,8 +122,8 @@ fn read_items(alloc: Global, items: &[Tree<'_>]) -> Result<Vec<Edit>, DocumentFa
 }
 
 /// The edits of the items; else the place of the first fault.
-pub(crate) fn read_edits(alloc: Global, items: &[Tree<'_>]) -> Result<Edits, DocumentFault>
-    ensures { ComesTo (λ es. es) result (edits_of [] (trees_view items.now)) }
+pub(crate) fn read_edits(alloc: Global, items: Vec<Tree<'_>>) -> Result<Edits, DocumentFault>
+    ensures { ComesTo (λ es. es) result (edits_of [] (trees_view items.entry.items)) }
 {
     let edits = read_items(alloc, items)?;
     Ok(Edits::new(edits))

@@ -110,10 +110,10 @@ fn read_entity(
 // The entity that the tree is.
 fn entity_in(
     alloc: Global,
-    tree: &Tree<'_>,
+    tree: Tree<'_>,
     before: Option<&Entity>,
 ) -> Result<Option<Entity>, AllocError>
-    ensures { IfOk result (λ o. o ≡ entity_of (tree_view tree.now)) }
+    ensures { IfOk result (λ o. o ≡ entity_of (tree_view tree.entry)) }
 {
     let value = value_of(alloc, tree)?;
     let entity = read_entity(alloc, &value, before);
@@ -122,8 +122,8 @@ fn entity_in(
 }
 
 /// The entities of the items; else the place of the first item that is none.
-pub fn read_entities(alloc: Global, items: &[Tree<'_>]) -> Result<Vec<Entity>, DocumentFault>
-    ensures { ComesTo (λ v. v.items) result (entities_of [] (trees_view items.now)) }
+pub fn read_entities(alloc: Global, items: Vec<Tree<'_>>) -> Result<Vec<Entity>, DocumentFault>
+    ensures { ComesTo (λ v. v.items) result (entities_of [] (trees_view items.entry.items)) }
 {
     let mut entities = Vec::new(alloc);
     for item in items {

@@ -1,56 +1,93 @@
 //! The parts of a document, in JSON.
 
-ghost use Rattle.std.specs.Prelude.{◌≡◌, [], false, option_map};
-ghost use Rattle.std.specs.Option.{option_map_or};
-ghost use Rattle.serde_json.specs.Find.{as_object};
+ghost use Rattle.std.specs.Prelude.{◌≡◌, option_map};
+ghost use Rattle.serde_json.specs.Data.{object};
 ghost use Rattle.json_values.specs.Json.{has_only};
-ghost use Rattle.json_trees.specs.Trees.{tree_view};
+ghost use Rattle.json_trees.specs.Trees.{named_view, tree_view};
 ghost use Rattle.json_document.specs.Parts.{part_names, parts_of, parts_view};
 
 use crate::Shape;
-use json_trees::{Tree, get, has_only, items_or};
+use json_trees::{Tree, has_only, take, take_items};
+use std::alloc::Global;
 
-/// The parts of a document, in the tree of its text.
-#[derive(Clone, Copy)]
-pub(crate) struct Parts<'t, 'a> {
-    pub(crate) schema: &'t Tree<'a>,
-    pub(crate) policies: &'t [Tree<'a>],
-    pub(crate) entities: &'t [Tree<'a>],
-    pub(crate) request: Option<&'t Tree<'a>>,
-    pub(crate) requests: &'t [Tree<'a>],
-    pub(crate) edits: &'t [Tree<'a>],
+/// The parts of a document, in trees of its text.
+pub(crate) struct Parts<'a> {
+    pub(crate) schema: Tree<'a>,
+    pub(crate) policies: Vec<Tree<'a>>,
+    pub(crate) entities: Vec<Tree<'a>>,
+    pub(crate) request: Option<Tree<'a>>,
+    pub(crate) requests: Vec<Tree<'a>>,
+    pub(crate) edits: Vec<Tree<'a>>,
 }
 
-// Whether the tree is an object with such members alone as a document of the shape may have.
-fn has_part_names(shape: Shape, tree: &Tree<'_>) -> bool
-    ensures { result ≡ option_map_or (has_only (part_names shape)) (as_object (tree_view tree.now)) false }
+impl Drop for Parts<'_> {
+    fn drop(self) {
+        let Parts {
+            schema,
+            policies,
+            entities,
+            request,
+            requests,
+            edits,
+        } = self;
+        drop(schema);
+        drop(policies);
+        drop(entities);
+        drop(request);
+        drop(requests);
+        drop(edits);
+    }
+}
+
+// Whether a document of the shape may have the members.
+fn have_part_names(shape: Shape, members: &Vec<(&str, Tree<'_>)>) -> bool
+    ensures { result ≡ has_only (part_names shape) (named_view members.now.items) }
 {
     match shape {
-        Shape::Whole => has_only(&["schema", "policies", "entities", "request"], tree),
-        Shape::Batch => has_only(&["schema", "policies", "entities", "requests"], tree),
-        Shape::Live => has_only(&["schema", "edits", "entities", "request"], tree),
+        Shape::Whole => has_only(&["schema", "policies", "entities", "request"], members),
+        Shape::Batch => has_only(&["schema", "policies", "entities", "requests"], members),
+        Shape::Live => has_only(&["schema", "edits", "entities", "request"], members),
     }
+}
+
+// The parts that the members are, if they are those of a document of the shape.
+#[tactic(auto, unfolding(crate::specs::Parts::parts_of))]
+fn parts_among<'a>(
+    alloc: Global,
+    shape: Shape,
+    mut members: Vec<(&'a str, Tree<'a>)>,
+) -> Option<Parts<'a>>
+    ensures { option_map parts_view result ≡ parts_of shape (object (named_view members.entry.items)) }
+{
+    if !have_part_names(shape, &members) {
+        return None;
+    }
+    let schema = take(&mut members, "schema")?;
+    let policies = take_items(alloc, &mut members, "policies")?;
+    let entities = take_items(alloc, &mut members, "entities")?;
+    let request = take(&mut members, "request");
+    let requests = take_items(alloc, &mut members, "requests")?;
+    let edits = take_items(alloc, &mut members, "edits")?;
+    Some(Parts {
+        schema,
+        policies,
+        entities,
+        request,
+        requests,
+        edits,
+    })
 }
 
 /// The parts of the document of the shape that the tree is, if it has the form of one.
 #[tactic(auto, unfolding(crate::specs::Parts::parts_of))]
-pub(crate) fn parts_of<'t, 'a>(
-    shape: Shape,
-    tree: &'t Tree<'a>,
-    none: &'t [Tree<'a>],
-) -> Option<Parts<'t, 'a>>
-    requires { none.now ≡ [] }
-    ensures { option_map parts_view result ≡ parts_of shape (tree_view tree.now) }
+pub(crate) fn parts_of<'a>(alloc: Global, shape: Shape, tree: Tree<'a>) -> Option<Parts<'a>>
+    ensures { option_map parts_view result ≡ parts_of shape (tree_view tree.entry) }
 {
-    if !has_part_names(shape, tree) {
-        return None;
+    match tree {
+        Tree::Object(members) => parts_among(alloc, shape, members),
+        other => {
+            drop(other);
+            None
+        }
     }
-    Some(Parts {
-        schema: get(tree, "schema")?,
-        policies: items_or(get(tree, "policies"), none)?,
-        entities: items_or(get(tree, "entities"), none)?,
-        request: get(tree, "request"),
-        requests: items_or(get(tree, "requests"), none)?,
-        edits: items_or(get(tree, "edits"), none)?,
-    })
 }

@@ -129,9 +129,9 @@ fn add_tree(
     alloc: Global,
     policies: &mut PolicySet,
     index: usize,
-    tree: &Tree<'_>,
+    tree: Tree<'_>,
 ) -> Result<(), DocumentFault>
-    ensures { ComesTo (λ _. policies.new) result (added index policies.old (tree_view tree.now)) }
+    ensures { ComesTo (λ _. policies.new) result (added index policies.old (tree_view tree.entry)) }
 {
     let value = value_of(alloc, tree)?;
     let added = add_entry(alloc, policies, index, &value);
@@ -140,8 +140,8 @@ fn add_tree(
 }
 
 /// The policies of the items; else the place of the first fault.
-pub fn read_policies(alloc: Global, items: &[Tree<'_>]) -> Result<PolicySet, DocumentFault>
-    ensures { ComesTo (λ s. s) result (policies_of 0 no_policies (trees_view items.now)) }
+pub fn read_policies(alloc: Global, items: Vec<Tree<'_>>) -> Result<PolicySet, DocumentFault>
+    ensures { ComesTo (λ s. s) result (policies_of 0 no_policies (trees_view items.entry.items)) }
 {
     let mut policies = PolicySet::new(alloc);
     let mut index = 0;

@@ -110,9 +110,9 @@ pub fn read_request(alloc: Global, value: Option<&Json>) -> Result<Option<Reques
 /// The request that the tree is, if it is one.
 pub(crate) fn given_request_in(
     alloc: Global,
-    tree: &Tree<'_>,
+    tree: Tree<'_>,
 ) -> Result<Option<Request>, AllocError>
-    ensures { IfOk result (λ o. o ≡ given_request_of (tree_view tree.now)) }
+    ensures { IfOk result (λ o. o ≡ given_request_of (tree_view tree.entry)) }
 {
     let value = value_of(alloc, tree)?;
     let request = read_given_request(alloc, &value);
@@ -123,9 +123,9 @@ pub(crate) fn given_request_in(
 /// The request that the tree is, if it is one; an absent one has no entry.
 pub(crate) fn request_in(
     alloc: Global,
-    tree: Option<&Tree<'_>>,
+    tree: Option<Tree<'_>>,
 ) -> Result<Option<Request>, AllocError>
-    ensures { IfOk result (λ o. o ≡ request_of (option_map (λ t. tree_view t.now) tree.entry)) }
+    ensures { IfOk result (λ o. o ≡ request_of (option_map tree_view tree.entry)) }
 {
     match tree {
         Some(tree) => given_request_in(alloc, tree),

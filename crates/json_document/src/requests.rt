@@ -47,8 +47,8 @@ impl Requests {
     }
 }
 
-fn read_items(alloc: Global, items: &[Tree<'_>]) -> Result<Vec<Request>, DocumentFault>
-    ensures { ComesTo (λ v. v.items) result (requests_of [] (trees_view items.now)) }
+fn read_items(alloc: Global, items: Vec<Tree<'_>>) -> Result<Vec<Request>, DocumentFault>
+    ensures { ComesTo (λ v. v.items) result (requests_of [] (trees_view items.entry.items)) }
 {
     let mut requests = Vec::new(alloc);
     for item in items {
@@ -61,8 +61,8 @@ fn read_items(alloc: Global, items: &[Tree<'_>]) -> Result<Vec<Request>, Documen
 }
 
 /// The requests of the items; else the place of the first item that is none.
-pub(crate) fn read_requests(alloc: Global, items: &[Tree<'_>]) -> Result<Requests, DocumentFault>
-    ensures { ComesTo (λ qs. qs) result (requests_of [] (trees_view items.now)) }
+pub(crate) fn read_requests(alloc: Global, items: Vec<Tree<'_>>) -> Result<Requests, DocumentFault>
+    ensures { ComesTo (λ qs. qs) result (requests_of [] (trees_view items.entry.items)) }
 {
     let requests = read_items(alloc, items)?;
     Ok(Requests::new(requests))

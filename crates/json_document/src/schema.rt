@@ -28,8 +28,8 @@ pub fn read_schema(alloc: Global, value: &Value) -> Result<ValidatorSchema, Docu
 }
 
 /// The schema that the tree declares; else the place of its first fault.
-pub(crate) fn schema_in(alloc: Global, tree: &Tree<'_>) -> Result<ValidatorSchema, DocumentFault>
-    ensures { MayComeTo result (IsSchemaFrom (schema_of (tree_view tree.now))) }
+pub(crate) fn schema_in(alloc: Global, tree: Tree<'_>) -> Result<ValidatorSchema, DocumentFault>
+    ensures { MayComeTo result (IsSchemaFrom (schema_of (tree_view tree.entry))) }
 {
     let declared = value_of(alloc, tree)?;
     let schema = read_schema(alloc, &declared);

@@ -45,8 +45,8 @@ fn refusal(alloc: Global, ids: &Vec<EntityUID>, error: EntitiesError) -> Documen
 
 /// The store that the entities of the items make with their parents; else the place of the first fault: the
 /// first item that is no entity, the first id that stands earlier, or the least id that is its own ancestor.
-pub fn read_store(alloc: Global, items: &[Tree<'_>]) -> Result<Entities, DocumentFault>
-    ensures { MayComeTo result (IsStoreOf (trees_view items.now)) }
+pub fn read_store(alloc: Global, items: Vec<Tree<'_>>) -> Result<Entities, DocumentFault>
+    ensures { MayComeTo result (IsStoreOf (trees_view items.entry.items)) }
 {
     let entities = read_entities(alloc, items)?;
     let ids = ids_of(alloc, &entities)?;

@@ -12,13 +12,11 @@ use Rattle.std.proofs.lemmas.Bool.{false≢true}
 use Rattle.json.specs.Json as json
 use Rattle.json.specs.Json.{Json}
 use Rattle.json.specs.Find as tree
-use Rattle.serde_json.specs.Data.{Data, Num, null, number, Members, no_members, member, put}
-use Rattle.serde_json.specs.Read.{number_of}
-use Rattle.std.specs.Option.{option_map_or}
-use Rattle.serde_json.specs.Find.{get, get_member}
+use Rattle.serde_json.specs.Data.{Data, Members, no_members, member, put}
+use Rattle.serde_json.specs.Find.{get_member}
 use Rattle.serde_json.proofs.Views.{get_member-put, get_member-put_other}
 use Rattle.json_values.specs.Json.{has_only}
-use Rattle.json_trees.specs.Trees.{data_of, members_data, names_only}
+use Rattle.json_trees.specs.Trees.{data_of, members_data}
 
 -- the first, or else the second
 abbrev or_else : Option Data → Option Data → Option Data
@@ -46,18 +44,9 @@ or_nothing : (o : Option Data) → or_else o None ≡ o
 or_nothing None = refl
 or_nothing (Some d) = refl
 
-no_member : (name : List ℕ) (o : Option Num) → None ≡ get name (option_map_or number o null)
-no_member name None = refl
-no_member name (Some n) = refl
-
 -- what stands at a name
-pub member_found : (name : List ℕ) (j : Json) → option_map data_of (tree.get name j) ≡ get name (data_of j)
-member_found name json.null = refl
-member_found name (json.boolean b) = refl
-member_found name (json.number s) = no_member name (number_of s)
-member_found name (json.string s) = refl
-member_found name (json.array js) = refl
-member_found name (json.object ms) = sym (members_found name ms no_members ∙ or_nothing (option_map data_of (tree.get_member name ms)))
+pub member_found : (name : List ℕ) (ms : json.Members) → option_map data_of (tree.get_member name ms) ≡ get_member name (members_data ms no_members)
+member_found name ms = sym (members_found name ms no_members ∙ or_nothing (option_map data_of (tree.get_member name ms)))
 
 same_texts : (k l : List ℕ) → slice_cmp nat_cmp k l ≡ Equal → k ≡ l
 same_texts k l is = slice_cmp-IsAntisymmetric nat_cmp-IsAntisymmetric k l is
@@ -80,6 +69,11 @@ put_has_only names k d (member l e ms) = at (slice_cmp nat_cmp k l) refl (put_ha
   at Less is more = refl
   at Equal is more = rw (same_texts k l is) (and_twice (list_any (bytes_eq l) names) (has_only names ms))
   at Greater is more = ap (λ b. list_any (bytes_eq l) names && b) more ∙ and_around (list_any (bytes_eq l) names) (list_any (bytes_eq k) names) (has_only names ms)
+
+-- whether each member of a tree has one of the names
+abbrev pub names_only : List (List ℕ) → json.Members → Bool
+names_only names json.no_members = true
+names_only names (json.member k j ms) = list_any (bytes_eq k) names && names_only names ms
 
 and_behind : (a b c : Bool) → (b && (a && c)) ≡ ((a && b) && c)
 and_behind true b c = refl

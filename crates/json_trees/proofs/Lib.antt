@@ -1,2 +1,4 @@
 mod Said
 mod Found
+mod Taken
+mod Weight

@@ -5,15 +5,14 @@ use Rattle.std.specs.Str.{IsUtf8, is_utf8}
 use Rattle.std.proofs.lemmas.Str.{IsUtf8-from_is_utf8, is_utf8-from_IsUtf8}
 use Rattle.json.specs.Json as json
 use Rattle.json.specs.Json.{Json}
-use Rattle.json.specs.Lex.{tokens}
 use Rattle.json.specs.Value as tree
 use Rattle.json.specs.Value.{value_view}
 use Rattle.json.specs.declared.value.Value.{Value}
 use Rattle.serde_json.specs.Data.{Data, Num, null, number, array, object, Items, item, Members, no_members, put}
-use Rattle.serde_json.specs.Read.{of_json, of_items, of_members, number_of, max_depth, read}
+use Rattle.serde_json.specs.Read.{of_json, of_items, of_members, number_of, read}
 use Rattle.serde_json.specs.View.{items_of}
 use Rattle.json_values.specs.Json.{json_of}
-use Rattle.json_trees.specs.Trees.{data_of, items_data, members_data, in_range, items_in_range, members_in_range, tree_view}
+use Rattle.json_trees.specs.Trees.{data_of, items_data, members_data, in_range, items_in_range, members_in_range, tree_of, tree_view}
 
 -- what is there, if it is
 abbrev there_if : {A : Type 0} → Bool → A → Option A
@@ -56,12 +55,8 @@ mutual
   members_read json.no_members found = refl
   members_read (json.member k j ms) found = member_read (in_range j) (members_in_range ms) k ms found (of_json j) (data_of j) (members_data ms (put k (data_of j) found)) (tree_read j) (members_read ms (put k (data_of j) found))
 
--- the tree of a text
-abbrev pub text_tree : List ℕ → Option Json
-text_tree text = option_and_then (λ p. json.if_last p.0 p.1) (json.value max_depth (tokens text))
-
 -- the value of bytes is that of their tree
-pub bytes_read : (bytes : List ℕ) (o : Option Json) → IsUtf8 bytes → o ≡ text_tree bytes → json_of bytes ≡ option_and_then (λ j. there_if (in_range j) (data_of j)) o
+pub bytes_read : (bytes : List ℕ) (o : Option Json) → IsUtf8 bytes → o ≡ tree_of bytes → json_of bytes ≡ option_and_then (λ j. there_if (in_range j) (data_of j)) o
 unfolding json_of
 bytes_read bytes o text e = rw (is_utf8-from_IsUtf8 bytes text, ← e) (read_of o) where
   read_of : (p : Option Json) → option_and_then of_json p ≡ option_and_then (λ j. there_if (in_range j) (data_of j)) p

@@ -1,21 +1,21 @@
 -- What a JSON text says, by its tree.
-use Rattle.std.specs.Prelude.{ℕ, List, map, Bool, true, ◌&&◌, Option, None, is_some, option_and_then, if◌then◌else◌}
+use Rattle.std.specs.Prelude.{◌≡◌, ℕ, List, map, Bool, true, false, ◌&&◌, Option, is_some, option_and_then}
 use Rattle.std.specs.Option.{option_map_or}
-use Rattle.std.specs.List.{list_any}
-use Rattle.std.specs.Str.{is_utf8, bytes_eq}
+use Rattle.std.specs.Borrow.{Bor}
+use Rattle.std.specs.Str.{bytes_eq}
 use Rattle.json.specs.Json as json
 use Rattle.json.specs.Json.{Json}
 use Rattle.json.specs.Lex.{tokens}
-use Rattle.json.specs.Value.{value_view}
+use Rattle.json.specs.Value.{value_view, members_view}
 use Rattle.json.specs.declared.value.Value.{Value}
 use Rattle.serde_json.specs.Data.{Data, null, boolean, number, string, array, object, Items, no_items, item, Members, no_members, put}
 use Rattle.serde_json.specs.Read.{number_of, max_depth}
+use Rattle.serde_json.specs.Find.{get_member}
 use Rattle.serde_json.specs.View.{items_of}
 
--- the tree of the bytes, where they are text and have the form of JSON
+-- the tree of a text, where it has the form of JSON
 abbrev pub tree_of : List ℕ → Option Json
-tree_of bytes = if is_utf8 bytes
-    then option_and_then (λ p. json.if_last p.0 p.1) (json.value max_depth (tokens bytes)) else None
+tree_of text = option_and_then (λ p. json.if_last p.0 p.1) (json.value max_depth (tokens text))
 
 -- the value that a tree says; null stands for a number that is out of range
 abbrev mutual
@@ -63,7 +63,11 @@ tree_view t = data_of (value_view t)
 abbrev pub trees_view : {A : Type 0} → List (Value A) → Items
 trees_view ts = items_of (map tree_view ts)
 
--- whether each member of a tree has one of the names
-abbrev pub names_only : List (List ℕ) → json.Members → Bool
-names_only names json.no_members = true
-names_only names (json.member k j ms) = list_any (bytes_eq k) names && names_only names ms
+-- the members that those of a tree say; the last of a name stays
+abbrev pub named_view : {A : Type 0} → List (Bor (List ℕ) × Value A) → Members
+named_view ms = members_data (members_view ms) no_members
+
+-- the members of all other names stay
+abbrev pub KeepsOthers : List ℕ → Members → Members → Type 0
+KeepsOthers name old new =
+    (other : List ℕ) → bytes_eq name other ≡ false → get_member other new ≡ get_member other old

@@ -9,6 +9,6 @@ mod trees;
 mod values;
 
 pub use json::{Scratch, Value as Tree};
-pub use lookups::{get, has_only, items_or};
+pub use lookups::{has_only, take, take_items};
 pub use trees::read_tree;
 pub use values::value_of;

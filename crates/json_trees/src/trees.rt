@@ -1,12 +1,9 @@
 //! A text as a tree.
 
 ghost use Rattle.std.specs.Prelude.{◌≡◌, if◌then◌else◌, Some, None, IfOk, option_and_then, option_map};
-ghost use Rattle.json.specs.Json.{if_last, value};
-ghost use Rattle.json.specs.Lex.{tokens};
 ghost use Rattle.json.specs.Value.{value_view};
-ghost use Rattle.serde_json.specs.Read.{max_depth};
 ghost use Rattle.json_values.specs.Json.{json_of};
-ghost use Rattle.json_trees.specs.Trees.{data_of, in_range, tree_view};
+ghost use Rattle.json_trees.specs.Trees.{data_of, in_range, tree_of, tree_view};
 
 use crate::Tree;
 use crate::ranges::is_in_range;
@@ -51,8 +48,7 @@ fn tree_of<'a>(
     text: &'a str,
     scratch: &'a mut Scratch,
 ) -> Result<Option<Tree<'a>>, AllocError>
-    ensures { IfOk result (λ o. option_map value_view o ≡
-        option_and_then (λ p. if_last p.0 p.1) (value max_depth (tokens text.now))) }
+    ensures { IfOk result (λ o. option_map value_view o ≡ tree_of text.now) }
 {
     let mut reader = Reader::new(text, scratch)?;
     match Tree::read(alloc, &mut reader, MAX_DEPTH) {

@@ -1,4 +1,5 @@
-use Rattle.std.proofs.Common.{◌≡◌, drop}
+use Rattle.std.proofs.Common.{◌≡◌}
+use Rattle.std.specs.Vec.Iter.{into_iter_items}
 use Rattle.json_trees.specs.Trees.{trees_view}
 use Rattle.json_document.specs.Policies.{no_policies, policies_of}
 use Rattle.json_document.proofs.policies.read_policies.Given as goal
@@ -7,5 +8,5 @@ use Rattle.json_document.proofs.policies.read_policies.Given as goal
 abbrev pub invariant-loop-item : goal.invariant-loop-item
 invariant-loop-item l = record {
   counted : l.index ≡ l.item-index;
-  rest : policies_of l.index l.policies (trees_view (drop l.item-index l.items)) ≡ policies_of 0 no_policies (trees_view l.items);
+  rest : policies_of l.index l.policies (trees_view (into_iter_items l.item-iterator)) ≡ policies_of 0 no_policies (trees_view l.fn.items.items);
 }
