@@ -59,7 +59,7 @@ member_found name (json.string s) = refl
 member_found name (json.array js) = refl
 member_found name (json.object ms) = sym (members_found name ms no_members ∙ or_nothing (option_map data_of (tree.get_member name ms)))
 
-same_texts : (k l : List ℕ) → slice_cmp nat_cmp k l ≡ Equal → k ≡ l
+pub same_texts : (k l : List ℕ) → slice_cmp nat_cmp k l ≡ Equal → k ≡ l
 same_texts k l is = slice_cmp-IsAntisymmetric nat_cmp-IsAntisymmetric k l is
 
 and_twice : (a b : Bool) → (a && b) ≡ (a && (a && b))

@@ -1,2 +1,3 @@
 mod Said
 mod Found
+mod Named

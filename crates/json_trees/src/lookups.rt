@@ -32,7 +32,8 @@ pub fn items_or<'t, 'a>(
     }
 }
 
-fn items_of<'t, 'a>(tree: &'t Tree<'a>) -> Option<&'t [Tree<'a>]>
+/// The items of the list that the tree is.
+pub fn items_of<'t, 'a>(tree: &'t Tree<'a>) -> Option<&'t [Tree<'a>]>
     ensures { option_map (λ ts. trees_view ts.now) result ≡ as_array (tree_view tree.now) }
 {
     match tree {
