@@ -7,7 +7,7 @@ ghost use Rattle.json_trees.specs.Trees.{named_view, tree_view};
 ghost use Rattle.json_document.specs.Parts.{part_names, parts_of, parts_view};
 
 use crate::Shape;
-use json_trees::{Tree, has_only, take, take_items};
+use json_trees::{Tree, have_only, take, take_items};
 use std::alloc::Global;
 
 /// The parts of a document, in trees of its text.
@@ -44,9 +44,9 @@ fn have_part_names(shape: Shape, members: &Vec<(&str, Tree<'_>)>) -> bool
     ensures { result ≡ has_only (part_names shape) (named_view members.now.items) }
 {
     match shape {
-        Shape::Whole => has_only(&["schema", "policies", "entities", "request"], members),
-        Shape::Batch => has_only(&["schema", "policies", "entities", "requests"], members),
-        Shape::Live => has_only(&["schema", "edits", "entities", "request"], members),
+        Shape::Whole => have_only(&["schema", "policies", "entities", "request"], members),
+        Shape::Batch => have_only(&["schema", "policies", "entities", "requests"], members),
+        Shape::Live => have_only(&["schema", "edits", "entities", "request"], members),
     }
 }
 

@@ -12,8 +12,10 @@ use Rattle.std.proofs.lemmas.Bool.{false≢true}
 use Rattle.json.specs.Json as json
 use Rattle.json.specs.Json.{Json}
 use Rattle.json.specs.Find as tree
-use Rattle.serde_json.specs.Data.{Data, Members, no_members, member, put}
-use Rattle.serde_json.specs.Find.{get_member}
+use Rattle.serde_json.specs.Data.{Data, Num, null, number, Members, no_members, member, put}
+use Rattle.serde_json.specs.Read.{number_of}
+use Rattle.std.specs.Option.{option_map_or}
+use Rattle.serde_json.specs.Find.{get, get_member}
 use Rattle.serde_json.proofs.Views.{get_member-put, get_member-put_other}
 use Rattle.json_values.specs.Json.{has_only}
 use Rattle.json_trees.specs.Trees.{data_of, members_data}
@@ -48,7 +50,20 @@ or_nothing (Some d) = refl
 pub member_found : (name : List ℕ) (ms : json.Members) → option_map data_of (tree.get_member name ms) ≡ get_member name (members_data ms no_members)
 member_found name ms = sym (members_found name ms no_members ∙ or_nothing (option_map data_of (tree.get_member name ms)))
 
-same_texts : (k l : List ℕ) → slice_cmp nat_cmp k l ≡ Equal → k ≡ l
+no_member : (name : List ℕ) (o : Option Num) → None ≡ get name (option_map_or number o null)
+no_member name None = refl
+no_member name (Some n) = refl
+
+-- the same of a whole tree
+pub member_got : (name : List ℕ) (j : Json) → option_map data_of (tree.get name j) ≡ get name (data_of j)
+member_got name json.null = refl
+member_got name (json.boolean b) = refl
+member_got name (json.number s) = no_member name (number_of s)
+member_got name (json.string s) = refl
+member_got name (json.array js) = refl
+member_got name (json.object ms) = member_found name ms
+
+pub same_texts : (k l : List ℕ) → slice_cmp nat_cmp k l ≡ Equal → k ≡ l
 same_texts k l is = slice_cmp-IsAntisymmetric nat_cmp-IsAntisymmetric k l is
 
 and_twice : (a b : Bool) → (a && b) ≡ (a && (a && b))

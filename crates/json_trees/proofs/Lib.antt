@@ -1,4 +1,5 @@
 mod Said
 mod Found
+mod Named
 mod Taken
 mod Weight

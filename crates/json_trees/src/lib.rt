@@ -2,13 +2,17 @@
 //! takes little room, and a part of it is made a value when it is its turn.
 #![tactic(auto)]
 
+mod leaves;
 mod lookups;
+mod members;
 mod numbers;
 mod ranges;
 mod trees;
 mod values;
 
 pub use json::{Scratch, Value as Tree};
-pub use lookups::{has_only, take, take_items};
+pub use leaves::{as_i64, as_str, read_name, read_uid, read_uids};
+pub use lookups::{get, has_only, have_only, items_of, items_or, take, take_items};
+pub use members::{lent_members, lone_member};
 pub use trees::read_tree;
 pub use values::value_of;

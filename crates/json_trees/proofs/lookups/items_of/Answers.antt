@@ -4,4 +4,4 @@ use Rattle.json_trees.proofs.Said.{items_said}
 use Rattle.json_trees.proofs.lookups.items_of.Goals as goal
 
 pub returns-in-Array : goal.returns-in-Array
-returns-in-Array c = rw (c.in-Array.is, view-Array c.in-Array.items) (ap Some (sym (items_said c.in-Array.items.items)))
+returns-in-Array c = rw (c.as_slice.ensures.value, c.in-Array.is, view-Array c.in-Array.items) (ap Some (sym (items_said c.in-Array.items.items)))

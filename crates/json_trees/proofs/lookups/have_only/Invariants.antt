@@ -1,7 +1,7 @@
 use Rattle.std.proofs.Common.{◌≡◌, drop, map}
 use Rattle.json.specs.Value.{members_view}
 use Rattle.json_trees.proofs.Found.{names_only}
-use Rattle.json_trees.proofs.lookups.has_only.Given as goal
+use Rattle.json_trees.proofs.lookups.have_only.Given as goal
 
 -- what is left decides
 abbrev pub invariant-loop-member : goal.invariant-loop-member

@@ -1,0 +1,67 @@
+//! The members of an object, by their names.
+
+ghost use Rattle.std.specs.Prelude.{◌≡◌, IfOk, map, All, Contains, option_map, option_and_then};
+ghost use Rattle.std.specs.BTreeMap.{values};
+ghost use Rattle.serde_json.specs.Data.{no_members};
+ghost use Rattle.serde_json.specs.Find.{as_object};
+ghost use Rattle.json.specs.Value.{members_view};
+ghost use Rattle.json_values.specs.Json.{only_member};
+ghost use Rattle.json_trees.specs.Trees.{members_data, tree_view};
+ghost use Rattle.json_trees.specs.Lent.{is_other, lent_view};
+
+use crate::Tree;
+use std::alloc::{AllocError, Global};
+use std::collections::BTreeMap;
+
+/// The members by their names, which ascend; the last, where several have one name.
+pub fn lent_members<'t, 'a>(
+    alloc: Global,
+    members: &'t [(&'a str, Tree<'a>)],
+) -> Result<BTreeMap<&'t str, &'t Tree<'a>>, AllocError>
+    ensures said { IfOk result
+        (λ m. lent_view m.entries ≡ members_data (members_view members.now) no_members) }
+    ensures lent { IfOk result
+        (λ m. All (λ t. Contains (map (λ p. p.1) members.now) t.now) (values m)) }
+{
+    let mut lent = BTreeMap::new(alloc);
+    for member in members {
+        lent.insert(member.0, &member.1)?;
+    }
+    Ok(lent)
+}
+
+/// The one member of the tree, where it is an object and no member has another name.
+pub fn lone_member<'t, 'a>(tree: &'t Tree<'a>) -> Option<(&'t str, &'t Tree<'a>)>
+    ensures { option_map (λ m. (m.0.now, tree_view m.1.now)) result ≡
+        option_and_then only_member (as_object (tree_view tree.now)) }
+{
+    match tree {
+        Tree::Object(members) => only_member(members),
+        _ => None,
+    }
+}
+
+#[tactic(auto, using(crate::proofs::Named::only_lone))]
+fn only_member<'t, 'a>(members: &'t Vec<(&'a str, Tree<'a>)>) -> Option<(&'t str, &'t Tree<'a>)>
+    ensures { option_map (λ m. (m.0.now, tree_view m.1.now)) result ≡
+        only_member (members_data (members_view members.now.items) no_members) }
+{
+    let mut only: Option<(&'t str, &'t Tree<'a>)> = None;
+    for member in members {
+        if is_other(only, member.0) {
+            return None;
+        }
+        only = Some((member.0, &member.1));
+    }
+    only
+}
+
+// Whether there is a member, and it has another name.
+fn is_other(known: Option<(&str, &Tree<'_>)>, name: &str) -> bool
+    ensures { result ≡ is_other (option_map (λ m. m.0.now) known.entry) name.now }
+{
+    match known {
+        Some((known, _)) => known != name,
+        None => false,
+    }
+}
