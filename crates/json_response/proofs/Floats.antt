@@ -1,15 +1,15 @@
 -- No answer is written with a float.
-use Rattle.std.proofs.Common.{◌≡◌, ℤ, pos, negsuc, List, [], ◌∷◌, map, false, refl}
-use Rattle.entity_store.specs.Store.{StoredEntity, Store}
+use Rattle.std.proofs.Common.{◌≡◌, ℕ, ℤ, pos, negsuc, List, [], ◌∷◌, map, false, refl}
+use Rattle.entity_store.specs.Store.{StoredEntity}
 use Rattle.policy_values.specs.Value.{Val, truth, long, string, entity, set, rec, decimal, ip, datetime, duration, Vals, no_vals, val, Fields, no_fields, field}
-use Rattle.policy_set.specs.Response.{ResponseData}
+use Rattle.policy_set.specs.declared.response.PolicyFailure.{PolicyFailure}
 use Rattle.serde_json.specs.Data as json
 use Rattle.serde_json.specs.Data.{Data}
 use Rattle.serde_json.specs.Find.{is_float, of_integer}
 use Rattle.serde_json.specs.View.{items_of}
 use Rattle.serde_json.specs.Written.{has_float, items_have_float, members_have_float}
 use Rattle.json_response.specs.ValueJson.{uid_data, value_data, items_data, members_data}
-use Rattle.json_response.specs.SliceJson.{entity_data, failure_data, response_data, slice_data}
+use Rattle.json_response.specs.SliceJson.{entity_data, failure_data}
 
 integer_has_none : (n : ℤ) → is_float (of_integer n) ≡ false
 integer_has_none (pos n) = refl
@@ -40,12 +40,11 @@ list_has_none : {X : Type 0} (f : X → Data) → ((x : X) → has_float (f x) �
 list_has_none f none [] = refl
 list_has_none f none (x ∷ xs) = rw (none x) (list_has_none f none xs)
 
-entity_has_none : (e : StoredEntity) → has_float (entity_data e) ≡ false
+pub failures_have_none : (fs : List PolicyFailure) → has_float (json.array (items_of (map failure_data fs))) ≡ false
+failures_have_none = list_has_none failure_data (λ _. refl)
+
+pub ids_have_none : (ids : List (List ℕ)) → has_float (json.array (items_of (map json.string ids))) ≡ false
+ids_have_none = list_has_none json.string (λ _. refl)
+
+pub entity_has_none : (e : StoredEntity) → has_float (entity_data e) ≡ false
 entity_has_none e = rw (list_has_none uid_data (λ _. refl) e.ancestors, fields_have_none e.attrs, fields_have_none e.tags) refl
-
-pub response_has_none : (r : ResponseData) → has_float (response_data r) ≡ false
-response_has_none r = rw (list_has_none failure_data (λ _. refl) r.errors, list_has_none json.string (λ _. refl) r.reasons) refl
-
-pub slice_has_none : (r : ResponseData) (s : Store) → has_float (slice_data r s) ≡ false
-slice_has_none r s =
-    rw (list_has_none failure_data (λ _. refl) r.errors, list_has_none json.string (λ _. refl) r.reasons, list_has_none entity_data entity_has_none s) refl

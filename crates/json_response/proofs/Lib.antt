@@ -1,3 +1,4 @@
 mod Floats
+mod Pieces
 mod ReadBack
 mod Steps

@@ -1,10 +1,11 @@
 //! A decision, and the entities that it needs, as JSON.
 
-ghost use Rattle.std.specs.Prelude.{◌≡◌, IfOk, map, string_bytes};
+ghost use Rattle.std.specs.Prelude.{◌≡◌, ◌++◌, codes, false, IfOk, OnOk, map, string_bytes};
 ghost use Rattle.serde_json.specs.Data.{string, array};
 ghost use Rattle.serde_json.specs.View.{view, items_of};
+ghost use Rattle.serde_json.specs.Written.{has_float, comma_if, compact_text};
 ghost use Rattle.json_response.specs.ValueJson.{uid_data};
-ghost use Rattle.json_response.specs.SliceJson.{entity_data, decision_text, failure_data, response_data, response_text, slice_data, slice_text};
+ghost use Rattle.json_response.specs.SliceJson.{entity_data, decision_text, failure_data, response_data, response_text, slice_text};
 
 use crate::values::{write_fields, write_pair, write_uid};
 use policy_core::{Entities, Entity, EntityUID, Text};
@@ -37,16 +38,6 @@ pub fn write_entity(alloc: Global, entity: &Entity) -> Result<Json, AllocError>
     put(&mut members, alloc, "id", id)?;
     put(&mut members, alloc, "tags", tags)?;
     Ok(Json::Object(members))
-}
-
-fn write_entities(alloc: Global, entities: &Entities) -> Result<Json, AllocError>
-    ensures { IfOk result (λ v. view v ≡ array (items_of (map entity_data entities.now))) }
-{
-    let mut written = Vec::new(alloc);
-    for entity in entities.iter() {
-        written.push(write_entity(alloc, entity)?)?;
-    }
-    Ok(Json::Array(written))
 }
 
 fn write_decision(alloc: Global, decision: Decision) -> Result<Json, AllocError>
@@ -87,17 +78,58 @@ fn write_ids(alloc: Global, ids: &[Text]) -> Result<Json, AllocError>
     Ok(Json::Array(written))
 }
 
-fn write_response(alloc: Global, response: &Response) -> Result<Json, AllocError>
-    ensures { IfOk result (λ v. view v ≡ response_data response.now) }
+// Appends the value's JSON.
+fn append(alloc: Global, text: &mut String, value: Json) -> Result<(), AllocError>
+    ensures { OnOk result (has_float (view value) ≡ false
+        → string_bytes text.new ≡ string_bytes text.old ++ compact_text (view value)) }
 {
+    let json = value.to_string(alloc)?;
+    drop(value);
+    text.push_str(json.as_str())
+}
+
+// The text of the response without its closing brace.
+fn open_response(alloc: Global, response: &Response) -> Result<String, AllocError>
+    ensures { IfOk result (λ s. string_bytes s ++ codes "}"
+        ≡ compact_text (response_data response.now)) }
+{
+    let mut text = String::new(alloc);
+    text.push_str(r#"{"decision":"#)?;
     let decision = write_decision(alloc, response.decision())?;
+    append(alloc, &mut text, decision)?;
+    text.push_str(r#","errors":"#)?;
     let errors = write_failures(alloc, response.errors())?;
+    append(alloc, &mut text, errors)?;
+    text.push_str(r#","reasons":"#)?;
     let reasons = write_ids(alloc, response.reasons())?;
-    let mut members = Map::new(alloc);
-    put(&mut members, alloc, "decision", decision)?;
-    put(&mut members, alloc, "errors", errors)?;
-    put(&mut members, alloc, "reasons", reasons)?;
-    Ok(Json::Object(members))
+    append(alloc, &mut text, reasons)?;
+    Ok(text)
+}
+
+// Appends what stands in front of an item: a comma, where it is a later one.
+fn append_comma(text: &mut String, is_later: bool) -> Result<(), AllocError>
+    ensures { OnOk result (string_bytes text.new ≡ string_bytes text.old ++ comma_if is_later) }
+{
+    if is_later {
+        text.push_str(",")?;
+    }
+    Ok(())
+}
+
+// Appends the array of the entities. Only one of them at a time is a JSON value, which takes more memory
+// than its text.
+fn append_entities(alloc: Global, text: &mut String, entities: &Entities) -> Result<(), AllocError>
+    ensures { OnOk result (string_bytes text.new
+        ≡ string_bytes text.old ++ compact_text (array (items_of (map entity_data entities.now)))) }
+{
+    text.push_str("[")?;
+    let mut is_later = false;
+    for entity in entities.iter() {
+        append_comma(text, is_later)?;
+        append(alloc, text, write_entity(alloc, entity)?)?;
+        is_later = true;
+    }
+    text.push_str("]")
 }
 
 /// The decision on a request, the policies that have no value, and those that led to the decision: one line
@@ -106,29 +138,13 @@ fn write_response(alloc: Global, response: &Response) -> Result<Json, AllocError
 pub fn response_text(alloc: Global, response: &Response) -> Result<String, AllocError>
     ensures { IfOk result (λ s. string_bytes s ≡ response_text response.now) }
 {
-    let mut text = write_response(alloc, response)?.to_string(alloc)?;
-    text.push_str("\n")?;
+    let mut text = open_response(alloc, response)?;
+    text.push_str("}\n")?;
     Ok(text)
-}
-
-fn write_slice(alloc: Global, response: &Response, entities: &Entities) -> Result<Json, AllocError>
-    ensures { IfOk result (λ v. view v ≡ slice_data response.now entities.now) }
-{
-    let decision = write_decision(alloc, response.decision())?;
-    let errors = write_failures(alloc, response.errors())?;
-    let reasons = write_ids(alloc, response.reasons())?;
-    let slice = write_entities(alloc, entities)?;
-    let mut members = Map::new(alloc);
-    put(&mut members, alloc, "decision", decision)?;
-    put(&mut members, alloc, "errors", errors)?;
-    put(&mut members, alloc, "reasons", reasons)?;
-    put(&mut members, alloc, "slice", slice)?;
-    Ok(Json::Object(members))
 }
 
 /// The decision on a request, the policies that have no value, those that led to the decision, and entities
 /// that are enough to come to it: one line of JSON without spaces, and a newline.
-#[tactic(auto, unfolding(crate::specs::SliceJson::slice_text))]
 pub fn slice_text(
     alloc: Global,
     response: &Response,
@@ -136,7 +152,9 @@ pub fn slice_text(
 ) -> Result<String, AllocError>
     ensures { IfOk result (λ s. string_bytes s ≡ slice_text response.now entities.now) }
 {
-    let mut text = write_slice(alloc, response, entities)?.to_string(alloc)?;
-    text.push_str("\n")?;
+    let mut text = open_response(alloc, response)?;
+    text.push_str(r#","slice":"#)?;
+    append_entities(alloc, &mut text, entities)?;
+    text.push_str("}\n")?;
     Ok(text)
 }
