@@ -1,17 +1,14 @@
 //! Edits to a set of policies, in JSON.
 
 ghost use Rattle.std.specs.Prelude.{◌≡◌, [], IfOk};
-ghost use Rattle.serde_json.specs.View.{view};
 ghost use Rattle.json_trees.specs.Trees.{tree_view, trees_view};
 ghost use Rattle.json_document.specs.Edits.{addition_at, edit_at, edits_of, removal_at, removed_of};
 ghost use Rattle.json_document.specs.Faults.{ComesTo};
 
 use crate::{DocumentFault, Edit, Place};
 use json_policies::{PolicyRead, read_entry};
-use json_trees::{Tree, value_of};
-use json_values::has_only;
+use json_trees::{Tree, as_str, get, has_only};
 use policy_values::Text;
-use serde_json::Value;
 use std::alloc::{AllocError, Global};
 use std::marker::Model;
 
@@ -52,16 +49,13 @@ impl Edits {
 
 // The id that an object without other members says to remove.
 #[tactic(auto, unfolding(crate::specs::Edits::removed_of))]
-fn read_removal(alloc: Global, value: &Value) -> Result<Option<Text>, AllocError>
-    ensures { IfOk result (λ o. o ≡ removed_of (view value.now)) }
+fn read_removal(alloc: Global, tree: &Tree<'_>) -> Result<Option<Text>, AllocError>
+    ensures { IfOk result (λ o. o ≡ removed_of (tree_view tree.now)) }
 {
-    let Some(members) = value.as_object() else {
+    let Some(id) = get(tree, "remove").and_then(as_str) else {
         return Ok(None);
     };
-    let Some(id) = value.get("remove").and_then(Value::as_str) else {
-        return Ok(None);
-    };
-    if !has_only(&["remove"], members) {
+    if !has_only(&["remove"], tree) {
         return Ok(None);
     }
     Ok(Some(Text::from_str(alloc, id)?))
@@ -87,26 +81,25 @@ fn addition(index: usize, read: Option<PolicyRead>) -> Result<Edit, DocumentFaul
     }
 }
 
-// The edit that the value is: a removal, where it has the member `remove`, else what a list of policies
+// The edit that the tree says: a removal, where it has the member `remove`, else what a list of policies
 // may have.
-fn read_edit(alloc: Global, index: usize, value: &Value) -> Result<Edit, DocumentFault>
-    ensures { ComesTo (λ e. e) result (edit_at index (view value.now)) }
+fn read_edit(alloc: Global, index: usize, tree: &Tree<'_>) -> Result<Edit, DocumentFault>
+    ensures { ComesTo (λ e. e) result (edit_at index (tree_view tree.now)) }
 {
-    if value.get("remove").is_none() {
-        let read = read_entry(alloc, value)?;
+    if get(tree, "remove").is_none() {
+        let read = read_entry(alloc, tree)?;
         return addition(index, read);
     }
-    let removed = read_removal(alloc, value)?;
+    let removed = read_removal(alloc, tree)?;
     removal(index, removed)
 }
 
-// The edit that the tree is.
+// The edit that the tree says, which is let go of then.
 fn edit_in(alloc: Global, index: usize, tree: Tree<'_>) -> Result<Edit, DocumentFault>
     ensures { ComesTo (λ e. e) result (edit_at index (tree_view tree.entry)) }
 {
-    let value = value_of(alloc, tree)?;
-    let edit = read_edit(alloc, index, &value);
-    drop(value);
+    let edit = read_edit(alloc, index, &tree);
+    drop(tree);
     edit
 }
 
