@@ -1,17 +1,14 @@
 //! Edits to a set of policies, in JSON.
 
 ghost use Rattle.std.specs.Prelude.{◌≡◌, [], IfOk};
-ghost use Rattle.serde_json.specs.View.{view};
 ghost use Rattle.json_trees.specs.Trees.{tree_view, trees_view};
 ghost use Rattle.json_document.specs.Edits.{addition_at, edit_at, edits_of, removal_at, removed_of};
 ghost use Rattle.json_document.specs.Faults.{ComesTo};
 
 use crate::{DocumentFault, Edit, Place};
 use json_policies::{PolicyRead, read_entry};
-use json_trees::{Tree, value_of};
-use json_values::has_only;
+use json_trees::{Tree, get, get_str, has_only};
 use policy_values::Text;
-use serde_json::Value;
 use std::alloc::{AllocError, Global};
 use std::marker::Model;
 
@@ -52,16 +49,13 @@ impl Edits {
 
 // The id that an object without other members says to remove.
 #[tactic(auto, unfolding(crate::specs::Edits::removed_of))]
-fn read_removal(alloc: Global, value: &Value) -> Result<Option<Text>, AllocError>
-    ensures { IfOk result (λ o. o ≡ removed_of (view value.now)) }
+fn read_removal(alloc: Global, tree: &Tree<'_>) -> Result<Option<Text>, AllocError>
+    ensures { IfOk result (λ o. o ≡ removed_of (tree_view tree.now)) }
 {
-    let Some(members) = value.as_object() else {
+    let Some(id) = get_str(tree, "remove") else {
         return Ok(None);
     };
-    let Some(id) = value.get("remove").and_then(Value::as_str) else {
-        return Ok(None);
-    };
-    if !has_only(&["remove"], members) {
+    if !has_only(&["remove"], tree) {
         return Ok(None);
     }
     Ok(Some(Text::from_str(alloc, id)?))
@@ -87,27 +81,17 @@ fn addition(index: usize, read: Option<PolicyRead>) -> Result<Edit, DocumentFaul
     }
 }
 
-// The edit that the value is: a removal, where it has the member `remove`, else what a list of policies
+// The edit that the tree says: a removal, where it has the member `remove`, else what a list of policies
 // may have.
-fn read_edit(alloc: Global, index: usize, value: &Value) -> Result<Edit, DocumentFault>
-    ensures { ComesTo (λ e. e) result (edit_at index (view value.now)) }
-{
-    if value.get("remove").is_none() {
-        let read = read_entry(alloc, value)?;
-        return addition(index, read);
-    }
-    let removed = read_removal(alloc, value)?;
-    removal(index, removed)
-}
-
-// The edit that the tree is.
-fn edit_in(alloc: Global, index: usize, tree: &Tree<'_>) -> Result<Edit, DocumentFault>
+fn read_edit(alloc: Global, index: usize, tree: &Tree<'_>) -> Result<Edit, DocumentFault>
     ensures { ComesTo (λ e. e) result (edit_at index (tree_view tree.now)) }
 {
-    let value = value_of(alloc, tree)?;
-    let edit = read_edit(alloc, index, &value);
-    drop(value);
-    edit
+    if get(tree, "remove").is_none() {
+        let read = read_entry(alloc, tree)?;
+        return addition(index, read);
+    }
+    let removed = read_removal(alloc, tree)?;
+    removal(index, removed)
 }
 
 fn read_items(alloc: Global, items: &[Tree<'_>]) -> Result<Vec<Edit>, DocumentFault>
@@ -115,7 +99,7 @@ fn read_items(alloc: Global, items: &[Tree<'_>]) -> Result<Vec<Edit>, DocumentFa
 {
     let mut edits = Vec::new(alloc);
     for item in items {
-        let edit = edit_in(alloc, edits.len(), item)?;
+        let edit = read_edit(alloc, edits.len(), item)?;
         edits.push(edit)?;
     }
     Ok(edits)

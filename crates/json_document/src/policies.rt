@@ -2,7 +2,6 @@
 
 ghost use Rattle.std.specs.Prelude.{◌≡◌, IfOk, MatchResult, None, Option};
 ghost use Rattle.policy_set.specs.declared.policy_set.PolicySetError.{PolicySetError};
-ghost use Rattle.serde_json.specs.View.{view};
 ghost use Rattle.json_trees.specs.Trees.{tree_view, trees_view};
 ghost use Rattle.policy_set.specs.PolicySet.{PolicySetData, id_fault, IsNotAdded};
 ghost use Rattle.json_document.specs.Faults.{ComesTo, Fails};
@@ -10,11 +9,10 @@ ghost use Rattle.json_document.specs.Policies.{added, added_link, added_read, ad
 
 use crate::{DocumentFault, Place};
 use json_policies::{PolicyRead, TemplateLink, read_entry};
-use json_trees::{Tree, value_of};
+use json_trees::Tree;
 use policy_expressions::{SlotId, SlotValues};
 use policy_set::{PolicySet, PolicySetError, Template, or_drop};
 use policy_values::EntityUID;
-use serde_json::Value;
 use std::alloc::{AllocError, Global};
 
 // The fault for which the policy at the index is not added.
@@ -111,20 +109,7 @@ fn add_read(
     }
 }
 
-// Adds what the value is: a policy, a template or a link.
-fn add_entry(
-    alloc: Global,
-    policies: &mut PolicySet,
-    index: usize,
-    value: &Value,
-) -> Result<(), DocumentFault>
-    ensures { ComesTo (λ _. policies.new) result (added index policies.old (view value.now)) }
-{
-    let read = read_entry(alloc, value)?;
-    add_read(alloc, policies, index, read)
-}
-
-// Adds what the tree is.
+// Adds what the tree says: a policy, a template or a link.
 fn add_tree(
     alloc: Global,
     policies: &mut PolicySet,
@@ -133,10 +118,8 @@ fn add_tree(
 ) -> Result<(), DocumentFault>
     ensures { ComesTo (λ _. policies.new) result (added index policies.old (tree_view tree.now)) }
 {
-    let value = value_of(alloc, tree)?;
-    let added = add_entry(alloc, policies, index, &value);
-    drop(value);
-    added
+    let read = read_entry(alloc, tree)?;
+    add_read(alloc, policies, index, read)
 }
 
 /// The policies of the items; else the place of the first fault.

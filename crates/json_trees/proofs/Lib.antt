@@ -1,3 +1,4 @@
 mod Said
 mod Found
-mod Named
+pub mod Named
+pub mod Views

@@ -11,8 +11,8 @@ mod trees;
 mod values;
 
 pub use json::{Scratch, Value as Tree};
-pub use leaves::{as_i64, as_str, read_name, read_uid, read_uids};
+pub use leaves::{as_i64, as_str, get_str, is_null, read_name, read_uid, read_uids};
 pub use lookups::{get, has_only, items_of, items_or};
-pub use members::{lent_members, lone_member};
+pub use members::{lone_member, member_places};
 pub use trees::read_tree;
 pub use values::value_of;
