@@ -7,13 +7,12 @@ mod texts;
 mod wide;
 
 use entity_store::{Context, Entities, EntitiesError, Entity, Request};
-use json_document::read_value;
+use json_document::{Scratch, Tree, read_tree, read_value};
 use json_expressions::{Bounded, read_expr};
 use json_response::write_value;
 use json_values::{parse_json, with_item};
 use policy_core::{EvalError, Expr, Outcome, Value, ValueKind, evaluate, try_clone_fields};
 use policy_values::{Eid, EntityType, EntityUID, Name, Text};
-use serde_json::Value as Json;
 use std::alloc::{AllocError, Global};
 use std::collections::{BTreeMap, BTreeSet};
 use std::test::Fail;
@@ -175,8 +174,8 @@ fn told_expr(alloc: Global, expr: &Expr<()>, context: &str) -> Result<String, Al
     told
 }
 
-fn told_json(alloc: Global, json: &Json, context: &str) -> Result<String, AllocError> {
-    match read_expr(alloc, json)? {
+fn told_tree(alloc: Global, tree: &Tree<'_>, context: &str) -> Result<String, AllocError> {
+    match read_expr(alloc, tree)? {
         Some(Bounded::Within(expr)) => {
             let told = told_expr(alloc, &expr, context);
             drop(expr);
@@ -189,10 +188,11 @@ fn told_json(alloc: Global, json: &Json, context: &str) -> Result<String, AllocE
 
 // What the expression of a text is: its value, the name of its error, or what is wrong with its text.
 fn told(alloc: Global, text: &str, context: &str) -> Result<String, AllocError> {
-    match parse_json(alloc, text.as_bytes())? {
-        Some(json) => {
-            let told = told_json(alloc, &json, context);
-            drop(json);
+    let mut scratch = Scratch::new(alloc);
+    match read_tree(alloc, text.as_bytes(), &mut scratch)? {
+        Some(tree) => {
+            let told = told_tree(alloc, &tree, context);
+            drop(tree);
             told
         }
         None => String::from_str(alloc, "json"),

@@ -7,7 +7,7 @@ ghost use Rattle.json_document.specs.Faults.{ComesTo};
 
 use crate::{DocumentFault, Edit, Place};
 use json_policies::{PolicyRead, read_entry};
-use json_trees::{Tree, as_str, get, has_only};
+use json_trees::{Tree, get, get_str, has_only};
 use policy_values::Text;
 use std::alloc::{AllocError, Global};
 use std::marker::Model;
@@ -52,7 +52,7 @@ impl Edits {
 fn read_removal(alloc: Global, tree: &Tree<'_>) -> Result<Option<Text>, AllocError>
     ensures { IfOk result (λ o. o ≡ removed_of (tree_view tree.now)) }
 {
-    let Some(id) = get(tree, "remove").and_then(as_str) else {
+    let Some(id) = get_str(tree, "remove") else {
         return Ok(None);
     };
     if !has_only(&["remove"], tree) {

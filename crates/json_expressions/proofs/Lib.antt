@@ -1,2 +1,4 @@
 pub mod Bounds
+mod Elements
+mod Ordered
 pub mod Steps

@@ -1,20 +1,21 @@
 -- Steps of reading expressions.
-use Rattle.std.proofs.Common.{◌≡◌, ℕ, ◌<◌, List, [], ◌∷◌, ◌++◌, length, map, false, Option, Some, None, option_map, is_some, append_assoc, arith, refl, sym, ap, ◌∙◌}
+use Rattle.std.proofs.Common.{◌≡◌, ℕ, ◌<◌, ◌≤◌, drop, List, [], ◌∷◌, ◌++◌, length, map, false, Option, Some, None, option_map, is_some, append_assoc, arith, refl, sym, ap, ◌∙◌}
 use Rattle.std.proofs.lemmas.Option.{same_Some}
-use Rattle.serde_json.specs.View.{items_view}
-use Rattle.serde_json.specs.declared.value.Value.{Value}
+use Rattle.json_trees.specs.Trees.{trees_view}
+use Rattle.json.specs.declared.value.Value.{Value}
 use Rattle.json_expressions.specs.Forms.{Plain, else_of}
+use Rattle.json_expressions.specs.Exprs.{exprs_behind_first, exprs_of}
 use Rattle.json_expressions.specs.Parts.{loc_of_items}
 use Rattle.json_expressions.specs.Reads.{Read, bounded, bounded_field}
-use Rattle.json_values.specs.Lists.{with_first}
+use Rattle.json_values.specs.Lists.{with_first, with_field}
 use Rattle.plain_lemmas.proofs.Options.{none_of_no_some}
 
-pub short_loc : (xs : List Value) → length xs < 2 → None ≡ loc_of_items (items_view xs)
+pub short_loc : {A : Type 0} (xs : List (Value A)) → length xs < 2 → None ≡ loc_of_items (trees_view xs)
 short_loc [] h = refl
 short_loc (x ∷ []) h = refl
 short_loc (x ∷ y ∷ zs) h = absurd (omega arith)
 
-pub long_loc : (xs : List Value) → 2 < length xs → None ≡ loc_of_items (items_view xs)
+pub long_loc : {A : Type 0} (xs : List (Value A)) → 2 < length xs → None ≡ loc_of_items (trees_view xs)
 long_loc [] h = absurd (omega arith)
 long_loc (x ∷ []) h = absurd (omega arith)
 long_loc (x ∷ y ∷ []) h = absurd (omega arith)
@@ -34,6 +35,17 @@ pub field_read : (k : List ℕ) (r : Read) (o : Option Plain) → option_map bou
 field_read k r None h = cc
 field_read k r (Some x) h = ap (λ (s : Read). Some (k, s)) (same_Some (bounded x) r h)
 
+-- where a field is not read, nothing is
+pub nothing_read : (done : List (List ℕ × Read)) (key : List ℕ) (o : Option Plain) (os : Option (List (List ℕ × Plain))) (whole : Option (List (List ℕ × Read)))
+    → None ≡ option_map bounded o → option_map (λ ys. done ++ ys) (option_map (map bounded_field) (with_field key o os)) ≡ whole → None ≡ whole
+nothing_read done key None os whole e all = all
+nothing_read done key (Some x) os whole e all = cc
+
+-- with none before, there are those alone
+pub none_before : {A : Type 0} (o : Option (List A)) → option_map (λ ys. [] ++ ys) o ≡ o
+none_before None = refl
+none_before (Some ys) = refl
+
 module _ {A : Type 0} (f : A → A → A → A) where
   else_of-last : (front : List A) (t e a : A) → else_of f (front ++ t ∷ e ∷ a ∷ []) ≡ else_of f (front ++ f t e a ∷ [])
   else_of-last [] t e a = refl
@@ -52,3 +64,8 @@ module _ {A : Type 0} (f : A → A → A → A) where
       ∙ sym (else_of-last front t e a)
       ∙ sym (ap (else_of f) seam)
       ∙ all
+
+-- the expressions of the items behind the first
+pub exprs_behind : {A : Type 0} (ts : List (Value A)) → 1 ≤ length ts → exprs_behind_first (trees_view ts) ≡ exprs_of (trees_view (drop 1 ts))
+exprs_behind [] h = absurd (omega arith)
+exprs_behind (t ∷ ts) h = refl

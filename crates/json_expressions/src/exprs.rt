@@ -1,7 +1,10 @@
 //! Expressions in JSON.
 
 ghost use Rattle.std.specs.Prelude.{◌≡◌, IfOk, map, option_map, option_and_then};
-ghost use Rattle.serde_json.specs.View.{view, items_view, members_view, number_view};
+ghost use Rattle.json.specs.Value.{members_view};
+ghost use Rattle.serde_json.specs.Data.{no_members};
+ghost use Rattle.json_trees.specs.Trees.{members_data, tree_view, trees_view};
+ghost use Rattle.serde_json.specs.Find.{as_number};
 ghost use Rattle.policy_expressions.specs.Tree.{lit};
 ghost use Rattle.json_expressions.specs.Forms.{call_tree, get_tree, has_tree, id_tree, in_turn, like_tree, listed_tree, long_tree, of_one, placed, record_tree, set_tree, type_test_tree, unary_tree, unmarked, var_tree};
 ghost use Rattle.json_expressions.specs.Parts.{called_name_of, attr_names_of, pattern_of, tested_type_of};
@@ -14,10 +17,10 @@ use crate::parts::{read_function, read_loc, read_names, read_pattern, read_type}
 use crate::reads::{
     call, get_all, has_one, is_of_type, like, list_form, place, record, set, unary,
 };
-use json_values::{read_uid, with_field, with_item};
+use json_trees::{Tree, as_i64, as_str, member_places, read_uid};
+use json_values::{with_field, with_item};
 use policy_expressions::{Expr, Literal, Loc, Pattern, UnaryOp};
 use policy_values::{EntityType, Name, Text};
-use serde_json::{Map, Number, Value};
 use std::alloc::{AllocError, Global};
 use std::collections::BTreeMap;
 
@@ -27,28 +30,28 @@ fn leaf(literal: Literal) -> Bounded<Expr<()>>
     Bounded::Within(Expr::lit(literal, (), None))
 }
 
-fn read_id(alloc: Global, value: &Value) -> Result<Option<Bounded<Expr<()>>>, AllocError>
-    ensures { IfOk result (λ o. o ≡ option_map bounded (id_tree (view value.now))) }
+fn read_id(alloc: Global, tree: &Tree<'_>) -> Result<Option<Bounded<Expr<()>>>, AllocError>
+    ensures { IfOk result (λ o. o ≡ option_map bounded (id_tree (tree_view tree.now))) }
 {
-    match read_uid(alloc, value)? {
+    match read_uid(alloc, tree)? {
         Some(uid) => Ok(Some(leaf(Literal::EntityUID(uid)))),
         None => Ok(None),
     }
 }
 
-fn read_var(value: &Value) -> Option<Bounded<Expr<()>>>
-    ensures { result ≡ option_map bounded (var_tree (view value.now)) }
+fn read_var(tree: &Tree<'_>) -> Option<Bounded<Expr<()>>>
+    ensures { result ≡ option_map bounded (var_tree (tree_view tree.now)) }
 {
-    match value.as_str().and_then(var_named) {
+    match as_str(tree).and_then(var_named) {
         Some(var) => Some(Bounded::Within(Expr::var(var, (), None))),
         None => None,
     }
 }
 
-fn read_long(n: &Number) -> Option<Bounded<Expr<()>>>
-    ensures { result ≡ option_map bounded (long_tree (number_view n.now)) }
+fn read_long(tree: &Tree<'_>) -> Option<Bounded<Expr<()>>>
+    ensures { result ≡ option_map bounded (option_and_then long_tree (as_number (tree_view tree.now))) }
 {
-    match n.as_i64() {
+    match as_i64(tree) {
         Some(n) => Some(leaf(Literal::Long(n))),
         None => None,
     }
@@ -60,40 +63,40 @@ fn is_place(first: &str, second: &str) -> bool
     first == "at" && second == "of"
 }
 
-/// The expression that a JSON value says, where it says one; `Nested`, where that is nested deeper than 400.
+/// The expression that the tree says, where it says one; `Nested`, where that is nested deeper than 400.
 /// What an object holds is looked at to its end also where it is nested too deep, since a fault of the form
 /// comes first.
 #[cycle(expr)]
-pub fn read_expr(alloc: Global, value: &Value) -> Result<Option<Bounded<Expr<()>>>, AllocError>
-    ensures { IfOk result (λ o. o ≡ option_map bounded (expr_of (view value.now))) }
+pub fn read_expr(alloc: Global, tree: &Tree<'_>) -> Result<Option<Bounded<Expr<()>>>, AllocError>
+    ensures { IfOk result (λ o. o ≡ option_map bounded (expr_of (tree_view tree.now))) }
 {
-    match value {
-        Value::Null => Ok(None),
-        Value::Bool(b) => Ok(Some(leaf(Literal::Bool(*b)))),
-        Value::Number(n) => Ok(read_long(n)),
-        Value::String(text) => Ok(Some(leaf(Literal::String(Text::from_str(
-            alloc,
-            text.as_str(),
-        )?)))),
-        Value::Array(items) => read_set(alloc, items),
-        Value::Object(members) => read_members(alloc, members),
+    match tree {
+        Tree::Null => Ok(None),
+        Tree::Bool(b) => Ok(Some(leaf(Literal::Bool(*b)))),
+        Tree::Number(_) => Ok(read_long(tree)),
+        Tree::String(text) => Ok(Some(leaf(Literal::String(Text::from_str(alloc, text)?)))),
+        Tree::Array(items) => read_set(alloc, items.as_slice()),
+        Tree::Object(members) => read_members(alloc, members.as_slice()),
     }
 }
 
 #[cycle(expr)]
 #[tactic(auto, using(crate::proofs::Bounds::set_reads))]
-fn read_set(alloc: Global, items: &Vec<Value>) -> Result<Option<Bounded<Expr<()>>>, AllocError>
+fn read_set(alloc: Global, items: &[Tree<'_>]) -> Result<Option<Bounded<Expr<()>>>, AllocError>
     ensures { IfOk result
-        (λ o. o ≡ option_map bounded (option_map set_tree (exprs_of (items_view items.now.items)))) }
+        (λ o. o ≡ option_map bounded (option_map set_tree (exprs_of (trees_view items.now)))) }
 {
-    let reads = read_items(alloc, items.as_slice())?;
+    let reads = read_items(alloc, items)?;
     set(alloc, reads)
 }
 
 #[cycle(expr)]
-fn read_items(alloc: Global, items: &[Value]) -> Result<Option<Vec<Bounded<Expr<()>>>>, AllocError>
+fn read_items(
+    alloc: Global,
+    items: &[Tree<'_>],
+) -> Result<Option<Vec<Bounded<Expr<()>>>>, AllocError>
     ensures { IfOk result (λ o. option_map (λ v. v.items) o ≡
-        option_map (map bounded) (exprs_of (items_view items.now))) }
+        option_map (map bounded) (exprs_of (trees_view items.now))) }
 {
     let mut all = Vec::new(alloc);
     for item in items {
@@ -111,36 +114,53 @@ fn read_items(alloc: Global, items: &[Value]) -> Result<Option<Vec<Bounded<Expr<
 }
 
 #[cycle(expr)]
-fn read_members(
+fn read_members<'a>(
     alloc: Global,
-    members: &Map<String, Value>,
+    members: &[(&'a str, Tree<'a>)],
 ) -> Result<Option<Bounded<Expr<()>>>, AllocError>
-    ensures { IfOk result (λ o. o ≡ option_map bounded (expr_of_members (members_view members.now.entries))) }
+    ensures { IfOk result (λ o. o ≡ option_map bounded (expr_of_members (members_data (members_view members.now) no_members))) }
 {
-    let mut rest = members.iter();
-    let Some((key, value)) = rest.next() else {
+    match members {
+        [(key, tree)] => read_named_form(alloc, tree, key),
+        _ => read_several(alloc, members),
+    }
+}
+
+// What the members say by their names, of which several may be the same.
+#[cycle(expr)]
+fn read_several<'a>(
+    alloc: Global,
+    members: &[(&'a str, Tree<'a>)],
+) -> Result<Option<Bounded<Expr<()>>>, AllocError>
+    ensures { IfOk result (λ o. o ≡ option_map bounded (expr_of_members (members_data (members_view members.now) no_members))) }
+{
+    let places = member_places(alloc, members)?;
+    let mut rest = places.iter();
+    let Some((first, first_place)) = rest.next() else {
         return Ok(None);
     };
-    let Some((second, inner)) = rest.next() else {
-        return read_named_form(alloc, value, key.as_str());
+    let tree = &members[*first_place].1;
+    let Some((second, second_place)) = rest.next() else {
+        return read_named_form(alloc, tree, first);
     };
     if rest.next().is_some() {
         return Ok(None);
     }
-    read_placed(alloc, inner, second.as_str(), key.as_str(), value)
+    let inner = &members[*second_place].1;
+    read_placed(alloc, inner, second, first, tree)
 }
 
 #[cycle(expr)]
 #[tactic(auto, unfolding(crate::specs::Exprs::placed_tree))]
 fn read_placed(
     alloc: Global,
-    inner: &Value,
+    inner: &Tree<'_>,
     second: &str,
     first: &str,
-    loc: &Value,
+    loc: &Tree<'_>,
 ) -> Result<Option<Bounded<Expr<()>>>, AllocError>
     ensures { IfOk result (λ o. o ≡
-        option_map bounded (placed_tree first.now (view loc.now) second.now (expr_of (view inner.now)))) }
+        option_map bounded (placed_tree first.now (tree_view loc.now) second.now (expr_of (tree_view inner.now)))) }
 {
     if !is_place(first, second) {
         return Ok(None);
@@ -153,8 +173,12 @@ fn read_placed(
 
 #[cycle(expr)]
 #[tactic(auto, using(crate::proofs::Bounds::placed_reads))]
-fn read_at(alloc: Global, inner: &Value, loc: Loc) -> Result<Option<Bounded<Expr<()>>>, AllocError>
-    ensures { IfOk result (λ o. o ≡ option_map bounded (option_map (placed loc) (expr_of (view inner.now)))) }
+fn read_at(
+    alloc: Global,
+    inner: &Tree<'_>,
+    loc: Loc,
+) -> Result<Option<Bounded<Expr<()>>>, AllocError>
+    ensures { IfOk result (λ o. o ≡ option_map bounded (option_map (placed loc) (expr_of (tree_view inner.now)))) }
 {
     let read = read_expr(alloc, inner)?;
     Ok(place(read, loc))
@@ -164,14 +188,14 @@ fn read_at(alloc: Global, inner: &Value, loc: Loc) -> Result<Option<Bounded<Expr
 #[tactic(auto, unfolding(crate::specs::Exprs::named_form_tree))]
 fn read_named_form(
     alloc: Global,
-    value: &Value,
+    tree: &Tree<'_>,
     key: &str,
 ) -> Result<Option<Bounded<Expr<()>>>, AllocError>
     ensures { IfOk result (λ o. o ≡
-        option_map bounded (named_form_tree key.now (view value.now) (operands_of (view value.now)))) }
+        option_map bounded (named_form_tree key.now (tree_view tree.now) (operands_of (tree_view tree.now)))) }
 {
     match form_named(key) {
-        Some(form) => read_form(alloc, value, form),
+        Some(form) => read_form(alloc, tree, form),
         None => Ok(None),
     }
 }
@@ -179,23 +203,23 @@ fn read_named_form(
 #[cycle(expr)]
 fn read_form(
     alloc: Global,
-    value: &Value,
+    tree: &Tree<'_>,
     form: Form,
 ) -> Result<Option<Bounded<Expr<()>>>, AllocError>
     ensures { IfOk result (λ o. o ≡
-        option_map bounded (formed_tree form (view value.now) (operands_of (view value.now)))) }
+        option_map bounded (formed_tree form (tree_view tree.now) (operands_of (tree_view tree.now)))) }
 {
     match form {
-        Form::Id => read_id(alloc, value),
-        Form::Var => Ok(read_var(value)),
-        Form::Unary(op) => read_unary(alloc, value, op),
-        Form::List(form) => read_list(alloc, value, form),
-        Form::Get => read_get(alloc, value),
-        Form::Has => read_has(alloc, value),
-        Form::Like => read_like(alloc, value),
-        Form::Is => read_is(alloc, value),
-        Form::Call => read_call(alloc, value),
-        Form::Record => read_record(alloc, value),
+        Form::Id => read_id(alloc, tree),
+        Form::Var => Ok(read_var(tree)),
+        Form::Unary(op) => read_unary(alloc, tree, op),
+        Form::List(form) => read_list(alloc, tree, form),
+        Form::Get => read_get(alloc, tree),
+        Form::Has => read_has(alloc, tree),
+        Form::Like => read_like(alloc, tree),
+        Form::Is => read_is(alloc, tree),
+        Form::Call => read_call(alloc, tree),
+        Form::Record => read_record(alloc, tree),
     }
 }
 
@@ -203,27 +227,27 @@ fn read_form(
 #[tactic(auto, using(crate::proofs::Bounds::unary_reads))]
 fn read_unary(
     alloc: Global,
-    value: &Value,
+    tree: &Tree<'_>,
     op: UnaryOp,
 ) -> Result<Option<Bounded<Expr<()>>>, AllocError>
     ensures { IfOk result
-        (λ o. o ≡ option_map bounded (option_map (unary_tree op) (expr_of (view value.now)))) }
+        (λ o. o ≡ option_map bounded (option_map (unary_tree op) (expr_of (tree_view tree.now)))) }
 {
-    let read = read_expr(alloc, value)?;
+    let read = read_expr(alloc, tree)?;
     unary(alloc, op, read)
 }
 
 #[cycle(expr)]
 fn read_list(
     alloc: Global,
-    value: &Value,
+    tree: &Tree<'_>,
     form: ListForm,
 ) -> Result<Option<Bounded<Expr<()>>>, AllocError>
     ensures { IfOk result (λ o. o ≡
-        option_map bounded (option_and_then (listed_tree form) (operands_all (view value.now)))) }
+        option_map bounded (option_and_then (listed_tree form) (operands_all (tree_view tree.now)))) }
 {
-    match value {
-        Value::Array(items) => read_operands(alloc, items.as_slice(), form),
+    match tree {
+        Tree::Array(items) => read_operands(alloc, items.as_slice(), form),
         _ => Ok(None),
     }
 }
@@ -232,21 +256,21 @@ fn read_list(
 #[tactic(auto, using(crate::proofs::Bounds::listed_reads))]
 fn read_operands(
     alloc: Global,
-    items: &[Value],
+    items: &[Tree<'_>],
     form: ListForm,
 ) -> Result<Option<Bounded<Expr<()>>>, AllocError>
     ensures { IfOk result (λ o. o ≡
-        option_map bounded (option_and_then (listed_tree form) (exprs_of (items_view items.now)))) }
+        option_map bounded (option_and_then (listed_tree form) (exprs_of (trees_view items.now)))) }
 {
     let reads = read_items(alloc, items)?;
     list_form(alloc, form, reads)
 }
 
 #[cycle(expr)]
-fn read_first(alloc: Global, value: &Value) -> Result<Option<Bounded<Expr<()>>>, AllocError>
-    ensures { IfOk result (λ o. o ≡ option_map bounded (operands_first (view value.now))) }
+fn read_first(alloc: Global, tree: &Tree<'_>) -> Result<Option<Bounded<Expr<()>>>, AllocError>
+    ensures { IfOk result (λ o. o ≡ option_map bounded (operands_first (tree_view tree.now))) }
 {
-    let Value::Array(items) = value else {
+    let Tree::Array(items) = tree else {
         return Ok(None);
     };
     match items.as_slice() {
@@ -256,36 +280,36 @@ fn read_first(alloc: Global, value: &Value) -> Result<Option<Bounded<Expr<()>>>,
 }
 
 #[cycle(expr)]
-fn read_get(alloc: Global, value: &Value) -> Result<Option<Bounded<Expr<()>>>, AllocError>
+fn read_get(alloc: Global, tree: &Tree<'_>) -> Result<Option<Bounded<Expr<()>>>, AllocError>
     ensures { IfOk result (λ o. o ≡ option_map bounded (named_tree
-        (attr_names_of (view value.now)) (in_turn get_tree) (operands_first (view value.now)))) }
+        (attr_names_of (tree_view tree.now)) (in_turn get_tree) (operands_first (tree_view tree.now)))) }
 {
-    let Some(names) = read_names(alloc, value)? else {
+    let Some(names) = read_names(alloc, tree)? else {
         return Ok(None);
     };
-    let read = read_first(alloc, value)?;
+    let read = read_first(alloc, tree)?;
     get_all(alloc, names, read)
 }
 
 #[cycle(expr)]
-fn read_has(alloc: Global, value: &Value) -> Result<Option<Bounded<Expr<()>>>, AllocError>
+fn read_has(alloc: Global, tree: &Tree<'_>) -> Result<Option<Bounded<Expr<()>>>, AllocError>
     ensures { IfOk result (λ o. o ≡ option_map bounded (named_tree
-        (attr_names_of (view value.now)) (of_one has_tree) (operands_first (view value.now)))) }
+        (attr_names_of (tree_view tree.now)) (of_one has_tree) (operands_first (tree_view tree.now)))) }
 {
-    let Some(names) = read_names(alloc, value)? else {
+    let Some(names) = read_names(alloc, tree)? else {
         return Ok(None);
     };
-    let read = read_first(alloc, value)?;
+    let read = read_first(alloc, tree)?;
     has_one(alloc, names, read)
 }
 
 #[cycle(expr)]
-fn read_like(alloc: Global, value: &Value) -> Result<Option<Bounded<Expr<()>>>, AllocError>
+fn read_like(alloc: Global, tree: &Tree<'_>) -> Result<Option<Bounded<Expr<()>>>, AllocError>
     ensures { IfOk result (λ o. o ≡ option_map bounded
-        (with_part like_tree (pattern_of (view value.now)) (operands_first (view value.now)))) }
+        (with_part like_tree (pattern_of (tree_view tree.now)) (operands_first (tree_view tree.now)))) }
 {
-    match read_pattern(alloc, value)? {
-        Some(pattern) => read_matched(alloc, value, pattern),
+    match read_pattern(alloc, tree)? {
+        Some(pattern) => read_matched(alloc, tree, pattern),
         None => Ok(None),
     }
 }
@@ -294,23 +318,23 @@ fn read_like(alloc: Global, value: &Value) -> Result<Option<Bounded<Expr<()>>>, 
 #[tactic(auto, using(crate::proofs::Bounds::like_reads))]
 fn read_matched(
     alloc: Global,
-    value: &Value,
+    tree: &Tree<'_>,
     pattern: Pattern,
 ) -> Result<Option<Bounded<Expr<()>>>, AllocError>
     ensures { IfOk result (λ o. o ≡
-        option_map bounded (option_map (like_tree pattern) (operands_first (view value.now)))) }
+        option_map bounded (option_map (like_tree pattern) (operands_first (tree_view tree.now)))) }
 {
-    let read = read_first(alloc, value)?;
+    let read = read_first(alloc, tree)?;
     like(alloc, pattern, read)
 }
 
 #[cycle(expr)]
-fn read_is(alloc: Global, value: &Value) -> Result<Option<Bounded<Expr<()>>>, AllocError>
+fn read_is(alloc: Global, tree: &Tree<'_>) -> Result<Option<Bounded<Expr<()>>>, AllocError>
     ensures { IfOk result (λ o. o ≡ option_map bounded
-        (with_part type_test_tree (tested_type_of (view value.now)) (operands_first (view value.now)))) }
+        (with_part type_test_tree (tested_type_of (tree_view tree.now)) (operands_first (tree_view tree.now)))) }
 {
-    match read_type(alloc, value)? {
-        Some(entity_type) => read_typed(alloc, value, entity_type),
+    match read_type(alloc, tree)? {
+        Some(entity_type) => read_typed(alloc, tree, entity_type),
         None => Ok(None),
     }
 }
@@ -319,23 +343,23 @@ fn read_is(alloc: Global, value: &Value) -> Result<Option<Bounded<Expr<()>>>, Al
 #[tactic(auto, using(crate::proofs::Bounds::type_test_reads))]
 fn read_typed(
     alloc: Global,
-    value: &Value,
+    tree: &Tree<'_>,
     entity_type: EntityType,
 ) -> Result<Option<Bounded<Expr<()>>>, AllocError>
     ensures { IfOk result (λ o. o ≡
-        option_map bounded (option_map (type_test_tree entity_type) (operands_first (view value.now)))) }
+        option_map bounded (option_map (type_test_tree entity_type) (operands_first (tree_view tree.now)))) }
 {
-    let read = read_first(alloc, value)?;
+    let read = read_first(alloc, tree)?;
     is_of_type(alloc, entity_type, read)
 }
 
 #[cycle(expr)]
-fn read_call(alloc: Global, value: &Value) -> Result<Option<Bounded<Expr<()>>>, AllocError>
+fn read_call(alloc: Global, tree: &Tree<'_>) -> Result<Option<Bounded<Expr<()>>>, AllocError>
     ensures { IfOk result (λ o. o ≡ option_map bounded
-        (with_part call_tree (called_name_of (view value.now)) (operands_behind (view value.now)))) }
+        (with_part call_tree (called_name_of (tree_view tree.now)) (operands_behind (tree_view tree.now)))) }
 {
-    match read_function(alloc, value)? {
-        Some(name) => read_called(alloc, value, name),
+    match read_function(alloc, tree)? {
+        Some(name) => read_called(alloc, tree, name),
         None => Ok(None),
     }
 }
@@ -343,25 +367,25 @@ fn read_call(alloc: Global, value: &Value) -> Result<Option<Bounded<Expr<()>>>, 
 #[cycle(expr)]
 fn read_called(
     alloc: Global,
-    value: &Value,
+    tree: &Tree<'_>,
     name: Name,
 ) -> Result<Option<Bounded<Expr<()>>>, AllocError>
     ensures { IfOk result
-        (λ o. o ≡ option_map bounded (option_map (call_tree name) (operands_behind (view value.now)))) }
+        (λ o. o ≡ option_map bounded (option_map (call_tree name) (operands_behind (tree_view tree.now)))) }
 {
-    let reads = read_behind_first(alloc, value)?;
+    let reads = read_behind_first(alloc, tree)?;
     call(alloc, name, reads)
 }
 
 #[cycle(expr)]
 fn read_behind_first(
     alloc: Global,
-    value: &Value,
+    tree: &Tree<'_>,
 ) -> Result<Option<Vec<Bounded<Expr<()>>>>, AllocError>
     ensures { IfOk result (λ o. option_map (λ v. v.items) o ≡
-        option_map (map bounded) (operands_behind (view value.now))) }
+        option_map (map bounded) (operands_behind (tree_view tree.now))) }
 {
-    let Value::Array(items) = value else {
+    let Tree::Array(items) = tree else {
         return Ok(None);
     };
     match items.as_slice() {
@@ -371,40 +395,41 @@ fn read_behind_first(
 }
 
 #[cycle(expr)]
-fn read_record(alloc: Global, value: &Value) -> Result<Option<Bounded<Expr<()>>>, AllocError>
+fn read_record(alloc: Global, tree: &Tree<'_>) -> Result<Option<Bounded<Expr<()>>>, AllocError>
     ensures { IfOk result
-        (λ o. o ≡ option_map bounded (option_map record_tree (operands_fields (view value.now)))) }
+        (λ o. o ≡ option_map bounded (option_map record_tree (operands_fields (tree_view tree.now)))) }
 {
-    match value {
-        Value::Object(members) => read_named(alloc, members),
+    match tree {
+        Tree::Object(members) => read_named(alloc, members.as_slice()),
         _ => Ok(None),
     }
 }
 
 #[cycle(expr)]
 #[tactic(auto, using(crate::proofs::Bounds::record_reads))]
-fn read_named(
+fn read_named<'a>(
     alloc: Global,
-    members: &Map<String, Value>,
+    members: &[(&'a str, Tree<'a>)],
 ) -> Result<Option<Bounded<Expr<()>>>, AllocError>
     ensures { IfOk result (λ o. o ≡
-        option_map bounded (option_map record_tree (named_exprs_of (members_view members.now.entries)))) }
+        option_map bounded (option_map record_tree (named_exprs_of (members_data (members_view members.now) no_members)))) }
 {
     let reads = read_fields(alloc, members)?;
     record(alloc, reads)
 }
 
 #[cycle(expr)]
-fn read_fields(
+fn read_fields<'a>(
     alloc: Global,
-    members: &Map<String, Value>,
+    members: &[(&'a str, Tree<'a>)],
 ) -> Result<Option<BTreeMap<Text, Bounded<Expr<()>>>>, AllocError>
     ensures { IfOk result (λ o. option_map (λ m. m.entries) o ≡
-        option_map (map bounded_field) (named_exprs_of (members_view members.now.entries))) }
+        option_map (map bounded_field) (named_exprs_of (members_data (members_view members.now) no_members))) }
 {
+    let places = member_places(alloc, members)?;
     let mut fields = BTreeMap::new(alloc);
-    for (key, member) in members.iter() {
-        let Ok(next) = read_expr(alloc, member) else {
+    for (key, place) in places.iter() {
+        let Ok(next) = read_expr(alloc, &members[*place].1) else {
             drop(fields);
             return Err(AllocError);
         };
@@ -412,7 +437,7 @@ fn read_fields(
             drop(fields);
             return Ok(None);
         };
-        fields = with_field(alloc, fields, key.as_str(), next)?;
+        fields = with_field(alloc, fields, key, next)?;
     }
     Ok(Some(fields))
 }

@@ -1,3 +1,4 @@
 mod Actions
 mod Bounds
 mod Depths
+mod Lists

@@ -1,16 +1,15 @@
 //! The body of a policy in JSON.
 
 ghost use Rattle.std.specs.Prelude.{◌≡◌, IfOk, None, map, option_map};
-ghost use Rattle.serde_json.specs.View.{view, items_view};
+ghost use Rattle.json_trees.specs.Trees.{tree_view, trees_view};
 ghost use Rattle.json_expressions.specs.Exprs.{expr_of};
 ghost use Rattle.json_expressions.specs.Forms.{join_tree};
 ghost use Rattle.json_expressions.specs.Reads.{bounded, on_two};
 ghost use Rattle.json_policies.specs.Body.{behind, body_of, clause_form, clause_of, clauses_of, left_fold, negated, or_true};
 
 use json_expressions::{Bounded, Junction, joined, read_expr, unary};
-use json_values::{list_items, lone_member};
+use json_trees::{Tree, items_or, lone_member};
 use policy_expressions::{Expr, Literal, UnaryOp};
-use serde_json::Value;
 use std::alloc::{AllocError, Global};
 
 // The next one behind what there is.
@@ -29,41 +28,41 @@ fn add(
 }
 
 #[tactic(auto, using(json_expressions::proofs::Bounds::unary_reads))]
-fn read_negation(alloc: Global, value: &Value) -> Result<Option<Bounded<Expr<()>>>, AllocError>
-    ensures { IfOk result (λ o. o ≡ option_map bounded (option_map negated (expr_of (view value.now)))) }
+fn read_negation(alloc: Global, tree: &Tree<'_>) -> Result<Option<Bounded<Expr<()>>>, AllocError>
+    ensures { IfOk result (λ o. o ≡ option_map bounded (option_map negated (expr_of (tree_view tree.now)))) }
 {
-    let read = read_expr(alloc, value)?;
+    let read = read_expr(alloc, tree)?;
     unary(alloc, UnaryOp::Not, read)
 }
 
 fn read_clause_form(
     alloc: Global,
     key: &str,
-    value: &Value,
+    tree: &Tree<'_>,
 ) -> Result<Option<Bounded<Expr<()>>>, AllocError>
-    ensures { IfOk result (λ o. o ≡ option_map bounded (clause_form key.now (expr_of (view value.now)))) }
+    ensures { IfOk result (λ o. o ≡ option_map bounded (clause_form key.now (expr_of (tree_view tree.now)))) }
 {
     match key {
-        "when" => read_expr(alloc, value),
-        "unless" => read_negation(alloc, value),
+        "when" => read_expr(alloc, tree),
+        "unless" => read_negation(alloc, tree),
         _ => Ok(None),
     }
 }
 
 #[tactic(auto, unfolding(crate::specs::Body::clause_of))]
-fn read_clause(alloc: Global, value: &Value) -> Result<Option<Bounded<Expr<()>>>, AllocError>
-    ensures { IfOk result (λ o. o ≡ option_map bounded (clause_of (view value.now))) }
+fn read_clause(alloc: Global, tree: &Tree<'_>) -> Result<Option<Bounded<Expr<()>>>, AllocError>
+    ensures { IfOk result (λ o. o ≡ option_map bounded (clause_of (tree_view tree.now))) }
 {
-    match lone_member(value) {
-        Some((key, member)) => read_clause_form(alloc, key.as_str(), member),
+    match lone_member(tree) {
+        Some((key, member)) => read_clause_form(alloc, key, member),
         None => Ok(None),
     }
 }
 
-fn read_clauses(alloc: Global, items: &[Value]) -> Result<Option<Bounded<Expr<()>>>, AllocError>
+fn read_clauses(alloc: Global, items: &[Tree<'_>]) -> Result<Option<Bounded<Expr<()>>>, AllocError>
     ensures { IfOk result (λ o. o ≡
         option_map (λ cs. or_true (left_fold (on_two (join_tree Junction.All)) None (map bounded cs)))
-        (clauses_of (items_view items.now))) }
+        (clauses_of (trees_view items.now))) }
 {
     let mut all = None;
     for item in items {
@@ -92,11 +91,11 @@ fn or_true(all: Option<Bounded<Expr<()>>>) -> Bounded<Expr<()>>
 /// The body of a policy: its clauses joined from the left by `&&`, where an `unless` is negated.
 pub(crate) fn read_body(
     alloc: Global,
-    value: Option<&Value>,
+    tree: Option<&Tree<'_>>,
 ) -> Result<Option<Bounded<Expr<()>>>, AllocError>
-    ensures { IfOk result (λ o. o ≡ option_map bounded (body_of (option_map (λ v. view v.now) value.entry))) }
+    ensures { IfOk result (λ o. o ≡ option_map bounded (body_of (option_map (λ t. tree_view t.now) tree.entry))) }
 {
-    match list_items(value) {
+    match items_or(tree, &[]) {
         Some(items) => read_clauses(alloc, items),
         None => Ok(None),
     }

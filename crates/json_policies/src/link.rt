@@ -1,14 +1,13 @@
 //! A link of a template in JSON.
 
 ghost use Rattle.std.specs.Prelude.{◌≡◌, IfOk, option_map};
-ghost use Rattle.serde_json.specs.View.{view};
+ghost use Rattle.json_trees.specs.Trees.{tree_view};
 ghost use Rattle.json_policies.specs.Link.{given_id, link_of};
 
-use json_values::{has_only, read_uid};
+use json_trees::{Tree, get, get_str, has_only, read_uid};
 use policy_expressions::SlotValues;
 use policy_set::or_drop;
 use policy_values::{EntityUID, Text};
-use serde_json::Value;
 use std::alloc::{AllocError, Global};
 
 /// A link of a template, as a document gives it.
@@ -24,40 +23,37 @@ pub struct TemplateLink {
 
 fn read_given_id(
     alloc: Global,
-    value: Option<&Value>,
+    tree: Option<&Tree<'_>>,
 ) -> Result<Option<Option<EntityUID>>, AllocError>
-    ensures { IfOk result (λ o. o ≡ given_id (option_map (λ v. view v.now) value.entry)) }
+    ensures { IfOk result (λ o. o ≡ given_id (option_map (λ t. tree_view t.now) tree.entry)) }
 {
-    let Some(value) = value else {
+    let Some(tree) = tree else {
         return Ok(Some(None));
     };
-    match read_uid(alloc, value)? {
+    match read_uid(alloc, tree)? {
         Some(uid) => Ok(Some(Some(uid))),
         None => Ok(None),
     }
 }
 
-/// The link that the value is, if it is one.
+/// The link that the tree says, if it is one.
 #[tactic(auto, unfolding(crate::specs::Link::link_of))]
-pub(crate) fn read_link(alloc: Global, value: &Value) -> Result<Option<TemplateLink>, AllocError>
-    ensures { IfOk result (λ o. o ≡ link_of (view value.now)) }
+pub(crate) fn read_link(alloc: Global, tree: &Tree<'_>) -> Result<Option<TemplateLink>, AllocError>
+    ensures { IfOk result (λ o. o ≡ link_of (tree_view tree.now)) }
 {
-    let Some(members) = value.as_object() else {
-        return Ok(None);
-    };
-    if !has_only(&["id", "link", "principal", "resource"], members) {
+    if !has_only(&["id", "link", "principal", "resource"], tree) {
         return Ok(None);
     }
-    let Some(id) = value.get("id").and_then(Value::as_str) else {
+    let Some(id) = get_str(tree, "id") else {
         return Ok(None);
     };
-    let Some(template) = value.get("link").and_then(Value::as_str) else {
+    let Some(template) = get_str(tree, "link") else {
         return Ok(None);
     };
-    let Some(principal) = read_given_id(alloc, value.get("principal"))? else {
+    let Some(principal) = read_given_id(alloc, get(tree, "principal"))? else {
         return Ok(None);
     };
-    let resource = read_given_id(alloc, value.get("resource"));
+    let resource = read_given_id(alloc, get(tree, "resource"));
     let Some(resource) = or_drop!(resource, principal) else {
         drop(principal);
         return Ok(None);

@@ -1,7 +1,7 @@
 //! A policy or a template in JSON.
 
 ghost use Rattle.std.specs.Prelude.{◌≡◌, IfOk, codes, option_and_then, option_map};
-ghost use Rattle.serde_json.specs.View.{view};
+ghost use Rattle.json_trees.specs.Trees.{tree_view};
 ghost use Rattle.json_policies.specs.Body.{body_of};
 ghost use Rattle.json_policies.specs.Policy.{effect_of, effect_of_text, entry_of, policy_of, policy_of_parts, policy_parts_of, policy_with_body, read_of, read_with};
 ghost use Rattle.serde_json.specs.Find.{get};
@@ -10,13 +10,12 @@ use crate::body::read_body;
 use crate::link::{TemplateLink, read_link};
 use crate::scope::{read_action_constraint, read_constraint};
 use json_expressions::Bounded;
-use json_values::has_only;
+use json_trees::{Tree, as_str, get, get_str, has_only};
 use policy_expressions::Expr;
 use policy_set::{
     ActionConstraint, Effect, PrincipalOrResourceConstraint, Template, TemplateError, or_drop,
 };
 use policy_values::Text;
-use serde_json::Value;
 use std::alloc::{AllocError, Global};
 
 /// What is read where a document has a policy.
@@ -55,31 +54,31 @@ fn effect_of_text(text: &str) -> Option<Effect>
     }
 }
 
-fn read_effect(value: &Value) -> Option<Effect>
-    ensures { result ≡ effect_of (view value.now) }
+fn read_effect(tree: &Tree<'_>) -> Option<Effect>
+    ensures { result ≡ effect_of (tree_view tree.now) }
 {
-    effect_of_text(value.as_str()?)
+    effect_of_text(as_str(tree)?)
 }
 
 #[tactic(auto, unfolding(crate::specs::Policy::policy_parts_of))]
-fn read_policy_parts(alloc: Global, value: &Value) -> Result<Option<PolicyParts>, AllocError>
-    ensures { IfOk result (λ o. o ≡ policy_parts_of (view value.now)) }
+fn read_policy_parts(alloc: Global, tree: &Tree<'_>) -> Result<Option<PolicyParts>, AllocError>
+    ensures { IfOk result (λ o. o ≡ policy_parts_of (tree_view tree.now)) }
 {
-    let Some(id) = value.get("id").and_then(Value::as_str) else {
+    let Some(id) = get_str(tree, "id") else {
         return Ok(None);
     };
-    let Some(effect) = value.get("effect").and_then(read_effect) else {
+    let Some(effect) = get(tree, "effect").and_then(read_effect) else {
         return Ok(None);
     };
-    let Some(principal) = read_constraint(alloc, value.get("principal"))? else {
+    let Some(principal) = read_constraint(alloc, get(tree, "principal"))? else {
         return Ok(None);
     };
-    let action = read_action_constraint(alloc, value.get("action"));
+    let action = read_action_constraint(alloc, get(tree, "action"));
     let Some(action) = or_drop!(action, principal) else {
         drop(principal);
         return Ok(None);
     };
-    let resource = read_constraint(alloc, value.get("resource"));
+    let resource = read_constraint(alloc, get(tree, "resource"));
     let Some(resource) = or_drop!(resource, principal, action) else {
         drop(principal);
         drop(action);
@@ -147,47 +146,44 @@ fn with_body(
 
 // The body is read last, so that nothing of it has to be let go at a fault in another part.
 #[tactic(auto, using(crate::proofs::Depths::whole_read))]
-fn read_whole(alloc: Global, value: &Value) -> Result<Option<PolicyRead>, AllocError>
+fn read_whole(alloc: Global, tree: &Tree<'_>) -> Result<Option<PolicyRead>, AllocError>
     ensures { IfOk result (λ o. o ≡ option_and_then read_of (policy_with_body
-        (policy_parts_of (view value.now)) (body_of (get (codes "body") (view value.now))))) }
+        (policy_parts_of (tree_view tree.now)) (body_of (get (codes "body") (tree_view tree.now))))) }
 {
-    let Some(parts) = read_policy_parts(alloc, value)? else {
+    let Some(parts) = read_policy_parts(alloc, tree)? else {
         return Ok(None);
     };
-    let Some(body) = or_drop!(read_body(alloc, value.get("body")), parts) else {
+    let Some(body) = or_drop!(read_body(alloc, get(tree, "body")), parts) else {
         drop(parts);
         return Ok(None);
     };
     with_body(alloc, parts, body)
 }
 
-// The policy or the template that the value is, if it is one.
+// The policy or the template that the tree says, if it is one.
 #[tactic(auto, unfolding(crate::specs::Policy::policy_of))]
-fn read_policy(alloc: Global, value: &Value) -> Result<Option<PolicyRead>, AllocError>
-    ensures { IfOk result (λ o. o ≡ option_and_then read_of (policy_of (view value.now))) }
+fn read_policy(alloc: Global, tree: &Tree<'_>) -> Result<Option<PolicyRead>, AllocError>
+    ensures { IfOk result (λ o. o ≡ option_and_then read_of (policy_of (tree_view tree.now))) }
 {
-    let Some(members) = value.as_object() else {
-        return Ok(None);
-    };
     if !has_only(
         &["id", "effect", "principal", "action", "resource", "body"],
-        members,
+        tree,
     ) {
         return Ok(None);
     }
-    read_whole(alloc, value)
+    read_whole(alloc, tree)
 }
 
-/// What the value says where a document has a policy, if it has the form of one: a link, where it has the
+/// What the tree says where a document has a policy, if it has the form of one: a link, where it has the
 /// member `link`, else a policy or a template.
 #[tactic(auto, unfolding(crate::specs::Policy::entry_of))]
-pub fn read_entry(alloc: Global, value: &Value) -> Result<Option<PolicyRead>, AllocError>
-    ensures { IfOk result (λ o. o ≡ entry_of (view value.now)) }
+pub fn read_entry(alloc: Global, tree: &Tree<'_>) -> Result<Option<PolicyRead>, AllocError>
+    ensures { IfOk result (λ o. o ≡ entry_of (tree_view tree.now)) }
 {
-    if value.get("link").is_none() {
-        return read_policy(alloc, value);
+    if get(tree, "link").is_none() {
+        return read_policy(alloc, tree);
     }
-    match read_link(alloc, value)? {
+    match read_link(alloc, tree)? {
         Some(link) => Ok(Some(PolicyRead::Link(link))),
         None => Ok(None),
     }

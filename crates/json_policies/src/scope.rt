@@ -1,15 +1,15 @@
 //! What a scope asks, in JSON.
 
-ghost use Rattle.std.specs.Prelude.{◌≡◌, IfOk, Some, option_map};
-ghost use Rattle.serde_json.specs.View.{view, members_view};
+ghost use Rattle.std.specs.Prelude.{◌≡◌, IfOk, Some, option_and_then, option_map};
+ghost use Rattle.serde_json.specs.Find.{as_object};
+ghost use Rattle.json_trees.specs.Trees.{tree_view};
 ghost use Rattle.json_values.specs.Names.{name_of, uid_of, uids_of};
 ghost use Rattle.json_policies.specs.Scope.{action_constraint_of, action_form, action_form_of, asked, constraint_of, given_constraint_of, is_in, reference_of, slot_of};
 
-use json_values::{has_only, only_member, read_name, read_uid, read_uids};
+use json_trees::{Tree, as_str, get, has_only, lone_member, read_name, read_uid, read_uids};
 use policy_set::{
     ActionConstraint, ActionList, EntityReference, PrincipalOrResourceConstraint, or_drop,
 };
-use serde_json::{Map, Value};
 use std::alloc::{AllocError, Global};
 
 fn slot_of(text: &str) -> Option<EntityReference>
@@ -22,13 +22,13 @@ fn slot_of(text: &str) -> Option<EntityReference>
     }
 }
 
-fn read_reference(alloc: Global, value: &Value) -> Result<Option<EntityReference>, AllocError>
-    ensures { IfOk result (λ o. o ≡ reference_of (view value.now)) }
+fn read_reference(alloc: Global, tree: &Tree<'_>) -> Result<Option<EntityReference>, AllocError>
+    ensures { IfOk result (λ o. o ≡ reference_of (tree_view tree.now)) }
 {
-    if let Some(text) = value.as_str() {
+    if let Some(text) = as_str(tree) {
         return Ok(slot_of(text));
     }
-    match read_uid(alloc, value)? {
+    match read_uid(alloc, tree)? {
         Some(uid) => Ok(Some(EntityReference::EUID(uid))),
         None => Ok(None),
     }
@@ -36,12 +36,12 @@ fn read_reference(alloc: Global, value: &Value) -> Result<Option<EntityReference
 
 fn read_eq(
     alloc: Global,
-    value: &Value,
+    tree: &Tree<'_>,
 ) -> Result<Option<PrincipalOrResourceConstraint>, AllocError>
     ensures { IfOk result
-        (λ o. o ≡ option_map PrincipalOrResourceConstraint.Eq (reference_of (view value.now))) }
+        (λ o. o ≡ option_map PrincipalOrResourceConstraint.Eq (reference_of (tree_view tree.now))) }
 {
-    match read_reference(alloc, value)? {
+    match read_reference(alloc, tree)? {
         Some(entity) => Ok(Some(PrincipalOrResourceConstraint::Eq(entity))),
         None => Ok(None),
     }
@@ -49,12 +49,12 @@ fn read_eq(
 
 fn read_in(
     alloc: Global,
-    value: &Value,
+    tree: &Tree<'_>,
 ) -> Result<Option<PrincipalOrResourceConstraint>, AllocError>
     ensures { IfOk result
-        (λ o. o ≡ option_map PrincipalOrResourceConstraint.In (reference_of (view value.now))) }
+        (λ o. o ≡ option_map PrincipalOrResourceConstraint.In (reference_of (tree_view tree.now))) }
 {
-    match read_reference(alloc, value)? {
+    match read_reference(alloc, tree)? {
         Some(entity) => Ok(Some(PrincipalOrResourceConstraint::In(entity))),
         None => Ok(None),
     }
@@ -62,11 +62,11 @@ fn read_in(
 
 fn read_is(
     alloc: Global,
-    value: &Value,
+    tree: &Tree<'_>,
 ) -> Result<Option<PrincipalOrResourceConstraint>, AllocError>
-    ensures { IfOk result (λ o. o ≡ option_map PrincipalOrResourceConstraint.Is (name_of (view value.now))) }
+    ensures { IfOk result (λ o. o ≡ option_map PrincipalOrResourceConstraint.Is (name_of (tree_view tree.now))) }
 {
-    match read_name(alloc, value)? {
+    match read_name(alloc, tree)? {
         Some(name) => Ok(Some(PrincipalOrResourceConstraint::Is(name))),
         None => Ok(None),
     }
@@ -74,8 +74,8 @@ fn read_is(
 
 fn read_is_in(
     alloc: Global,
-    name: &Value,
-    entity: &Value,
+    name: &Tree<'_>,
+    entity: &Tree<'_>,
 ) -> Result<Option<PrincipalOrResourceConstraint>, AllocError>
     ensures { IfOk result (λ o. o ≡ is_in (name_of (view name.now)) (reference_of (view entity.now))) }
 {
@@ -94,12 +94,12 @@ fn read_is_in(
 // What the members `==`, `in` and `is` ask together.
 fn read_asked(
     alloc: Global,
-    equal: Option<&Value>,
-    within: Option<&Value>,
-    of_type: Option<&Value>,
+    equal: Option<&Tree<'_>>,
+    within: Option<&Tree<'_>>,
+    of_type: Option<&Tree<'_>>,
 ) -> Result<Option<PrincipalOrResourceConstraint>, AllocError>
-    ensures { IfOk result (λ o. o ≡ asked (option_map (λ v. view v.now) equal.entry)
-        (option_map (λ v. view v.now) within.entry) (option_map (λ v. view v.now) of_type.entry)) }
+    ensures { IfOk result (λ o. o ≡ asked (option_map (λ t. tree_view t.now) equal.entry)
+        (option_map (λ t. tree_view t.now) within.entry) (option_map (λ t. tree_view t.now) of_type.entry)) }
 {
     match (equal, within, of_type) {
         (Some(entity), None, None) => read_eq(alloc, entity),
@@ -113,45 +113,42 @@ fn read_asked(
 #[tactic(auto, unfolding(crate::specs::Scope::given_constraint_of))]
 fn read_given_constraint(
     alloc: Global,
-    value: &Value,
+    tree: &Tree<'_>,
 ) -> Result<Option<PrincipalOrResourceConstraint>, AllocError>
-    ensures { IfOk result (λ o. o ≡ given_constraint_of (view value.now)) }
+    ensures { IfOk result (λ o. o ≡ given_constraint_of (tree_view tree.now)) }
 {
-    let Some(members) = value.as_object() else {
-        return Ok(None);
-    };
-    if !has_only(&["==", "in", "is"], members) {
+    if !has_only(&["==", "in", "is"], tree) {
         return Ok(None);
     }
-    read_asked(alloc, value.get("=="), value.get("in"), value.get("is"))
+    read_asked(alloc, get(tree, "=="), get(tree, "in"), get(tree, "is"))
 }
 
 /// What a scope asks of the principal or of the resource; an absent part asks nothing.
 pub(crate) fn read_constraint(
     alloc: Global,
-    value: Option<&Value>,
+    tree: Option<&Tree<'_>>,
 ) -> Result<Option<PrincipalOrResourceConstraint>, AllocError>
-    ensures { IfOk result (λ o. o ≡ constraint_of (option_map (λ v. view v.now) value.entry)) }
+    ensures { IfOk result (λ o. o ≡ constraint_of (option_map (λ t. tree_view t.now) tree.entry)) }
 {
-    let Some(value) = value else {
+    let Some(tree) = tree else {
         return Ok(Some(PrincipalOrResourceConstraint::Any));
     };
-    read_given_constraint(alloc, value)
+    read_given_constraint(alloc, tree)
 }
 
-fn read_one_action(alloc: Global, value: &Value) -> Result<Option<ActionConstraint>, AllocError>
-    ensures { IfOk result (λ o. o ≡ option_map ActionConstraint.Eq (uid_of (view value.now))) }
+fn read_one_action(alloc: Global, tree: &Tree<'_>) -> Result<Option<ActionConstraint>, AllocError>
+    ensures { IfOk result (λ o. o ≡ option_map ActionConstraint.Eq (uid_of (tree_view tree.now))) }
 {
-    match read_uid(alloc, value)? {
+    match read_uid(alloc, tree)? {
         Some(uid) => Ok(Some(ActionConstraint::Eq(uid))),
         None => Ok(None),
     }
 }
 
-fn read_actions(alloc: Global, value: &Value) -> Result<Option<ActionConstraint>, AllocError>
-    ensures { IfOk result (λ o. o ≡ option_map ActionConstraint.In (uids_of (Some (view value.now)))) }
+fn read_actions(alloc: Global, tree: &Tree<'_>) -> Result<Option<ActionConstraint>, AllocError>
+    ensures { IfOk result (λ o. o ≡ option_map ActionConstraint.In (uids_of (Some (tree_view tree.now)))) }
 {
-    match read_uids(alloc, Some(value))? {
+    match read_uids(alloc, tree)? {
         Some(uids) => Ok(Some(ActionConstraint::In(ActionList::new(uids)))),
         None => Ok(None),
     }
@@ -160,26 +157,27 @@ fn read_actions(alloc: Global, value: &Value) -> Result<Option<ActionConstraint>
 fn read_action_form(
     alloc: Global,
     key: &str,
-    value: &Value,
+    tree: &Tree<'_>,
 ) -> Result<Option<ActionConstraint>, AllocError>
     ensures { IfOk result
-        (λ o. o ≡ action_form key.now (uid_of (view value.now)) (uids_of (Some (view value.now)))) }
+        (λ o. o ≡ action_form key.now (uid_of (tree_view tree.now)) (uids_of (Some (tree_view tree.now)))) }
 {
     match key {
-        "==" => read_one_action(alloc, value),
-        "in" => read_actions(alloc, value),
+        "==" => read_one_action(alloc, tree),
+        "in" => read_actions(alloc, tree),
         _ => Ok(None),
     }
 }
 
-fn read_action_members(
+fn read_given_actions(
     alloc: Global,
-    members: &Map<String, Value>,
+    tree: &Tree<'_>,
 ) -> Result<Option<ActionConstraint>, AllocError>
-    ensures { IfOk result (λ o. o ≡ action_form_of (members_view members.now.entries)) }
+    ensures { IfOk result
+        (λ o. o ≡ option_and_then action_form_of (as_object (tree_view tree.now))) }
 {
-    match only_member(members) {
-        Some((key, value)) => read_action_form(alloc, key.as_str(), value),
+    match lone_member(tree) {
+        Some((key, tree)) => read_action_form(alloc, key, tree),
         None => Ok(None),
     }
 }
@@ -187,15 +185,12 @@ fn read_action_members(
 /// What a scope asks of the action; an absent part asks nothing.
 pub(crate) fn read_action_constraint(
     alloc: Global,
-    value: Option<&Value>,
+    tree: Option<&Tree<'_>>,
 ) -> Result<Option<ActionConstraint>, AllocError>
-    ensures { IfOk result (λ o. o ≡ action_constraint_of (option_map (λ v. view v.now) value.entry)) }
+    ensures { IfOk result (λ o. o ≡ action_constraint_of (option_map (λ t. tree_view t.now) tree.entry)) }
 {
-    let Some(value) = value else {
+    let Some(tree) = tree else {
         return Ok(Some(ActionConstraint::Any));
     };
-    let Some(members) = value.as_object() else {
-        return Ok(None);
-    };
-    read_action_members(alloc, members)
+    read_given_actions(alloc, tree)
 }

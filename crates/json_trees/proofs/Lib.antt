@@ -1,5 +1,6 @@
 mod Said
 mod Found
-mod Named
+pub mod Named
 mod Taken
+pub mod Views
 mod Weight

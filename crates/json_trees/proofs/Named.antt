@@ -1,5 +1,5 @@
 -- The members of a tree by their names.
-use Rattle.std.proofs.Common.{◌≡◌, ℕ, zero, suc, ◌<◌, length, slice_index_or, Contains, arith, List, [], ◌∷◌, map, Bool, true, false, not, Option, Some, None, option_map, Ordering, Less, Equal, Greater, refl, sym, ap, ◌∙◌, Bor, bytes_eq, nat_cmp}
+use Rattle.std.proofs.Common.{◌≡◌, ℕ, zero, suc, ◌<◌, length, slice_index_or, arith, List, [], ◌∷◌, map, Bool, true, false, not, Option, Some, None, option_map, Ordering, Less, Equal, Greater, refl, sym, ap, ◌∙◌, Bor, bytes_eq, nat_cmp}
 use Rattle.std.specs.Cmp.Lexicographic.{slice_cmp}
 use Rattle.std.specs.Ordering.{match_ordering}
 use Rattle.std.specs.BTreeMap.{insert_entry}
@@ -9,23 +9,32 @@ use Rattle.json.specs.Json as json
 use Rattle.json.specs.declared.value.Value.{Value}
 use Rattle.serde_json.specs.Data.{Data, Members, no_members, member, put}
 use Rattle.json_values.specs.Json.{only_member}
-use Rattle.json_trees.specs.Lent.{lent_view, is_other}
+use Rattle.json_trees.specs.Places.{is_other, placed_view, said_at}
 use Rattle.json_trees.specs.Trees.{data_of, members_data, tree_view}
 use Rattle.json_trees.proofs.Found.{same_texts}
 
 abbrev pub Lent : Type 0 → Type 0
 Lent A = Bor (List ℕ) × Bor (Value A)
 
-lent_at : {A : Type 0} (o : Ordering) (a b c : List (Lent A)) → lent_view (match_ordering o a b c) ≡ match_ordering o (lent_view a) (lent_view b) (lent_view c)
-lent_at Less a b c = refl
-lent_at Equal a b c = refl
-lent_at Greater a b c = refl
+abbrev pub Entry : Type 0
+Entry = Bor (List ℕ) × ℕ
 
--- to insert among those that are lent is to put
-pub lent_insert : {A : Type 0} (es : List (Lent A)) (k : Bor (List ℕ)) (t : Bor (Value A))
-    → lent_view (insert_entry (λ x y. slice_cmp nat_cmp x.now y.now) es k t) ≡ put k.now (tree_view t.now) (lent_view es)
-lent_insert [] k t = refl
-lent_insert (e ∷ es) k t = lent_at (slice_cmp nat_cmp k.now e.0.now) _ _ _ ∙ rw (lent_insert es k t)
+placed_at : {A : Type 0} (ms : List (Bor (List ℕ) × Value A)) (o : Ordering) (a b c : List Entry) → placed_view ms (match_ordering o a b c) ≡ match_ordering o (placed_view ms a) (placed_view ms b) (placed_view ms c)
+placed_at ms Less a b c = refl
+placed_at ms Equal a b c = refl
+placed_at ms Greater a b c = refl
+
+-- to insert a place is to put what stands there
+pub placed_insert : {A : Type 0} (ms : List (Bor (List ℕ) × Value A)) (es : List Entry) (k : Bor (List ℕ)) (i : ℕ)
+    → placed_view ms (insert_entry (λ x y. slice_cmp nat_cmp x.now y.now) es k i) ≡ put k.now (said_at ms i) (placed_view ms es)
+placed_insert ms [] k i = refl
+placed_insert ms (e ∷ es) k i = placed_at ms (slice_cmp nat_cmp k.now e.0.now) _ _ _ ∙ rw (placed_insert ms es k i)
+
+-- what stands at a place
+pub said_there : {A : Type 0} (ms : List (Bor (List ℕ) × Value A)) (i : ℕ) (d : Bor (List ℕ) × Value A) → i < length ms → said_at ms i ≡ tree_view (slice_index_or ms i d).1
+said_there [] i d h = absurd (omega arith)
+said_there (m ∷ ms) zero d h = refl
+said_there (m ∷ ms) (suc i) d h = said_there ms i d (omega arith)
 
 -- the one member that was found
 abbrev pub lone : {A : Type 0} → Option (Lent A) → Members
@@ -95,9 +104,3 @@ put_lone k d (Some m) e =
       same_by : (b : Bool) → not b ≡ false → b ≡ true
       same_by true e = refl
       same_by false e = cc
-
--- what is made of an item is among what is made of all
-pub contains_at : {X Y : Type 0} (f : X → Y) (xs : List X) (i : ℕ) (x : X) → i < length xs → x ≡ slice_index_or xs i x → Contains (map f xs) (f x)
-contains_at f [] i x h e = absurd (omega arith)
-contains_at f (y ∷ ys) zero x h e = (0, omega arith, ap f (sym e))
-contains_at f (y ∷ ys) (suc i) x h e = let r = contains_at f ys i x (omega arith) e in (suc r.0, omega (arith, r.1), r.2)

@@ -1,16 +1,27 @@
 //! Texts, numbers, names and ids of trees.
 
-ghost use Rattle.std.specs.Prelude.{◌≡◌, IfOk, Some, option_map, option_and_then};
+ghost use Rattle.std.specs.Prelude.{◌≡◌, IfOk, Some, is_some, option_map, option_and_then};
 ghost use Rattle.serde_json.specs.Find as find;
 ghost use Rattle.json_values.specs.Names.{name_of, uid_of, uid_of_items, uid_of_parts, uids_of, uids_of_items};
 ghost use Rattle.json_trees.specs.Trees.{tree_view, trees_view};
 
 use crate::Tree;
-use crate::lookups::items_of;
+use crate::lookups::{get, items_of};
 use crate::numbers::number_of;
 use json_values::read_type_name;
 use policy_values::{Eid, EntityType, EntityUID, Text};
 use std::alloc::{AllocError, Global};
+
+/// Whether the tree is null; a number that is out of range counts as null.
+pub fn is_null(tree: &Tree<'_>) -> bool
+    ensures { result ≡ is_some (find.as_null (tree_view tree.now)) }
+{
+    match tree {
+        Tree::Null => true,
+        Tree::Number(text) => number_of(text).is_none(),
+        _ => false,
+    }
+}
 
 /// The text that the tree is.
 pub fn as_str<'t>(tree: &'t Tree<'_>) -> Option<&'t str>
@@ -20,6 +31,14 @@ pub fn as_str<'t>(tree: &'t Tree<'_>) -> Option<&'t str>
         Tree::String(text) => Some(text),
         _ => None,
     }
+}
+
+/// The text that the member of the name is.
+pub fn get_str<'t>(tree: &'t Tree<'_>, name: &str) -> Option<&'t str>
+    ensures { option_map (λ s. s.now) result ≡
+        option_and_then find.as_str (find.get name.now (tree_view tree.now)) }
+{
+    as_str(get(tree, name)?)
 }
 
 /// The whole number of 64 bits that the tree is.

@@ -1,5 +1,5 @@
-//! JSON texts as trees that borrow them, and the values of their parts: a whole text is held as a tree, which
-//! takes little room, and a part of it is made a value when it is its turn.
+//! JSON texts as trees that borrow them, and what is read of their parts: a whole text is held as a tree, which
+//! takes little room, and its parts are looked up there, or taken out and made values when it is their turn.
 #![tactic(auto)]
 
 mod leaves;
@@ -11,8 +11,8 @@ mod trees;
 mod values;
 
 pub use json::{Scratch, Value as Tree};
-pub use leaves::{as_i64, as_str, read_name, read_uid, read_uids};
+pub use leaves::{as_i64, as_str, get_str, is_null, read_name, read_uid, read_uids};
 pub use lookups::{get, has_only, have_only, items_of, items_or, take, take_items};
-pub use members::{lent_members, lone_member};
+pub use members::{lone_member, member_places};
 pub use trees::read_tree;
 pub use values::value_of;

@@ -1,33 +1,32 @@
 //! The members of an object, by their names.
 
-ghost use Rattle.std.specs.Prelude.{◌≡◌, IfOk, map, All, Contains, option_map, option_and_then};
+ghost use Rattle.std.specs.Prelude.{◌≡◌, ◌<◌, IfOk, length, All, option_map, option_and_then};
 ghost use Rattle.std.specs.BTreeMap.{values};
 ghost use Rattle.serde_json.specs.Data.{no_members};
 ghost use Rattle.serde_json.specs.Find.{as_object};
 ghost use Rattle.json.specs.Value.{members_view};
 ghost use Rattle.json_values.specs.Json.{only_member};
 ghost use Rattle.json_trees.specs.Trees.{members_data, tree_view};
-ghost use Rattle.json_trees.specs.Lent.{is_other, lent_view};
+ghost use Rattle.json_trees.specs.Places.{is_other, placed_view};
 
 use crate::Tree;
 use std::alloc::{AllocError, Global};
 use std::collections::BTreeMap;
 
-/// The members by their names, which ascend; the last, where several have one name.
-pub fn lent_members<'t, 'a>(
+/// The place of each name's last member, in the order of the names.
+pub fn member_places<'t, 'a>(
     alloc: Global,
     members: &'t [(&'a str, Tree<'a>)],
-) -> Result<BTreeMap<&'t str, &'t Tree<'a>>, AllocError>
-    ensures said { IfOk result
-        (λ m. lent_view m.entries ≡ members_data (members_view members.now) no_members) }
-    ensures lent { IfOk result
-        (λ m. All (λ t. Contains (map (λ p. p.1) members.now) t.now) (values m)) }
+) -> Result<BTreeMap<&'t str, usize>, AllocError>
+    ensures said { IfOk result (λ m. placed_view members.now m.entries ≡
+        members_data (members_view members.now) no_members) }
+    ensures within { IfOk result (λ m. All (λ i. i < length members.now) (values m)) }
 {
-    let mut lent = BTreeMap::new(alloc);
-    for member in members {
-        lent.insert(member.0, &member.1)?;
+    let mut places = BTreeMap::new(alloc);
+    for (place, member) in members.iter().enumerate() {
+        places.insert(member.0, place)?;
     }
-    Ok(lent)
+    Ok(places)
 }
 
 /// The one member of the tree, where it is an object and no member has another name.

@@ -19,8 +19,8 @@ pub use byte_streams::{
 pub use command::{Command, PageLimit, command_of};
 pub use conformance::{EntityDoesNotConform, RequestValidationError, conforms, validate_request};
 pub use json_document::{
-    Document, DocumentFault, Edit, Edits, Place, Requests, Shape, read_document, read_document_as,
-    read_schema, read_value,
+    Document, DocumentFault, Edit, Edits, Place, Requests, Scratch, Shape, Tree, read_document,
+    read_document_as, read_schema, read_tree, read_value,
 };
 pub use json_expressions::{Bounded, read_expr};
 pub use json_response::write_value;

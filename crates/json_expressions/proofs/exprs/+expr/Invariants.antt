@@ -1,17 +1,23 @@
-use Rattle.std.proofs.Common.{◌≡◌, ◌++◌, drop, map, option_map, string_bytes}
-use Rattle.std.specs.Map.{keys_of}
-use Rattle.serde_json.specs.View.{items_view, members_view}
+use Rattle.std.proofs.Common.{◌≡◌, ◌<◌, ◌++◌, All, drop, length, map, option_map}
+use Rattle.std.specs.Map.{keys_of, values_of}
+use Rattle.std.specs.List.Sorted.{IsStrictlySortedBy}
+use Rattle.policy_values.specs.Uid.{text_cmp}
+use Rattle.json.specs.Value.{members_view}
+use Rattle.serde_json.specs.Data.{no_members}
+use Rattle.json_trees.specs.Places.{placed_view}
+use Rattle.json_trees.specs.Trees.{members_data, trees_view}
 use Rattle.json_expressions.specs.Reads.{bounded, bounded_field}
 use Rattle.json_expressions.specs.Exprs.{exprs_of, named_exprs_of}
 use Rattle.json_expressions.proofs.exprs.+expr.Given as goal
 
 -- those so far, and then those of what is left, are all
 abbrev pub invariant-read_items-loop-item : goal.invariant-read_items-loop-item
-invariant-read_items-loop-item l = option_map (λ rs. l.all.items ++ rs) (option_map (map bounded) (exprs_of (items_view (drop l.item-index l.items)))) ≡ option_map (map bounded) (exprs_of (items_view l.items))
+invariant-read_items-loop-item l = option_map (λ rs. l.all.items ++ rs) (option_map (map bounded) (exprs_of (trees_view (drop l.item-index l.items)))) ≡ option_map (map bounded) (exprs_of (trees_view l.items))
 
--- the same of fields; and their keys are those of the members
+-- the same of fields; their names and those that are left ascend, and what is left are places of members
 abbrev pub invariant-read_fields-loop-key : goal.invariant-read_fields-loop-key
 invariant-read_fields-loop-key l = record {
-  read : option_map (λ rs. l.fields.entries ++ rs) (option_map (map bounded_field) (named_exprs_of (members_view l.key-iterator))) ≡ option_map (map bounded_field) (named_exprs_of (members_view l.members.entries));
-  keys : map string_bytes (keys_of l.members.entries) ≡ keys_of l.fields.entries ++ map string_bytes (keys_of l.key-iterator);
+  read : option_map (λ rs. l.fields.entries ++ rs) (option_map (map bounded_field) (named_exprs_of (placed_view l.members l.key-iterator))) ≡ option_map (map bounded_field) (named_exprs_of (members_data (members_view l.members) no_members));
+  sorted : IsStrictlySortedBy text_cmp (keys_of l.fields.entries ++ map (λ b. b.now) (keys_of l.key-iterator));
+  left : All (λ i. i < length l.members) (values_of l.key-iterator);
 }

@@ -1,8 +1,8 @@
 use Rattle.std.proofs.Common.{◌≡◌, ◌++◌, drop, option_map}
-use Rattle.serde_json.specs.View.{items_view}
+use Rattle.json_trees.specs.Trees.{trees_view}
 use Rattle.json_expressions.specs.Parts.{pattern_of_items}
 use Rattle.json_expressions.proofs.parts.read_elements.Given as goal
 
 -- those so far, and then those of what is left, are all
 abbrev pub invariant-loop-item : goal.invariant-loop-item
-invariant-loop-item l = option_map (λ xs. l.elements.items ++ xs) (pattern_of_items (items_view (drop l.item-index l.item-items))) ≡ pattern_of_items (items_view l.item-items)
+invariant-loop-item l = option_map (λ xs. l.elements.items ++ xs) (pattern_of_items (trees_view (drop l.item-index l.items))) ≡ pattern_of_items (trees_view l.items)

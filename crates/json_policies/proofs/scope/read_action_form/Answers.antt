@@ -1,4 +1,4 @@
-use Rattle.serde_json.specs.View.{view}
+use Rattle.json_trees.specs.Trees.{tree_view}
 use Rattle.json_values.specs.Names.{uid_of, uids_of}
 use Rattle.std.proofs.Common.{Some}
 use Rattle.json_policies.proofs.Actions.{other_member}
@@ -6,5 +6,5 @@ use Rattle.json_policies.proofs.scope.read_action_form.Goals as goal
 
 pub returns-in_default : goal.returns-in_default
 returns-in_default c =
-    let d = view c.args.value.now in
+    let d = tree_view c.args.tree.now in
     other_member c.args.key.now (uid_of d) (uids_of (Some d)) c.in_default.not-text c.in_default.not-in
