@@ -116,7 +116,12 @@ fn with_entities(
 ) -> Result<Document, DocumentFault>
     ensures { MayComeTo result (IsReadBehindEdits (parts_view parts.old) schema policies edits) }
 {
-    let entities = or_drop!(read_store(alloc, mem::replace(&mut parts.entities, Vec::new(alloc))), schema, policies, edits);
+    let entities = or_drop!(
+        read_store(alloc, mem::replace(&mut parts.entities, Vec::new(alloc))),
+        schema,
+        policies,
+        edits
+    );
     with_request(alloc, parts, schema, policies, edits, entities)
 }
 
@@ -128,7 +133,11 @@ fn with_edits(
 ) -> Result<Document, DocumentFault>
     ensures { MayComeTo result (IsReadBehindPolicies (parts_view parts.old) schema policies) }
 {
-    let edits = or_drop!(read_edits(alloc, mem::replace(&mut parts.edits, Vec::new(alloc))), schema, policies);
+    let edits = or_drop!(
+        read_edits(alloc, mem::replace(&mut parts.edits, Vec::new(alloc))),
+        schema,
+        policies
+    );
     with_entities(alloc, parts, schema, policies, edits)
 }
 
@@ -139,7 +148,10 @@ fn with_policies(
 ) -> Result<Document, DocumentFault>
     ensures { MayComeTo result (IsReadBehindSchema (parts_view parts.old) schema) }
 {
-    let policies = or_drop!(read_policies(alloc, mem::replace(&mut parts.policies, Vec::new(alloc))), schema);
+    let policies = or_drop!(
+        read_policies(alloc, mem::replace(&mut parts.policies, Vec::new(alloc))),
+        schema
+    );
     with_edits(alloc, parts, schema, policies)
 }
 

@@ -108,10 +108,7 @@ pub fn read_request(alloc: Global, value: Option<&Json>) -> Result<Option<Reques
 }
 
 /// The request that the tree is, if it is one.
-pub(crate) fn given_request_in(
-    alloc: Global,
-    tree: Tree<'_>,
-) -> Result<Option<Request>, AllocError>
+pub(crate) fn given_request_in(alloc: Global, tree: Tree<'_>) -> Result<Option<Request>, AllocError>
     ensures { IfOk result (λ o. o ≡ given_request_of (tree_view tree.entry)) }
 {
     let value = value_of(alloc, tree)?;
