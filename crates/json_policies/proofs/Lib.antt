@@ -1,4 +1,3 @@
 mod Actions
 mod Bounds
 mod Depths
-mod Lists

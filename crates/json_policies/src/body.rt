@@ -1,6 +1,6 @@
 //! The body of a policy in JSON.
 
-ghost use Rattle.std.specs.Prelude.{◌≡◌, IfOk, None, map, option_map};
+ghost use Rattle.std.specs.Prelude.{◌≡◌, IfOk, Some, None, map, option_map};
 ghost use Rattle.json_trees.specs.Trees.{tree_view, trees_view};
 ghost use Rattle.json_expressions.specs.Exprs.{expr_of};
 ghost use Rattle.json_expressions.specs.Forms.{join_tree};
@@ -8,7 +8,7 @@ ghost use Rattle.json_expressions.specs.Reads.{bounded, on_two};
 ghost use Rattle.json_policies.specs.Body.{behind, body_of, clause_form, clause_of, clauses_of, left_fold, negated, or_true};
 
 use json_expressions::{Bounded, Junction, joined, read_expr, unary};
-use json_trees::{Tree, items_or, lone_member};
+use json_trees::{Tree, items_of, lone_member};
 use policy_expressions::{Expr, Literal, UnaryOp};
 use std::alloc::{AllocError, Global};
 
@@ -88,6 +88,16 @@ fn or_true(all: Option<Bounded<Expr<()>>>) -> Bounded<Expr<()>>
     }
 }
 
+// The clauses of a list, joined.
+fn read_list(alloc: Global, tree: &Tree<'_>) -> Result<Option<Bounded<Expr<()>>>, AllocError>
+    ensures { IfOk result (λ o. o ≡ option_map bounded (body_of (Some (tree_view tree.now)))) }
+{
+    match items_of(tree) {
+        Some(items) => read_clauses(alloc, items),
+        None => Ok(None),
+    }
+}
+
 /// The body of a policy: its clauses joined from the left by `&&`, where an `unless` is negated.
 pub(crate) fn read_body(
     alloc: Global,
@@ -95,8 +105,8 @@ pub(crate) fn read_body(
 ) -> Result<Option<Bounded<Expr<()>>>, AllocError>
     ensures { IfOk result (λ o. o ≡ option_map bounded (body_of (option_map (λ t. tree_view t.now) tree.entry))) }
 {
-    match items_or(tree, &[]) {
-        Some(items) => read_clauses(alloc, items),
-        None => Ok(None),
+    match tree {
+        Some(tree) => read_list(alloc, tree),
+        None => Ok(Some(or_true(None))),
     }
 }

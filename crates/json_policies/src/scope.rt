@@ -77,7 +77,7 @@ fn read_is_in(
     name: &Tree<'_>,
     entity: &Tree<'_>,
 ) -> Result<Option<PrincipalOrResourceConstraint>, AllocError>
-    ensures { IfOk result (λ o. o ≡ is_in (name_of (view name.now)) (reference_of (view entity.now))) }
+    ensures { IfOk result (λ o. o ≡ is_in (name_of (tree_view name.now)) (reference_of (tree_view entity.now))) }
 {
     let Some(name) = read_name(alloc, name)? else {
         return Ok(None);
