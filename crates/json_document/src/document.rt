@@ -177,9 +177,9 @@ fn read_tree_as(alloc: Global, shape: Shape, tree: Tree<'_>) -> Result<Document,
     }
 }
 
-/// The document of the shape that the bytes are; else the place of its first fault. The bytes are read once, as
-/// a tree that borrows them; each policy and each entity is made a JSON value in its turn, which takes the place
-/// of its tree, and is let go of once it is read.
+/// The document of the shape that the bytes are; else the place of its first fault. The bytes are read once,
+/// as a tree that borrows them; policies are read from it, and each entity is made a JSON value in its turn,
+/// which takes the place of its tree. Each is let go of once it is read.
 #[tactic(auto, unfolding(crate::specs::Reading::IsReadAs))]
 pub fn read_document_as(
     alloc: Global,

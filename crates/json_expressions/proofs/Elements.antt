@@ -1,5 +1,5 @@
 -- What the parts of a pattern, and a list of two items, are.
-use Rattle.std.proofs.Common.{◌≡◌, ◌≢◌, ℕ, length, List, [], ◌∷◌, map, true, false, Option, Some, None, is_some, arith, refl}
+use Rattle.std.proofs.Common.{◌≡◌, ◌≢◌, ℕ, length, List, [], ◌∷◌, map, true, false, Some, None, is_some, arith, refl}
 use Rattle.std.specs.Str.{chars}
 use Rattle.policy_expressions.specs.declared.kinds.PatternElem.TheVariants.{Char, Wildcard}
 use Rattle.json.specs.declared.value.Value.{Value}

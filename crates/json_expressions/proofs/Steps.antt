@@ -1,5 +1,5 @@
 -- Steps of reading expressions.
-use Rattle.std.proofs.Common.{◌≡◌, ℕ, ◌<◌, ◌≤◌, drop, List, [], ◌∷◌, ◌++◌, length, map, false, Option, Some, None, option_map, is_some, append_assoc, arith, refl, sym, ap, ◌∙◌}
+use Rattle.std.proofs.Common.{◌≡◌, ℕ, ◌<◌, ◌≤◌, drop, List, [], ◌∷◌, ◌++◌, length, map, Option, Some, None, option_map, append_assoc, arith, refl, sym, ap, ◌∙◌}
 use Rattle.std.proofs.lemmas.Option.{same_Some}
 use Rattle.json_trees.specs.Trees.{trees_view}
 use Rattle.json.specs.declared.value.Value.{Value}
@@ -8,7 +8,6 @@ use Rattle.json_expressions.specs.Exprs.{exprs_behind_first, exprs_of}
 use Rattle.json_expressions.specs.Parts.{loc_of_items}
 use Rattle.json_expressions.specs.Reads.{Read, bounded, bounded_field}
 use Rattle.json_values.specs.Lists.{with_first, with_field}
-use Rattle.plain_lemmas.proofs.Options.{none_of_no_some}
 
 pub short_loc : {A : Type 0} (xs : List (Value A)) → length xs < 2 → None ≡ loc_of_items (trees_view xs)
 short_loc [] h = refl

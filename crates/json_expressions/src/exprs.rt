@@ -1,9 +1,7 @@
 //! Expressions in JSON.
 
 ghost use Rattle.std.specs.Prelude.{◌≡◌, IfOk, map, option_map, option_and_then};
-ghost use Rattle.json.specs.Value.{members_view};
-ghost use Rattle.serde_json.specs.Data.{no_members};
-ghost use Rattle.json_trees.specs.Trees.{members_data, tree_view, trees_view};
+ghost use Rattle.json_trees.specs.Trees.{named_view, tree_view, trees_view};
 ghost use Rattle.serde_json.specs.Find.{as_number};
 ghost use Rattle.policy_expressions.specs.Tree.{lit};
 ghost use Rattle.json_expressions.specs.Forms.{call_tree, get_tree, has_tree, id_tree, in_turn, like_tree, listed_tree, long_tree, of_one, placed, record_tree, set_tree, type_test_tree, unary_tree, unmarked, var_tree};
@@ -118,7 +116,7 @@ fn read_members<'a>(
     alloc: Global,
     members: &[(&'a str, Tree<'a>)],
 ) -> Result<Option<Bounded<Expr<()>>>, AllocError>
-    ensures { IfOk result (λ o. o ≡ option_map bounded (expr_of_members (members_data (members_view members.now) no_members))) }
+    ensures { IfOk result (λ o. o ≡ option_map bounded (expr_of_members (named_view members.now))) }
 {
     match members {
         [(key, tree)] => read_named_form(alloc, tree, key),
@@ -132,7 +130,7 @@ fn read_several<'a>(
     alloc: Global,
     members: &[(&'a str, Tree<'a>)],
 ) -> Result<Option<Bounded<Expr<()>>>, AllocError>
-    ensures { IfOk result (λ o. o ≡ option_map bounded (expr_of_members (members_data (members_view members.now) no_members))) }
+    ensures { IfOk result (λ o. o ≡ option_map bounded (expr_of_members (named_view members.now))) }
 {
     let places = member_places(alloc, members)?;
     let mut rest = places.iter();
@@ -160,7 +158,8 @@ fn read_placed(
     loc: &Tree<'_>,
 ) -> Result<Option<Bounded<Expr<()>>>, AllocError>
     ensures { IfOk result (λ o. o ≡
-        option_map bounded (placed_tree first.now (tree_view loc.now) second.now (expr_of (tree_view inner.now)))) }
+        option_map bounded (placed_tree first.now (tree_view loc.now)
+        second.now (expr_of (tree_view inner.now)))) }
 {
     if !is_place(first, second) {
         return Ok(None);
@@ -178,7 +177,8 @@ fn read_at(
     inner: &Tree<'_>,
     loc: Loc,
 ) -> Result<Option<Bounded<Expr<()>>>, AllocError>
-    ensures { IfOk result (λ o. o ≡ option_map bounded (option_map (placed loc) (expr_of (tree_view inner.now)))) }
+    ensures { IfOk result
+        (λ o. o ≡ option_map bounded (option_map (placed loc) (expr_of (tree_view inner.now)))) }
 {
     let read = read_expr(alloc, inner)?;
     Ok(place(read, loc))
@@ -191,8 +191,8 @@ fn read_named_form(
     tree: &Tree<'_>,
     key: &str,
 ) -> Result<Option<Bounded<Expr<()>>>, AllocError>
-    ensures { IfOk result (λ o. o ≡
-        option_map bounded (named_form_tree key.now (tree_view tree.now) (operands_of (tree_view tree.now)))) }
+    ensures { IfOk result (λ o. o ≡ option_map bounded
+        (named_form_tree key.now (tree_view tree.now) (operands_of (tree_view tree.now)))) }
 {
     match form_named(key) {
         Some(form) => read_form(alloc, tree, form),
@@ -331,7 +331,8 @@ fn read_matched(
 #[cycle(expr)]
 fn read_is(alloc: Global, tree: &Tree<'_>) -> Result<Option<Bounded<Expr<()>>>, AllocError>
     ensures { IfOk result (λ o. o ≡ option_map bounded
-        (with_part type_test_tree (tested_type_of (tree_view tree.now)) (operands_first (tree_view tree.now)))) }
+        (with_part type_test_tree (tested_type_of (tree_view tree.now))
+        (operands_first (tree_view tree.now)))) }
 {
     match read_type(alloc, tree)? {
         Some(entity_type) => read_typed(alloc, tree, entity_type),
@@ -412,7 +413,7 @@ fn read_named<'a>(
     members: &[(&'a str, Tree<'a>)],
 ) -> Result<Option<Bounded<Expr<()>>>, AllocError>
     ensures { IfOk result (λ o. o ≡
-        option_map bounded (option_map record_tree (named_exprs_of (members_data (members_view members.now) no_members)))) }
+        option_map bounded (option_map record_tree (named_exprs_of (named_view members.now)))) }
 {
     let reads = read_fields(alloc, members)?;
     record(alloc, reads)
@@ -424,7 +425,7 @@ fn read_fields<'a>(
     members: &[(&'a str, Tree<'a>)],
 ) -> Result<Option<BTreeMap<Text, Bounded<Expr<()>>>>, AllocError>
     ensures { IfOk result (λ o. option_map (λ m. m.entries) o ≡
-        option_map (map bounded_field) (named_exprs_of (members_data (members_view members.now) no_members))) }
+        option_map (map bounded_field) (named_exprs_of (named_view members.now))) }
 {
     let places = member_places(alloc, members)?;
     let mut fields = BTreeMap::new(alloc);

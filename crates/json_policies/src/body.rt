@@ -103,7 +103,8 @@ pub(crate) fn read_body(
     alloc: Global,
     tree: Option<&Tree<'_>>,
 ) -> Result<Option<Bounded<Expr<()>>>, AllocError>
-    ensures { IfOk result (λ o. o ≡ option_map bounded (body_of (option_map (λ t. tree_view t.now) tree.entry))) }
+    ensures { IfOk result (λ o. o ≡
+        option_map bounded (body_of (option_map (λ t. tree_view t.now) tree.entry))) }
 {
     match tree {
         Some(tree) => read_list(alloc, tree),

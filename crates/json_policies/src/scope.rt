@@ -64,7 +64,8 @@ fn read_is(
     alloc: Global,
     tree: &Tree<'_>,
 ) -> Result<Option<PrincipalOrResourceConstraint>, AllocError>
-    ensures { IfOk result (λ o. o ≡ option_map PrincipalOrResourceConstraint.Is (name_of (tree_view tree.now))) }
+    ensures { IfOk result
+        (λ o. o ≡ option_map PrincipalOrResourceConstraint.Is (name_of (tree_view tree.now))) }
 {
     match read_name(alloc, tree)? {
         Some(name) => Ok(Some(PrincipalOrResourceConstraint::Is(name))),
@@ -77,7 +78,8 @@ fn read_is_in(
     name: &Tree<'_>,
     entity: &Tree<'_>,
 ) -> Result<Option<PrincipalOrResourceConstraint>, AllocError>
-    ensures { IfOk result (λ o. o ≡ is_in (name_of (tree_view name.now)) (reference_of (tree_view entity.now))) }
+    ensures { IfOk result
+        (λ o. o ≡ is_in (name_of (tree_view name.now)) (reference_of (tree_view entity.now))) }
 {
     let Some(name) = read_name(alloc, name)? else {
         return Ok(None);

@@ -1,5 +1,5 @@
 -- The members of a tree by their names.
-use Rattle.std.proofs.Common.{◌≡◌, ℕ, zero, suc, ◌<◌, length, slice_index_or, arith, List, [], ◌∷◌, map, Bool, true, false, not, Option, Some, None, option_map, Ordering, Less, Equal, Greater, refl, sym, ap, ◌∙◌, Bor, bytes_eq, nat_cmp}
+use Rattle.std.proofs.Common.{◌≡◌, ℕ, zero, suc, ◌<◌, length, slice_index_or, arith, List, [], ◌∷◌, Bool, true, false, not, Option, Some, None, option_map, Ordering, Less, Equal, Greater, refl, sym, ◌∙◌, Bor, bytes_eq, nat_cmp}
 use Rattle.std.specs.Cmp.Lexicographic.{slice_cmp}
 use Rattle.std.specs.Ordering.{match_ordering}
 use Rattle.std.specs.BTreeMap.{insert_entry}

@@ -1,5 +1,5 @@
-//! JSON texts as trees that borrow them, and what is read of their parts: a whole text is held as a tree, which
-//! takes little room, and its parts are looked up there, or taken out and made values when it is their turn.
+//! JSON texts as trees that borrow them, and what is read of their parts: a whole text is held as a tree,
+//! which takes little room, and its parts are looked up there, or taken out and made values in their turn.
 #![tactic(auto)]
 
 mod leaves;

@@ -93,7 +93,8 @@ pub fn take<'a>(members: &mut Vec<(&'a str, Tree<'a>)>, name: &str) -> Option<Tr
     None
 }
 
-/// Takes out the items of the member of the name, which has to be a list; there are none where no member has it.
+/// Takes out the items of the member of the name, which has to be a list; there are none where no member
+/// has it.
 pub fn take_items<'a>(
     alloc: Global,
     members: &mut Vec<(&'a str, Tree<'a>)>,

@@ -2,11 +2,9 @@
 
 ghost use Rattle.std.specs.Prelude.{◌≡◌, ◌<◌, IfOk, length, All, option_map, option_and_then};
 ghost use Rattle.std.specs.BTreeMap.{values};
-ghost use Rattle.serde_json.specs.Data.{no_members};
 ghost use Rattle.serde_json.specs.Find.{as_object};
-ghost use Rattle.json.specs.Value.{members_view};
 ghost use Rattle.json_values.specs.Json.{only_member};
-ghost use Rattle.json_trees.specs.Trees.{members_data, tree_view};
+ghost use Rattle.json_trees.specs.Trees.{named_view, tree_view};
 ghost use Rattle.json_trees.specs.Places.{is_other, placed_view};
 
 use crate::Tree;
@@ -18,8 +16,7 @@ pub fn member_places<'t, 'a>(
     alloc: Global,
     members: &'t [(&'a str, Tree<'a>)],
 ) -> Result<BTreeMap<&'t str, usize>, AllocError>
-    ensures said { IfOk result (λ m. placed_view members.now m.entries ≡
-        members_data (members_view members.now) no_members) }
+    ensures said { IfOk result (λ m. placed_view members.now m.entries ≡ named_view members.now) }
     ensures within { IfOk result (λ m. All (λ i. i < length members.now) (values m)) }
 {
     let mut places = BTreeMap::new(alloc);
@@ -43,7 +40,7 @@ pub fn lone_member<'t, 'a>(tree: &'t Tree<'a>) -> Option<(&'t str, &'t Tree<'a>)
 #[tactic(auto, using(crate::proofs::Named::only_lone))]
 fn only_member<'t, 'a>(members: &'t Vec<(&'a str, Tree<'a>)>) -> Option<(&'t str, &'t Tree<'a>)>
     ensures { option_map (λ m. (m.0.now, tree_view m.1.now)) result ≡
-        only_member (members_data (members_view members.now.items) no_members) }
+        only_member (named_view members.now.items) }
 {
     let mut only: Option<(&'t str, &'t Tree<'a>)> = None;
     for member in members {

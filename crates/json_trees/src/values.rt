@@ -9,7 +9,8 @@ use crate::numbers::number_of;
 use serde_json::{Map, Value};
 use std::alloc::{AllocError, Global};
 
-/// The value that the tree says, with texts of its own. Each part of the tree is let go of once it is a value.
+/// The value that the tree says, with texts of its own. Each part of the tree is let go of once it is a
+/// value.
 #[cycle(values)]
 pub fn value_of(alloc: Global, tree: Tree<'_>) -> Result<Value, AllocError>
     ensures { IfOk result (λ v. view v ≡ tree_view tree.entry) }
