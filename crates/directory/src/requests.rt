@@ -3,7 +3,7 @@ ghost use Rattle.std.specs.Prelude.{◌≡◌, IfOk};
 ghost use Rattle.directory.specs.Lines.{line_request};
 
 use entity_store::Request;
-use json_document::{parse_json, read_request};
+use json_document::{Scratch, read_request, read_tree};
 use std::alloc::{AllocError, Global};
 
 /// What the bytes of a line are.
@@ -21,10 +21,11 @@ pub enum LineRequest {
 pub(crate) fn line_request(alloc: Global, line: &[u8]) -> Result<LineRequest, AllocError>
     ensures { IfOk result (λ r. r ≡ line_request line.now) }
 {
-    let Some(value) = parse_json(alloc, line)? else {
+    let mut scratch = Scratch::new(alloc);
+    let Some(tree) = read_tree(alloc, line, &mut scratch)? else {
         return Ok(LineRequest::NoJson);
     };
-    match read_request(alloc, Some(&value))? {
+    match read_request(alloc, Some(&tree))? {
         Some(request) => Ok(LineRequest::Request(request)),
         None => Ok(LineRequest::NoRequest),
     }

@@ -10,7 +10,7 @@ use entity_store::{Context, Entities, EntitiesError, Entity, Request};
 use json_document::{Scratch, Tree, read_tree, read_value};
 use json_expressions::{Bounded, read_expr};
 use json_response::write_value;
-use json_values::{parse_json, with_item};
+use json_values::with_item;
 use policy_core::{EvalError, Expr, Outcome, Value, ValueKind, evaluate, try_clone_fields};
 use policy_values::{Eid, EntityType, EntityUID, Name, Text};
 use std::alloc::{AllocError, Global};
@@ -19,12 +19,9 @@ use std::test::Fail;
 
 // The value that a text says.
 fn value(alloc: Global, text: &str) -> Result<Value, AllocError> {
-    match parse_json(alloc, text.as_bytes())? {
-        Some(json) => {
-            let value = read_value(alloc, &json);
-            drop(json);
-            given(value)
-        }
+    let mut scratch = Scratch::new(alloc);
+    match read_tree(alloc, text.as_bytes(), &mut scratch)? {
+        Some(tree) => given(read_value(alloc, &tree)),
         None => Err(AllocError),
     }
 }

@@ -1,25 +1,13 @@
 -- Entities in JSON, as a slice has them: with all their ancestors.
 use Rattle.std.specs.Prelude.{ℕ, List, [], ◌∷◌, if◌then◌else◌, Option, Some, None, option_and_then, codes}
-use Rattle.std.specs.BTreeSet.{insert_key}
 use Rattle.policy_values.specs.declared.entity_uid.EntityUID.{EntityUID}
-use Rattle.policy_values.specs.Uid.{uid_cmp}
 use Rattle.policy_values.specs.Value.{Val, fields_of}
 use Rattle.entity_store.specs.Store.{StoredEntity}
 use Rattle.serde_json.specs.Data.{Data, Items, no_items, item}
 use Rattle.serde_json.specs.Find.{get, as_object}
-use Rattle.json_values.specs.Json.{◌>>=◌, has_only, json_of, list_of}
-use Rattle.json_values.specs.Names.{uid_of}
-use Rattle.json_values.specs.Values.{value_fields_of}
-
--- the set with the ids of the items, each of which is one
-abbrev pub with_uids : List EntityUID → Items → Option (List EntityUID)
-with_uids set no_items = Some set
-with_uids set (item d ds) = option_and_then (λ u. with_uids (insert_key uid_cmp set u) ds) (uid_of d)
-
--- the values of an object, under their names; an absent one has none
-abbrev pub fields_in : Option Data → Option (List (List ℕ × Val))
-fields_in None = Some []
-fields_in (Some d) = value_fields_of d
+use Rattle.json_values.specs.Json.{◌>>=◌, has_only, json_of}
+use Rattle.json_values.specs.Names.{uid_of, uid_set_of}
+use Rattle.json_values.specs.Values.{given_fields_of}
 
 -- the members that an entity may have
 abbrev pub entity_names : List (List ℕ)
@@ -29,10 +17,9 @@ entity_names = codes "id" ∷ codes "attrs" ∷ codes "tags" ∷ codes "ancestor
 unfoldable pub given_entity_of : Data → Option StoredEntity
 given_entity_of d = do
   uid ← option_and_then uid_of (get (codes "id") d)
-  items ← list_of (get (codes "ancestors") d)
-  ancestors ← with_uids [] items
-  attrs ← fields_in (get (codes "attrs") d)
-  tags ← fields_in (get (codes "tags") d)
+  ancestors ← uid_set_of (get (codes "ancestors") d)
+  attrs ← given_fields_of (get (codes "attrs") d)
+  tags ← given_fields_of (get (codes "tags") d)
   Some (record { uid = uid; attrs = fields_of attrs; ancestors = ancestors; tags = fields_of tags })
 
 -- the entity of an object without other members

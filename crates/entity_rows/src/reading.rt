@@ -1,93 +1,61 @@
 //! Rows as entities.
 
-ghost use Rattle.std.specs.Prelude.{◌≡◌, [], Some, IfOk, option_map};
-ghost use Rattle.serde_json.specs.View.{view, items_view, members_view};
+ghost use Rattle.std.specs.Prelude.{◌≡◌, Some, IfOk, false};
+ghost use Rattle.std.specs.Option.{option_map_or};
+ghost use Rattle.serde_json.specs.Find.{as_object};
 ghost use Rattle.sqlite.specs.Order.{column};
 ghost use Rattle.policy_values.specs.Uid.{uid_eq};
 ghost use Rattle.json_values.specs.Json.{has_only};
-ghost use Rattle.entity_rows.specs.Entities.{entity_in, entity_names, entity_of, fields_in, given_entity_of, with_uids};
+ghost use Rattle.json_trees.specs.Trees.{tree_view};
+ghost use Rattle.entity_rows.specs.Entities.{entity_in, entity_names, entity_of, given_entity_of};
 ghost use Rattle.entity_rows.specs.Rows.{cell_entity, IsRowFound};
 
 use crate::FindError;
 use entity_store::Entity;
-use json_values::{has_only, list_items, parse_json, read_fields, read_uid};
-use policy_values::{EntityUID, Text, Value};
-use serde_json::{Map, Value as Json};
+use json_trees::{Scratch, Tree, get, has_only, read_fields, read_tree, read_uid, read_uid_set};
+use policy_values::EntityUID;
 use sqlite::Row;
 use sqlite::types::ValueRef;
 use std::alloc::{AllocError, Global};
 use std::cmp::Ordering;
-use std::collections::{BTreeMap, BTreeSet};
-
-fn read_uid_set(alloc: Global, items: &[Json]) -> Result<Option<BTreeSet<EntityUID>>, AllocError>
-    ensures { IfOk result (λ o. option_map (λ s. s.keys) o ≡ with_uids [] (items_view items.now)) }
-{
-    let mut set = BTreeSet::new(alloc);
-    for item in items {
-        let Some(uid) = read_uid(alloc, item)? else {
-            return Ok(None);
-        };
-        set.insert(uid)?;
-    }
-    Ok(Some(set))
-}
-
-// The values of an object, under their names; an absent one has none.
-fn read_given_fields(
-    alloc: Global,
-    value: Option<&Json>,
-) -> Result<Option<BTreeMap<Text, Value>>, AllocError>
-    ensures { IfOk result (λ o. option_map (λ fs. fs.entries) o ≡
-        fields_in (option_map (λ v. view v.now) value.entry)) }
-{
-    let Some(value) = value else {
-        return Ok(Some(BTreeMap::new(alloc)));
-    };
-    match value.as_object() {
-        Some(members) => read_fields(alloc, members),
-        None => Ok(None),
-    }
-}
 
 // The entity of the members.
 #[tactic(auto, unfolding(crate::specs::Entities::given_entity_of))]
-fn read_given_entity(alloc: Global, value: &Json) -> Result<Option<Entity>, AllocError>
-    ensures { IfOk result (λ o. o ≡ given_entity_of (view value.now)) }
+fn read_given_entity(alloc: Global, tree: &Tree<'_>) -> Result<Option<Entity>, AllocError>
+    ensures { IfOk result (λ o. o ≡ given_entity_of (tree_view tree.now)) }
 {
-    let Some(id) = value.get("id") else {
+    let Some(id) = get(tree, "id") else {
         return Ok(None);
     };
     let Some(uid) = read_uid(alloc, id)? else {
         return Ok(None);
     };
-    let Some(items) = list_items(value.get("ancestors")) else {
+    let Some(ancestors) = read_uid_set(alloc, get(tree, "ancestors"), None)? else {
         return Ok(None);
     };
-    let Some(ancestors) = read_uid_set(alloc, items)? else {
+    let Some(attrs) = read_fields(alloc, get(tree, "attrs"))? else {
         return Ok(None);
     };
-    let Some(attrs) = read_given_fields(alloc, value.get("attrs"))? else {
-        return Ok(None);
-    };
-    match read_given_fields(alloc, value.get("tags"))? {
+    match read_fields(alloc, get(tree, "tags"))? {
         Some(tags) => Ok(Some(Entity::new(uid, attrs, ancestors, tags))),
         None => Ok(None),
     }
 }
 
-fn has_names(members: &Map<String, Json>) -> bool
-    ensures { result ≡ has_only entity_names (members_view members.now.entries) }
+fn has_names(tree: &Tree<'_>) -> bool
+    ensures { result ≡ option_map_or (has_only entity_names) (as_object (tree_view tree.now)) false }
 {
-    has_only(&["id", "attrs", "tags", "ancestors"], members)
+    has_only(&["id", "attrs", "tags", "ancestors"], tree)
 }
 
-// The entity that the value spells, where it spells one.
-fn read_value(alloc: Global, value: &Json) -> Result<Option<Entity>, AllocError>
-    ensures { IfOk result (λ o. o ≡ entity_of (view value.now)) }
+// The entity that the tree spells, where it spells one.
+fn read_entity(alloc: Global, tree: &Tree<'_>) -> Result<Option<Entity>, AllocError>
+    ensures { IfOk result (λ o. o ≡ entity_of (tree_view tree.now)) }
 {
-    match value.as_object() {
-        Some(members) if has_names(members) => read_given_entity(alloc, value),
-        _ => Ok(None),
+    if has_names(tree) {
+        read_given_entity(alloc, tree)
+    } else {
+        Ok(None)
     }
 }
 
@@ -95,8 +63,9 @@ fn read_value(alloc: Global, value: &Json) -> Result<Option<Entity>, AllocError>
 fn read_text(alloc: Global, text: &[u8]) -> Result<Option<Entity>, AllocError>
     ensures { IfOk result (λ o. o ≡ entity_in text.now) }
 {
-    match parse_json(alloc, text)? {
-        Some(value) => read_value(alloc, &value),
+    let mut scratch = Scratch::new(alloc);
+    match read_tree(alloc, text, &mut scratch)? {
+        Some(tree) => read_entity(alloc, &tree),
         None => Ok(None),
     }
 }

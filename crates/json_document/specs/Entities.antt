@@ -2,23 +2,18 @@
 use Rattle.std.specs.Prelude.{ℕ, List, [], ◌∷◌, ◌++◌, length, if◌then◌else◌, Option, Some, None, option_and_then, Result, Ok, Err, codes, ◌+◌}
 use Rattle.std.specs.Option.{option_map_or}
 use Rattle.std.specs.Ordering.{is_eq}
-use Rattle.std.specs.BTreeSet.{insert_key}
 use Rattle.policy_values.specs.declared.entity_uid.EntityUID.{EntityUID}
 use Rattle.policy_values.specs.Uid.{uid_cmp}
 use Rattle.policy_values.specs.Value.{fields_of}
 use Rattle.entity_store.specs.Store.{StoredEntity}
 use Rattle.serde_json.specs.Data.{Data, Items, no_items, item}
 use Rattle.serde_json.specs.Find.{get, as_object}
-use Rattle.json_values.specs.Json.{◌>>=◌, has_only, list_of}
-use Rattle.json_values.specs.Names.{uid_of}
-use Rattle.json_document.specs.Fields.{both_of, fields_in}
+use Rattle.json_values.specs.Json.{◌>>=◌, has_only}
+use Rattle.json_values.specs.Names.{uid_of, uid_set_of}
+use Rattle.json_values.specs.Values.{given_fields_of}
+use Rattle.json_document.specs.Fields.{both_of}
 use Rattle.json_document.specs.declared.place.Place.{Place}
 use Rattle.json_document.specs.declared.place.Place.TheVariants as place
-
--- the set with the ids of the items, each of which is one
-abbrev pub with_uids : List EntityUID → Items → Option (List EntityUID)
-with_uids set no_items = Some set
-with_uids set (item d ds) = option_and_then (λ u. with_uids (insert_key uid_cmp set u) ds) (uid_of d)
 
 -- the members that an entity may have
 abbrev pub entity_names : List (List ℕ)
@@ -28,9 +23,8 @@ entity_names = codes "id" ∷ codes "attrs" ∷ codes "tags" ∷ codes "parents"
 unfoldable pub given_entity_of : Data → Option StoredEntity
 given_entity_of d = do
   uid ← option_and_then uid_of (get (codes "id") d)
-  items ← list_of (get (codes "parents") d)
-  parents ← with_uids [] items
-  both ← both_of (fields_in (get (codes "attrs") d)) (fields_in (get (codes "tags") d))
+  parents ← uid_set_of (get (codes "parents") d)
+  both ← both_of (given_fields_of (get (codes "attrs") d)) (given_fields_of (get (codes "tags") d))
   Some (record { uid = uid; attrs = fields_of both.0; ancestors = parents; tags = fields_of both.1 })
 
 -- the entity of an object without other members

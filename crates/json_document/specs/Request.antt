@@ -1,5 +1,5 @@
 -- Requests in JSON.
-use Rattle.std.specs.Prelude.{ℕ, List, [], ◌∷◌, ◌++◌, length, if◌then◌else◌, Option, Some, None, option_map, option_and_then, is_some, Result, Ok, Err, codes}
+use Rattle.std.specs.Prelude.{ℕ, List, [], ◌∷◌, ◌++◌, length, if◌then◌else◌, Option, Some, None, option_map, is_some, Result, Ok, Err, codes}
 use Rattle.std.specs.Option.{option_map_or}
 use Rattle.policy_values.specs.declared.entity_uid.EntityUID.{EntityUID}
 use Rattle.policy_values.specs.Value.{Fields, fields_of}
@@ -8,7 +8,7 @@ use Rattle.serde_json.specs.Data.{Data, Items, no_items, item}
 use Rattle.serde_json.specs.Find.{get, as_null, as_object}
 use Rattle.json_values.specs.Json.{◌>>=◌, has_only}
 use Rattle.json_values.specs.Names.{uid_of}
-use Rattle.json_values.specs.Values.{value_entries_of}
+use Rattle.json_values.specs.Values.{value_fields_of}
 use Rattle.json_document.specs.declared.place.Place.{Place}
 use Rattle.json_document.specs.declared.place.Place.TheVariants as place
 
@@ -22,7 +22,7 @@ abbrev pub context_of : Option Data → Option (Option Fields)
 context_of None = Some None
 context_of (Some d) =
     if is_some (as_null d) then Some None
-    else option_map (λ es. Some (fields_of es)) (option_and_then value_entries_of (as_object d))
+    else option_map (λ es. Some (fields_of es)) (value_fields_of d)
 
 abbrev pub request_names : List (List ℕ)
 request_names = codes "principal" ∷ codes "action" ∷ codes "resource" ∷ codes "context" ∷ []

@@ -1,10 +1,11 @@
 //! Entities in JSON.
 
-ghost use Rattle.std.specs.Prelude.{◌≡◌, [], IfOk, option_map};
-ghost use Rattle.serde_json.specs.View.{view, items_view, members_view};
+ghost use Rattle.std.specs.Prelude.{◌≡◌, [], IfOk, false};
+ghost use Rattle.std.specs.Option.{option_map_or};
+ghost use Rattle.serde_json.specs.Find.{as_object};
 ghost use Rattle.json_trees.specs.Trees.{tree_view, trees_view};
 ghost use Rattle.json_values.specs.Json.{has_only};
-ghost use Rattle.json_document.specs.Entities.{entities_of, entity_names, entity_of, given_entity_of, index_from, with_uids};
+ghost use Rattle.json_document.specs.Entities.{entities_of, entity_names, entity_of, given_entity_of, index_from};
 ghost use Rattle.policy_values.specs.Uid.{uid_eq};
 ghost use Rattle.entity_store.specs.FromParents.{ids_of};
 ghost use Rattle.json_document.specs.Faults.{ComesTo};
@@ -12,31 +13,11 @@ ghost use Rattle.json_document.specs.Faults.{ComesTo};
 use crate::fields::read_attrs_and_tags;
 use crate::{DocumentFault, Place};
 use entity_store::Entity;
-use json_trees::{Tree, value_of};
-use json_values::{has_only, list_items, read_uid_like};
+use json_trees::{Tree, get, has_only, read_uid_like, read_uid_set};
 use policy_set::or_drop;
 use policy_values::EntityUID;
-use serde_json::{Map, Value};
 use std::alloc::{AllocError, Global};
 use std::cmp::Ordering;
-use std::collections::BTreeSet;
-
-fn read_uid_set(
-    alloc: Global,
-    items: &[Value],
-    like: Option<&EntityUID>,
-) -> Result<Option<BTreeSet<EntityUID>>, AllocError>
-    ensures { IfOk result (λ o. option_map (λ s. s.keys) o ≡ with_uids [] (items_view items.now)) }
-{
-    let mut set = BTreeSet::new(alloc);
-    for item in items {
-        let Some(uid) = read_uid_like(alloc, item, like)? else {
-            return Ok(None);
-        };
-        set.insert(uid)?;
-    }
-    Ok(Some(set))
-}
 
 // The id of the entity.
 fn id_of(entity: Option<&Entity>) -> Option<&EntityUID> {
@@ -54,31 +35,28 @@ fn parent_of(entity: Option<&Entity>) -> Option<&EntityUID> {
     }
 }
 
-// The entity of the members. Its ids share the characters of their types with those of the entity before,
-// where they can.
+// The entity that the tree says by its members. Its ids share the characters of their types with those of the
+// entity before, where they can.
 #[tactic(auto, unfolding(crate::specs::Entities::given_entity_of))]
 fn read_given_entity(
     alloc: Global,
-    value: &Value,
+    tree: &Tree<'_>,
     before: Option<&Entity>,
 ) -> Result<Option<Entity>, AllocError>
-    ensures { IfOk result (λ o. o ≡ given_entity_of (view value.now)) }
+    ensures { IfOk result (λ o. o ≡ given_entity_of (tree_view tree.now)) }
 {
-    let Some(id) = value.get("id") else {
+    let Some(id) = get(tree, "id") else {
         return Ok(None);
     };
     let Some(uid) = read_uid_like(alloc, id, id_of(before))? else {
         return Ok(None);
     };
-    let Some(items) = list_items(value.get("parents")) else {
+    let parents = read_uid_set(alloc, get(tree, "parents"), parent_of(before));
+    let Some(parents) = or_drop!(parents, uid) else {
         drop(uid);
         return Ok(None);
     };
-    let Some(parents) = or_drop!(read_uid_set(alloc, items, parent_of(before)), uid) else {
-        drop(uid);
-        return Ok(None);
-    };
-    match or_drop!(read_attrs_and_tags(alloc, value), uid, parents) {
+    match or_drop!(read_attrs_and_tags(alloc, tree), uid, parents) {
         Some((attrs, tags)) => Ok(Some(Entity::new(uid, attrs, parents, tags))),
         None => {
             drop(uid);
@@ -88,26 +66,27 @@ fn read_given_entity(
     }
 }
 
-fn has_names(members: &Map<String, Value>) -> bool
-    ensures { result ≡ has_only entity_names (members_view members.now.entries) }
+fn has_names(tree: &Tree<'_>) -> bool
+    ensures { result ≡ option_map_or (has_only entity_names) (as_object (tree_view tree.now)) false }
 {
-    has_only(&["id", "attrs", "tags", "parents"], members)
+    has_only(&["id", "attrs", "tags", "parents"], tree)
 }
 
 fn read_entity(
     alloc: Global,
-    value: &Value,
+    tree: &Tree<'_>,
     before: Option<&Entity>,
 ) -> Result<Option<Entity>, AllocError>
-    ensures { IfOk result (λ o. o ≡ entity_of (view value.now)) }
+    ensures { IfOk result (λ o. o ≡ entity_of (tree_view tree.now)) }
 {
-    match value.as_object() {
-        Some(members) if has_names(members) => read_given_entity(alloc, value, before),
-        _ => Ok(None),
+    if has_names(tree) {
+        read_given_entity(alloc, tree, before)
+    } else {
+        Ok(None)
     }
 }
 
-// The entity that the tree is.
+// The entity that the tree is, which is let go of then.
 fn entity_in(
     alloc: Global,
     tree: Tree<'_>,
@@ -115,9 +94,8 @@ fn entity_in(
 ) -> Result<Option<Entity>, AllocError>
     ensures { IfOk result (λ o. o ≡ entity_of (tree_view tree.entry)) }
 {
-    let value = value_of(alloc, tree)?;
-    let entity = read_entity(alloc, &value, before);
-    drop(value);
+    let entity = read_entity(alloc, &tree, before);
+    drop(tree);
     entity
 }
 

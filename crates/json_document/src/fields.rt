@@ -2,49 +2,29 @@
 
 ghost use Rattle.std.specs.Prelude.{◌≡◌, IfOk, codes, option_map};
 ghost use Rattle.serde_json.specs.Find.{get};
-ghost use Rattle.serde_json.specs.View.{view};
-ghost use Rattle.json_document.specs.Fields.{fields_in, both_of};
+ghost use Rattle.json_trees.specs.Trees.{tree_view};
+ghost use Rattle.json_values.specs.Values.{given_fields_of};
+ghost use Rattle.json_document.specs.Fields.{both_of};
 
-use json_values::read_fields;
+use json_trees::{Tree, get, read_fields};
+use policy_set::or_drop;
 use policy_values::{Text, Value};
-use serde_json::Value as Json;
 use std::alloc::{AllocError, Global};
 use std::collections::BTreeMap;
-
-// The values of an object, under their names; an absent one has none.
-fn read_given_fields(
-    alloc: Global,
-    value: Option<&Json>,
-) -> Result<Option<BTreeMap<Text, Value>>, AllocError>
-    ensures { IfOk result (λ o. option_map (λ fs. fs.entries) o ≡
-        fields_in (option_map (λ v. view v.now) value.entry)) }
-{
-    let Some(value) = value else {
-        return Ok(Some(BTreeMap::new(alloc)));
-    };
-    match value.as_object() {
-        Some(members) => read_fields(alloc, members),
-        None => Ok(None),
-    }
-}
 
 /// The attributes and the tags of an entity.
 pub(crate) fn read_attrs_and_tags(
     alloc: Global,
-    value: &Json,
+    tree: &Tree<'_>,
 ) -> Result<Option<(BTreeMap<Text, Value>, BTreeMap<Text, Value>)>, AllocError>
     ensures { IfOk result (λ o. option_map (λ p. (p.0.entries, p.1.entries)) o ≡
-        both_of (fields_in (get (codes "attrs") (view value.now)))
-        (fields_in (get (codes "tags") (view value.now)))) }
+        both_of (given_fields_of (get (codes "attrs") (tree_view tree.now)))
+        (given_fields_of (get (codes "tags") (tree_view tree.now)))) }
 {
-    let Some(attrs) = read_given_fields(alloc, value.get("attrs"))? else {
+    let Some(attrs) = read_fields(alloc, get(tree, "attrs"))? else {
         return Ok(None);
     };
-    let Ok(tags) = read_given_fields(alloc, value.get("tags")) else {
-        drop(attrs);
-        return Err(AllocError);
-    };
-    let Some(tags) = tags else {
+    let Some(tags) = or_drop!(read_fields(alloc, get(tree, "tags")), attrs) else {
         drop(attrs);
         return Ok(None);
     };

@@ -1,4 +1,3 @@
 pub mod Bounds
 mod Elements
-mod Ordered
 pub mod Steps

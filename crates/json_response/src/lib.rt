@@ -1,7 +1,6 @@
 //! Answers as JSON texts.
 #![tactic(auto)]
 
-pub mod laws;
 mod slices;
 mod values;
 

@@ -18,20 +18,6 @@ pub fn get<'t, 'a>(tree: &'t Tree<'a>, name: &str) -> Option<&'t Tree<'a>>
     tree.get(name)
 }
 
-/// The items of a list; those given where there is none.
-pub fn items_or<'t, 'a>(
-    list: Option<&'t Tree<'a>>,
-    absent: &'t [Tree<'a>],
-) -> Option<&'t [Tree<'a>]>
-    ensures { option_map (λ ts. trees_view ts.now) result ≡
-        option_map_or as_array (option_map (λ t. tree_view t.now) list.entry) (Some (trees_view absent.now)) }
-{
-    match list {
-        None => Some(absent),
-        Some(tree) => items_of(tree),
-    }
-}
-
 /// The items of the list that the tree is.
 pub fn items_of<'t, 'a>(tree: &'t Tree<'a>) -> Option<&'t [Tree<'a>]>
     ensures { option_map (λ ts. trees_view ts.now) result ≡ as_array (tree_view tree.now) }

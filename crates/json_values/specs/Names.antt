@@ -1,8 +1,10 @@
 -- Names and ids of entities in JSON.
 use Rattle.std.specs.Prelude.{◌↔◌, IsTrue, ℕ, List, [], ◌∷◌, ◌++◌, length, slice_index, Bool, ◌&&◌, ◌||◌, ◌==◌, not, nat_le, nat_lt, if◌then◌else◌, Option, Some, None, option_map, option_and_then, codes}
+use Rattle.std.specs.BTreeSet.{insert_key}
 use Rattle.std.specs.List.{list_all}
 use Rattle.std.specs.Str.{bytes_eq}
 use Rattle.policy_values.specs.Name.{IsName}
+use Rattle.policy_values.specs.Uid.{uid_cmp}
 use Rattle.policy_values.specs.declared.entity_uid.EntityUID.{EntityUID}
 use Rattle.serde_json.specs.Data.{Data, Items, no_items, item}
 use Rattle.serde_json.specs.Find.{as_str, as_array}
@@ -77,3 +79,13 @@ names_of (Some d) = option_and_then names_of_items (as_array d)
 abbrev pub uids_of : Option Data → Option (List EntityUID)
 uids_of None = Some []
 uids_of (Some d) = option_and_then uids_of_items (as_array d)
+
+-- the set with the ids of the items, each of which is one
+abbrev pub with_uids : List EntityUID → Items → Option (List EntityUID)
+with_uids set no_items = Some set
+with_uids set (item d ds) = option_and_then (λ u. with_uids (insert_key uid_cmp set u) ds) (uid_of d)
+
+-- the set of the ids of a list; an absent list is empty
+abbrev pub uid_set_of : Option Data → Option (List EntityUID)
+uid_set_of None = Some []
+uid_set_of (Some d) = option_and_then (with_uids []) (as_array d)

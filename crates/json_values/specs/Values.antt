@@ -70,3 +70,8 @@ abbrev mutual
   pub value_entries_of : Members → Option (List (List ℕ × Val))
   value_entries_of no_members = Some []
   value_entries_of (member k d ms) = with_field k (value_of d) (value_entries_of ms)
+
+-- the values of an object, under their names; an absent one has none
+abbrev pub given_fields_of : Option Data → Option (List (List ℕ × Val))
+given_fields_of None = Some []
+given_fields_of (Some d) = value_fields_of d

@@ -32,8 +32,8 @@ pub fn has_only(names: &[&str], members: &Map<String, Value>) -> bool
     true
 }
 
-/// The one member of the object, where it has no other.
-pub fn only_member(members: &Map<String, Value>) -> Option<(&String, &Value)>
+// The one member of the object, where it has no other.
+fn only_member(members: &Map<String, Value>) -> Option<(&String, &Value)>
     ensures { option_map (λ m. (string_bytes m.0.now, view m.1.now)) result ≡
         only_member (members_view members.now.entries) }
 {

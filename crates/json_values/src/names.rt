@@ -29,46 +29,14 @@ pub fn read_name(alloc: Global, value: &Value) -> Result<Option<EntityType>, All
     }
 }
 
-// The type that a text names, which shares its characters with another type where it is that type.
-fn read_like(
-    alloc: Global,
-    text: &str,
-    like: Option<&EntityUID>,
-) -> Result<Option<EntityType>, AllocError>
-    ensures { IfOk result (λ o. o ≡ name_of_text text.now) }
-{
-    if let Some(like) = like {
-        let known = like.entity_type();
-        if known.as_str() == text {
-            let shared = known.try_clone()?;
-            return Ok(Some(shared));
-        }
-    }
-    read_type_name(alloc, text)
-}
-
-fn read_name_like(
-    alloc: Global,
-    value: &Value,
-    like: Option<&EntityUID>,
-) -> Result<Option<EntityType>, AllocError>
-    ensures { IfOk result (λ o. o ≡ name_of (view value.now)) }
-{
-    match value.as_str() {
-        Some(text) => read_like(alloc, text, like),
-        None => Ok(None),
-    }
-}
-
 fn read_uid_parts(
     alloc: Global,
     entity_type: &Value,
     eid: &Value,
-    like: Option<&EntityUID>,
 ) -> Result<Option<EntityUID>, AllocError>
     ensures { IfOk result (λ o. o ≡ uid_of_parts (name_of (view entity_type.now)) (as_str (view eid.now))) }
 {
-    let Some(entity_type) = read_name_like(alloc, entity_type, like)? else {
+    let Some(entity_type) = read_name(alloc, entity_type)? else {
         return Ok(None);
     };
     let Some(eid) = eid.as_str() else {
@@ -78,39 +46,23 @@ fn read_uid_parts(
     Ok(Some(EntityUID { entity_type, eid }))
 }
 
-fn read_uid_pair(
-    alloc: Global,
-    items: &Vec<Value>,
-    like: Option<&EntityUID>,
-) -> Result<Option<EntityUID>, AllocError>
+fn read_uid_pair(alloc: Global, items: &Vec<Value>) -> Result<Option<EntityUID>, AllocError>
     ensures { IfOk result (λ o. o ≡ uid_of_items (items_view items.now.items)) }
 {
     if items.len() != 2 {
         return Ok(None);
     }
-    read_uid_parts(alloc, &items[0], &items[1], like)
-}
-
-/// The id that the value spells as a list of a name and a text. It shares the characters of its type with
-/// another id that has the type: many ids in a document have the type of the id before.
-pub fn read_uid_like(
-    alloc: Global,
-    value: &Value,
-    like: Option<&EntityUID>,
-) -> Result<Option<EntityUID>, AllocError>
-    ensures { IfOk result (λ o. o ≡ uid_of (view value.now)) }
-{
-    match value.as_array() {
-        Some(items) => read_uid_pair(alloc, items, like),
-        None => Ok(None),
-    }
+    read_uid_parts(alloc, &items[0], &items[1])
 }
 
 /// The id that the value spells as a list of a name and a text.
 pub fn read_uid(alloc: Global, value: &Value) -> Result<Option<EntityUID>, AllocError>
     ensures { IfOk result (λ o. o ≡ uid_of (view value.now)) }
 {
-    read_uid_like(alloc, value, None)
+    match value.as_array() {
+        Some(items) => read_uid_pair(alloc, items),
+        None => Ok(None),
+    }
 }
 
 fn read_name_items(alloc: Global, items: &Vec<Value>) -> Result<Option<Vec<EntityType>>, AllocError>

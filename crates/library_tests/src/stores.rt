@@ -2,7 +2,7 @@
 
 use entity_loader::merge_values;
 use entity_store::{Entities, Entity};
-use json_document::{Document, parse_json, read_document, read_value};
+use json_document::{Document, Scratch, read_document, read_tree, read_value};
 use json_response::{write_entity, write_value};
 use level_validate::slice_at_level;
 use std::alloc::Global;
@@ -86,12 +86,9 @@ fn merged(alloc: Global, a: &str, b: &str) -> Result<String, Fail> {
 }
 
 fn value_of(alloc: Global, text: &str) -> Result<Option<policy_values::Value>, Fail> {
-    match parse_json(alloc, text.as_bytes())? {
-        Some(json) => {
-            let value = read_value(alloc, &json);
-            drop(json);
-            Ok(value?)
-        }
+    let mut scratch = Scratch::new(alloc);
+    match read_tree(alloc, text.as_bytes(), &mut scratch)? {
+        Some(tree) => Ok(read_value(alloc, &tree)?),
         None => Ok(None),
     }
 }

@@ -3,11 +3,10 @@
 use crate::texts::document_of;
 use batch_decisions::{BatchAnswer, decide_batch_on_rows, decide_batch_on_store};
 use entity_store::Request;
-use json_document::{Document, parse_json, read_request};
+use json_document::{Document, Scratch, Tree, read_request, read_tree};
 use manifest_loading::EntitySliceError;
 use policy_set::{Decision, Response};
 use row_loader::RowLoader;
-use serde_json::Value;
 use std::alloc::Global;
 use std::test::Fail;
 use table_loader::MemoryRows;
@@ -27,18 +26,17 @@ const MIXED: &str =
 
 fn requests_of(alloc: Global, text: &str) -> Result<Vec<Request>, Fail> {
     let mut requests = Vec::new(alloc);
-    if let Some(value) = parse_json(alloc, text.as_bytes())? {
-        let added = add_requests(alloc, &value, &mut requests);
-        drop(value);
-        added?;
+    let mut scratch = Scratch::new(alloc);
+    if let Some(tree) = read_tree(alloc, text.as_bytes(), &mut scratch)? {
+        add_requests(alloc, &tree, &mut requests)?;
     }
     Ok(requests)
 }
 
-fn add_requests(alloc: Global, value: &Value, requests: &mut Vec<Request>) -> Result<(), Fail> {
-    if let Some(values) = value.as_array() {
-        for value in values {
-            if let Some(request) = read_request(alloc, Some(value))? {
+fn add_requests(alloc: Global, tree: &Tree<'_>, requests: &mut Vec<Request>) -> Result<(), Fail> {
+    if let Tree::Array(items) = tree {
+        for item in items {
+            if let Some(request) = read_request(alloc, Some(item))? {
                 requests.push(request)?;
             }
         }

@@ -15,8 +15,8 @@ use Rattle.json_expressions.specs.Exprs.{expr_of, expr_of_members, exprs_of, nam
 use Rattle.json_values.proofs.Ascending.{keys_more}
 use Rattle.policy_values.proofs.MapSteps.{next-seam}
 use Rattle.json_trees.proofs.Named.{said_there}
+use Rattle.json_trees.proofs.Ordered.{sorted_names}
 use Rattle.json_trees.proofs.Views.{tree_view-Array, tree_view-Object}
-use Rattle.json_expressions.proofs.Ordered.{sorted_names}
 use Rattle.json_expressions.proofs.Bounds.{call_reads, get_reads, has_reads, listed_reads}
 use Rattle.json_expressions.proofs.Steps.{item_more, exprs_behind, field_read, none_before, nothing_read}
 use Rattle.plain_lemmas.proofs.Options.{none_of_no_some}

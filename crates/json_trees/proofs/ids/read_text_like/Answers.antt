@@ -1,7 +1,7 @@
 use Rattle.std.proofs.Common.{◌≡◌, sym, ◌∙◌}
 use Rattle.std.proofs.lemmas.Slice.Eq.{bytes_eq-Decides}
 use Rattle.json_values.proofs.NameTest.{name_found}
-use Rattle.json_values.proofs.names.read_like.Goals as goal
+use Rattle.json_trees.proofs.ids.read_text_like.Goals as goal
 
 pub returns-then-eq : goal.returns-then-eq
 returns-then-eq c =

@@ -3,7 +3,7 @@ use Rattle.json.specs.declared.value.Value.{Value}
 use Rattle.serde_json.specs.Find.{as_str}
 use Rattle.json_values.specs.Names.{name_of, uid_of_items, uid_of_parts}
 use Rattle.json_trees.specs.Trees.{tree_view, trees_view}
-use Rattle.json_trees.proofs.leaves.read_uid_pair.Goals as goal
+use Rattle.json_trees.proofs.ids.read_uid_pair.Goals as goal
 
 no_pair : {A : Type 0} (ts : List (Value A)) → length ts ≢ 2 → None ≡ uid_of_items (trees_view ts)
 no_pair [] h = refl
