@@ -1,9 +1,8 @@
 -- Entities in JSON, as a slice has them: with all their ancestors.
 use Rattle.std.specs.Prelude.{ℕ, List, [], ◌∷◌, if◌then◌else◌, Option, Some, None, option_and_then, codes}
-use Rattle.policy_values.specs.declared.entity_uid.EntityUID.{EntityUID}
-use Rattle.policy_values.specs.Value.{Val, fields_of}
+use Rattle.policy_values.specs.Value.{fields_of}
 use Rattle.entity_store.specs.Store.{StoredEntity}
-use Rattle.serde_json.specs.Data.{Data, Items, no_items, item}
+use Rattle.serde_json.specs.Data.{Data}
 use Rattle.serde_json.specs.Find.{get, as_object}
 use Rattle.json_values.specs.Json.{◌>>=◌, has_only, json_of}
 use Rattle.json_values.specs.Names.{uid_of, uid_set_of}

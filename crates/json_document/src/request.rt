@@ -13,7 +13,10 @@ use policy_set::or_drop;
 use policy_values::EntityUID;
 use std::alloc::{AllocError, Global};
 
-fn read_known(alloc: Global, tree: Option<&Tree<'_>>) -> Result<Option<Option<EntityUID>>, AllocError>
+fn read_known(
+    alloc: Global,
+    tree: Option<&Tree<'_>>,
+) -> Result<Option<Option<EntityUID>>, AllocError>
     ensures { IfOk result (λ o. o ≡ known_of (option_map (λ t. tree_view t.now) tree.entry)) }
 {
     let Some(tree) = tree else {
@@ -28,7 +31,10 @@ fn read_known(alloc: Global, tree: Option<&Tree<'_>>) -> Result<Option<Option<En
     }
 }
 
-fn read_context(alloc: Global, tree: Option<&Tree<'_>>) -> Result<Option<Option<Context>>, AllocError>
+fn read_context(
+    alloc: Global,
+    tree: Option<&Tree<'_>>,
+) -> Result<Option<Option<Context>>, AllocError>
     ensures { IfOk result (λ o. o ≡ context_of (option_map (λ t. tree_view t.now) tree.entry)) }
 {
     let Some(tree) = tree else {

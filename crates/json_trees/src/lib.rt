@@ -12,8 +12,8 @@ mod readings;
 mod trees;
 mod values;
 
-pub use json::{Scratch, Value as Tree};
 pub use ids::{read_name, read_uid, read_uid_like, read_uid_set, read_uids};
+pub use json::{Scratch, Value as Tree};
 pub use leaves::{as_i64, as_str, get_str, is_null};
 pub use lookups::{get, has_only, have_only, items_of, take, take_items};
 pub use members::{lone_member, member_places};

@@ -185,10 +185,7 @@ fn read_record(alloc: Global, tree: &Tree<'_>) -> Result<Option<Value>, AllocErr
 }
 
 #[cycle(value)]
-fn read_object(
-    alloc: Global,
-    tree: &Tree<'_>,
-) -> Result<Option<BTreeMap<Text, Value>>, AllocError>
+fn read_object(alloc: Global, tree: &Tree<'_>) -> Result<Option<BTreeMap<Text, Value>>, AllocError>
     ensures { IfOk result
         (λ o. option_map (λ fs. fs.entries) o ≡ value_fields_of (tree_view tree.now)) }
 {

@@ -1,7 +1,7 @@
 //! Names and ids of entities in JSON.
 
 ghost use Rattle.std.specs.Prelude.{◌≡◌, IfOk, option_map};
-ghost use Rattle.serde_json.specs.View.{view, items_view, members_view};
+ghost use Rattle.serde_json.specs.View.{view, items_view};
 ghost use Rattle.serde_json.specs.Find.{as_str};
 ghost use Rattle.json_values.specs.Names.{name_of, name_of_text, names_of, names_of_items, uid_of, uid_of_items, uid_of_parts, uids_of, uids_of_items};
 
