@@ -19,6 +19,7 @@ use Rattle.serde_json.specs.Find.{get, get_member}
 use Rattle.serde_json.proofs.Views.{get_member-put, get_member-put_other}
 use Rattle.json_values.specs.Json.{has_only}
 use Rattle.json_trees.specs.Trees.{data_of, members_data}
+use Rattle.plain_lemmas.proofs.Booleans.{and_exchange}
 
 -- the first, or else the second
 abbrev or_else : Option Data → Option Data → Option Data
@@ -70,11 +71,6 @@ and_twice : (a b : Bool) → (a && b) ≡ (a && (a && b))
 and_twice true b = refl
 and_twice false b = refl
 
-and_around : (a b c : Bool) → (a && (b && c)) ≡ (b && (a && c))
-and_around true b c = refl
-and_around false true c = refl
-and_around false false c = refl
-
 -- whether the members have but these names, with one more
 put_has_only : (names : List (List ℕ)) (k : List ℕ) (d : Data) (ms : Members) → has_only names (put k d ms) ≡ (list_any (bytes_eq k) names && has_only names ms)
 put_has_only names k d no_members = refl
@@ -83,7 +79,7 @@ put_has_only names k d (member l e ms) = at (slice_cmp nat_cmp k l) refl (put_ha
       → has_only names (match_ordering o (member k d (member l e ms)) (member l d ms) (member l e (put k d ms))) ≡ (list_any (bytes_eq k) names && has_only names (member l e ms))
   at Less is more = refl
   at Equal is more = rw (same_texts k l is) (and_twice (list_any (bytes_eq l) names) (has_only names ms))
-  at Greater is more = ap (λ b. list_any (bytes_eq l) names && b) more ∙ and_around (list_any (bytes_eq l) names) (list_any (bytes_eq k) names) (has_only names ms)
+  at Greater is more = ap (λ b. list_any (bytes_eq l) names && b) more ∙ and_exchange (list_any (bytes_eq l) names) (list_any (bytes_eq k) names) (has_only names ms)
 
 -- whether each member of a tree has one of the names
 abbrev pub names_only : List (List ℕ) → json.Members → Bool

@@ -1,5 +1,6 @@
 //! JSON texts as trees that borrow them, and what is read of their parts: a whole text is held as a tree,
-//! which takes little room, and its parts are looked up there, or taken out and made values in their turn.
+//! which takes little room, and its parts are looked up there, read as names, ids and values, or taken out and
+//! made JSON values in their turn.
 #![tactic(auto)]
 
 mod ids;
