@@ -11,7 +11,6 @@ use Rattle.serde_json.specs.Find.{get, as_object}
 use Rattle.json_values.specs.Json.{◌>>=◌, has_only}
 use Rattle.json_values.specs.Names.{uid_of, uid_set_of}
 use Rattle.json_values.specs.Values.{given_fields_of}
-use Rattle.json_document.specs.Fields.{both_of}
 use Rattle.json_document.specs.declared.place.Place.{Place}
 use Rattle.json_document.specs.declared.place.Place.TheVariants as place
 
@@ -24,8 +23,9 @@ unfoldable pub given_entity_of : Data → Option StoredEntity
 given_entity_of d = do
   uid ← option_and_then uid_of (get (codes "id") d)
   parents ← uid_set_of (get (codes "parents") d)
-  both ← both_of (given_fields_of (get (codes "attrs") d)) (given_fields_of (get (codes "tags") d))
-  Some (record { uid = uid; attrs = fields_of both.0; ancestors = parents; tags = fields_of both.1 })
+  attrs ← given_fields_of (get (codes "attrs") d)
+  tags ← given_fields_of (get (codes "tags") d)
+  Some (record { uid = uid; attrs = fields_of attrs; ancestors = parents; tags = fields_of tags })
 
 -- the entity of an object without other members
 abbrev pub entity_of : Data → Option StoredEntity

@@ -2,7 +2,6 @@ pub mod Faults
 pub mod PlaceText
 pub mod Entities
 pub mod Edits
-pub mod Fields
 pub mod Request
 pub mod Store
 pub mod Laws

@@ -10,10 +10,9 @@ ghost use Rattle.policy_values.specs.Uid.{uid_eq};
 ghost use Rattle.entity_store.specs.FromParents.{ids_of};
 ghost use Rattle.json_document.specs.Faults.{ComesTo};
 
-use crate::fields::read_attrs_and_tags;
 use crate::{DocumentFault, Place};
 use entity_store::Entity;
-use json_trees::{Tree, get, has_only, read_uid_like, read_uid_set};
+use json_trees::{Tree, get, has_only, read_fields, read_uid_like, read_uid_set};
 use policy_set::or_drop;
 use policy_values::EntityUID;
 use std::alloc::{AllocError, Global};
@@ -56,14 +55,20 @@ fn read_given_entity(
         drop(uid);
         return Ok(None);
     };
-    match or_drop!(read_attrs_and_tags(alloc, tree), uid, parents) {
-        Some((attrs, tags)) => Ok(Some(Entity::new(uid, attrs, parents, tags))),
-        None => {
-            drop(uid);
-            drop(parents);
-            Ok(None)
-        }
-    }
+    let attrs = read_fields(alloc, get(tree, "attrs"));
+    let Some(attrs) = or_drop!(attrs, uid, parents) else {
+        drop(uid);
+        drop(parents);
+        return Ok(None);
+    };
+    let tags = read_fields(alloc, get(tree, "tags"));
+    let Some(tags) = or_drop!(tags, uid, parents, attrs) else {
+        drop(uid);
+        drop(parents);
+        drop(attrs);
+        return Ok(None);
+    };
+    Ok(Some(Entity::new(uid, attrs, parents, tags)))
 }
 
 fn has_names(tree: &Tree<'_>) -> bool

@@ -6,7 +6,6 @@ mod document;
 mod edit;
 mod edits;
 mod entities;
-mod fields;
 pub mod laws;
 mod parts;
 mod place;
