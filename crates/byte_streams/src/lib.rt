@@ -5,8 +5,6 @@
 mod memory;
 mod reading;
 mod standard;
-#[cfg(test)]
-mod tests;
 mod traits;
 mod writing;
 
