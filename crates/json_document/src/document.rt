@@ -178,8 +178,8 @@ fn read_tree_as(alloc: Global, shape: Shape, tree: Tree<'_>) -> Result<Document,
 }
 
 /// The document of the shape that the bytes are; else the place of its first fault. The bytes are read once,
-/// as a tree that borrows them; policies are read from it, and each entity is made a JSON value in its turn,
-/// which takes the place of its tree. Each is let go of once it is read.
+/// as a tree that borrows them. Policies, edits, entities and requests are read from their trees, each of which
+/// is let go of once it is read; the schema alone is made a JSON value.
 #[tactic(auto, unfolding(crate::specs::Reading::IsReadAs))]
 pub fn read_document_as(
     alloc: Global,
