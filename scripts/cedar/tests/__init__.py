@@ -1,1 +1,1 @@
-"""The tests of scripts/from-cedar and scripts/to-cedar; scripts/test-from-cedar runs them."""
+"""The tests of scripts/from-cedar and scripts/to-cedar; scripts/dev/test-from-cedar runs them."""
