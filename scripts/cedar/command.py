@@ -98,6 +98,8 @@ def wrong(given):
         return f"--request and --{of_words[0]} exclude each other"
     if of_words and not {"principal", "action", "resource"} <= set(given):
         return "--principal, --action and --resource are given together"
+    if (of_words or "request" in given) and "entities" not in given:
+        return "--entities is missing: a request is decided on entities, if only on those of a file with []"
     if list(given.values()).count("-") > 1:
         return "standard input is read once"
     return None

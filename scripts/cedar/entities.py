@@ -49,7 +49,8 @@ class Values:
 
 
 def entity(e, place, schema, report):
-    if not members(e, place, report, ("uid",), ("attrs", "parents", "tags")):
+    members(e, place, report, ("uid", "attrs", "parents"), ("tags",))
+    if not isinstance(e, dict) or "uid" not in e:
         return None
     made = {"id": uid(e["uid"], place["uid"], report)}
     kind = made["id"][0] if made["id"] else None
@@ -100,12 +101,10 @@ PARTS = ("principal", "action", "resource")
 
 
 def request(value, top, schema, report):
-    if not members(value, top, report, PARTS, ("context",)):
+    if not members(value, top, report, (*PARTS, "context")):
         return {}
     made = {part: uid(value[part], top[part], report, text=True) for part in PARTS}
-    if "context" not in value:
-        report.added(top, "an empty context")
-    made["context"] = context(value.get("context", {}), made["action"], top["context"], schema, report)
+    made["context"] = context(value["context"], made["action"], top["context"], schema, report)
     return made
 
 

@@ -17,15 +17,25 @@ def read(value, top, report):
     if not isinstance(value, dict):
         report.no(top, "policies as JSON are an object: a policy set, or one policy")
         return [], []
-    members(value, top, report, (), SET_PARTS)
+    members(value, top, report, SET_PARTS)
     found = []
     for part in SET_PARTS[:2]:
         here = value.get(part, {})
-        if not isinstance(here, dict):
+        if isinstance(here, dict):
+            found += [in_part(part, key, p, top[part][key], report) for key, p in here.items()]
+        else:
             report.no(top[part], "expected an object: policies by their ids")
-            continue
-        found += [PolicyReader(report).policy(key, p, top[part][key]) for key, p in here.items()]
     return [p for p in found if p], links(value.get("templateLinks", []), top["templateLinks"], report)
+
+
+def in_part(part, key, value, place, report):
+    """A policy of one of the two tables: a template has slots, a static policy has none."""
+    found = PolicyReader(report).policy(key, value, place)
+    if found and found.slots() and part == "staticPolicies":
+        report.no(place, "a policy with a slot is a template, and is written under `templates`")
+    if found and not found.slots() and part == "templates":
+        report.no(place, "a policy without a slot is no template; it is written under `staticPolicies`")
+    return found
 
 
 def links(value, top, report):
@@ -63,7 +73,7 @@ class PolicyReader:
 
     def policy(self, key, p, place):
         parts = ("principal", "action", "resource")
-        if not members(p, place, self.report, ("effect", *parts), ("conditions", "annotations")):
+        if not members(p, place, self.report, ("effect", *parts, "conditions"), ("annotations",)):
             return None
         if p["effect"] not in ("permit", "forbid"):
             self.no(place["effect"], "expected `permit` or `forbid`")
@@ -72,7 +82,7 @@ class PolicyReader:
             part = self.scope(p[own], own, place[own])
             if part:
                 scope[own] = part
-        clauses = self.clauses(p.get("conditions", []), place["conditions"])
+        clauses = self.clauses(p["conditions"], place["conditions"])
         return nodes.Policy(self.named(key, p.get("annotations", {}), place), p["effect"], scope, clauses, place, key)
 
     def named(self, key, annotations, place):

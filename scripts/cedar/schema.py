@@ -82,7 +82,8 @@ class Schema:
         """Notes what a namespace declares."""
         if space and not is_name(space):
             return bool(self.no(place, f"no name of a namespace: {shown(space)}"))
-        if not self.has(part, place, (), ("commonTypes", "entityTypes", "actions")):
+        self.has(part, place, ("entityTypes", "actions"), ("commonTypes",))
+        if not isinstance(part, dict):
             return False
         for member in ("commonTypes", "entityTypes", "actions"):
             if not isinstance(part.get(member, {}), dict):
@@ -183,8 +184,7 @@ class Schema:
 
     def record(self, t, space, place, also=()):
         """The attributes of a record type."""
-        if not self.has(t, place, ("type",), ("attributes", "additionalAttributes", *also)):
-            return {}
+        self.has(t, place, ("type", "attributes"), ("additionalAttributes", *also))
         if t.get("additionalAttributes"):
             self.no(place["additionalAttributes"], "records are closed here")
         given, made = t.get("attributes", {}), {}
@@ -240,7 +240,7 @@ class Schema:
         if applies is not None and self.has(applies, at, ("principalTypes", "resourceTypes"), ("context",)):
             made["principals"] = self.entity_names(applies["principalTypes"], space, at["principalTypes"])
             made["resources"] = self.entity_names(applies["resourceTypes"], space, at["resourceTypes"])
-            if applies.get("context") is not None:
+            if "context" in applies:
                 self.contexts[tuple(made["id"])] = self.attributes_of(applies["context"], space, at["context"])
                 if self.contexts[tuple(made["id"])]:
                     made["context"] = self.contexts[tuple(made["id"])]

@@ -91,7 +91,8 @@ class SchemaReader(Reader):
         for at, name in names:
             if name in known:
                 self.no(at, f"`{name}` is declared twice")
-            known[name] = {"type": "Record"} if token.text == "type" else {}  # what stands where the rest has a fault
+            # what stands where the rest has a fault
+            known[name] = {"type": "Record", "attributes": {}} if token.text == "type" else {}
             paths.append((space, member, name))
             self.mark(paths[-1], at)
         made = getattr(self, token.text)(paths)

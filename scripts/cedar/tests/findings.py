@@ -27,8 +27,8 @@ CONDITIONS = (
     ('action in [Action::"vew"]', "1:56", "UnrecognizedActionId", 'Action::"vew"'),
     ("principal has name.a && true", "1:45", "UnexpectedType", "principal has name.a"),
 )
-ENTITIES = '[{"uid": {"type": "User", "id": "q\\"\\n"}, "attrs": {"name": "a"}},\n {"uid": {"type": "Group", "id": "q\\"\\n"}, "attrs": {"x": 1}}]'
-REQUEST = '{"principal": {"type": "Group", "id": "g"},\n "action": "Action::\\"view\\"", "resource": "Doc::\\"d\\""}'
+ENTITIES = '[{"uid": {"type": "User", "id": "q\\"\\n"}, "attrs": {"name": "a"}, "parents": []},\n {"uid": {"type": "Group", "id": "q\\"\\n"}, "attrs": {"x": 1}, "parents": []}]'
+REQUEST = '{"principal": {"type": "Group", "id": "g"},\n "action": "Action::\\"view\\"", "resource": "Doc::\\"d\\"", "context": {}}'
 SCOPES = "permit (principal, action, resource);\npermit (principal in Usr::\"a\", action, resource);\npermit (principal == ?principal, action, resource);"
 LINKS = '[{"template_id": "policy2", "link_id": "l", "args": {"?principal": "Usr::\\"a\\""}}]'
 

@@ -1,4 +1,6 @@
 """What is refused: files with a fault each, the place that is told, and words of the text."""
+import json
+
 from cedar.tests.shared import make
 
 SCHEMA = "entity User in [Group] { age: Long, when?: datetime } tags String;\nentity Group;\nentity Doc { owner: User };\naction view, edit appliesTo { principal: User, resource: Doc, context: { ip: ipaddr } };\n"
@@ -12,6 +14,19 @@ def when(text):
 
 def est(body):
     return '{"effect": "permit", "principal": {"op": "All"}, "action": {"op": "All"}, "resource": {"op": "All"}, "conditions": [{"kind": "when", "body": %s}]}' % body
+
+
+ANY = {"op": "All"}
+ALL = {"effect": "permit", "principal": ANY, "action": ANY, "resource": ANY, "conditions": []}
+STOP = {**ALL, "effect": "forbid", "principal": {"op": "==", "slot": "?principal"}}
+
+
+def without(member):
+    return json.dumps({name: part for name, part in ALL.items() if name != member})
+
+
+def policy_set(part, name, policy):
+    return json.dumps({"staticPolicies": {}, "templates": {}, "templateLinks": [], part: {name: policy}})
 
 
 # Conditions in text, with the column inside.
@@ -65,6 +80,13 @@ CONDITIONS = (
     ("true &", 6, "the character '&'"),
 )
 POLICIES = (
+    (without("conditions"), "1:1", "`conditions` is missing"),
+    (without("resource"), "1:1", "`resource` is missing"),
+    (policy_set("staticPolicies", "stop", STOP), "1:29: staticPolicies.stop", "is written under `templates`"),
+    (policy_set("templates", "all", ALL), "1:45: templates.all", "is written under `staticPolicies`"),
+    ('{"staticPolicies": {}, "templates": {}}', "1:1", "`templateLinks` is missing"),
+    ('{"staticPolicies": {}, "templateLinks": []}', "1:1", "`templates` is missing"),
+    ('{"templates": {}, "templateLinks": []}', "1:1", "`staticPolicies` is missing"),
     ("permit (principal, action);", "1:26", "expected `,`"),
     ("permit (principal, action, resource)", "1:37", "expected `;`, found the end"),
     ("allow (principal, action, resource);", "1:1", "`permit` or `forbid`"),
@@ -114,6 +136,11 @@ POLICIES = (
     (est('{"Value": ' + "[" * 5000 + "]" * 5000 + "}"), "", "nests deeper than 1000"),
 )
 SCHEMAS = (
+    ('{"": {"entityTypes": {}}}', '1:6: [""]', "`actions` is missing"),
+    ('{"": {"actions": {}}}', '1:6: [""]', "`entityTypes` is missing"),
+    ('{"": {"entityTypes": {"U": {"shape": {"type": "Record"}}}, "actions": {}}}', '1:38: [""].entityTypes.U.shape', "`attributes` is missing"),
+    ('{"": {"entityTypes": {}, "actions": {"a": {"appliesTo": {"resourceTypes": []}}}}}', '1:57: [""].actions.a.appliesTo', "`principalTypes` is missing"),
+    ('{"": {"entityTypes": {}, "actions": {"a": {"appliesTo": {"principalTypes": [], "resourceTypes": [], "context": null}}}}}', '1:112: [""].actions.a.appliesTo.context', "expected a type"),
     ("entity User", "1:12", "expected `;`"),
     ("entity in;", "1:8", "reserved word"),
     ("entity User; entity User;", "1:21", "declared twice"),
@@ -150,6 +177,10 @@ SCHEMAS = (
     ("[]", "1:1", "expected an object"),
 )
 ENTITIES = (
+    ('[{"uid": {"type": "User", "id": "a"}, "attrs": {"age": 1}}]', "1:2: [0]", "the member `parents` is missing"),
+    ('[{"uid": {"type": "User", "id": "a"}, "parents": []}]', "1:2: [0]", "the member `attrs` is missing"),
+    ('[{"uid": {"type": "User", "id": "a"}, "attrs": {}, "parents": null}]', "1:63: [0].parents", "a list of ids"),
+    ('[{"uid": {"type": "User", "id": "a"}, "attrs": {}, "parents": [], "tags": null}]', "1:75: [0].tags", "expected an object"),
     ("{}", "1:1", "a list of entities"),
     ("[{}]", "1:2: [0]", "`uid` is missing"),
     ('[{"uid": "User::\\"a\\""}]', "1:10: [0].uid", "expected an entity's id"),
@@ -164,11 +195,13 @@ ENTITIES = (
     ('[{"uid": {"type": "User", "id": "a"}, "parents": {}}]', "1:50: [0].parents", "a list of ids"),
     ('[{"uid": {"type": "User", "id": "a"}, "attrs": []}]', "1:48: [0].attrs", "expected an object"),
     ("entity", "1:1", "no JSON"),
-    ('[{"uid": {"type": "User", "id": "a"}, "attrs": {"x": ' + "[" * 130 + "]" * 130 + "}}]", "1:1", "nests deeper than 127"),
+    ('[{"uid": {"type": "User", "id": "a"}, "attrs": {"x": ' + "[" * 130 + "]" * 130 + '}, "parents": []}]', "1:1", "nests deeper than 127"),
     ('[{"uid": {"type": "User", "id": "a"}, "attrs": {"age": -0}}]', "1:56: [0].attrs.age", "-0 is no whole number"),
 )
 REQUEST = '{"principal": "User::\\"a\\"", "action": "Action::\\"view\\"", "resource": "Doc::\\"d\\"", "context": %s}'
 REQUESTS = (
+    ((REQUEST % "{}").replace(', "context": {}', ""), "1:1", "`context` is missing"),
+    (REQUEST % "null", "1:97: context", "expected an object"),
     ("{}", "1:1", "`principal` is missing"),
     (REQUEST % "[]", "1:97: context", "expected an object"),
     (REQUEST % '{"ip": "10.0.0.256"}', "1:104: context.ip", "no text of `ip`"),
@@ -190,7 +223,7 @@ LINKS = (
 SEVERAL = (
     ("policies", "permit (principal, action, resource) when { ((( };\nallow (principal);\n" + POLICY + "\n" + when("foo(1) && " + "(" * 397 + "true" + ")" * 397 + " && bar(1)"), 4),
     ("schema", "entity User in [Nope] = { a: };\ntype T = Set<;\nentity B { t: T, u: User };\nnamespace N { entity C; action }\nentity D { c: N::C };", 3),
-    ("entities", '[{"uid": 1, "attrs": {"a": null}, "parents": [1]}, {"uid": {"type": "User", "id": 1}}]', 4),
+    ("entities", '[{"uid": 1, "attrs": {"a": null}, "parents": [1]}, {"uid": {"type": "User", "id": 1}}]', 6),
 )
 TEMPLATE = POLICY + "permit (principal == ?principal, action, resource);"
 
