@@ -1,0 +1,3 @@
+@id("adults")
+permit (principal, action == Action::"watch", resource)
+when { principal.age >= 18 };
