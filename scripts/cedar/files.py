@@ -58,7 +58,7 @@ def load(word, given, made):
 
 
 def json_value(source, made):
-    source.finder, source.is_json = json_text.find, True
+    source.finder, source.is_json = json_text.Finder(), True
     return json_text.load(source, made.report)
 
 

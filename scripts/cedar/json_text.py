@@ -1,6 +1,7 @@
 """JSON with places: reads a file's text, and finds where the value of a path stands in it."""
 import json
 import re
+from collections import Counter
 
 from cedar.places import Place
 
@@ -32,8 +33,8 @@ def whole(text):
 def members(pairs):
     made = Object(pairs)
     if len(made) != len(pairs):
-        names = [name for name, _ in pairs]
-        made.repeated = sorted({name for name in names if names.count(name) > 1})
+        times = Counter(name for name, _ in pairs)
+        made.repeated = sorted(name for name in times if times[name] > 1)
     return made
 
 
@@ -93,21 +94,24 @@ def tested(value, top, report):
     return good
 
 
-def find(text, path):
-    """The offset of the value at the end of a path, as far as the path goes; a name that stands twice
-    counts where it stands last."""
-    at = SPACE.match(text, 0).end()
-    for step in path:
-        found = None
-        for name, start in parts(text, at):
-            if name == step:
-                found = start
-                if isinstance(step, int):
-                    break
-        if found is None:
-            return at
-        at = found
-    return at
+class Finder:
+    """Finds where the parts of a text stand. What was once looked through is known."""
+
+    def __init__(self):
+        self.known = {}  # the steps out of an object or a list, by its offset
+
+    def __call__(self, text, path):
+        """The offset of the value at the end of a path, as far as the path goes; a name that stands twice counts
+        where it stands last."""
+        at = SPACE.match(text, 0).end()
+        for step in path:
+            if at not in self.known:
+                self.known[at] = dict(parts(text, at))
+            found = self.known[at].get(step)
+            if found is None:
+                return at
+            at = found
+        return at
 
 
 DECODER = json.JSONDecoder(parse_int=str, parse_float=str, parse_constant=str)

@@ -5,6 +5,8 @@ is one). Inside this program places are offsets in characters; `at` in a documen
 file, which is UTF-8."""
 import bisect
 
+from visible import visible
+
 TOLD = 100  # so many refusals are told one by one
 
 
@@ -130,4 +132,4 @@ class Report:
     def lines(self):
         told = [line for line in self.refused if isinstance(line, str)]
         more = len(self.refused) - len(told)
-        return list(self.notes) + told + ([f"refused: {more} more"] if more else [])
+        return list(map(visible, [*self.notes, *told])) + ([f"refused: {more} more"] if more else [])

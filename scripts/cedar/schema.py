@@ -247,7 +247,7 @@ class Schema:
         above = a.get("memberOf")
         if above and is_list(above, place["memberOf"], self.report, "actions"):
             found = [self.above(m, space, place["memberOf"][i]) for i, m in enumerate(above)]
-            made["memberOf"] = [uid for i, uid in enumerate(found) if uid not in found[:i]]
+            made["memberOf"] = list({tuple(uid or ()): uid for uid in found}.values())
         self.actions.append(made)
 
     def above(self, m, space, place):

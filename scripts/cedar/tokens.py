@@ -17,7 +17,7 @@ TOKEN = re.compile(
         )
     )
 )
-ESCAPE = re.compile(r'[^\\\r*]+|\\u\{[^}"]*\}|\\x..|\\.|.', re.S)
+ESCAPE = re.compile(r'[^\\\r*]+|\\u\{[^}"\\]*\}|\\x..|\\.|.', re.S)
 PLAIN = {"n": "\n", "r": "\r", "t": "\t", "0": "\0", "\\": "\\", '"': '"', "'": "'"}
 RESERVED = frozenset(("true", "false", "if", "then", "else", "in", "is", "like", "has", "__cedar"))
 

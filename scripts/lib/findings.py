@@ -147,12 +147,26 @@ def conformance_of(program, document):
     """What `request` says against the requests and the entities of a document: of each at most one finding."""
     if "requests" not in document:
         return one_conformance(program, document, ("request",))
-    rest = {name: part for name, part in document.items() if name != "requests"}
+    rest = {name: part for name, part in document.items() if name not in ("requests", "policies")}
     found = one_conformance(program, rest, ())  # without a request, what is said is said of an entity
-    if not found:
-        for i, request in enumerate(document["requests"]):
-            found += one_conformance(program, rest | {"request": request}, ("requests", i))
+    if found or not document["requests"]:
+        return found
+    asked = {"schema": rest["schema"], "requests": document["requests"]}
+    status, told = ask(program, ["batch"], asked)
+    if status != 0:
+        raise Broken(status, f"batch ended with {status}: {told.strip()}")
+    for i, (request, line) in enumerate(zip(document["requests"], told.split("\n"))):
+        why = json.loads(line).get("refused")
+        is_partial = None in map(request.get, ENTRIES)  # of which `batch` does not say what is wrong
+        if is_partial or why is not None and len(found) < MOST_HELPS:
+            found += one_conformance(program, {"schema": rest["schema"], "request": request}, ("requests", i))
+        elif why is not None:
+            found.append(Finding("error", "InvalidRequest", f"request: {why}", ("requests", i)))
     return found
+
+
+ENTRIES = ("principal", "action", "resource", "context")
+MOST_HELPS = 20  # for so many requests the program is asked once more, which gives a help
 
 
 def one_conformance(program, document, path):

@@ -1,6 +1,7 @@
 """What is legal in a document and likely wrong: findings of these scripts' own, of which the program
 says nothing."""
 import json
+from collections import deque
 
 from findings import Finding, uid
 
@@ -16,14 +17,35 @@ def warning(kind, text, path, help=None, policy=None):
     return Finding("warning", kind, text, path, help=help, policy=policy)
 
 
+MOST_GROUPS = 20  # so many groups a help lists
+
+
 def above(id_, direct):
-    """The groups of an action, of any number of steps."""
-    found, left = [], list(direct.get(id_, []))
+    """The groups of an action, of any number of steps, the nearest first; None where there are too many to list."""
+    found, left = {}, deque(direct.get(id_, []))
     while left:
-        group = left.pop(0)
+        group = left.popleft()
         if group not in found:
-            found.append(group)
+            found[group] = True
             left += direct.get(group, [])
+            if len(found) > MOST_GROUPS:
+                return None
+    return list(found)
+
+
+def nearest_above(direct, wanted):
+    """For each action below one of the wanted groups the nearest of these."""
+    members = {}
+    for id_, groups in direct.items():
+        for group in groups:
+            members.setdefault(group, []).append(id_)
+    found, left = {}, deque((group, group) for group in wanted)
+    while left:
+        group, top = left.popleft()
+        for id_ in members.get(group, []):
+            if id_ not in found:
+                found[id_] = top
+                left.append((id_, top))
     return found
 
 
@@ -38,17 +60,19 @@ def unlisted_actions(document, actions, policies):
     for policy in policies:
         for id_ in set(ids_in([policy.get("action"), policy.get("body")])):
             named.setdefault(id_, policy["id"])
-    found = []
+    nearest, found = nearest_above(direct, named), []
     for i, action in enumerate(actions):
-        groups = above(tuple(action["id"]), direct)
-        meant = [group for group in groups if group in named]
-        if meant and tuple(action["id"]) not in stored:
+        id_ = tuple(action["id"])
+        if id_ in nearest and id_ not in stored:
+            group = nearest[id_]
             text = (
-                f"action `{uid(action['id'])}` is not among the entities, so it is in no group when policies are "
-                f"evaluated: `in` with `{uid(meant[0])}` is false of it, as in policy `{named[meant[0]]}`"
+                f"action `{uid(id_)}` is not among the entities, so it is in no group when policies are "
+                f"evaluated: `in` with `{uid(group)}` is false of it, as in policy `{named[group]}`"
             )
-            entity = compact({"id": action["id"], "parents": [list(group) for group in groups]})
-            found.append(warning("UnlistedAction", text, ("schema", "actions", i), f"add to the entities {entity}"))
+            groups = above(id_, direct)
+            entity = compact({"id": action["id"], "parents": groups})
+            help_ = None if groups is None else f"add to the entities {entity}"
+            found.append(warning("UnlistedAction", text, ("schema", "actions", i), help_))
     return found
 
 

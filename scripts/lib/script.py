@@ -6,6 +6,8 @@ import pathlib
 import subprocess
 import sys
 
+from visible import visible
+
 TOP = pathlib.Path(__file__).resolve().parents[2]
 RELEASE = TOP / "release/palvumiose-x86_64-linux"
 
@@ -41,7 +43,7 @@ def take_utf8():
 
 
 def complain(text, status):
-    print(f"{pathlib.Path(sys.argv[0]).name}: {text}", file=sys.stderr)
+    print(f"{pathlib.Path(sys.argv[0]).name}: {visible(str(text))}", file=sys.stderr)
     return status
 
 
