@@ -105,7 +105,7 @@ fn read_set(alloc: Global, items: &[Tree<'_>]) -> Result<Option<Value>, AllocErr
         (λ o. o ≡ option_map (λ vs. set (set_of vs)) (values_of (trees_view items.now))) }
 {
     match read_items(alloc, items)? {
-        Some(items) => Ok(Some(Value::set(alloc, items)?)),
+        Some(items) => Ok(Some(Value::set(items))),
         None => Ok(None),
     }
 }

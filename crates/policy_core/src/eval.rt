@@ -93,7 +93,7 @@ fn outcome_of<T>(
         }
         ExprKind::Set(items) => {
             let values = evaluate_all(alloc, items, request, entities)?;
-            set_of_values(alloc, values)
+            Ok(set_of_values(values))
         }
         ExprKind::Record(fields) => {
             let values = evaluate_named(alloc, fields, request, entities)?;
@@ -478,15 +478,12 @@ fn is_of(x: Outcome, entity_type: &EntityType) -> Outcome
 }
 
 // The set of values; an error stays.
-fn set_of_values(
-    alloc: Global,
-    values: Result<Vec<Value>, EvalError>,
-) -> Result<Outcome, AllocError>
-    ensures { IfOk result (λ o. o ≡ set_outcome (result_map (λ v. v.items) values)) }
+fn set_of_values(values: Result<Vec<Value>, EvalError>) -> Outcome
+    ensures { result ≡ set_outcome (result_map (λ v. v.items) values) }
 {
     match values {
-        Ok(values) => Ok(Outcome::Value(Value::set(alloc, values)?)),
-        Err(error) => Ok(Outcome::Error(error)),
+        Ok(values) => Outcome::Value(Value::set(values)),
+        Err(error) => Outcome::Error(error),
     }
 }
 

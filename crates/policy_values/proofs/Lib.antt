@@ -15,7 +15,7 @@ mod Turns
 pub mod NameFront
 pub mod HashSteps
 pub mod MapSteps
-mod Pushed
+mod Sorted
 pub mod ReadSteps
 mod SetSteps
 pub mod Sizes

@@ -7,7 +7,7 @@ ghost use Rattle.policy_values.specs.Value.{Val, truth, long, string, entity, se
 ghost use Rattle.policy_values.specs.RangeOrder.{range_cmp};
 ghost use Rattle.policy_values.specs.ValueOrder.{rank, val_cmp, vals_cmp, fields_cmp, set_of, Ascends, IsInOrder};
 
-use crate::ascending::ascending_items;
+use crate::ascending::ascending_values;
 use crate::{EntityUID, Text, push_entry};
 use policy_ext::{DateTimeValue, Decimal, Duration, IpAddr};
 use std::alloc::{AllocError, Global};
@@ -124,15 +124,13 @@ impl Value {
         }
     }
 
-    /// The set of the elements of a list, whatever their order; repeats are kept once. Errs where memory
-    /// runs out.
-    pub fn set(alloc: Global, items: Vec<Value>) -> Result<Value, AllocError>
-        ensures { IfOk result (λ v. v ≡ set (set_of items.items)) }
+    /// The set of the elements of a list, whatever their order; repeats are kept once.
+    pub fn set(items: Vec<Value>) -> Value
+        ensures { result ≡ set (set_of items.items) }
     {
-        let items = ascending_items(alloc, items)?;
-        Ok(Value {
-            kind: ValueKind::Set(items),
-        })
+        Value {
+            kind: ValueKind::Set(ascending_values(items)),
+        }
     }
 
     /// The record of the fields of a map.
