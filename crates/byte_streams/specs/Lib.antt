@@ -2,3 +2,5 @@ pub mod State
 pub mod Steps
 pub mod Document
 pub mod Memory
+pub mod Answering
+pub mod Lines

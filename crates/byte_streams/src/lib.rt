@@ -2,12 +2,17 @@
 //! of its faults, so that a contract can say when a fault may be blamed.
 #![tactic(auto)]
 
+mod answering;
+mod lines;
 mod memory;
+mod pieces;
 mod reading;
 mod standard;
 mod traits;
 mod writing;
 
+pub use answering::{AnswersLines, Ended, answer_lines};
+pub use lines::{Line, Lines};
 pub use memory::{MemorySink, MemorySource, NoSink, SliceSource};
 pub use reading::{DOCUMENT_LIMIT, ReadError, limit_is_stated, read_document_bytes};
 pub use standard::{StdSink, StdSource};

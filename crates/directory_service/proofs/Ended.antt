@@ -1,8 +1,8 @@
 -- Lines that were answered up to the last one.
 use Rattle.std.proofs.Common.{◌≡◌, ℕ, List, Option, sym, subst}
-use Rattle.bounded_lines.specs.Answering.{AreAnswered}
-use Rattle.bounded_lines.specs.declared.answering.Ended.{Ended}
-use Rattle.bounded_lines.specs.declared.answering.Ended.TheVariants as ended
+use Rattle.byte_streams.specs.Answering.{AreAnswered}
+use Rattle.byte_streams.specs.declared.answering.Ended.{Ended}
+use Rattle.byte_streams.specs.declared.answering.Ended.TheVariants as ended
 use Rattle.byte_streams.specs.State.{SinkState}
 
 -- nothing was written behind the last answer

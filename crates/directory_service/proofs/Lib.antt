@@ -1,1 +1,4 @@
 pub mod Ended
+mod Attempted
+mod Served
+mod Written

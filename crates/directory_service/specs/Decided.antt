@@ -1,14 +1,14 @@
 -- What is answered to the lines behind the policies.
 use Rattle.std.specs.Prelude.{ℕ, List, Option, Result, Ok, Err}
-use Rattle.bounded_lines.specs.Answering.{AreAnswered}
-use Rattle.bounded_lines.specs.Lines.{TakesLine}
-use Rattle.bounded_lines.specs.declared.answering.Ended.TheVariants as ended
+use Rattle.byte_streams.specs.Answering.{AreAnswered}
+use Rattle.byte_streams.specs.Lines.{TakesLine}
+use Rattle.byte_streams.specs.declared.answering.Ended.TheVariants as ended
 use Rattle.byte_streams.specs.State.{SinkState}
-use Rattle.directory.specs.Accepted.{IsAccepted}
-use Rattle.directory.specs.Attempts.{OfStore}
-use Rattle.directory.specs.Lines.{IsLineOn}
-use Rattle.entity_rows.specs.Rows.{told_store}
-use Rattle.entity_rows.specs.Table.{IsReady, Continues}
+use Rattle.directory_service.specs.Accepted.{IsAccepted}
+use Rattle.directory_service.specs.Attempts.{OfStore}
+use Rattle.directory_service.specs.Lines.{IsLineOn}
+use Rattle.entity_files.specs.Rows.{told_store}
+use Rattle.entity_files.specs.Table.{IsReady, Continues}
 use Rattle.json_document.specs.declared.document.Document.{Document}
 use Rattle.sqlite.specs.State.{State}
 use Rattle.directory_service.specs.Documents.{IsReading}

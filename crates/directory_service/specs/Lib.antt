@@ -3,3 +3,7 @@ pub mod Documents
 pub mod Run
 pub mod Status
 pub mod Words
+pub mod Attempts
+pub mod Lines
+pub use Rattle.entity_manifest.specs.Accepted
+pub use Rattle.entity_manifest.specs.OfPolicies

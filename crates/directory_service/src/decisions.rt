@@ -1,20 +1,20 @@
 //! Decisions on the lines that follow the policies.
 ghost use Rattle.std.specs.Prelude.{◌≡◌, IfOk};
 ghost use Rattle.sqlite.specs.Held.{Held, state};
-ghost use Rattle.entity_rows.specs.Table.{IsReady};
-ghost use Rattle.directory.specs.Accepted.{IsAccepted};
-ghost use Rattle.directory.specs.OfPolicies.{IsManifestOf};
+ghost use Rattle.entity_files.specs.Table.{IsReady};
+ghost use Rattle.directory_service.specs.Accepted.{IsAccepted};
+ghost use Rattle.directory_service.specs.OfPolicies.{IsManifestOf};
 ghost use Rattle.directory_service.specs.Decided.{AreDecided, Decides, IsReadFirst};
 ghost use Rattle.directory_service.specs.Run.{IsRefusal};
 
 use crate::document::{READ_FAULT, TOO_LONG, read_bytes};
 use crate::reply::{Reply, file_reply, finish, finish_with, reply_with};
 use crate::status::Status;
-use byte_streams::{Sink, Source};
-use directory::{
+use crate::{
     Directory, Ended, EntityManifest, EntityManifestError, Line, Lines, answer_lines,
     compute_entity_manifest,
 };
+use byte_streams::{Sink, Source};
 use json_document::Document;
 use policy_scope::findings_text;
 use sqlite::{Alter, Connection, Start};

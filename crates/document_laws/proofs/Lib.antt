@@ -1,3 +1,13 @@
 mod Parts
 mod Readings
 mod Rules
+mod Ascii
+mod Declared
+mod Document
+mod Drawn
+mod Json
+mod SampleParts
+mod Policies
+mod Read
+mod Store
+mod Text

@@ -3,7 +3,7 @@ ghost use Rattle.std.specs.Prelude.{◌≡◌, None, IfOk};
 ghost use Rattle.sqlite.specs.Files.{file_state, IsOpened};
 ghost use Rattle.sqlite.specs.State.{HasCleanDisk};
 ghost use Rattle.conformance.specs.StoreRules.{first_store_fault};
-ghost use Rattle.entity_rows.specs.Table.{IsReady};
+ghost use Rattle.entity_files.specs.Table.{IsReady};
 
 use crate::fault::database_error;
 use crate::writing::write_entities;

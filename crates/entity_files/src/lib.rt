@@ -2,15 +2,24 @@
 #![tactic(auto)]
 
 mod fault;
+mod fetched;
 mod files;
+mod find;
+mod loader;
 mod opening;
+mod reading;
 mod rows;
+mod schema;
 mod store;
 mod writing;
 
 pub use fault::FileError;
+pub use fetched::Fetched;
 pub use files::{import_into_file, open, read_file};
+pub use find::{FindError, find_entity};
+pub use loader::FetchedLoader;
 pub use opening::{blank_or_made, is_ready, over};
 pub use rows::all_entities;
+pub use schema::has_entity_table;
 pub use store::check_store;
 pub use writing::import;

@@ -2,11 +2,10 @@
 ghost use Rattle.std.specs.Prelude.{IfOk, IsTrue};
 ghost use Rattle.sqlite.specs.Held.{state};
 ghost use Rattle.sqlite.specs.State.{HasCleanDisk, Opens};
-ghost use Rattle.entity_rows.specs.Table.{IsReady};
+ghost use Rattle.entity_files.specs.Table.{IsReady};
 
-use crate::FileError;
 use crate::fault::database_error;
-use entity_rows::has_entity_table;
+use crate::{FileError, has_entity_table};
 use sqlite::{Alter, Connection, Error};
 use std::alloc::Global;
 

@@ -1,10 +1,9 @@
 //! All rows of the table as a store.
 ghost use Rattle.sqlite.specs.Held.{state};
-ghost use Rattle.entity_rows.specs.Table.{IsReady};
+ghost use Rattle.entity_files.specs.Table.{IsReady};
 
 use crate::fault::database_error;
-use crate::{FileError, is_ready};
-use entity_rows::{FindError, find_entity};
+use crate::{FileError, FindError, find_entity, is_ready};
 use entity_store::{Entities, EntitiesError, Entity};
 use json_values::read_type_name;
 use policy_values::{Eid, EntityUID, Text};

@@ -19,16 +19,16 @@ use Rattle.reads_spec.specs.Reads.{declared_reads, declared_demands}
 use Rattle.reads_spec.specs.Restrict.{part, needed, restrict}
 use Rattle.manifest_computation.specs.Typed.{typed_conditions}
 use Rattle.manifest_computation.specs.Slice.{env_of, slice, slice_in}
-use Rattle.store_slices.proofs.LeastSteps.{declared_trie}
+use Rattle.entity_loading.proofs.LeastSteps.{declared_trie}
 use Rattle.schema_core.specs.EnvData.{EnvData}
-use Rattle.store_slices.specs.Tries.{IsTrieOf}
+use Rattle.entity_loading.specs.Tries.{IsTrieOf}
 use Rattle.entity_loader.specs.State.{LoaderState}
-use Rattle.manifest_loading.specs.Between.{IsBetween}
-use Rattle.manifest_loading.specs.Ordered.{HasOrder}
-use Rattle.manifest_loading.specs.Causes.{CauseOf, IsRight}
-use Rattle.manifest_loading.specs.Right.{SticksAt}
-use Rattle.manifest_loading.specs.declared.error.EntitySliceError.{EntitySliceError}
-use Rattle.manifest_loading.specs.declared.error.EntitySliceError.TheVariants as error
+use Rattle.entity_loading.specs.Between.{IsBetween}
+use Rattle.entity_loading.specs.Ordered.{HasOrder}
+use Rattle.entity_loading.specs.Causes.{CauseOf, IsRight}
+use Rattle.entity_loading.specs.Right.{SticksAt}
+use Rattle.entity_loading.specs.declared.error.EntitySliceError.{EntitySliceError}
+use Rattle.entity_loading.specs.declared.error.EntitySliceError.TheVariants as error
 use Rattle.manifest_core.specs.Manifest.{Manifest, trie_for}
 use Rattle.manifest_computation.specs.Computed.{IsManifestOf}
 use Rattle.manifest_computation.proofs.RequestTries.{tries_of_reads}

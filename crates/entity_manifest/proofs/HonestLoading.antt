@@ -4,10 +4,10 @@ use Rattle.byte_streams.specs.Steps.{Rose}
 use Rattle.policy_values.specs.Value.{Val}
 use Rattle.access_tries.specs.Table.{Table}
 use Rattle.entity_loader.specs.State.{LoaderState}
-use Rattle.manifest_loading.specs.Causes.{IsRight}
-use Rattle.manifest_loading.specs.Right.{SticksAt}
-use Rattle.manifest_loading.specs.declared.error.EntitySliceError.{EntitySliceError}
-use Rattle.manifest_loading.specs.declared.error.EntitySliceError.TheVariants as error
+use Rattle.entity_loading.specs.Causes.{IsRight}
+use Rattle.entity_loading.specs.Right.{SticksAt}
+use Rattle.entity_loading.specs.declared.error.EntitySliceError.{EntitySliceError}
+use Rattle.entity_loading.specs.declared.error.EntitySliceError.TheVariants as error
 use Rattle.entity_manifest.specs.Computed.{ComputedManifestsFit, ComputedSlicesFit, HonestLoadingSucceeds}
 use Rattle.manifest_core.specs.Manifest.{trie_for}
 use Rattle.entity_manifest.proofs.Conforming.{nothing_sticks, nothing_is_blocked}

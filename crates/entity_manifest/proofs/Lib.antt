@@ -9,3 +9,7 @@ mod HonestLoading
 pub mod ByManifest
 pub mod Loaded
 pub mod OfStore
+mod Answered
+mod ByRows
+mod OneAfterAnother
+mod Told

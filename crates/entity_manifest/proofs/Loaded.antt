@@ -26,12 +26,12 @@ use Rattle.reads_spec.specs.Reads.{declared_reads, declared_demands}
 use Rattle.reads_spec.specs.Restrict.{restrict}
 use Rattle.reads_spec.proofs.Lists.{IsIn}
 use Rattle.manifest_computation.specs.Typed.{typed_conditions}
-use Rattle.store_slices.proofs.LeastSteps.{declared_trie}
+use Rattle.entity_loading.proofs.LeastSteps.{declared_trie}
 use Rattle.entity_loader.specs.State.{LoaderState}
-use Rattle.manifest_loading.specs.Causes.{IsRight}
-use Rattle.manifest_loading.specs.Right.{SticksAt}
-use Rattle.manifest_loading.specs.declared.error.EntitySliceError.{EntitySliceError}
-use Rattle.manifest_loading.specs.declared.error.EntitySliceError.TheVariants as error
+use Rattle.entity_loading.specs.Causes.{IsRight}
+use Rattle.entity_loading.specs.Right.{SticksAt}
+use Rattle.entity_loading.specs.declared.error.EntitySliceError.{EntitySliceError}
+use Rattle.entity_loading.specs.declared.error.EntitySliceError.TheVariants as error
 use Rattle.manifest_core.specs.Manifest.{Manifest, trie_for}
 use Rattle.manifest_computation.specs.Computed.{IsEntryOf, IsManifestOf}
 use Rattle.entity_manifest.specs.Computed.{ComputedManifestsFit}

@@ -22,7 +22,7 @@ use Rattle.reads_spec.specs.Reads.{demands, demands_of, reads_of, are_declared, 
 use Rattle.reads_spec.proofs.DeclaredPaths.{declared_read}
 use Rattle.reads_spec.proofs.Lists.{IsIn, in_map_out, flat_map_out}
 use Rattle.manifest_computation.specs.Typed.{typed_conditions}
-use Rattle.store_slices.proofs.LeastSteps.{declared_trie}
+use Rattle.entity_loading.proofs.LeastSteps.{declared_trie}
 use Rattle.manifest_core.specs.Manifest.{Manifest, trie_for}
 use Rattle.manifest_computation.specs.Computed.{IsManifestOf}
 use Rattle.manifest_computation.proofs.Environments.{env_action, member_found, types_known}

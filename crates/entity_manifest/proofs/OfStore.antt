@@ -7,11 +7,11 @@ use Rattle.byte_streams.specs.Steps.{Rose}
 use Rattle.policy_values.specs.declared.entity_uid.EntityUID.{EntityUID}
 use Rattle.policy_values.specs.Uid.{uid_cmp}
 use Rattle.entity_store.specs.Store.{StoredEntity, Store, entity_at, is_named}
-use Rattle.store_order.specs.Order.{IsEntityOrdered}
-use Rattle.row_loader.specs.Laws.{IsStoreOrdered}
+use Rattle.table_loader.specs.Order.{IsEntityOrdered}
+use Rattle.table_loader.specs.Laws.{IsStoreOrdered}
 use Rattle.entity_loader.specs.State.{LoaderState}
-use Rattle.manifest_loading.specs.declared.error.EntitySliceError.{EntitySliceError}
-use Rattle.manifest_loading.specs.declared.error.EntitySliceError.TheVariants as error
+use Rattle.entity_loading.specs.declared.error.EntitySliceError.{EntitySliceError}
+use Rattle.entity_loading.specs.declared.error.EntitySliceError.TheVariants as error
 use Rattle.entity_manifest.specs.Loaded.{IsFaultOrMemory}
 
 ordered_at : (s : Store) (u : EntityUID) (e : StoredEntity) → AllByRecursion IsEntityOrdered s → entity_at s u ≡ Some e → IsEntityOrdered e

@@ -31,16 +31,16 @@ use Rattle.reads_spec.specs.Cover.{IsMemberOf}
 use Rattle.reads_spec.proofs.Cuts.{uid_at, all_at}
 use Rattle.reads_spec.proofs.Fitting.{types_along-append}
 use Rattle.reads_spec.proofs.Lists.{IsIn}
-use Rattle.trie_traversal.specs.Begun.{SomeRootSticks}
-use Rattle.trie_traversal.specs.Stuck.{Tests, tests_of, behind, GoesOn, Demands, Sticks, FieldsStick, SomeSticks, EntitySticks}
-use Rattle.trie_traversal.specs.Wants.{Test}
-use Rattle.store_slices.specs.Reached.{IsReached}
-use Rattle.manifest_loading.specs.Right.{IsStuck}
-use Rattle.store_slices.specs.Blocked.{IsBlockedInStore}
+use Rattle.entity_loading.specs.Begun.{SomeRootSticks}
+use Rattle.entity_loading.specs.Stuck.{Tests, tests_of, behind, GoesOn, Demands, Sticks, FieldsStick, SomeSticks, EntitySticks}
+use Rattle.entity_loading.specs.Wants.{Test}
+use Rattle.entity_loading.specs.Reached.{IsReached}
+use Rattle.entity_loading.specs.Right.{IsStuck}
+use Rattle.entity_loading.specs.Blocked.{IsBlockedInStore}
 use Rattle.entity_manifest.specs.DeclaredPaths.{is_of_ids, IsDeclaredTrie}
 use Rattle.entity_manifest.proofs.Below.{is_plain}
 use Rattle.entity_manifest.proofs.Having.{Has, HaveAll, HaveOne, EntityHas, have_cut, one_cut, walk_has}
-use Rattle.store_slices.proofs.LeastSteps.{map_append}
+use Rattle.entity_loading.proofs.LeastSteps.{map_append}
 
 -- ---- a value that is neither an id nor a record
 

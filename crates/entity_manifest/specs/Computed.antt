@@ -14,11 +14,11 @@ use Rattle.typing_spec.specs.Conforms.{RequestConforms, StoreConforms}
 use Rattle.reads_spec.specs.Reads.{declared_reads, declared_demands}
 use Rattle.manifest_computation.specs.Typed.{typed_conditions}
 use Rattle.entity_loader.specs.State.{LoaderState}
-use Rattle.manifest_loading.specs.Causes.{IsRight}
-use Rattle.manifest_loading.specs.Right.{SticksAt}
-use Rattle.manifest_loading.specs.declared.error.EntitySliceError.{EntitySliceError}
-use Rattle.manifest_loading.specs.declared.error.EntitySliceError.TheVariants.{OutOfMemory}
-use Rattle.store_slices.specs.Blocked.{IsBlocked}
+use Rattle.entity_loading.specs.Causes.{IsRight}
+use Rattle.entity_loading.specs.Right.{SticksAt}
+use Rattle.entity_loading.specs.declared.error.EntitySliceError.{EntitySliceError}
+use Rattle.entity_loading.specs.declared.error.EntitySliceError.TheVariants.{OutOfMemory}
+use Rattle.entity_loading.specs.Blocked.{IsBlocked}
 use Rattle.manifest_core.specs.Manifest.{Manifest, trie_for}
 use Rattle.manifest_computation.specs.Computed.{IsManifestOf}
 use Rattle.entity_manifest.specs.DeclaredPaths.{IsDeclaredTrie}

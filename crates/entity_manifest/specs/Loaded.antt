@@ -12,16 +12,16 @@ use Rattle.schema_core.specs.Faults.{IsSchema}
 use Rattle.schema_core.specs.Schema.{SchemaData}
 use Rattle.typing_spec.specs.Conforms.{RequestConforms, StoreConforms}
 use Rattle.reads_spec.specs.Paths.{AccessPath, Demand}
-use Rattle.store_slices.specs.Tries.{IsTrieOf}
+use Rattle.entity_loading.specs.Tries.{IsTrieOf}
 use Rattle.entity_loader.specs.State.{LoaderState}
-use Rattle.manifest_loading.specs.Between.{IsBetween}
-use Rattle.manifest_loading.specs.declared.error.EntitySliceError.{EntitySliceError}
-use Rattle.manifest_loading.specs.declared.error.EntitySliceError.TheVariants as error
+use Rattle.entity_loading.specs.Between.{IsBetween}
+use Rattle.entity_loading.specs.declared.error.EntitySliceError.{EntitySliceError}
+use Rattle.entity_loading.specs.declared.error.EntitySliceError.TheVariants as error
 use Rattle.manifest_core.specs.Manifest.{Manifest, trie_for}
 use Rattle.manifest_computation.specs.Computed.{IsManifestOf}
 use Rattle.entity_manifest.specs.Computed.{IsRightRefusal}
 use Rattle.manifest_computation.specs.Rules.{KeepRules}
-use Rattle.row_loader.specs.Laws.{IsStoreOrdered}
+use Rattle.table_loader.specs.Laws.{IsStoreOrdered}
 
 -- a computed manifest has a trie for each whole request that conforms, unless there are no policies
 abbrev pub TriesAreThere : Type 0

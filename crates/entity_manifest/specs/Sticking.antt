@@ -7,8 +7,8 @@ use Rattle.schema_core.specs.EnvData.{LinkedEnvironment, declared_action}
 use Rattle.schema_core.specs.Faults.{IsSchema}
 use Rattle.schema_core.specs.Schema.{SchemaData}
 use Rattle.typing_spec.specs.Conforms.{RequestConforms, StoreConforms, IsOf}
-use Rattle.manifest_loading.specs.Right.{SticksAt}
-use Rattle.store_slices.specs.Blocked.{IsBlocked}
+use Rattle.entity_loading.specs.Right.{SticksAt}
+use Rattle.entity_loading.specs.Blocked.{IsBlocked}
 use Rattle.entity_manifest.specs.DeclaredPaths.{IsDeclaredTrie}
 
 -- where the request, of the environment, and the store conform, a trie whose paths are declared there sticks

@@ -3,15 +3,27 @@
 //! loading.
 #![tactic(auto)]
 
+mod answer;
+pub mod batch_laws;
+mod decisions;
 pub mod laws;
+mod lines;
 mod loading;
 pub mod loading_laws;
+mod rows;
 
 pub use access_tries::{AccessPath, AccessTrie, EntityRoot, RootAccessTrie, RootTrieRef, TrieRef};
+pub use answer::BatchAnswer;
+pub use decisions::decide_batch;
 pub use entity_loader::{
     AncestorsRequest, EntityAnswer, EntityLoader, EntityRequest, EntitySlicer, LoadError,
     cut_along, cut_entity, merge_entities, merge_values,
 };
+pub use entity_loading::{
+    EntitySliceError, IncompatibleEntityManifestError, PartialRequestError, Steps,
+    WrongNumberOfEntitiesError, load_entities, load_trie, restricted_store, slice_entities,
+};
+pub use lines::{line_on, refused_line};
 pub use loading::{load_for_request, load_slice};
 pub use manifest_computation::{
     EntityManifestAnalysisResult, EntityManifestError, SliceForRequestError, check_request,
@@ -21,8 +33,4 @@ pub use manifest_core::{
     EntityManifest, EntityManifestFromJsonError, MismatchedEntityManifestError,
     MismatchedMissingEntityError, MismatchedNotStrictSchemaError,
 };
-pub use manifest_loading::{
-    EntitySliceError, IncompatibleEntityManifestError, PartialRequestError, Steps,
-    WrongNumberOfEntitiesError, load_entities, load_trie, slice_entities,
-};
-pub use store_slices::restricted_store;
+pub use rows::{decide_batch_on_rows, decide_batch_on_store};

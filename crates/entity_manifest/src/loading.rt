@@ -2,7 +2,7 @@
 
 ghost use Rattle.std.specs.Prelude.{◌≡◌, ◌≢◌, ◌≤◌, ◌+◌, ℕ, true, Some, None, IfOk, IfErr};
 ghost use Rattle.access_tries.specs.Table.{Table};
-ghost use Rattle.trie_traversal.specs.Begun.{PathsWithin};
+ghost use Rattle.entity_loading.specs.Begun.{PathsWithin};
 ghost use Rattle.entity_loader.specs.State.{Continues};
 ghost use Rattle.entity_store.specs.Request.{IsWhole};
 ghost use Rattle.typing_spec.specs.Conforms.{RequestConforms, StoreConforms};
@@ -11,20 +11,20 @@ ghost use Rattle.reads_spec.specs.Cover.{IsPartOf};
 ghost use Rattle.manifest_computation.specs.Slice.{slice};
 ghost use Rattle.manifest_computation.specs.Computed.{IsManifestOf};
 ghost use Rattle.manifest_core.specs.Manifest.{trie_for};
-ghost use Rattle.manifest_loading.specs.declared.error.EntitySliceError.TheVariants.{OutOfMemory};
+ghost use Rattle.entity_loading.specs.declared.error.EntitySliceError.TheVariants.{OutOfMemory};
 ghost use Rattle.entity_manifest.specs.Loaded.{OfToldStores, AreDecidedAlike, IsFaultOrMemory, WhyNotLoaded};
 
 use crate::loading_laws::{loaded_is_enough, refusals_are_faults};
 use entity_loader::{EntityLoader, EntitySlicer};
+use entity_loading::{EntitySliceError, Steps, load_entities};
 use entity_store::{Entities, Request};
 use manifest_core::EntityManifest;
-use manifest_loading::{EntitySliceError, Steps, load_entities};
 use policy_set::PolicySet;
 use policy_set::laws::{have_keys_once, is_policy_set};
 use schema_core::ValidatorSchema;
 use std::alloc::Global;
 use std::sync::ledger::Ledger;
-use store_order::entities_are_ordered;
+use table_loader::entities_are_ordered;
 
 /// What a request reads, as a loader gives it, by the manifest of accepted policies.
 ///

@@ -6,7 +6,7 @@ use Rattle.policy_set.specs.Data.{TemplateData}
 use Rattle.policy_set.specs.Links.{linked_policy}
 use Rattle.policy_set.specs.PolicySet.{PolicySetData, slot_values, with_policy}
 use Rattle.policy_set.specs.declared.policy_set.PolicySetError.{PolicySetError}
-use Rattle.json_policies.specs.declared.link.TemplateLink.{TemplateLink}
+use Rattle.json_document.specs.declared.link.TemplateLink.{TemplateLink}
 use Rattle.json_document.specs.Policies.{slot_pairs, unless_fault, with_link}
 
 -- where no fault stands against it, the set is what is added

@@ -1,2 +1,5 @@
 mod Added
 pub mod OneReading
+mod Actions
+mod Bounds
+mod Depths

@@ -3,9 +3,9 @@ use Rattle.std.specs.Prelude.{ℕ, List, [], ◌∷◌, ◌++◌, length, if◌t
 use Rattle.serde_json.specs.Data.{Data, Items, no_items, item}
 use Rattle.serde_json.specs.Find.{get, as_object, as_str}
 use Rattle.json_values.specs.Json.{◌>>=◌, has_only}
-use Rattle.json_policies.specs.Policy.{entry_of}
-use Rattle.json_policies.specs.declared.policy.PolicyRead.{PolicyRead}
-use Rattle.json_policies.specs.declared.policy.PolicyRead.TheVariants as read
+use Rattle.json_document.specs.Policy.{entry_of}
+use Rattle.json_document.specs.declared.policy.PolicyRead.{PolicyRead}
+use Rattle.json_document.specs.declared.policy.PolicyRead.TheVariants as read
 use Rattle.json_document.specs.Policies.{and_then}
 use Rattle.json_document.specs.declared.edit.Edit.{Edit}
 use Rattle.json_document.specs.declared.edit.Edit.TheVariants.{Policy, Link, Remove}

@@ -8,3 +8,7 @@ pub mod Laws
 pub mod Parts
 pub mod Policies
 pub mod Reading
+pub mod Body
+pub mod Link
+pub mod Policy
+pub mod Scope

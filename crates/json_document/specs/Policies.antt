@@ -13,10 +13,10 @@ use Rattle.policy_set.specs.declared.policy_set.PolicySetError.TheVariants as re
 use Rattle.serde_json.specs.Data.{Data, Items, no_items, item}
 use Rattle.json_document.specs.declared.place.Place.{Place}
 use Rattle.json_document.specs.declared.place.Place.TheVariants as place
-use Rattle.json_policies.specs.Policy.{entry_of}
-use Rattle.json_policies.specs.declared.link.TemplateLink.{TemplateLink}
-use Rattle.json_policies.specs.declared.policy.PolicyRead.{PolicyRead}
-use Rattle.json_policies.specs.declared.policy.PolicyRead.TheVariants.{Policy, Link, Nested}
+use Rattle.json_document.specs.Policy.{entry_of}
+use Rattle.json_document.specs.declared.link.TemplateLink.{TemplateLink}
+use Rattle.json_document.specs.declared.policy.PolicyRead.{PolicyRead}
+use Rattle.json_document.specs.declared.policy.PolicyRead.TheVariants.{Policy, Link, Nested}
 
 abbrev pub no_policies : PolicySetData
 no_policies = record { templates = []; policies = [] }

@@ -1,6 +1,6 @@
 //! One edit to a set of policies.
 
-use json_policies::TemplateLink;
+use crate::TemplateLink;
 use policy_set::Template;
 use policy_values::Text;
 

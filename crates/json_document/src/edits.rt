@@ -5,8 +5,7 @@ ghost use Rattle.json_trees.specs.Trees.{tree_view, trees_view};
 ghost use Rattle.json_document.specs.Edits.{addition_at, edit_at, edits_of, removal_at, removed_of};
 ghost use Rattle.json_document.specs.Faults.{ComesTo};
 
-use crate::{DocumentFault, Edit, Place};
-use json_policies::{PolicyRead, read_entry};
+use crate::{DocumentFault, Edit, Place, PolicyRead, read_entry};
 use json_trees::{Tree, get, get_str, has_only};
 use policy_values::Text;
 use std::alloc::{AllocError, Global};

@@ -7,8 +7,7 @@ ghost use Rattle.policy_set.specs.PolicySet.{PolicySetData, id_fault, IsNotAdded
 ghost use Rattle.json_document.specs.Faults.{ComesTo, Fails};
 ghost use Rattle.json_document.specs.Policies.{added, added_link, added_read, added_template, no_policies, policies_of, slot_pairs, unless_fault, with_written};
 
-use crate::{DocumentFault, Place};
-use json_policies::{PolicyRead, TemplateLink, read_entry};
+use crate::{DocumentFault, Place, PolicyRead, TemplateLink, read_entry};
 use json_trees::Tree;
 use policy_expressions::{SlotId, SlotValues};
 use policy_set::{PolicySet, PolicySetError, Template, or_drop};

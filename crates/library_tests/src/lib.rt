@@ -2,12 +2,32 @@
 #![tactic(auto)]
 
 #[cfg(test)]
+mod asked;
+#[cfg(test)]
+mod batch;
+#[cfg(test)]
+mod calls;
+#[cfg(test)]
+mod errors;
+#[cfg(test)]
+mod expressions;
+#[cfg(test)]
 mod faces;
+#[cfg(test)]
+mod liar;
 #[cfg(test)]
 mod lives;
 #[cfg(test)]
+mod loaded_manifests;
+#[cfg(test)]
+mod loaders;
+#[cfg(test)]
 mod manifests;
 #[cfg(test)]
+mod schemas;
+#[cfg(test)]
 mod stores;
+#[cfg(test)]
+mod texts;
 #[cfg(test)]
 mod tries;

@@ -20,7 +20,7 @@ use schema_core::{RequestEnv, ValidationMode, ValidatorSchema};
 use schema_types::Type;
 use std::alloc::{AllocError, Global};
 use std::sync::ledger::Ledger;
-use step_counts::Steps;
+use plain_lemmas::Steps;
 use typing_spec::{ExtensionSchemas, all_objects};
 
 /// Errs with `Validation` exactly where an error is found of the entry with the id.

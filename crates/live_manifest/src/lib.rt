@@ -11,4 +11,4 @@ mod uniting;
 
 pub use error::{LiveManifestError, LiveRemovalError};
 pub use live::LiveManifest;
-pub use step_counts::Steps;
+pub use plain_lemmas::Steps;

@@ -20,7 +20,7 @@ use std::alloc::{AllocError, Global};
 use std::collections::BTreeMap;
 use std::marker::Model;
 use std::sync::ledger::Ledger;
-use step_counts::Steps;
+use plain_lemmas::Steps;
 
 /// A set of policies that is accepted by a schema, and its manifest, which is kept under edits: after each
 /// edit it is the one that [`manifest_computation::compute_entity_manifest`] answers for the policies. An

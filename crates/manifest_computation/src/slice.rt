@@ -23,7 +23,7 @@ use policy_validate::condition_laws::found_are_typed;
 use policy_validate::laws::accepted_are_typed;
 use schema_core::{RequestEnv, ValidatorSchema};
 use std::alloc::{AllocError, Global};
-use store_slices::restricted_store;
+use entity_loading::restricted_store;
 use typecheck_walk::Extensions;
 use typing_spec::{ExtensionSchemas, all_objects};
 

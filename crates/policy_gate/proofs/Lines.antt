@@ -4,9 +4,9 @@ use Rattle.std.proofs.lemmas.List.Elements.{All-from_recursion}
 use Rattle.std.specs.List.{All, AllByRecursion, AllZip, flat_map}
 use Rattle.entity_store.specs.declared.request.Request.{Request}
 use Rattle.json_document.specs.declared.document.Document.{Document}
-use Rattle.batch_decisions.specs.Answers.{IsStoreAnswer}
-use Rattle.batch_decisions.specs.declared.answer.BatchAnswer.{BatchAnswer}
-use Rattle.batch_decisions.specs.declared.answer.BatchAnswer.TheVariants.{Partial, Refused, Loading, Decided}
+use Rattle.entity_manifest.specs.Answers.{IsStoreAnswer}
+use Rattle.entity_manifest.specs.declared.answer.BatchAnswer.{BatchAnswer}
+use Rattle.entity_manifest.specs.declared.answer.BatchAnswer.TheVariants.{Partial, Refused, Loading, Decided}
 use Rattle.policy_gate.specs.Answer.{IsRefusedOr, IsWellMade, IsWork, refused_policies, request_line}
 use Rattle.policy_gate.specs.Batch.{IsToldOfStore, line_on}
 use Rattle.policy_gate.specs.Headline.{HasAcceptedPolicies}

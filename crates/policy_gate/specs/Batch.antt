@@ -2,8 +2,8 @@
 use Rattle.std.specs.Prelude.{ℕ, List, []}
 use Rattle.conformance_errors.specs.Written.{request_message}
 use Rattle.json_response.specs.SliceJson.{response_text}
-use Rattle.batch_decisions.specs.declared.answer.BatchAnswer.{BatchAnswer}
-use Rattle.batch_decisions.specs.declared.answer.BatchAnswer.TheVariants.{Partial, Refused, Loading, Decided}
+use Rattle.entity_manifest.specs.declared.answer.BatchAnswer.{BatchAnswer}
+use Rattle.entity_manifest.specs.declared.answer.BatchAnswer.TheVariants.{Partial, Refused, Loading, Decided}
 use Rattle.policy_gate.specs.Answer.{partial_message, refused_line}
 
 -- what a request reads was there: the store is in memory

@@ -11,7 +11,7 @@ use crate::answer::{is_well_made, refused_store, told};
 use crate::laws::laws;
 use crate::reply::Reply;
 use crate::status::Status;
-use batch_decisions::{BatchAnswer, decide_batch_on_store};
+use entity_manifest::{BatchAnswer, decide_batch_on_store};
 use finding_messages::Diagnostic;
 use json_document::Document;
 use json_response::response_text;

@@ -3,3 +3,5 @@ mod Lists
 mod MetActions
 pub mod Told
 mod Verdicts
+pub mod NoteSteps
+pub mod Types

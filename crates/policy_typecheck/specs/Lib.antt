@@ -9,3 +9,6 @@ pub mod Told
 pub mod Verdict
 pub use Rattle.typecheck_walk.specs.Answer
 pub use Rattle.typecheck_walk.specs.Known
+pub mod TypecheckAnswer
+pub mod Equal
+pub mod EqualLaws

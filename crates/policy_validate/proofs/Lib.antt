@@ -12,3 +12,7 @@ pub mod Checks
 mod Shallow
 mod Exact
 mod Left
+mod Contexts
+mod Found
+mod Kept
+mod LookupSteps

@@ -12,3 +12,5 @@ pub mod AcceptanceLaws
 pub mod Entries
 pub use Rattle.typecheck_rules.specs.Check
 pub use Rattle.level_validate.specs.Errors
+pub mod Described
+pub mod Descriptions

@@ -12,6 +12,7 @@ ghost use Rattle.policy_validate.specs.AtLevel.{untyped_errors};
 ghost use Rattle.policy_validate.specs.Entries.{findings_of_entry, findings_of_policy, findings_of_written, steps_of_entry, steps_of_policy};
 
 use crate::laws::{accepted_are_typed, no_errors_where_accepted};
+use plain_lemmas::Steps;
 use policy_scope::{
     InvalidActionApplication, InvalidEnumEntity, UnrecognizedActionId, UnrecognizedEntityType,
     ValidationError, ValidationResult, ValidationWarning, validate_action_ids,
@@ -26,7 +27,6 @@ use schema_core::{ValidationMode, ValidatorSchema};
 use std::alloc::{AllocError, Global};
 use std::marker::Model;
 use std::sync::ledger::Ledger;
-use step_counts::Steps;
 use typing_spec::{ExtensionSchemas, all_objects};
 
 /// Validates policies against a schema.

@@ -7,8 +7,8 @@ use Rattle.entity_loader.specs.declared.slicer.EntitySlicer.{EntitySlicer}
 use Rattle.entity_store.specs.declared.request.Request.{Request}
 use Rattle.entity_store.specs.Store.{Store}
 use Rattle.policy_values.specs.Value.{Val}
-use Rattle.manifest_loading.specs.declared.error.EntitySliceError.{EntitySliceError}
-use Rattle.manifest_loading.specs.declared.error.EntitySliceError.TheVariants as error
+use Rattle.entity_loading.specs.declared.error.EntitySliceError.{EntitySliceError}
+use Rattle.entity_loading.specs.declared.error.EntitySliceError.TheVariants as error
 use Rattle.entity_manifest.specs.Rules.{KeepRules}
 use Rattle.entity_manifest.specs.Loaded.{LoadedIsEnough, RefusalsAreFaults, AreDecidedAlike, IsTold}
 use Rattle.entity_manifest.proofs.ByManifest.{Loads, promised}

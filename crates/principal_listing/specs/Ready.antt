@@ -9,7 +9,7 @@ use Rattle.entity_store.specs.Request.{action_of}
 use Rattle.policy_set.specs.PolicySet.{IsPolicySet, AreKeyedOnce}
 use Rattle.schema_core.specs.Faults.{IsSchema}
 use Rattle.schema_core.specs.Schema.{ActionData, action_at}
-use Rattle.row_loader.specs.Laws.{IsStoreOrdered}
+use Rattle.table_loader.specs.Laws.{IsStoreOrdered}
 use Rattle.entity_manifest.specs.OfPolicies.{IsManifestOf}
 use Rattle.principal_listing.specs.Allowed.{KeepOtherRules, is_allowed}
 use Rattle.principal_listing.specs.Pages.{comes_after}

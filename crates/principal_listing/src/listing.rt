@@ -14,7 +14,7 @@ use crate::candidates::{Listing, is_listed};
 use crate::checks::checked;
 use crate::{ListError, Page};
 use entity_store::{Entities, Request};
-use manifest_loading::Steps;
+use entity_loading::Steps;
 use policy_set::PolicySet;
 use policy_set::laws::{have_keys_once, is_policy_set};
 use policy_values::EntityUID;
@@ -22,7 +22,7 @@ use schema_core::{ValidatorActionId, ValidatorSchema};
 use std::alloc::{AllocError, Global};
 use std::marker::Brand;
 use std::sync::ledger::{Blank, Ledger};
-use store_order::entities_are_ordered;
+use table_loader::entities_are_ordered;
 
 /// The first principals of the store, as many as the limit at most, that may do what the request asks,
 /// ascending, of those whose ids come after this one, which need not be in the store; without one from the

@@ -7,10 +7,10 @@ use Rattle.policy_values.specs.Reaches.{has}
 use Rattle.policy_values.specs.declared.entity_uid.EntityUID.{EntityUID}
 use Rattle.policy_values.specs.Uid.{uid_cmp, uid_eq}
 use Rattle.entity_store.specs.Store.{StoredEntity, entity_at}
-use Rattle.store_order.specs.Order.{IsEntityOrdered}
+use Rattle.table_loader.specs.Order.{IsEntityOrdered}
 use Rattle.table_loader.proofs.Uids.{same_uid}
 use Rattle.table_loader.specs.Tables.{Tables, entity_of, store_of}
-use Rattle.table_loader.specs.Laws.{StoresOfTablesAreInOrder}
+use Rattle.table_loader.specs.TableLaws.{StoresOfTablesAreInOrder}
 
 module _ (t : Tables) where
   ids_of_entities : (us : List EntityUID) → map (λ e. e.uid) (map (entity_of t) us) ≡ us

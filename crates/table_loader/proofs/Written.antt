@@ -12,10 +12,10 @@ use Rattle.policy_values.specs.declared.entity_uid.EntityUID.{EntityUID}
 use Rattle.policy_values.specs.Uid.{uid_cmp, uid_cmp_total, uid_eq}
 use Rattle.policy_values.specs.Value.{Fields, no_fields, field}
 use Rattle.entity_store.specs.Store.{StoredEntity, Store}
-use Rattle.store_order.specs.Order.{AreOrdered, IsEntityOrdered}
+use Rattle.table_loader.specs.Order.{AreOrdered, IsEntityOrdered}
 use Rattle.table_loader.proofs.Uids.{same_uid, uid_eq-self}
 use Rattle.table_loader.specs.Tables.{FieldRow, AncestorRow, fields_in, ancestors_in, entity_of, field_rows, ancestor_rows, tables_of}
-use Rattle.table_loader.specs.Laws.{TablesOfStoresStandForThem}
+use Rattle.table_loader.specs.TableLaws.{TablesOfStoresStandForThem}
 
 -- ids ascend in the store
 abbrev IdsAscend : Store → Type 0

@@ -1,4 +1,11 @@
+pub mod Answers
+pub mod Asking
+pub mod FromRows
 pub mod Laws
-pub mod Memory
 pub mod State
+pub mod TableLaws
+pub mod Memory
+pub mod RowsState
 pub mod Tables
+pub mod OrderLaws
+pub mod Order

@@ -1,7 +1,7 @@
 -- What rows of a store in memory tell, and which of their calls fail.
 use Rattle.std.specs.Prelude.{◌≡◌, ◌↔◌, ◌+◌, ◌-◌, ◌^◌, Bool, true, Some, IsTrue, Contains, min}
 use Rattle.table_loader.specs.Tables.{tables_of}
-use Rattle.table_loader.specs.State.{RowsState}
+use Rattle.table_loader.specs.RowsState.{RowsState}
 use Rattle.table_loader.specs.declared.memory.MemoryRows.{MemoryRows}
 use Rattle.table_loader.specs.declared.store.StoreRows.{StoreRows}
 

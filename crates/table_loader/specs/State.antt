@@ -1,51 +1,61 @@
--- What contracts see of rows, and what the tables have for an id, a key or a pair of ids.
-use Rattle.std.specs.Prelude.{◌≡◌, ◌≤◌, ℕ, Bool, true, false, List, Option, Some, Result, Err, Contains, IsSomeAnd, is_some}
-use Rattle.std.specs.Option.{option_and_then, option_map_or}
-use Rattle.byte_streams.specs.Steps.{Rose}
+-- What contracts see of a loader over rows: the store of the tables that steady rows tell, where it is
+-- in order.
+use Rattle.std.specs.Prelude.{ℕ, Bool, true, false, ◌&&◌, List, [], ◌∷◌, map, Option, Some, None, if◌then◌else◌}
+use Rattle.std.specs.List.{list_all}
+use Rattle.std.specs.Option.{option_and_then}
+use Rattle.std.specs.Ordering.{is_lt}
 use Rattle.policy_values.specs.declared.entity_uid.EntityUID.{EntityUID}
-use Rattle.policy_values.specs.Value.{Val, Fields, no_fields, field_at}
-use Rattle.entity_store.specs.Store.{entity_at}
+use Rattle.policy_values.specs.Uid.{text_cmp, uid_cmp}
+use Rattle.policy_values.specs.Value.{Val, rec, Fields, no_fields, field}
+use Rattle.entity_store.specs.Store.{StoredEntity, Store}
+use Rattle.entity_loader.specs.State.{LoaderState}
 use Rattle.table_loader.specs.Tables.{Tables, store_of}
-use Rattle.table_loader.specs.declared.rows.RowsError.{RowsError}
-use Rattle.table_loader.specs.declared.rows.RowsError.TheVariants.{Failed}
+use Rattle.table_loader.specs.RowsState.{RowsState}
 
-pub record RowsState : Type 0 where
-  -- the tables, where they are told
-  pub told : Option Tables
-  -- whether tables that are told stay told, and failed calls alone are counted
-  pub steady : Bool
-  -- how often a call has failed
-  pub faults : ℕ
+-- the key comes before all keys of the fields
+abbrev pub is_below_all : List ℕ → Fields → Bool
+is_below_all k no_fields = true
+is_below_all k (field l v fs) = is_lt (text_cmp k l) && is_below_all k fs
 
--- over a call: tables that are told after it were told before it, and are the same; the count does not fall
-pub record RowsContinue (old new : RowsState) : Type 0 where
-  pub told : (t : Tables) → new.told ≡ Some t → old.told ≡ Some t
-  pub steady : new.steady ≡ old.steady
-  pub stays : old.steady ≡ true → new.told ≡ old.told
-  pub faults : old.faults ≤ new.faults
+-- keys ascend, in each record that is reached through records
+abbrev mutual
+  pub is_ordered : Val → Bool
+  is_ordered (rec fs) = are_ordered fs
+  is_ordered v = true
 
--- whether the call failed, and not for want of memory
-abbrev pub has_failed : {X : Type 0} → Result X RowsError → Bool
-has_failed (Err Failed) = true
-has_failed r = false
+  pub are_ordered : Fields → Bool
+  are_ordered no_fields = true
+  are_ordered (field k v fs) = is_below_all k fs && (is_ordered v && are_ordered fs)
 
--- a call that failed was counted; where the rows are steady, another one was not
-abbrev pub IsCounted : Bool → RowsState → RowsState → Type 0
-IsCounted true old new = Rose old.faults new.faults
-IsCounted false old new = old.steady ≡ true → new.faults ≡ old.faults
+-- ids ascend
+abbrev pub do_ids_ascend : List EntityUID → Bool
+do_ids_ascend [] = true
+do_ids_ascend (x ∷ xs) = list_all (λ y. is_lt (uid_cmp x y)) xs && do_ids_ascend xs
 
--- whether the store of the tables has the entity
-abbrev pub has_entity : Tables → EntityUID → Bool
-has_entity t u = is_some (entity_at (store_of t) u)
+-- keys and ancestors ascend in the entity
+abbrev pub is_entity_ordered : StoredEntity → Bool
+is_entity_ordered e = are_ordered e.attrs && (are_ordered e.tags && do_ids_ascend e.ancestors)
 
--- the attribute of the entity in that store, where it has one
-abbrev pub attribute_at : Tables → EntityUID → List ℕ → Option Val
-attribute_at t u k = option_and_then (λ e. field_at e.attrs k) (entity_at (store_of t) u)
+-- ids ascend in the store, and keys and ancestors in each entity
+abbrev pub is_store_ordered : Store → Bool
+is_store_ordered s = do_ids_ascend (map (λ e. e.uid) s) && list_all is_entity_ordered s
 
--- all tags of the entity in that store; none where it has no such entity
-abbrev pub tags_at : Tables → EntityUID → Fields
-tags_at t u = option_map_or (λ e. e.tags) (entity_at (store_of t) u) no_fields
+-- the store of the tables, where it is in order
+abbrev pub store_in_order : Tables → Option Store
+store_in_order t = if is_store_ordered (store_of t) then Some (store_of t) else None
 
--- the entity has the ancestor in that store
-abbrev pub TablesHaveAncestor : Tables → EntityUID → EntityUID → Type 0
-TablesHaveAncestor t u y = IsSomeAnd (entity_at (store_of t) u) (λ e. Contains e.ancestors y)
+-- the store that is told: of steady rows, where they tell tables
+abbrev pub store_told : RowsState → Option Store
+store_told r = if r.steady then option_and_then store_in_order r.told else None
+
+-- a loader over rows that was asked so often for entities, and for ancestors: it may answer more than what is
+-- asked, and never strays
+abbrev pub loader_state : RowsState → ℕ → ℕ → LoaderState
+loader_state r asked listed = record {
+  store = store_told r;
+  exact = false;
+  faults = r.faults;
+  strays = 0;
+  rounds = asked;
+  lists = listed;
+}

@@ -5,7 +5,7 @@ use Rattle.policy_values.specs.declared.entity_uid.EntityUID.{EntityUID}
 use Rattle.policy_values.specs.Uid.{uid_cmp, uid_eq}
 use Rattle.policy_values.specs.Value.{Val, Fields, no_fields, field}
 use Rattle.entity_store.specs.Store.{StoredEntity, Store}
-use Rattle.store_order.specs.Order.{AreOrdered}
+use Rattle.table_loader.specs.Order.{AreOrdered}
 
 -- an attribute or a tag of an entity
 pub record FieldRow : Type 0 where

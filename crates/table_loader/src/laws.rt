@@ -1,15 +1,21 @@
-//! Laws of tables and stores.
+//! Laws of loading from rows.
 
-ghost use Rattle.table_loader.specs.Laws.{StoresOfTablesAreInOrder, TablesOfStoresStandForThem};
+ghost use Rattle.table_loader.specs.Answers.{RowAnswersAreHonest};
+ghost use Rattle.table_loader.specs.FromRows.{EntitiesFromRowsAreHonest};
+ghost use Rattle.table_loader.specs.Laws.{ToldStoresAreOrdered};
 
-/// The store of tables in order is in order, and has an entity exactly for each id in the table of
-/// entities.
-pub fn stores_of_tables_are_in_order()
-    ensures { StoresOfTablesAreInOrder }
+/// The attributes with which a trie goes on, whole, and all tags where it goes on with any tag, are
+/// an honest answer.
+pub fn row_answers_are_honest()
+    ensures { RowAnswersAreHonest }
 {}
 
-/// The tables that a store is written into stand for that store, and are in order where its entities
-/// are.
-pub fn tables_of_stores_stand_for_them()
-    ensures { TablesOfStoresStandForThem }
+/// An entity that is put together of what rows give for it, row by row, is an honest answer.
+pub fn entities_from_rows_are_honest()
+    ensures { EntitiesFromRowsAreHonest }
+{}
+
+/// A store that a loader over rows tells is in order: ids ascend, and keys and ancestors in each entity.
+pub fn told_stores_are_ordered()
+    ensures { ToldStoresAreOrdered }
 {}

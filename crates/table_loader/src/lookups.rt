@@ -5,9 +5,9 @@ ghost use Rattle.std.specs.Option.{option_and_then, option_copied};
 ghost use Rattle.policy_values.specs.Value.{field_at, fields_of};
 ghost use Rattle.entity_store.specs.Store.{entity_at};
 ghost use Rattle.table_loader.specs.Tables.{tables_of, store_of};
-ghost use Rattle.table_loader.specs.State.{has_entity, attribute_at, tags_at, TablesHaveAncestor};
+ghost use Rattle.table_loader.specs.RowsState.{has_entity, attribute_at, tags_at, TablesHaveAncestor};
 
-use crate::laws::tables_of_stores_stand_for_them;
+use crate::table_laws::tables_of_stores_stand_for_them;
 use entity_store::Entities;
 use policy_values::{EntityUID, Text, Value};
 use std::alloc::{AllocError, Global};

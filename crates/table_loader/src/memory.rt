@@ -3,7 +3,7 @@
 ghost use Rattle.std.specs.Prelude.{◌≡◌, ◌↔◌, Some, IfOk, IsTrue};
 ghost use Rattle.policy_values.specs.Value.{fields_of};
 ghost use Rattle.table_loader.specs.Tables.{Tables};
-ghost use Rattle.table_loader.specs.State.{RowsContinue, IsCounted, has_failed, has_entity, attribute_at, tags_at, TablesHaveAncestor};
+ghost use Rattle.table_loader.specs.RowsState.{RowsContinue, IsCounted, has_failed, has_entity, attribute_at, tags_at, TablesHaveAncestor};
 ghost use Rattle.table_loader.specs.Memory.{memory_state, IsCall};
 
 use crate::lookups::{attribute_of, has_ancestor, has_entity, tags_of};

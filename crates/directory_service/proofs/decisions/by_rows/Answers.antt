@@ -1,4 +1,4 @@
-use Rattle.directory.specs.Lines.{IsLineOn}
+use Rattle.directory_service.specs.Lines.{IsLineOn}
 use Rattle.directory_service.proofs.Ended.{answered_all}
 use Rattle.directory_service.proofs.decisions.by_rows.Goals as goal
 

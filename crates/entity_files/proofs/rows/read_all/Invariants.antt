@@ -1,5 +1,5 @@
 use Rattle.sqlite.specs.Held.{state}
-use Rattle.entity_rows.specs.Table.{IsReady}
+use Rattle.entity_files.specs.Table.{IsReady}
 use Rattle.entity_files.proofs.rows.read_all.Given as goal
 
 abbrev pub invariant-loop-row : goal.invariant-loop-row

@@ -1,6 +1,6 @@
 use Rattle.std.proofs.Common.{◌⊎◌}
-use Rattle.trie_traversal.specs.Begun.{SomeRootSticks}
-use Rattle.manifest_loading.specs.Rounds.{Sticks}
+use Rattle.entity_loading.specs.Begun.{SomeRootSticks}
+use Rattle.entity_loading.specs.Rounds.{Sticks}
 use Rattle.entity_manifest.proofs.ByManifest.{promised}
 use Rattle.entity_manifest.proofs.loading.load_for_request.Goals as goal
 

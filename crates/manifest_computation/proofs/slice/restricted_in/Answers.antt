@@ -3,7 +3,7 @@ use Rattle.std.specs.Prelude.{IfOk, IfSome}
 use Rattle.reads_spec.specs.Cover.{restricted}
 use Rattle.reads_spec.specs.Reads.{declared_reads, declared_demands}
 use Rattle.schema_core.specs.RequestEnvs.{env_data_of}
-use Rattle.store_slices.proofs.LeastSteps.{declared_trie}
+use Rattle.entity_loading.proofs.LeastSteps.{declared_trie}
 use Rattle.policy_validate.specs.Found.{found_conditions}
 use Rattle.manifest_computation.specs.Gathered.{IsTrieLeft}
 use Rattle.manifest_computation.proofs.slice.restricted_in.Goals as goal

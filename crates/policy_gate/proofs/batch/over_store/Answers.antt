@@ -1,6 +1,6 @@
 use Rattle.std.proofs.Common.{subst}
 use Rattle.std.specs.List.{AllZip}
-use Rattle.batch_decisions.specs.Answers.{IsStoreAnswer}
+use Rattle.entity_manifest.specs.Answers.{IsStoreAnswer}
 use Rattle.policy_gate.specs.Answer.{IsWork}
 use Rattle.policy_gate.specs.Reply.{reply_view}
 use Rattle.policy_gate.specs.declared.command.Command.TheVariants.{Batch}

@@ -1,6 +1,6 @@
 use Rattle.std.proofs.Common.{◌⊎◌}
-use Rattle.trie_traversal.specs.Begun.{SomeRootSticks}
-use Rattle.manifest_loading.specs.Rounds.{Sticks}
+use Rattle.entity_loading.specs.Begun.{SomeRootSticks}
+use Rattle.entity_loading.specs.Rounds.{Sticks}
 use Rattle.principal_listing.proofs.Loaded.{decided_alike, wants_memory}
 use Rattle.principal_listing.proofs.candidates.load_candidate.Goals as goal
 

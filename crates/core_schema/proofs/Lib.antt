@@ -1,4 +1,0 @@
-mod Contexts
-mod Found
-mod Kept
-mod LookupSteps

@@ -1,3 +1,0 @@
-mod Attempted
-mod Served
-mod Written

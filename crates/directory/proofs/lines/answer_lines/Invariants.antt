@@ -1,4 +1,0 @@
-use Rattle.directory.proofs.lines.answer_lines.Given as goal
-
-abbrev pub ghosts-answer_marked : goal.ghosts-answer_marked
-ghosts-answer_marked g a = record { name = a.blank.name; parts = a.blank.parts }

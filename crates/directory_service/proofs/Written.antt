@@ -1,0 +1,57 @@
+-- What is written of an answer, and what is counted with it.
+use Rattle.std.proofs.Common.{◌≡◌, List, ℕ, Option, Result, Ok, Err, IfOk, String, Global, refl, subst, sym}
+use Rattle.std.specs.Prelude.{◌≢◌, string_bytes}
+use Rattle.byte_streams.specs.Steps.{RoseBy}
+use Rattle.entity_store.specs.declared.request.Request.{Request}
+use Rattle.entity_store.specs.Store.{Store}
+use Rattle.policy_set.specs.Data.{PolicyData}
+use Rattle.schema_core.specs.Schema.{SchemaData}
+use Rattle.entity_manifest.specs.Answers.{IsAnswerOrFault, is_fault}
+use Rattle.entity_manifest.specs.declared.EntitySliceError.TheVariants as error
+use Rattle.entity_manifest.specs.declared.answer.BatchAnswer.{BatchAnswer}
+use Rattle.entity_manifest.specs.declared.answer.BatchAnswer.TheVariants.{Partial, Refused, Loading, Decided}
+use Rattle.entity_manifest.specs.Lines.{line_on}
+use Rattle.byte_streams.proofs.Served.{rose_none}
+use Rattle.directory_service.specs.Attempts.{OfStore}
+use Rattle.directory_service.specs.Lines.{IsRequestLine}
+use Rattle.directory_service.specs.declared.requests.LineRequest.{LineRequest}
+use Rattle.directory_service.specs.declared.requests.LineRequest.TheVariants as line
+
+-- an answer that is no fault counts none
+pub no_fault_quiet : (a : BatchAnswer) (n : ℕ) → a ≢ Loading error.LoaderFault → RoseBy (is_fault a) n n
+no_fault_quiet Partial n h = rose_none n
+no_fault_quiet (Refused e) n h = rose_none n
+no_fault_quiet (Decided r) n h = rose_none n
+no_fault_quiet (Loading error.LoaderFault) n h = absurd (h refl)
+no_fault_quiet (Loading error.OutOfMemory) n h = rose_none n
+no_fault_quiet (Loading (error.IncompatibleEntityManifest e)) n h = rose_none n
+no_fault_quiet (Loading (error.InconsistentLoader uid kept got)) n h = rose_none n
+no_fault_quiet (Loading (error.WrongNumberOfEntities e)) n h = rose_none n
+no_fault_quiet (Loading (error.WrongNumberOfAncestors k m)) n h = rose_none n
+no_fault_quiet (Loading (error.PartialRequest e)) n h = rose_none n
+
+-- the line on an answer of which something holds
+pub told_line : {E : Type 0} (r : Result (String Global) E) (P Q : BatchAnswer → Type 0) (a : BatchAnswer) → P a → Q a → IfOk r (λ s. string_bytes s ≡ line_on a)
+    → IfOk r (λ s. (b : BatchAnswer) × P b × Q b × (string_bytes s ≡ line_on b))
+told_line (Ok s) P Q a p q is = (a, p, q, is)
+told_line (Err e) P Q a p q is = tt
+
+module _ (schema : SchemaData) (ps : List PolicyData) (told : Option Store) (from to : ℕ) (l : LineRequest) where
+  -- what is told of the line, with what is counted
+  abbrev IsTold : List ℕ → Type 0
+  IsTold text = (n : ℕ) × OfStore schema told (λ w. IsRequestLine schema ps w n l text) × RoseBy n from to
+
+  -- a request
+  pub request_told : {E : Type 0} (q : Request) (r : Result (String Global) E) → l ≡ line.Request q →
+      IfOk r (λ s. (a : BatchAnswer) × OfStore schema told (λ w. IsAnswerOrFault schema ps w q a) × RoseBy (is_fault a) from to × (string_bytes s ≡ line_on a)) →
+      IfOk r (λ s. IsTold (string_bytes s))
+  request_told q (Ok s) is h =
+      (is_fault h.0, λ w t ordered conforms. subst (λ m. IsRequestLine schema ps w (is_fault h.0) m (string_bytes s)) (sym is) (h.0, h.1 w t ordered conforms, refl, h.3), h.2)
+  request_told q (Err e) is h = tt
+
+  -- no request
+  pub refusal_told : {E : Type 0} (refused : LineRequest) (text : List ℕ) (r : Result (String Global) E) → l ≡ refused → RoseBy 0 from to → ((w : Store) → IsRequestLine schema ps w 0 refused text) →
+      IfOk r (λ s. string_bytes s ≡ text) → IfOk r (λ s. IsTold (string_bytes s))
+  refusal_told refused text (Ok s) is rose h same =
+      (0, λ w t ordered conforms. subst (λ m. IsRequestLine schema ps w 0 m (string_bytes s)) (sym is) (subst (IsRequestLine schema ps w 0 refused) (sym same) (h w)), rose)
+  refusal_told refused text (Err e) is rose h same = tt

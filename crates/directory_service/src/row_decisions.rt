@@ -1,0 +1,171 @@
+//! Decisions by the rows of a database.
+
+ghost use Rattle.std.specs.Prelude.{◌≢◌, IfOk, OnOk};
+ghost use Rattle.byte_streams.specs.Steps.{RoseBy};
+ghost use Rattle.sqlite.specs.Held.{state};
+ghost use Rattle.entity_store.specs.Request.{IsWhole};
+ghost use Rattle.typing_spec.specs.Conforms.{RequestConforms};
+ghost use Rattle.entity_manifest.specs.Accepted.{IsAccepted};
+ghost use Rattle.entity_manifest.specs.OfPolicies.{IsManifestOf};
+ghost use Rattle.entity_manifest.specs.declared.EntitySliceError.TheVariants.{LoaderFault};
+ghost use Rattle.entity_manifest.specs.Answers.{IsAnswerOrFault, is_fault};
+ghost use Rattle.entity_files.specs.Table.{IsReady, Continues};
+ghost use Rattle.entity_files.specs.Fetched.{AreFetched};
+ghost use Rattle.entity_files.specs.Rows.{told_store};
+ghost use Rattle.directory_service.specs.Attempts.{OfStore};
+
+use crate::attempt::{Attempt, try_decide};
+use conformance::laws::request_rules_are_exact;
+use entity_files::{Fetched, FindError};
+use entity_loader::LoadError;
+use entity_manifest::{
+    BatchAnswer, EntityManifest, EntitySliceError, SliceForRequestError, Steps, check_request,
+};
+use entity_store::Request;
+use policy_set::PolicySet;
+use policy_values::EntityUID;
+use schema_core::ValidatorSchema;
+use sqlite::{Alter, Connection};
+use std::alloc::{AllocError, Global};
+use std::sync::ledger::Ledger;
+
+/// A database with the table of entities.
+#[derive(Drop)]
+pub struct Directory<S: Alter + Drop> {
+    /// The database.
+    pub conn: Connection<S>,
+    /// How often a request was not decided, since the database failed or a row was no entity; at the last
+    /// value of u64 it stays.
+    pub faults: u64,
+}
+
+// Looks the id up.
+fn fetch<S: Alter>(
+    alloc: Global,
+    conn: &mut Connection<S>,
+    fetched: &mut Fetched,
+    uid: &EntityUID,
+) -> Result<(), LoadError>
+    requires ready { IsReady (state S.Store conn.old) }
+    requires fetched { AreFetched (told_store (state S.Store conn.old)) fetched.old }
+    ensures ready { IsReady (state S.Store conn.new) }
+    ensures goes_on { Continues (told_store (state S.Store conn.old))
+        (told_store (state S.Store conn.new)) }
+    ensures fetched { OnOk result (AreFetched (told_store (state S.Store conn.new)) fetched.new) }
+{
+    match fetched.fetch(alloc, conn, uid) {
+        Ok(()) => Ok(()),
+        Err(FindError::OutOfMemory) => Err(LoadError::OutOfMemory),
+        Err(_) => Err(LoadError::Failed),
+    }
+}
+
+// Looks the ids up, in their order.
+fn fetch_all<S: Alter>(
+    alloc: Global,
+    conn: &mut Connection<S>,
+    fetched: &mut Fetched,
+    ids: &Vec<EntityUID>,
+) -> Result<(), LoadError>
+    requires ready { IsReady (state S.Store conn.old) }
+    requires fetched { AreFetched (told_store (state S.Store conn.old)) fetched.old }
+    ensures ready { IsReady (state S.Store conn.new) }
+    ensures goes_on { Continues (told_store (state S.Store conn.old))
+        (told_store (state S.Store conn.new)) }
+    ensures fetched { OnOk result (AreFetched (told_store (state S.Store conn.new)) fetched.new) }
+{
+    for uid in ids {
+        fetch(alloc, conn, fetched, uid)?;
+    }
+    Ok(())
+}
+
+// Decides on a whole request that conforms, and looks up what is missing until nothing is.
+fn decided<S: Alter, L: Ledger>(
+    alloc: Global,
+    schema: &ValidatorSchema,
+    policies: &PolicySet,
+    manifest: &EntityManifest,
+    request: &Request,
+    conn: &mut Connection<S>,
+    steps: &mut Steps<L>,
+) -> Result<BatchAnswer, LoadError>
+    requires accepted { IsAccepted schema.now policies.now }
+    requires manifest { IsManifestOf schema.now policies.now.policies manifest.now }
+    requires whole { IsWhole request.now }
+    requires conforms { RequestConforms schema.now request.now }
+    requires ready { IsReady (state S.Store conn.old) }
+    ensures ready { IsReady (state S.Store conn.new) }
+    ensures goes_on { Continues (told_store (state S.Store conn.old))
+        (told_store (state S.Store conn.new)) }
+    ensures answer { OfStore schema.now (told_store (state S.Store conn.new)) (λ w.
+        IfOk result (IsAnswerOrFault schema.now policies.now.policies w request.now)) }
+    ensures no_fault { IfOk result (λ a. a ≢ BatchAnswer.Loading LoaderFault) }
+{
+    let mut fetched = Fetched::new(alloc);
+    for _round in 0..u64::MAX {
+        match try_decide(
+            alloc, schema, policies, manifest, request, conn, &fetched, steps,
+        )? {
+            Attempt::Decided(response) => return Ok(BatchAnswer::Decided(response)),
+            Attempt::Refused(error) => return Ok(BatchAnswer::Loading(error)),
+            Attempt::Missing(ids) => {
+                if ids.is_empty() {
+                    return Err(LoadError::Failed);
+                }
+                fetch_all(alloc, conn, &mut fetched, &ids)?;
+            }
+        }
+    }
+    Err(LoadError::Failed)
+}
+
+/// The answer to a request, by the manifest of accepted policies: `Partial` where an entry of it is not
+/// known; else `Refused` where it breaks a rule, with the first one; else the response, or
+/// `Loading(LoaderFault)`, which is counted, where the database failed or a row that is read is no entity.
+///
+/// Where after the call the database is open and its disk has returned what was written, and the store of its
+/// rows is in order and conforms, the answer is that on this whole store, or a fault.
+pub fn decide_on<S: Alter + Drop, L: Ledger>(
+    alloc: Global,
+    schema: &ValidatorSchema,
+    policies: &PolicySet,
+    manifest: &EntityManifest,
+    request: &Request,
+    directory: &mut Directory<S>,
+    steps: &mut Steps<L>,
+) -> Result<BatchAnswer, AllocError>
+    requires accepted { IsAccepted schema.now policies.now }
+    requires manifest { IsManifestOf schema.now policies.now.policies manifest.now }
+    requires ready { IsReady (state S.Store directory.old.conn) }
+    ensures ready { IsReady (state S.Store directory.new.conn) }
+    ensures goes_on { Continues (told_store (state S.Store directory.old.conn))
+        (told_store (state S.Store directory.new.conn)) }
+    ensures answer { OfStore schema.now (told_store (state S.Store directory.new.conn)) (λ w.
+        IfOk result (IsAnswerOrFault schema.now policies.now.policies w request.now)) }
+    ensures counted { IfOk result (λ answer.
+        RoseBy (is_fault answer) directory.old.faults directory.new.faults) }
+    ensures kept { RoseBy 0 directory.old.faults directory.new.faults }
+{
+    request_rules_are_exact();
+    // for the proof: the names of a schema's actions ascend
+    let _actions = schema.action_ids();
+    if !request.is_whole() {
+        return Ok(BatchAnswer::Partial);
+    }
+    match check_request(alloc, schema, request) {
+        Ok(()) => {
+            let conn = &mut directory.conn;
+            match decided(alloc, schema, policies, manifest, request, conn, steps) {
+                Ok(answer) => Ok(answer),
+                Err(LoadError::OutOfMemory) => Err(AllocError),
+                Err(LoadError::Failed) => {
+                    directory.faults = directory.faults.saturating_add(1);
+                    Ok(BatchAnswer::Loading(EntitySliceError::LoaderFault))
+                }
+            }
+        }
+        Err(SliceForRequestError::Request(error)) => Ok(BatchAnswer::Refused(error)),
+        Err(_) => Err(AllocError),
+    }
+}

@@ -1,0 +1,193 @@
+-- What the look-up means.
+use Rattle.std.proofs.Common.{◌≡◌, List, [], ◌∷◌, ◌++◌, map, ℕ, pos, negsuc, codes, refl, sym, ap, subst, ◌∙◌, Bool, true, false, if◌then◌else◌, ◌&&◌, None, Some, Option, Result, Ok, Err, IfOk, IfErr, IsTrue, inl, inr, Vec, Global, arith}
+use Rattle.sqlite.specs.Command.TheVariants.{Select}
+use Rattle.std.specs.Prelude.{filter, flat_map, IsPermutation, option_map}
+use Rattle.std.proofs.lemmas.List.Sorted.{IsPermutation-map}
+use Rattle.sqlite.specs.declared.types.Value.TheVariants.{Null, Int, Text}
+use Rattle.sqlite.specs.Term.{lit, col, op2}
+use Rattle.sqlite.specs.Collation.TheVariants.{Binary}
+use Rattle.sqlite_sql.specs.declared.ops.BinaryOp.TheVariants.{Compare}
+use Rattle.sqlite_sql.specs.declared.ops.CompareOp.TheVariants.{Eq}
+use Rattle.sqlite.specs.Query.{Query, inner, end, IsAnswer, output, Output}
+use Rattle.sqlite_sql.specs.Term.{Env}
+use Rattle.sqlite.specs.Order.{Row}
+use Rattle.sqlite.specs.Effect.{Database}
+use Rattle.sqlite.specs.Compile.{table_defined_by}
+use Rattle.sqlite_trees.specs.View.{doubt}
+use Rattle.sqlite_resolve.specs.declared.compiled.Compiled.{Compiled}
+use Rattle.sqlite_schema.specs.declared.command.Returning.{Returning}
+use Rattle.sqlite.specs.declared.error.Error.{Error}
+use Rattle.sqlite.specs.Program.{overlay}
+use Rattle.sqlite.specs.Tree.{Trees}
+use Rattle.sqlite.specs.State.{State, HasCleanDisk, Shown, ShowsRows, FailsToQuery, FailsToShow, IsNotRun, IsUnchanged, Fails, Survives}
+use Rattle.sqlite_tied.specs.Compute.{everything}
+use Rattle.sqlite.specs.Listing.{understood, reads_listing}
+use Rattle.sqlite.proofs.Callers.{IsPlain, command_of, reads_as}
+use Rattle.entity_files.specs.Table.{entity, entity_schema, is_of, cell, AreCells, IsConnectionSound, IsReady, RowsStay, told_rows, Continues}
+use Rattle.entity_files.specs.Rows.{rows_store, told_store, IsRowFound}
+use Rattle.policy_values.specs.declared.entity_uid.EntityUID.{EntityUID}
+use Rattle.entity_store.specs.Store.{StoredEntity, Store, entity_at}
+use Rattle.entity_files.proofs.Stores.{found_is}
+
+abbrev pub select_text : List ℕ
+select_text = codes "SELECT json FROM entity WHERE type = ?1 AND eid = ?2"
+
+abbrev create_text : List ℕ
+create_text = codes "CREATE TABLE entity (number INTEGER PRIMARY KEY, type TEXT NOT NULL, eid TEXT NOT NULL, json TEXT NOT NULL, UNIQUE (type, eid)) STRICT"
+
+create_is : table_defined_by create_text ≡ Ok entity
+unfolding understood everything
+create_is = refl
+
+abbrev query : Query
+query = record {
+  from = inner 0 end;
+  filter = op2 (Compare Eq Binary) (col 1 2) (col 0 0) ∷ op2 (Compare Eq Binary) (col 1 3) (col 0 1) ∷ [];
+  group = None;
+  project = col 1 4 ∷ [];
+  distinct = false;
+  collations = [];
+  order = [];
+  limit = lit (Int (negsuc 0));
+  offset = lit (Int (pos 0));
+}
+
+select_is : (command_of (understood entity_schema select_text) ≡ Select (record { lets = []; body = query }) (codes "json" ∷ [])) × (reads_listing entity_schema select_text ≡ false)
+unfolding understood everything
+select_is = (refl, refl)
+
+select_plain : IsPlain (understood entity_schema select_text)
+unfolding understood everything
+select_plain = (refl, refl)
+
+abbrev pub given : List ℕ → List ℕ → Row
+given kind eid = Text kind ∷ Text eid ∷ []
+
+-- a row that passes, behind the parameters
+abbrev passed : List ℕ → List ℕ → Row → List Env
+passed kind eid r = if is_of kind eid r then (given kind eid ∷ r ∷ []) ∷ [] else []
+
+-- the rows that pass show their texts
+shows : (kind eid : List ℕ) (table : List Row) → map (λ (o : Output). o.1) (map (output query) (flat_map (passed kind eid) table)) ≡ map cell (filter (is_of kind eid) table)
+shows kind eid [] = refl
+shows kind eid (r ∷ table) = by_case (shows kind eid table) (is_of kind eid r)
+  where
+    by_case : map (λ (o : Output). o.1) (map (output query) (flat_map (passed kind eid) table)) ≡ map cell (filter (is_of kind eid) table)
+        → (b : Bool) → map (λ (o : Output). o.1) (map (output query) ((if b then (given kind eid ∷ r ∷ []) ∷ [] else []) ++ flat_map (passed kind eid) table)) ≡ map cell (if b then r ∷ filter (is_of kind eid) table else filter (is_of kind eid) table)
+    by_case same true = ap (λ xs. cell r ∷ xs) same
+    by_case same false = same
+
+pub finds : (old new : State) (kind eid : List ℕ) (rows : List Row) → old.now.schema ≡ entity_schema → Shown select_text (given kind eid) old new rows
+    → AreCells (old.now.trees 0) kind eid rows
+finds old new kind eid rows has h =
+    let got = reads_as select_text (given kind eid) old new entity_schema has _ select_is.0 select_plain select_is.1 rows h in
+    let a : IsAnswer query (overlay old.now.trees []) (given kind eid) rows = got.answer Null in
+    let kept : a.kept ≡ map (output query) (flat_map (passed kind eid) (old.now.trees 0)) = a.distinct ∙ ap (map (output query)) a.grouped in
+    let seconds = IsPermutation-map (λ (o : Output). o.1) a.kept a.ordered a.same in
+    let same : map (λ (o : Output). o.1) a.kept ≡ map cell (filter (is_of kind eid) (old.now.trees 0)) = ap (map (λ (o : Output). o.1)) kept ∙ shows kind eid (old.now.trees 0) in
+    subst (λ xs. IsPermutation xs rows) same (subst (IsPermutation (map (λ (o : Output). o.1) a.kept)) (sym a.shown) seconds)
+
+pub if_ok : {X E : Type 0} (r : Result X E) (P Q : X → Type 0) → ((x : X) → P x → Q x) → IfOk r P → IfOk r Q
+if_ok (Ok x) P Q f h = f x h
+if_ok (Err e) P Q f h = tt
+
+pub finds_if : (old new : State) (kind eid : List ℕ) (r : Result (Vec Row Global) Error) → old.now.schema ≡ entity_schema
+    → IfOk r (λ rows. Shown select_text (given kind eid) old new rows.items) → IfOk r (λ rows. AreCells (old.now.trees 0) kind eid rows.items)
+finds_if old new kind eid (Ok rows) has h = finds old new kind eid rows.items has h
+finds_if old new kind eid (Err e) has h = tt
+
+-- what a call that only reads leaves: all as it was, or all as it was committed
+abbrev Leaves : State → State → Type 0
+Leaves old new = IsTrue new.is_open → IsTrue old.is_open × (IsReady old → HasCleanDisk old → (new.now ≡ old.now) × (new.committed ≡ old.now))
+
+unchanged : (old new : State) → IsUnchanged old new → Leaves old new
+unchanged old new same is = (same.0.was_open, λ ready clean. let it = ready (clean, same.0.was_open) in (same.0.now_is, same.0.committed_is ∙ it.1))
+
+failed : (old new : State) (too_big : Type 0) (e : Error) → Fails old new too_big e → Leaves old new
+failed old new too_big e h is =
+    let back = h.3 in
+    let was = back.was_open is in
+    (was, λ ready clean. let it = ready (clean, was) in ((back.undone is).0 ∙ it.1, (back.undone is).1 ∙ it.1))
+
+shows_leaves : (old new : State) (sql : List ℕ) (c : Compiled) (params : Row) (rows : List Row) (k : Option Returning) → (IsReady old → IsConnectionSound old → k ≡ None) → ShowsRows old new sql c params rows k → Leaves old new
+shows_leaves old new sql c params rows None plain h is = unchanged old new h.3 is
+shows_leaves old new sql c params rows (Some what) plain h is = let was = h.1.shown.was_open in (was, λ ready clean. absurd (let e = plain ready (clean, was) in cc))
+
+plain_of : (old : State) (c : Compiled) → understood old.now.schema select_text ≡ Ok c → IsReady old → IsConnectionSound old → c.returning ≡ None
+plain_of old c is ready told = (subst IsPlain (sym (ap (λ s. understood s select_text) (ready told).0) ∙ is) select_plain).0
+
+fails_leaves : (old new : State) (sql : List ℕ) (c : Compiled) (params : Row) (e : Error) (k : Option Returning) → FailsToShow old new sql c params e k → Leaves old new
+fails_leaves old new sql c params e None h is = unchanged old new h.3 is
+fails_leaves old new sql c params e (Some what) (inl h) is = unchanged old new h.1 is
+fails_leaves old new sql c params e (Some what) (inr h) is = failed old new _ e h is
+
+leaves : (old new : State) (params : Row) (r : Result (Vec Row Global) Error) → IfOk r (λ rows. Shown select_text params old new rows.items) → IfErr r (FailsToQuery select_text params old new) → Leaves old new
+unfolding Shown FailsToQuery IsNotRun
+leaves old new params (Ok rows) h none is = shows_leaves old new select_text h.0 _ rows.items h.0.returning (plain_of old h.0 h.1.is) h.2 is
+leaves old new params (Err e) none (inl (inl h)) is = unchanged old new h.1 is
+leaves old new params (Err e) none (inl (inr h)) is = failed old new ⊥ e h is
+leaves old new params (Err e) none (inr h) is = fails_leaves old new select_text h.0 _ e h.0.returning h.2 is
+
+was_clean : (old new : State) (C : Trees → Type 0) → Survives old new C → HasCleanDisk new → HasCleanDisk old
+was_clean old new C h clean = omega (arith, h.clean, clean)
+
+-- what a look-up keeps and says, where its clauses hold
+pub told : (old new : State) (kind eid : List ℕ) (r : Result (Vec Row Global) Error) (C : Trees → Type 0) → IsReady old → Survives old new C
+    → (HasCleanDisk new → IfOk r (λ rows. Shown select_text (given kind eid) old new rows.items)) → (HasCleanDisk new → IfErr r (FailsToQuery select_text (given kind eid) old new))
+    → IsReady new × RowsStay old new × (IsConnectionSound new → IfOk r (λ rows. AreCells (new.now.trees 0) kind eid rows.items))
+told old new kind eid r C ready survives ok err =
+    let before = λ (t : IsConnectionSound new). was_clean old new C survives t.0 in
+    let left = λ (t : IsConnectionSound new). leaves old new (given kind eid) r (ok t.0) (err t.0) t.1 in
+    let kept = λ (t : IsConnectionSound new). (left t).1 ready (before t) in
+    let was = λ (t : IsConnectionSound new). ready (before t, (left t).0) in (
+      λ t. (ap (λ (d : Database). d.schema) (kept t).0 ∙ (was t).0, (kept t).1 ∙ sym (kept t).0),
+      λ t. ((before t, (left t).0), ap (λ (d : Database). d.trees 0) (kept t).0),
+      λ t. subst (λ (d : Database). IfOk r (λ rows. AreCells (d.trees 0) kind eid rows.items)) (sym (kept t).0) (finds_if old new kind eid r (was t).0 (ok t.0)),
+    )
+
+by_bools : {A : Type 0} (a b : Bool) (x t : A) → (if a && b then Some x else None) ≡ Some t → (a ≡ true) × (b ≡ true) × (x ≡ t)
+by_bools true true x t e = (refl, refl, cc)
+by_bools true false x t e = absurd cc
+by_bools false b x t e = absurd cc
+
+clean_is : (b : Bool) → b ≡ true → doubt b ≡ 0
+unfolding doubt
+clean_is true e = refl
+clean_is false e = absurd cc
+
+is_clean : (b : Bool) → doubt b ≡ 0 → b ≡ true
+unfolding doubt
+is_clean true e = refl
+is_clean false e = absurd (omega (arith, e))
+
+told_of : (s : State) (t : List Row) → told_rows s ≡ Some t → IsConnectionSound s × (s.now.trees 0 ≡ t)
+told_of s t e = let h = by_bools s.is_clean s.is_open (s.now.trees 0) t e in ((clean_is s.is_clean h.0, h.1), h.2)
+
+map_some : {X Y : Type 0} (f : X → Y) (o : Option X) (y : Y) → option_map f o ≡ Some y → (x : X) × (o ≡ Some x) × (f x ≡ y)
+map_some f None y h = absurd (cc)
+map_some f (Some x) y h = (x, refl, cc)
+
+-- the store that is told is that of the rows, while the connection is open and clean
+sound_of : (s : State) (w : Store) → told_store s ≡ Some w → IsConnectionSound s × (rows_store (s.now.trees 0) ≡ w)
+sound_of s w h =
+    let some = map_some rows_store (told_rows s) w h in
+    let told = told_of s some.0 some.1 in
+    (told.0, ap rows_store told.1 ∙ some.2)
+
+pub store_goes_on : (old new : State) → RowsStay old new → Continues (told_store old) (told_store new)
+store_goes_on old new goes w h =
+    let now = sound_of new w h in
+    let was = goes now.0 in
+    rw (is_clean old.is_clean was.0.0, was.0.1) (ap Some (ap rows_store (sym was.1) ∙ now.1))
+
+found_told : (new : State) (u : EntityUID) (shown : List Row) (o : Option StoredEntity) → (IsConnectionSound new → AreCells (new.now.trees 0) u.entity_type u.eid shown) → IsRowFound shown u o
+    → (w : Store) → told_store new ≡ Some w → o ≡ entity_at w u
+found_told new u shown o cells found w h =
+    let now = sound_of new w h in
+    subst (λ s. o ≡ entity_at s u) now.1 (found_is (new.now.trees 0) u shown o (cells now.0) found)
+
+pub found_if : {E : Type 0} (new : State) (u : EntityUID) (kind eid : List ℕ) (shown : List Row) (r : Result (Option StoredEntity) E) → kind ≡ u.entity_type → eid ≡ u.eid
+    → (IsConnectionSound new → AreCells (new.now.trees 0) kind eid shown) → IfOk r (IsRowFound shown u) → (w : Store) → told_store new ≡ Some w → IfOk r (λ o. o ≡ entity_at w u)
+found_if new u kind eid shown (Ok o) is_kind is_eid cells found w h =
+    found_told new u shown o (λ sound. subst (λ k. AreCells (new.now.trees 0) k u.eid shown) is_kind (subst (λ e. AreCells (new.now.trees 0) kind e shown) is_eid (cells sound))) found w h
+found_if new u kind eid shown (Err e) is_kind is_eid cells found w h = tt

@@ -1,0 +1,161 @@
+//! What was looked up, as a loader.
+
+ghost use Rattle.std.specs.Prelude.{◌≡◌};
+ghost use Rattle.std.specs.List.{list_all};
+ghost use Rattle.std.specs.BTreeSet.{contains};
+ghost use Rattle.policy_values.specs.Uid.{uid_cmp};
+ghost use Rattle.sqlite.specs.Held.{state};
+ghost use Rattle.entity_files.specs.Rows.{told_store};
+ghost use Rattle.entity_files.specs.Fetched.{AreFetchedOf, AreFetchedOf-prop};
+
+use entity_loader::{
+    AncestorsRequest, EntityAnswer, EntityLoader, EntityRequest, EntitySlicer, LoadError,
+};
+use entity_store::Entities;
+use policy_values::EntityUID;
+use sqlite::{Alter, Connection};
+use std::alloc::{AllocError, Global};
+use std::collections::BTreeSet;
+
+/// A loader of what was looked up in a database, which answers just what is asked. A call that asks for an id
+/// that was not looked up fails, is counted, and leaves the id among the missing ones.
+///
+/// It tells the store of the database's rows, where the database is open and its disk has returned what was
+/// written.
+#[derive(Drop)]
+pub struct FetchedLoader<'a, S: Alter> {
+    /// The database, which stays as it is while there is the loader.
+    pub database: &'a Connection<S>,
+    /// The ids that were looked up.
+    pub seen: &'a BTreeSet<EntityUID>,
+    /// The entities that were found.
+    pub entities: &'a Entities,
+    /// The ids that were asked for and not looked up.
+    pub missing: Vec<EntityUID>,
+    /// How often a call has failed; at the last value of u64 it stays.
+    pub faults: u64,
+    /// How often entities were asked for; at the last value of u64 it stays.
+    pub rounds: u64,
+    /// How often ancestors were asked for; at the last value of u64 it stays.
+    pub lists: u64,
+    pub ghost found: { AreFetchedOf (told_store (state S.Store database.now)) seen.now entities.now } by { AreFetchedOf-prop (told_store (state S.Store database.now)) seen.now entities.now },
+}
+
+impl<'a, S: Alter> FetchedLoader<'a, S> {
+    /// The loader that has not been asked yet.
+    pub fn new(
+        alloc: Global,
+        database: &'a Connection<S>,
+        seen: &'a BTreeSet<EntityUID>,
+        entities: &'a Entities,
+    ) -> FetchedLoader<'a, S>
+        requires { AreFetchedOf (told_store (state S.Store database.now)) seen.now entities.now }
+        ensures database { result.database.now ≡ database.now }
+        ensures faults { result.faults ≡ 0 }
+    {
+        FetchedLoader {
+            database,
+            seen,
+            entities,
+            missing: Vec::new(alloc),
+            faults: 0,
+            rounds: 0,
+            lists: 0,
+        }
+    }
+}
+
+impl<S: Alter> FetchedLoader<'_, S> {
+    /// The ids that were asked for and not looked up.
+    pub fn into_missing(self) -> Vec<EntityUID> {
+        let FetchedLoader { missing, .. } = self;
+        missing
+    }
+}
+
+// Whether all the ids that are asked for were looked up.
+fn are_seen(seen: &BTreeSet<EntityUID>, requests: &[EntityRequest<'_>]) -> bool
+    ensures { result ≡ list_all (λ r. contains uid_cmp seen.now r.entity_id) requests.now }
+{
+    requests
+        .iter()
+        .all(|request| seen.contains(&request.entity_id))
+}
+
+fn are_all_seen(seen: &BTreeSet<EntityUID>, requests: &[AncestorsRequest]) -> bool
+    ensures { result ≡ list_all (λ r. contains uid_cmp seen.now r.entity_id) requests.now }
+{
+    requests
+        .iter()
+        .all(|request| seen.contains(&request.entity_id))
+}
+
+// Adds an id that was not looked up to the missing ones.
+fn note(
+    seen: &BTreeSet<EntityUID>,
+    missing: &mut Vec<EntityUID>,
+    uid: &EntityUID,
+) -> Result<(), AllocError> {
+    if !seen.contains(uid) {
+        missing.push(uid.try_clone()?)?;
+    }
+    Ok(())
+}
+
+fn note_entities(
+    seen: &BTreeSet<EntityUID>,
+    missing: &mut Vec<EntityUID>,
+    requests: &Vec<EntityRequest<'_>>,
+) -> Result<(), AllocError> {
+    for request in requests {
+        note(seen, missing, &request.entity_id)?;
+    }
+    Ok(())
+}
+
+fn note_ancestors(
+    seen: &BTreeSet<EntityUID>,
+    missing: &mut Vec<EntityUID>,
+    requests: &Vec<AncestorsRequest>,
+) -> Result<(), AllocError> {
+    for request in requests {
+        note(seen, missing, &request.entity_id)?;
+    }
+    Ok(())
+}
+
+impl<S: Alter> EntityLoader for FetchedLoader<'_, S> {
+    ghost use Rattle.entity_files.specs.Loader.{loader_state};
+
+    ghost state = { λ l. loader_state (told_store (state S.Store l.database.now)) l.faults l.rounds l.lists };
+
+    fn load_entities(
+        &mut self,
+        alloc: Global,
+        requests: &Vec<EntityRequest<'_>>,
+    ) -> Result<Vec<EntityAnswer>, LoadError> {
+        self.rounds = self.rounds.saturating_add(1);
+        if are_seen(self.seen, requests) {
+            let mut slicer = EntitySlicer::new(self.entities);
+            return slicer.load_entities(alloc, requests);
+        }
+        self.faults = self.faults.saturating_add(1);
+        note_entities(self.seen, &mut self.missing, requests)?;
+        Err(LoadError::Failed)
+    }
+
+    fn load_ancestors(
+        &mut self,
+        alloc: Global,
+        requests: &Vec<AncestorsRequest>,
+    ) -> Result<Vec<Vec<EntityUID>>, LoadError> {
+        self.lists = self.lists.saturating_add(1);
+        if are_all_seen(self.seen, requests) {
+            let mut slicer = EntitySlicer::new(self.entities);
+            return slicer.load_ancestors(alloc, requests);
+        }
+        self.faults = self.faults.saturating_add(1);
+        note_ancestors(self.seen, &mut self.missing, requests)?;
+        Err(LoadError::Failed)
+    }
+}

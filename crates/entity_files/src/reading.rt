@@ -1,0 +1,119 @@
+//! Rows as entities.
+
+ghost use Rattle.std.specs.Prelude.{◌≡◌, Some, IfOk, false};
+ghost use Rattle.std.specs.Option.{option_map_or};
+ghost use Rattle.serde_json.specs.Find.{as_object};
+ghost use Rattle.sqlite.specs.Order.{column};
+ghost use Rattle.policy_values.specs.Uid.{uid_eq};
+ghost use Rattle.json_values.specs.Json.{has_only};
+ghost use Rattle.json_trees.specs.Trees.{tree_view};
+ghost use Rattle.entity_files.specs.Entities.{entity_in, entity_names, entity_of, given_entity_of};
+ghost use Rattle.entity_files.specs.Rows.{cell_entity, IsRowFound};
+
+use crate::FindError;
+use entity_store::Entity;
+use json_trees::{Scratch, Tree, get, has_only, read_fields, read_tree, read_uid, read_uid_set};
+use policy_values::EntityUID;
+use sqlite::Row;
+use sqlite::types::ValueRef;
+use std::alloc::{AllocError, Global};
+use std::cmp::Ordering;
+
+// The entity of the members.
+#[tactic(auto, unfolding(crate::specs::Entities::given_entity_of))]
+fn read_given_entity(alloc: Global, tree: &Tree<'_>) -> Result<Option<Entity>, AllocError>
+    ensures { IfOk result (λ o. o ≡ given_entity_of (tree_view tree.now)) }
+{
+    let Some(id) = get(tree, "id") else {
+        return Ok(None);
+    };
+    let Some(uid) = read_uid(alloc, id)? else {
+        return Ok(None);
+    };
+    let Some(ancestors) = read_uid_set(alloc, get(tree, "ancestors"), None)? else {
+        return Ok(None);
+    };
+    let Some(attrs) = read_fields(alloc, get(tree, "attrs"))? else {
+        return Ok(None);
+    };
+    match read_fields(alloc, get(tree, "tags"))? {
+        Some(tags) => Ok(Some(Entity::new(uid, attrs, ancestors, tags))),
+        None => Ok(None),
+    }
+}
+
+fn has_names(tree: &Tree<'_>) -> bool
+    ensures { result ≡ option_map_or (has_only entity_names) (as_object (tree_view tree.now)) false }
+{
+    has_only(&["id", "attrs", "tags", "ancestors"], tree)
+}
+
+// The entity that the tree spells, where it spells one.
+fn read_entity(alloc: Global, tree: &Tree<'_>) -> Result<Option<Entity>, AllocError>
+    ensures { IfOk result (λ o. o ≡ entity_of (tree_view tree.now)) }
+{
+    if has_names(tree) {
+        read_given_entity(alloc, tree)
+    } else {
+        Ok(None)
+    }
+}
+
+// The entity that the text spells in JSON, where it spells one.
+fn read_text(alloc: Global, text: &[u8]) -> Result<Option<Entity>, AllocError>
+    ensures { IfOk result (λ o. o ≡ entity_in text.now) }
+{
+    let mut scratch = Scratch::new(alloc);
+    match read_tree(alloc, text, &mut scratch)? {
+        Some(tree) => read_entity(alloc, &tree),
+        None => Ok(None),
+    }
+}
+
+// The entity that a row with a text alone spells, where it spells one.
+fn read_row(alloc: Global, row: &Row) -> Result<Option<Entity>, AllocError>
+    ensures { IfOk result (λ o. o ≡ cell_entity (column row.now 0)) }
+{
+    match row.get_ref(0) {
+        Ok(ValueRef::Text(text)) => read_text(alloc, text),
+        _ => Ok(None),
+    }
+}
+
+fn is_same(one: &EntityUID, other: &EntityUID) -> bool
+    ensures { result ≡ uid_eq one.now other.now }
+{
+    one.cmp(other) == Ordering::Equal
+}
+
+// The entity with the id, which the row spells.
+fn read_only(alloc: Global, row: &Row, uid: &EntityUID) -> Result<Entity, FindError>
+    ensures spelled { IfOk result (λ e. cell_entity (column row.now 0) ≡ Some e) }
+    ensures id { IfOk result (λ e. e.uid ≡ uid.now) }
+{
+    match read_row(alloc, row)? {
+        Some(entity) => {
+            if is_same(entity.uid(), uid) {
+                Ok(entity)
+            } else {
+                Err(FindError::NoEntity)
+            }
+        }
+        None => Err(FindError::NoEntity),
+    }
+}
+
+/// The entity with the id that the rows of a look-up spell: none where there is no row.
+pub(crate) fn read_found(
+    alloc: Global,
+    rows: &Vec<Row>,
+    uid: &EntityUID,
+) -> Result<Option<Entity>, FindError>
+    ensures { IfOk result (IsRowFound rows.now.items uid.now) }
+{
+    match rows.len() {
+        0 => Ok(None),
+        1 => Ok(Some(read_only(alloc, &rows[0], uid)?)),
+        _ => Err(FindError::NoEntity),
+    }
+}

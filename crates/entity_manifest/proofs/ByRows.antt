@@ -1,0 +1,110 @@
+-- Answers by rows, which never stray, and by a store in memory, of which no call fails.
+use Rattle.std.proofs.Common.{◌≡◌, ℕ, ◌≤◌, List, [], ◌∷◌, Option, Some, None, Result, Ok, Err, refl, subst, arith, inl, inr}
+use Rattle.std.specs.Prelude.{IfOk, IfSome}
+use Rattle.std.specs.List.{AllZip}
+use Rattle.std.specs.declared.alloc.Global.{Global}
+use Rattle.std.specs.declared.vec.Vec.{Vec}
+use Rattle.byte_streams.specs.Steps.{Rose}
+use Rattle.entity_store.specs.declared.request.Request.{Request}
+use Rattle.entity_store.specs.Store.{Store}
+use Rattle.policy_set.specs.Data.{PolicyData}
+use Rattle.policy_set.specs.Response.{response}
+use Rattle.schema_core.specs.Schema.{SchemaData}
+use Rattle.typing_spec.specs.Conforms.{StoreConforms}
+use Rattle.entity_loader.specs.State.{LoaderState, Continues}
+use Rattle.entity_manifest.specs.declared.EntitySliceError.TheVariants as error
+use Rattle.table_loader.specs.Laws.{IsStoreOrdered}
+use Rattle.entity_manifest.specs.declared.answer.BatchAnswer.{BatchAnswer}
+use Rattle.entity_manifest.specs.declared.answer.BatchAnswer.TheVariants.{Partial, Refused, Loading, Decided}
+use Rattle.entity_manifest.specs.Loaded.{IsTold}
+use Rattle.entity_manifest.specs.Answers.{IsLoaderAnswer, AreLoaderAnswers, IsStoreAnswer, IsRowAnswer, is_fault, faults_in, AreCounted}
+use Rattle.entity_manifest.proofs.OneAfterAnother.{goes_on}
+
+-- a loader that never strayed did not stray before
+no_stray : {R : Type 0} (a b c : ℕ) → c ≡ 0 → b ≤ c → Rose a b → R
+no_stray a b c none below (inl more) = absurd (omega (arith, none, below, more))
+no_stray a b c none below (inr last) = absurd (omega (arith, none, below, last))
+
+module _ (schema : SchemaData) (ps : List PolicyData) (o : Option Store) (ordered : (w : Store) → o ≡ Some w → IsStoreOrdered w) where
+  -- a state tells the store at least
+  abbrev Tells : LoaderState → Type 0
+  Tells l = (w : Store) → o ≡ Some w → l.store ≡ Some w
+
+  module _ (old mid new : LoaderState) (tells : Tells old) (none : new.strays ≡ 0) (on : Continues mid new) (q : Request) where
+    told : (w : Store) → o ≡ Some w → IsTold old w
+    told w is = record { told = tells w is; order = ordered w is }
+
+    row_answer : (a : BatchAnswer) → IsLoaderAnswer schema ps old mid q a → IsRowAnswer schema ps o q a
+    row_answer Partial h = h
+    row_answer (Refused e) h = h
+    row_answer (Decided r) h = (h.0, h.1, by o refl)
+      where
+        by : (p : Option Store) → o ≡ p → IfSome p (λ w. StoreConforms schema w → r ≡ response ps q w)
+        by None is = tt
+        by (Some w) is = λ stored. h.2 w (told w is) stored
+    row_answer (Loading error.LoaderFault) h = (h.0, h.1, tt)
+    row_answer (Loading (error.IncompatibleEntityManifest e)) h = (h.0, h.1, by o refl)
+      where
+        by : (p : Option Store) → o ≡ p → IfSome p (λ w. ¬ StoreConforms schema w)
+        by None is = tt
+        by (Some w) is = h.2 w (told w is)
+    row_answer (Loading (error.InconsistentLoader uid kept got)) h = (h.0, h.1, by o refl)
+      where
+        by : (p : Option Store) → o ≡ p → o ≡ None
+        by None is = is
+        by (Some w) is = absurd (h.2 w (told w is))
+    row_answer (Loading (error.WrongNumberOfEntities e)) h = no_stray old.strays mid.strays new.strays none on.strays h.2.0
+    row_answer (Loading (error.WrongNumberOfAncestors n k)) h = no_stray old.strays mid.strays new.strays none on.strays h.2.0
+    row_answer (Loading (error.PartialRequest e)) h = absurd h.2
+    row_answer (Loading error.OutOfMemory) h = absurd h.2
+
+  pub row_answers : (old new : LoaderState) (qs : List Request) (answers : List BatchAnswer) → Tells old → new.strays ≡ 0 →
+      AreLoaderAnswers schema ps old qs answers new → AllZip (IsRowAnswer schema ps o) qs answers
+  row_answers old new [] [] tells none h = tt
+  row_answers old new (q ∷ qs) (a ∷ answers) tells none h = (
+    row_answer old h.0 new tells none (goes_on schema ps h.0 new qs answers h.3) q a h.2,
+    row_answers h.0 new qs answers (λ w is. h.1.told w (tells w is)) none h.3,
+  )
+  row_answers old new [] (a ∷ answers) tells none h = absurd h
+  row_answers old new (q ∷ qs) [] tells none h = absurd h
+
+-- ---- of a store in memory
+
+module _ (schema : SchemaData) (ps : List PolicyData) (w : Store) (stored : StoreConforms schema w) where
+  store_answer : (q : Request) (a : BatchAnswer) → is_fault a ≡ 0 → IsRowAnswer schema ps (Some w) q a → IsStoreAnswer schema ps w q a
+  store_answer q Partial none h = h
+  store_answer q (Refused e) none h = h
+  store_answer q (Decided r) none h = (h.0, h.1, h.2 stored)
+  store_answer q (Loading error.LoaderFault) none h = absurd (omega (arith, none))
+  store_answer q (Loading (error.IncompatibleEntityManifest e)) none h = h.2 stored
+  store_answer q (Loading (error.InconsistentLoader uid kept got)) none h = absurd (let no : Some w ≡ None = h.2 in cc)
+  store_answer q (Loading (error.WrongNumberOfEntities e)) none h = h.2
+  store_answer q (Loading (error.WrongNumberOfAncestors n k)) none h = h.2
+  store_answer q (Loading (error.PartialRequest e)) none h = h.2
+  store_answer q (Loading error.OutOfMemory) none h = h.2
+
+  store_answers : (qs : List Request) (answers : List BatchAnswer) → faults_in answers ≡ 0 →
+      AllZip (IsRowAnswer schema ps (Some w)) qs answers → AllZip (IsStoreAnswer schema ps w) qs answers
+  store_answers [] [] none h = tt
+  store_answers (q ∷ qs) (a ∷ answers) none h = (
+    store_answer q a (omega (arith, none)) h.0,
+    store_answers qs answers (omega (arith, none)) h.1,
+  )
+  store_answers [] (a ∷ answers) none h = absurd h
+  store_answers (q ∷ qs) [] none h = absurd h
+
+  no_faults : (answers : List BatchAnswer) → AreCounted answers 0 0 → faults_in answers ≡ 0
+  no_faults answers (inl few) = omega (arith, few)
+  no_faults answers (inr last) = absurd (omega (arith, last))
+
+  pub by_store : (qs : List Request) (answers : List BatchAnswer) → AreCounted answers 0 0 →
+      AllZip (IsRowAnswer schema ps (Some w)) qs answers → AllZip (IsStoreAnswer schema ps w) qs answers
+  by_store qs answers few h = store_answers qs answers (no_faults answers few) h
+
+pub store_result : {E : Type 0} (schema : SchemaData) (ps : List PolicyData) (w : Store) (o : Option Store) → o ≡ Some w →
+    (qs : List Request) (r : Result (Vec BatchAnswer Global) E) →
+    IfOk r (λ answers. AllZip (IsRowAnswer schema ps o) qs answers.items) → IfOk r (λ answers. AreCounted answers.items 0 0) →
+    IfOk r (λ answers. StoreConforms schema w → AllZip (IsStoreAnswer schema ps w) qs answers.items)
+store_result schema ps w o is qs (Ok answers) h few = λ stored.
+    by_store schema ps w stored qs answers.items few (subst (λ (p : Option Store). AllZip (IsRowAnswer schema ps p) qs answers.items) is h)
+store_result schema ps w o is qs (Err e) h few = tt

@@ -1,0 +1,14 @@
+//! Laws of decisions on many requests.
+
+ghost use Rattle.entity_manifest.specs.BatchLaws.{AnswersAreWhole, FaultsAreCounted};
+
+/// Where a loader tells a store that conforms, each decision is the response on all of it, and each whole
+/// request that conforms is decided or ends with a fault of the loader.
+pub fn answers_are_whole()
+    ensures { AnswersAreWhole }
+{}
+
+/// At most as many answers are faults of the loader as its count of faults rose by.
+pub fn faults_are_counted()
+    ensures { FaultsAreCounted }
+{}

@@ -1,0 +1,58 @@
+//! Decisions on many requests, over rows of tables and over a store in memory.
+
+ghost use Rattle.std.specs.Prelude.{IfOk, IfErr};
+ghost use Rattle.std.specs.List.{AllZip};
+ghost use Rattle.typing_spec.specs.Conforms.{StoreConforms};
+ghost use Rattle.entity_manifest.specs.Accepted.{IsAccepted};
+ghost use Rattle.entity_manifest.specs.OfPolicies.{WhyNone};
+ghost use Rattle.table_loader.specs.State.{store_told};
+ghost use Rattle.entity_manifest.specs.Answers.{IsStoreAnswer, IsRowAnswer, AreCounted};
+
+use crate::{BatchAnswer, EntityManifestError, decide_batch};
+use entity_store::{Entities, Request};
+use policy_set::PolicySet;
+use schema_core::ValidatorSchema;
+use std::alloc::Global;
+use table_loader::laws::told_stores_are_ordered;
+use table_loader::{RowLoader, Rows, StoreRows, store_rows_tell};
+
+/// The same over rows of tables. Where the rows tell a store that conforms, each decision is the response on
+/// all of it, and each whole request that conforms is decided, or the rows failed: at most as often as their
+/// count of faults rose.
+pub fn decide_batch_on_rows<R: Rows>(
+    alloc: Global,
+    schema: &ValidatorSchema,
+    policies: &PolicySet,
+    requests: &Vec<Request>,
+    loader: &mut RowLoader<R>,
+) -> Result<Vec<BatchAnswer>, EntityManifestError>
+    ensures answers { IfOk result (λ answers. AllZip
+        (IsRowAnswer schema.now policies.now.policies (store_told (R.state loader.old.rows)))
+        requests.now.items answers.items) }
+    ensures faults { IfOk result (λ answers. AreCounted answers.items
+        (R.state loader.old.rows).faults (R.state loader.new.rows).faults) }
+    ensures accepted { IfOk result (λ _. IsAccepted schema.now policies.now) }
+    ensures refused { IfErr result (WhyNone schema.now policies.now) }
+{
+    told_stores_are_ordered();
+    decide_batch(alloc, schema, policies, requests, loader)
+}
+
+/// The same over a store in memory, by rows of it that never fail: no answer is `Loading`.
+pub fn decide_batch_on_store(
+    alloc: Global,
+    schema: &ValidatorSchema,
+    policies: &PolicySet,
+    requests: &Vec<Request>,
+    entities: &Entities,
+) -> Result<Vec<BatchAnswer>, EntityManifestError>
+    ensures answers { IfOk result (λ answers. StoreConforms schema.now entities.now →
+        AllZip (IsStoreAnswer schema.now policies.now.policies entities.now)
+        requests.now.items answers.items) }
+    ensures accepted { IfOk result (λ _. IsAccepted schema.now policies.now) }
+    ensures refused { IfErr result (WhyNone schema.now policies.now) }
+{
+    store_rows_tell(entities);
+    let mut loader = RowLoader::new(StoreRows::new(entities));
+    decide_batch_on_rows(alloc, schema, policies, requests, &mut loader)
+}

@@ -1,3 +1,0 @@
-mod Actions
-mod Bounds
-mod Depths

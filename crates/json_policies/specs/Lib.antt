@@ -1,4 +1,0 @@
-pub mod Body
-pub mod Link
-pub mod Policy
-pub mod Scope

@@ -1,4 +1,0 @@
-use Rattle.loader_tests.proofs.asked.asked.Given as goal
-
-abbrev pub ghosts-asked_on : goal.ghosts-asked_on
-ghosts-asked_on a = record { name = a.blank.name; parts = a.blank.parts }

@@ -1,5 +1,0 @@
-use Rattle.manifest_loading.proofs.LendSteps.{IsLending}
-use Rattle.manifest_loading.proofs.lent.lent_tries.Given as goal
-
-abbrev pub invariant-loop-place : goal.invariant-loop-place
-invariant-loop-place l = IsLending l.nodes l.places.keys l.place-iterator l.lent

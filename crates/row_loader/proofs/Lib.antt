@@ -1,8 +1,0 @@
-mod Answers
-mod Attributes
-mod Cuts
-mod Entries
-mod FromRows
-mod Loading
-mod Ordered
-mod Rows

@@ -1,5 +1,0 @@
-pub mod Answers
-pub mod Asking
-pub mod FromRows
-pub mod Laws
-pub mod State

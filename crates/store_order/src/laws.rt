@@ -1,8 +1,0 @@
-//! Laws of order.
-
-ghost use Rattle.store_order.specs.Laws.{FieldsAreTheirLookups};
-
-/// Fields of ascending keys are equal where look-ups find the same in both.
-pub fn fields_are_their_lookups()
-    ensures { FieldsAreTheirLookups }
-{}

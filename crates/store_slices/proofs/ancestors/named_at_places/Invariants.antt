@@ -1,5 +1,0 @@
-use Rattle.store_slices.proofs.PartSteps.{IsNaming}
-use Rattle.store_slices.proofs.ancestors.named_at_places.Given as goal
-
-abbrev pub invariant-loop-place : goal.invariant-loop-place
-invariant-loop-place l = IsNaming l.nodes l.request l.kept l.place-iterator l.places.keys l.named

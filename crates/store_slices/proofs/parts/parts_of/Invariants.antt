@@ -1,6 +1,0 @@
-use Rattle.store_slices.specs.Kept.{along_nodes}
-use Rattle.store_slices.proofs.PartSteps.{IsKeeping}
-use Rattle.store_slices.proofs.parts.parts_of.Given as goal
-
-abbrev pub invariant-loop-entity : goal.invariant-loop-entity
-invariant-loop-entity l = IsKeeping (along_nodes l.nodes l.numbers) l.kept l.entity-iterator l.entities

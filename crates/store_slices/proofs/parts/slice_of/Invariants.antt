@@ -1,6 +1,0 @@
-use Rattle.store_slices.specs.Kept.{with_names}
-use Rattle.store_slices.proofs.PartSteps.{IsParting}
-use Rattle.store_slices.proofs.parts.slice_of.Given as goal
-
-abbrev pub invariant-loop-entity : goal.invariant-loop-entity
-invariant-loop-entity l = IsParting (with_names l.nodes l.numbers l.named) l.slice l.entity-iterator l.entities

@@ -1,0 +1,15 @@
+use Rattle.std.proofs.Common.{◌≡◌, take, length, false}
+use Rattle.std.specs.Prelude.{Some}
+use Rattle.std.specs.List.{AllZip}
+use Rattle.entity_loader.specs.Answers.{IsHonestList}
+use Rattle.table_loader.specs.RowsState.{RowsContinue}
+use Rattle.table_loader.specs.Tables.{Tables, store_of}
+use Rattle.table_loader.proofs.ancestors.ancestor_lists.Given as goal
+
+abbrev pub invariant-loop-request : goal.invariant-loop-request
+invariant-loop-request g l = record {
+  goes_on : RowsContinue (g.R.Rows.state l.fn.rows) (g.R.Rows.state l.rows);
+  fit : length l.found.items ≡ l.request-index;
+  honest : (t : Tables) → (g.R.Rows.state l.rows).told ≡ Some t →
+      AllZip (IsHonestList false (store_of t)) (take l.request-index l.request-items) l.found.items;
+}

@@ -1,6 +1,0 @@
-use Rattle.std.proofs.Common.{arith}
-use Rattle.std.proofs.lemmas.Result.{on_ok_weaker}
-use Rattle.trie_traversal.proofs.roots.name_entry.Goals as goal
-
-pub returns-in-Some-clause-later : goal.returns-in-Some-clause-later
-returns-in-Some-clause-later c = on_ok_weaker c.name_later.result (λ f. f 0 (omega arith)) c.name_later.ensures.later

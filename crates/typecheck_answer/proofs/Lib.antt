@@ -1,2 +1,0 @@
-pub mod NoteSteps
-pub mod Types

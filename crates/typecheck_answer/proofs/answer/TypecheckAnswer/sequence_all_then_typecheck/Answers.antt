@@ -1,6 +1,0 @@
-use Rattle.std.proofs.Common.{ap, ◌∙◌}
-use Rattle.typecheck_answer.specs.Answer.{after}
-use Rattle.typecheck_answer.proofs.answer.TypecheckAnswer.sequence_all_then_typecheck.Goals as goal
-
-pub returns : goal.returns
-returns g c = (c.in_ok-parts.parts, c.f.result, c.in_ok-parts.ensures, c.f.ensures, c.after.ensures ∙ ap (λ b. after b c.f.result) c.have_all_types-ok.ensures)
