@@ -7,40 +7,40 @@ use Rattle.access_tries.specs.Edges.{Address, edge_cmp, edge_eq}
 use Rattle.access_tries.specs.EdgeLaws.{exact_edge}
 use Rattle.access_tries.specs.Paths.{AccessPath, address_of, is_front}
 use Rattle.access_tries.specs.Table.{Table}
-use Rattle.access_tries.specs.Walks.{HaveSameFronts, IsOf}
+use Rattle.access_tries.specs.Walks.{HaveSamePrefixes, IsOf}
 use Rattle.plain_lemmas.proofs.Booleans.{and_parts_of}
 
-front_more : (p q : Address) → is_front p q ≡ true → (es : Address) → is_front es p ≡ true → is_front es q ≡ true
-front_more p q h [] k = refl
-front_more [] q h (e ∷ es) k = absurd (cc)
-front_more (a ∷ p) [] h (e ∷ es) k = absurd (cc)
-front_more (a ∷ p) (b ∷ q) h (e ∷ es) k =
+prefix_more : (p q : Address) → is_front p q ≡ true → (es : Address) → is_front es p ≡ true → is_front es q ≡ true
+prefix_more p q h [] k = refl
+prefix_more [] q h (e ∷ es) k = absurd (cc)
+prefix_more (a ∷ p) [] h (e ∷ es) k = absurd (cc)
+prefix_more (a ∷ p) (b ∷ q) h (e ∷ es) k =
     let same = and_parts_of (edge_eq b a) (is_front p q) h in
     let front = and_parts_of (edge_eq a e) (is_front es p) k in
-    λ i. (ap (λ z. edge_eq z e) (exact_edge b a (equal_of (edge_cmp b a) same.0)) ∙ front.0) i && front_more p q same.1 es front.1 i
+    λ i. (ap (λ z. edge_eq z e) (exact_edge b a (equal_of (edge_cmp b a) same.0)) ∙ front.0) i && prefix_more p q same.1 es front.1 i
 
 absorbed : (a b c : Bool) → (a ≡ true → b ≡ true) → (b || c) ≡ (a || (b || c))
 absorbed true b c h = ap (λ z. z || c) (h refl)
 absorbed false b c h = refl
 
 -- whether the address is a front of one of the paths
-abbrev any_front : Address → List AccessPath → Bool
-any_front es ps = list_any (is_front es) (map address_of ps)
+abbrev any_prefix : Address → List AccessPath → Bool
+any_prefix es ps = list_any (is_front es) (map address_of ps)
 
-one_more : (paths : List AccessPath) (i : ℕ) (p : AccessPath) → i < length paths → p ≡ get_or paths i p → (es : Address) → any_front es (drop i paths) ≡ (is_front es (address_of p) || any_front es (drop (i + 1) paths))
-one_more paths i p lt is es = at_drop_more (any_front es) paths i p lt ∙ ap (λ z. is_front es (address_of z) || any_front es (drop (i + 1) paths)) (sym is)
+one_more : (paths : List AccessPath) (i : ℕ) (p : AccessPath) → i < length paths → p ≡ get_or paths i p → (es : Address) → any_prefix es (drop i paths) ≡ (is_front es (address_of p) || any_prefix es (drop (i + 1) paths))
+one_more paths i p lt is es = at_drop_more (any_prefix es) paths i p lt ∙ ap (λ z. is_front es (address_of z) || any_prefix es (drop (i + 1) paths)) (sym is)
 
 pub next_left : (paths : List AccessPath) (i : ℕ) (p q : AccessPath) → i + 1 < length paths → p ≡ get_or paths i p → q ≡ get_or paths (i + 1) q
-    → is_front (address_of p) (address_of q) ≡ true → HaveSameFronts (map address_of (drop (i + 1) paths)) (map address_of (drop i paths))
+    → is_front (address_of p) (address_of q) ≡ true → HaveSamePrefixes (map address_of (drop (i + 1) paths)) (map address_of (drop i paths))
 next_left paths i p q lt first next h es =
     let later = one_more paths (i + 1) q lt next es in
     let whole = one_more paths i p (omega (arith, lt)) first es in
-    later ∙ absorbed (is_front es (address_of p)) (is_front es (address_of q)) (any_front es (drop (i + 1 + 1) paths)) (front_more (address_of p) (address_of q) h es)
+    later ∙ absorbed (is_front es (address_of p)) (is_front es (address_of q)) (any_prefix es (drop (i + 1 + 1) paths)) (prefix_more (address_of p) (address_of q) h es)
     ∙ sym (whole ∙ ap (λ b. is_front es (address_of p) || b) later)
 
 -- without marks a trie of addresses is one of others with the same fronts
-pub of_same_fronts : (xs ys : List Address) (t : Table) → HaveSameFronts xs ys → IsOf xs false t → IsOf ys false t
-of_same_fronts xs ys t same is = record {
+pub of_same_prefixes : (xs ys : List Address) (t : Table) → HaveSamePrefixes xs ys → IsOf xs false t → IsOf ys false t
+of_same_prefixes xs ys t same is = record {
   paths = λ es. is.paths es ∙ same es;
   marks = λ es. is.marks es;
 }

@@ -37,8 +37,8 @@ uniting_start old n l = record {
 }
 
 -- whether one of the addresses goes on from these edges, and whether one is these edges and is marked
-abbrev pub any_front : Address → List Address → Bool
-any_front a ts = list_any (is_front a) ts
+abbrev pub any_prefix : Address → List Address → Bool
+any_prefix a ts = list_any (is_front a) ts
 
 abbrev pub any_marked : Bool → Address → List Address → Bool
 any_marked mark a ts = mark && list_any (is_same a) ts
@@ -59,8 +59,8 @@ any_grouped p x e es h [] after = sym (ap (λ b. b || list_any (p (x ∷ es)) af
 any_grouped p x e es h (t ∷ ts) after =
     (λ i. h t i || any_grouped p x e es h ts after i) ∙ spread (edge_eq e x) (p es t) (list_any (p es) ts) (list_any (p (x ∷ es)) after)
 
-pub searches_fronts : IsSearch any_front
-searches_fronts = record {
+pub searches_prefixes : IsSearch any_prefix
+searches_prefixes = record {
   none = λ e es. refl;
   ends = λ e es ts. same_after_ends is_front e es refl ts;
   grouped = λ x e es below after. any_grouped is_front x e es (λ t. refl) below after;

@@ -218,9 +218,9 @@ pub run_in : (o : Option Edge) (d k : ℕ) (rs : List (Bor Address)) → k ≡ r
 run_in o d k rs is = let h = run_within o (tails d rs) in let l = tails_length d rs in omega (arith, h, l, is)
 
 -- one of the addresses goes on from no edges
-pub front_of_none : (d : ℕ) (rs : List (Bor Address)) → 0 < length rs → true ≡ list_any (is_front []) (tails d rs)
-front_of_none d [] h = absurd (omega (arith, h))
-front_of_none d (r ∷ rs) h = refl
+pub prefix_of_none : (d : ℕ) (rs : List (Bor Address)) → 0 < length rs → true ≡ list_any (is_front []) (tails d rs)
+prefix_of_none d [] h = absurd (omega (arith, h))
+prefix_of_none d (r ∷ rs) h = refl
 
 pub open_after_ends : (ts : List Address) → Rise ts → AllByRecursion (λ t. 0 < length t) (drop (run None ts) ts)
 open_after_ends [] r = tt

@@ -33,8 +33,8 @@ abbrev pub addresses_in : List (Vec Edge Global) → List Address
 addresses_in vs = map (λ v. v.items) vs
 
 -- the same fronts
-abbrev pub HaveSameFronts : List Address → List Address → Type 0
-HaveSameFronts xs ys = (es : Address) → list_any (is_front es) xs ≡ list_any (is_front es) ys
+abbrev pub HaveSamePrefixes : List Address → List Address → Type 0
+HaveSamePrefixes xs ys = (es : Address) → list_any (is_front es) xs ≡ list_any (is_front es) ys
 
 -- a trie with exactly these addresses and their fronts, marked at all their ends or nowhere
 pub record IsOf (addresses : List Address) (mark : Bool) (t : Table) : Type 0 where

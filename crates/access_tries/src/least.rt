@@ -5,7 +5,7 @@ ghost use Rattle.std.specs.List.{list_any};
 ghost use Rattle.std.specs.List.Sorted.{IsPermutation};
 ghost use Rattle.access_tries.specs.Edges.{Address};
 ghost use Rattle.access_tries.specs.Table.{IsClosed, IsTableOrdered, at_path, has_mark};
-ghost use Rattle.access_tries.specs.Walks.{HaveSameFronts, Keeps, IsOf, addresses_in};
+ghost use Rattle.access_tries.specs.Walks.{HaveSamePrefixes, Keeps, IsOf, addresses_in};
 ghost use Rattle.access_tries.specs.Paths.{address_of, demand_of, is_front, is_same, IsLeast};
 ghost use Rattle.access_tries.specs.Tails.{tails, Rise, begins, run};
 
@@ -47,7 +47,7 @@ pub fn least_trie(
 
 // The edges of each path from which the next does not go on: the others are fronts of these.
 fn addresses_of(alloc: Global, paths: &[AccessPath]) -> Result<Vec<Vec<Edge>>, AllocError>
-    ensures { IfOk result (λ r. HaveSameFronts (addresses_in r.items) (map address_of paths.now)) }
+    ensures { IfOk result (λ r. HaveSamePrefixes (addresses_in r.items) (map address_of paths.now)) }
 {
     let mut addresses = Vec::new(alloc);
     for i in 0..paths.len() {
@@ -61,7 +61,7 @@ fn addresses_of(alloc: Global, paths: &[AccessPath]) -> Result<Vec<Vec<Edge>>, A
 // Whether the next path goes on from the one at the place.
 fn is_gone_on(paths: &[AccessPath], place: usize) -> bool
     requires { place < length paths.now }
-    ensures { result ≡ true → HaveSameFronts (map address_of (drop (place + 1) paths.now))
+    ensures { result ≡ true → HaveSamePrefixes (map address_of (drop (place + 1) paths.now))
         (map address_of (drop place paths.now)) }
 {
     place + 1 < paths.len() && goes_on(&paths[place + 1], &paths[place])

@@ -9,7 +9,7 @@ use Rattle.byte_streams.specs.declared.lines.Line.TheVariants as line
 use Rattle.byte_streams.specs.declared.lines.NextByte.{NextByte}
 use Rattle.byte_streams.specs.declared.lines.NextByte.TheVariants as next
 use Rattle.byte_streams.specs.declared.reading.TheConstants.{DOCUMENT_LIMIT}
-use Rattle.byte_streams.specs.Lines.{is_plain, TakesLine, TakesRest, GivesByte, IsTold, IsRest, IsEnd, IsLast, IsNext}
+use Rattle.byte_streams.specs.Lines.{is_plain, TakesLine, TakesRest, GivesByte, IsReported, IsRest, IsEnd, IsLast, IsNext}
 
 pub consumes_more : (a b c : Option (List ℕ)) (xs ys : List ℕ) → Consumes a b xs → Consumes b c ys → Consumes a c (xs ++ ys)
 consumes_more None b c xs ys p q = tt
@@ -105,9 +105,9 @@ some_in [] h = absurd (h refl)
 some_in (b ∷ bs) h = omega arith
 
 -- a front of a line, and its next byte
-pub front_more : (a b c : Option (List ℕ)) (front : List ℕ) (byte : ℕ) → is_plain front ≡ true → Consumes a b front → ¬ (byte ≡ 10) → Consumes b c (byte ∷ [])
+pub prefix_more : (a b c : Option (List ℕ)) (front : List ℕ) (byte : ℕ) → is_plain front ≡ true → Consumes a b front → ¬ (byte ≡ 10) → Consumes b c (byte ∷ [])
     → (is_plain (front ++ (byte ∷ [])) ≡ true) × Consumes a c (front ++ (byte ∷ []))
-front_more a b c front byte plain taken other next = (plain_more front (byte ∷ []) plain (plain_byte byte other), consumes_more a b c front (byte ∷ []) taken next)
+prefix_more a b c front byte plain taken other next = (plain_more front (byte ∷ []) plain (plain_byte byte other), consumes_more a b c front (byte ∷ []) taken next)
 
 pub newline_ends : (a b c : Option (List ℕ)) (front : List ℕ) → is_plain front ≡ true → Consumes a b front → Consumes b c (10 ∷ []) → TakesLine a c front
 newline_ends a b c front plain taken next = (plain, inl (consumes_more a b c front (10 ∷ []) taken next))
@@ -122,13 +122,13 @@ end_ends a b c front plain taken end = (plain, inr (consumes_keeps a b c front t
 line_ends : (a b c : Option (List ℕ)) (front : List ℕ) → is_plain front ≡ true → front ≢ [] → Consumes a b front → Keeps b c × IsAtEnd c → TakesLine a c front
 line_ends a b c front plain some taken end = (plain, inr (consumes_keeps a b c front taken end.0, end.1, some))
 
--- a byte that was told from a newline
-pub told_byte : (a b : Option (List ℕ)) (byte : ℕ) (r : NextByte) → IsTold byte r → Consumes a b (byte ∷ []) → GivesByte a b r
-told_byte a b byte (next.Byte x) is taken = (is.0, subst (λ y. Consumes a b (y ∷ [])) (sym is.1) taken)
-told_byte a b byte next.Newline is taken = subst (λ y. Consumes a b (y ∷ [])) is taken
-told_byte a b byte next.End is taken = absurd is
-told_byte a b byte next.Failed is taken = absurd is
-told_byte a b byte next.OutOfMemory is taken = absurd is
+-- a byte that was known from a newline
+pub known_byte : (a b : Option (List ℕ)) (byte : ℕ) (r : NextByte) → IsReported byte r → Consumes a b (byte ∷ []) → GivesByte a b r
+known_byte a b byte (next.Byte x) is taken = (is.0, subst (λ y. Consumes a b (y ∷ [])) (sym is.1) taken)
+known_byte a b byte next.Newline is taken = subst (λ y. Consumes a b (y ∷ [])) is taken
+known_byte a b byte next.End is taken = absurd is
+known_byte a b byte next.Failed is taken = absurd is
+known_byte a b byte next.OutOfMemory is taken = absurd is
 
 -- a byte more than a line may have, and the rest of the line
 pub rest_behind : (a b c : Option (List ℕ)) (byte : ℕ) (front : List ℕ) (r : Line) → ¬ (byte ≡ 10) → Consumes a b (byte ∷ []) → IsRest b c r → IsEnd a c front r

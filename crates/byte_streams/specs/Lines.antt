@@ -49,13 +49,13 @@ GivesByte old new next.End = Keeps old new × IsAtEnd new
 GivesByte old new next.Failed = ⊤
 GivesByte old new next.OutOfMemory = ⊤
 
--- a byte, told from a newline
-abbrev pub IsTold : ℕ → NextByte → Type 0
-IsTold byte (next.Byte b) = (¬ (b ≡ 10)) × (b ≡ byte)
-IsTold byte next.Newline = byte ≡ 10
-IsTold byte next.End = ⊥
-IsTold byte next.Failed = ⊥
-IsTold byte next.OutOfMemory = ⊥
+-- a byte, known from a newline
+abbrev pub IsReported : ℕ → NextByte → Type 0
+IsReported byte (next.Byte b) = (¬ (b ≡ 10)) × (b ≡ byte)
+IsReported byte next.Newline = byte ≡ 10
+IsReported byte next.End = ⊥
+IsReported byte next.Failed = ⊥
+IsReported byte next.OutOfMemory = ⊥
 
 -- a piece is filled with the next bytes that are left
 abbrev pub IsFilled : Option (List ℕ) → Option (List ℕ) → List ℕ → Filled → Type 0

@@ -2,7 +2,7 @@
 use Rattle.std.specs.Prelude.{ℕ, List, Option}
 
 pub record SourceState : Type 0 where
-  -- the bytes that are left, where the source tells them
+  -- the bytes that are left, where the source says them
   pub left : Option (List ℕ)
   -- how many bytes its reads have given so far
   pub taken : ℕ
@@ -10,7 +10,7 @@ pub record SourceState : Type 0 where
   pub faults : ℕ
 
 pub record SinkState : Type 0 where
-  -- the bytes that it holds, where the sink tells them
+  -- the bytes that it holds, where the sink says them
   pub holds : Option (List ℕ)
   -- how often a write has failed
   pub faults : ℕ

@@ -92,7 +92,7 @@ fn answer_next<A: AnswersLines, I: Source + Drop, K: Sink>(
 /// However it ends, what is written are answers to the first lines, in their order; behind them, where a
 /// write failed, a front of the next answer. At the end of the source no line is left out. The count of
 /// faults rose by those of all these answers at least. A read failed, or memory ran out, in the midst of a
-/// line where these are told.
+/// line where these are known.
 pub fn answer_lines<A: AnswersLines, I: Source + Drop, K: Sink>(
     alloc: Global,
     answers: &mut A,

@@ -1,6 +1,6 @@
 //! Lines of a source, one after another.
 ghost use Rattle.std.specs.Prelude.{◌≡◌, length, true};
-ghost use Rattle.byte_streams.specs.Lines.{GivesByte, IsEnd, IsLast, IsNext, IsRest, IsTold, is_plain};
+ghost use Rattle.byte_streams.specs.Lines.{GivesByte, IsEnd, IsLast, IsNext, IsRest, IsReported, is_plain};
 
 use crate::pieces::{Filled, read_piece};
 use crate::{DOCUMENT_LIMIT, Source};
@@ -38,7 +38,7 @@ pub enum NextByte {
 }
 
 /// A source whose bytes are read line by line; contracts see what of its bytes is left, where the source
-/// tells it.
+/// says it.
 ///
 /// A newline ends a line, and so does the end of the source behind other bytes.
 #[derive(Drop)]
@@ -105,8 +105,8 @@ impl<S: Source + Drop> Lines<S> {
 
     /// The next line.
     ///
-    /// A read failed, or memory ran out, in the midst of a line where these are told; a line of 2^64 bytes
-    /// and more is told as a failed read.
+    /// A read failed, or memory ran out, in the midst of a line where these are known; a line of 2^64 bytes
+    /// and more is known as a failed read.
     pub fn next_line(&mut self, alloc: Global) -> Line
         ensures { IsNext self.old self.new result }
     {
@@ -144,7 +144,7 @@ impl<S: Source + Drop> Lines<S> {
 }
 
 fn told(byte: u8) -> NextByte
-    ensures { IsTold byte result }
+    ensures { IsReported byte result }
 {
     if byte == b'\n' {
         NextByte::Newline

@@ -6,7 +6,7 @@ use crate::{ReadAnswer, WriteAnswer};
 use std::alloc::Global;
 
 // Copies what fits of `bytes` to the front of `piece`; how many bytes that are.
-fn copy_front(bytes: &[u8], piece: &mut [u8]) -> usize
+fn copy_prefix(bytes: &[u8], piece: &mut [u8]) -> usize
     ensures count { result ≡ min (length bytes.now) (length piece.old) }
     ensures copied { take result piece.new ≡ take result bytes.now }
 {
@@ -43,7 +43,7 @@ impl Source for SliceSource<'_> {
         if self.at >= self.bytes.len() {
             return ReadAnswer::End;
         }
-        let n = copy_front(&self.bytes[self.at..], piece);
+        let n = copy_prefix(&self.bytes[self.at..], piece);
         self.at += n;
         ReadAnswer::Got(n)
     }
@@ -100,7 +100,7 @@ impl Source for MemorySource {
             return ReadAnswer::End;
         }
         let most = self.most.max(1).min(piece.len());
-        let n = copy_front(&self.bytes[self.at..], &mut piece[..most]);
+        let n = copy_prefix(&self.bytes[self.at..], &mut piece[..most]);
         self.at += n;
         ReadAnswer::Got(n)
     }

@@ -6,7 +6,7 @@ use crate::{ReadAnswer, WriteAnswer};
 use std::io::{Read, Write};
 use std::marker::Model;
 
-/// A reader as a source: it tells the bytes that are left where the reader tells them.
+/// A reader as a source: it says the bytes that are left where the reader says them.
 ///
 /// Its counts begin at 0. A reader that has given nearly 2^64 bytes fails from then on, so that the
 /// count of bytes is exact.
@@ -60,7 +60,7 @@ impl<R: Read + Drop> Source for StdSource<R> {
     }
 }
 
-/// A writer as a sink: it tells the bytes that it holds where the writer tells them.
+/// A writer as a sink: it says the bytes that it holds where the writer says them.
 ///
 /// Its count of faults begins at 0.
 #[derive(Debug, Drop)]

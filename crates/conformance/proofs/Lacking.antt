@@ -84,7 +84,7 @@ lacks_none s q h = by_entity (entity_at s q) h where
   by_entity None h = false≢true h
   by_entity (Some e) h = false≢true ((and_parts (is_action_type q.entity_type) false h).1)
 
--- a walk through the entities, in front of the least one that lacks an ancestor
+-- a walk through the entities, before the least one that lacks an ancestor
 pub record IsWalk (s : Store) (least : Option EntityUID) (rest : Store) : Type 0 where
   pub sorted : IsStrictlySortedBy uid_cmp (ids_of rest)
   pub stored : AllByRecursion (λ e. entity_at s e.uid ≡ Some e) rest
@@ -157,7 +157,7 @@ module _ (schema : SchemaData) (s : Store) (least : Option EntityUID) (is_least 
             absurd (false≢true (sym (l.least e.uid h) ∙ greater))
       ]
 
-    -- the test by the least id tells whether an ancestor is missing in the entity of an action
+    -- the test by the least id says whether an ancestor is missing in the entity of an action
     pub told : (r : Bool) → IsTrue r ↔ (least ≡ Some e.uid) → IsTrue (is_action_type e.uid.entity_type) → r ≡ not (has_all_ancestors schema e)
     told r is act = both_ways r (lacks schema.action_ids s e.uid) (λ t. holds (is.0 t)) (λ h. is.1 (next_is h)) ∙ here ∙ ap (λ t. t && not (has_all_ancestors schema e)) act where
       holds : least ≡ Some e.uid → lacks schema.action_ids s e.uid ≡ true

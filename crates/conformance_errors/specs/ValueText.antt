@@ -75,7 +75,7 @@ abbrev mutual
       if n == 0 then codes ", .. "
       else codes ", " ++ (field_text k (value_text v) ++ further_fields (n - 1) fs)
 
--- the elements that are left, where it is told whether the first is among them
+-- the elements that are left, where it is reported whether the first is among them
 abbrev pub elements_left : Bool → ℕ → Vals → List ℕ
 elements_left true n vs = elements_text n vs
 elements_left false n vs = further_elements n vs

@@ -31,27 +31,27 @@ no_fault_quiet (Loading (error.WrongNumberOfAncestors k m)) n h = rose_none n
 no_fault_quiet (Loading (error.PartialRequest e)) n h = rose_none n
 
 -- the line on an answer of which something holds
-pub told_line : {E : Type 0} (r : Result (String Global) E) (P Q : BatchAnswer → Type 0) (a : BatchAnswer) → P a → Q a → IfOk r (λ s. string_bytes s ≡ line_on a)
+pub known_line : {E : Type 0} (r : Result (String Global) E) (P Q : BatchAnswer → Type 0) (a : BatchAnswer) → P a → Q a → IfOk r (λ s. string_bytes s ≡ line_on a)
     → IfOk r (λ s. (b : BatchAnswer) × P b × Q b × (string_bytes s ≡ line_on b))
-told_line (Ok s) P Q a p q is = (a, p, q, is)
-told_line (Err e) P Q a p q is = tt
+known_line (Ok s) P Q a p q is = (a, p, q, is)
+known_line (Err e) P Q a p q is = tt
 
 module _ (schema : SchemaData) (ps : List PolicyData) (told : Option Store) (from to : ℕ) (l : LineRequest) where
-  -- what is told of the line, with what is counted
-  abbrev IsTold : List ℕ → Type 0
-  IsTold text = (n : ℕ) × OfStore schema told (λ w. IsRequestLine schema ps w n l text) × RoseBy n from to
+  -- what is known of the line, with what is counted
+  abbrev IsReported : List ℕ → Type 0
+  IsReported text = (n : ℕ) × OfStore schema told (λ w. IsRequestLine schema ps w n l text) × RoseBy n from to
 
   -- a request
-  pub request_told : {E : Type 0} (q : Request) (r : Result (String Global) E) → l ≡ line.Request q →
+  pub request_known : {E : Type 0} (q : Request) (r : Result (String Global) E) → l ≡ line.Request q →
       IfOk r (λ s. (a : BatchAnswer) × OfStore schema told (λ w. IsAnswerOrFault schema ps w q a) × RoseBy (is_fault a) from to × (string_bytes s ≡ line_on a)) →
-      IfOk r (λ s. IsTold (string_bytes s))
-  request_told q (Ok s) is h =
+      IfOk r (λ s. IsReported (string_bytes s))
+  request_known q (Ok s) is h =
       (is_fault h.0, λ w t ordered conforms. subst (λ m. IsRequestLine schema ps w (is_fault h.0) m (string_bytes s)) (sym is) (h.0, h.1 w t ordered conforms, refl, h.3), h.2)
-  request_told q (Err e) is h = tt
+  request_known q (Err e) is h = tt
 
   -- no request
-  pub refusal_told : {E : Type 0} (refused : LineRequest) (text : List ℕ) (r : Result (String Global) E) → l ≡ refused → RoseBy 0 from to → ((w : Store) → IsRequestLine schema ps w 0 refused text) →
-      IfOk r (λ s. string_bytes s ≡ text) → IfOk r (λ s. IsTold (string_bytes s))
-  refusal_told refused text (Ok s) is rose h same =
+  pub refusal_known : {E : Type 0} (refused : LineRequest) (text : List ℕ) (r : Result (String Global) E) → l ≡ refused → RoseBy 0 from to → ((w : Store) → IsRequestLine schema ps w 0 refused text) →
+      IfOk r (λ s. string_bytes s ≡ text) → IfOk r (λ s. IsReported (string_bytes s))
+  refusal_known refused text (Ok s) is rose h same =
       (0, λ w t ordered conforms. subst (λ m. IsRequestLine schema ps w 0 m (string_bytes s)) (sym is) (subst (IsRequestLine schema ps w 0 refused) (sym same) (h w)), rose)
-  refusal_told refused text (Err e) is rose h same = tt
+  refusal_known refused text (Err e) is rose h same = tt

@@ -15,7 +15,7 @@ use Rattle.entity_manifest.specs.declared.EntitySliceError.TheVariants as error
 use Rattle.directory_service.specs.declared.attempt.Attempt.{Attempt}
 use Rattle.directory_service.specs.declared.attempt.Attempt.TheVariants.{Decided, Missing, Refused}
 
--- it holds of the store that is told, where all ascends in it and it conforms to the schema
+-- it holds of the store that is known, where all ascends in it and it conforms to the schema
 abbrev pub OfStore : SchemaData → Option Store → (Store → Type 0) → Type 0
 OfStore schema told P = (w : Store) → told ≡ Some w → IsStoreOrdered w → StoreConforms schema w → P w
 

@@ -7,7 +7,7 @@ use Rattle.byte_streams.specs.State.{SinkState}
 use Rattle.directory_service.specs.Accepted.{IsAccepted}
 use Rattle.directory_service.specs.Attempts.{OfStore}
 use Rattle.directory_service.specs.Lines.{IsLineOn}
-use Rattle.entity_files.specs.Rows.{told_store}
+use Rattle.entity_files.specs.Rows.{known_store}
 use Rattle.entity_files.specs.Table.{IsReady, Continues}
 use Rattle.json_document.specs.declared.document.Document.{Document}
 use Rattle.sqlite.specs.State.{State}
@@ -24,13 +24,13 @@ abbrev pub IsReadFirst : Option (List ℕ) → Option (List ℕ) → Result Docu
 IsReadFirst left rest (Ok d) = IsFirstDocument left rest d
 IsReadFirst left rest (Err r) = IsRefusal r
 
--- Each line that is left has its answer, by the store of the rows that are told at the end, and were told at
+-- Each line that is left has its answer, by the store of the rows that are known at the end, and were known at
 -- the beginning: where it is in order and conforms to the document's schema, the lines on the responses on
 -- it, or on faults. The database can be used again.
 abbrev pub AreDecided : Document → State → State → Option (List ℕ) → SinkState → SinkState → Type 0
 AreDecided d first last left sink sink' =
-    IsReady last × Continues (told_store first) (told_store last)
-    × OfStore d.schema (told_store last) (λ w. (faults : ℕ)
+    IsReady last × Continues (known_store first) (known_store last)
+    × OfStore d.schema (known_store last) (λ w. (faults : ℕ)
     × AreAnswered (IsLineOn d.schema d.policies.policies w) 0 faults left sink.holds sink'.holds ended.Done)
 
 -- the first line is a document whose policies are accepted

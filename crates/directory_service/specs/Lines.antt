@@ -45,7 +45,7 @@ IsLineOn schema ps w faults (Some bytes) text = IsRequestLine schema ps w faults
 IsLineOn schema ps w faults None text =
     (faults ≡ 0) × (text ≡ refused_line (codes "line: more than 16777216 bytes"))
 
--- by the store that is told, where it is in order and conforms, the text is the line on the response to the
+-- by the store that is known, where it is in order and conforms, the text is the line on the response to the
 -- request, or on a fault; and a count rose by what the answer counts
 abbrev pub IsRequestAnswered :
     SchemaData → List PolicyData → Option Store → Request → ℕ → ℕ → String Global → Type 0
@@ -53,7 +53,7 @@ IsRequestAnswered schema ps told q from to text =
     (a : BatchAnswer) × OfStore schema told (λ w. IsAnswerOrFault schema ps w q a)
     × RoseBy (is_fault a) from to × (string_bytes text ≡ line_on a)
 
--- by the store that is told, where it is in order and conforms, the text answers what a line is; and a count
+-- by the store that is known, where it is in order and conforms, the text answers what a line is; and a count
 -- rose by the faults of the answer
 abbrev pub IsLineAnswered :
     SchemaData → List PolicyData → Option Store → LineRequest → ℕ → ℕ → String Global → Type 0
@@ -61,7 +61,7 @@ IsLineAnswered schema ps told r from to text =
     (faults : ℕ) × OfStore schema told (λ w. IsRequestLine schema ps w faults r (string_bytes text))
     × RoseBy faults from to
 
--- by the store that is told, where it is in order and conforms, the lines that were left are answered, one
+-- by the store that is known, where it is in order and conforms, the lines that were left are answered, one
 -- after another
 abbrev pub AreLinesAnswered :
     SchemaData → PolicySetData → Option Store → ℕ → ℕ → Option (List ℕ) → SinkState → SinkState → Ended

@@ -13,7 +13,7 @@ use Rattle.directory_service.specs.declared.reply.Reply.{Reply}
 use Rattle.directory_service.specs.declared.status.Status.{Status}
 use Rattle.directory_service.specs.declared.status.Status.TheVariants as status
 
--- what is told of words that are no command
+-- what is known of words that are no command
 abbrev pub usage : List ℕ
 usage = codes "usage: import DB | decide DB | check DB\n"
 
@@ -28,7 +28,7 @@ abbrev pub IsDone : Result Reply AllocError → SinkState → SinkState → Type
 IsDone (Ok r) sink sink' = (r.status ≡ status.Done) × Appends sink.holds sink'.holds (string_bytes r.text)
 IsDone (Err e) sink sink' = ⊥
 
--- the bytes are all that a source has left, where it tells that, and no more than a document may have
+-- the bytes are all that a source has left, where it says that, and no more than a document may have
 abbrev pub AreAll : Option (List ℕ) → List ℕ → Type 0
 AreAll left bytes = (length bytes ≤ document_limit) × IfSome left (λ all. all ≡ bytes)
 

@@ -5,7 +5,7 @@ ghost use Rattle.sqlite.specs.Held.{state};
 ghost use Rattle.entity_manifest.specs.Accepted.{IsAccepted};
 ghost use Rattle.entity_manifest.specs.OfPolicies.{IsManifestOf};
 ghost use Rattle.entity_files.specs.Table.{IsReady, Continues};
-ghost use Rattle.entity_files.specs.Rows.{told_store};
+ghost use Rattle.entity_files.specs.Rows.{known_store};
 ghost use Rattle.directory_service.specs.Lines.{IsRequestAnswered, IsLineAnswered, line_request};
 
 use crate::requests::{LineRequest, line_request};
@@ -36,10 +36,10 @@ fn answer_request<S: Alter + Drop, L: Ledger>(
     requires manifest { IsManifestOf schema.now policies.now.policies manifest.now }
     requires ready { IsReady (state S.Store directory.old.conn) }
     ensures ready { IsReady (state S.Store directory.new.conn) }
-    ensures goes_on { Continues (told_store (state S.Store directory.old.conn))
-        (told_store (state S.Store directory.new.conn)) }
+    ensures goes_on { Continues (known_store (state S.Store directory.old.conn))
+        (known_store (state S.Store directory.new.conn)) }
     ensures answer { IfOk result (IsRequestAnswered schema.now policies.now.policies
-        (told_store (state S.Store directory.new.conn)) request.now
+        (known_store (state S.Store directory.new.conn)) request.now
         directory.old.faults directory.new.faults) }
     ensures kept { RoseBy 0 directory.old.faults directory.new.faults }
 {
@@ -66,10 +66,10 @@ pub fn answer_line<S: Alter + Drop, L: Ledger>(
     requires manifest { IsManifestOf schema.now policies.now.policies manifest.now }
     requires ready { IsReady (state S.Store directory.old.conn) }
     ensures ready { IsReady (state S.Store directory.new.conn) }
-    ensures goes_on { Continues (told_store (state S.Store directory.old.conn))
-        (told_store (state S.Store directory.new.conn)) }
+    ensures goes_on { Continues (known_store (state S.Store directory.old.conn))
+        (known_store (state S.Store directory.new.conn)) }
     ensures answer { IfOk result (IsLineAnswered schema.now policies.now.policies
-        (told_store (state S.Store directory.new.conn)) (line_request line.now)
+        (known_store (state S.Store directory.new.conn)) (line_request line.now)
         directory.old.faults directory.new.faults) }
     ensures kept { RoseBy 0 directory.old.faults directory.new.faults }
 {

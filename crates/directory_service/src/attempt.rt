@@ -9,7 +9,7 @@ ghost use Rattle.entity_manifest.specs.Accepted.{IsAccepted};
 ghost use Rattle.entity_manifest.specs.OfPolicies.{IsManifestOf};
 ghost use Rattle.entity_manifest.specs.declared.EntitySliceError.TheVariants.{LoaderFault};
 ghost use Rattle.entity_files.specs.Fetched.{AreFetched};
-ghost use Rattle.entity_files.specs.Rows.{told_store};
+ghost use Rattle.entity_files.specs.Rows.{known_store};
 ghost use Rattle.directory_service.specs.Attempts.{OfStore, IsAttempt, Becomes};
 
 use entity_files::{Fetched, FetchedLoader};
@@ -48,7 +48,7 @@ fn store_of(alloc: Global, fetched: &Fetched) -> Result<Entities, LoadError>
 /// Decides by the manifest of accepted policies, on a whole request that conforms, with what was looked up so
 /// far.
 ///
-/// Where the database tells the store of its rows and that conforms, a decision is the response on all of it,
+/// Where the database says the store of its rows and that conforms, a decision is the response on all of it,
 /// and nothing is refused. Errs with `Failed` where two entities that were found have one id.
 pub(crate) fn try_decide<S: Alter, L: Ledger>(
     alloc: Global,
@@ -64,8 +64,8 @@ pub(crate) fn try_decide<S: Alter, L: Ledger>(
     requires manifest { IsManifestOf schema.now policies.now.policies manifest.now }
     requires whole { IsWhole request.now }
     requires conforms { RequestConforms schema.now request.now }
-    requires fetched { AreFetched (told_store (state S.Store conn.now)) fetched.now }
-    ensures right { OfStore schema.now (told_store (state S.Store conn.now)) (λ w.
+    requires fetched { AreFetched (known_store (state S.Store conn.now)) fetched.now }
+    ensures right { OfStore schema.now (known_store (state S.Store conn.now)) (λ w.
         IfOk result (IsAttempt policies.now.policies request.now w)) }
     ensures no_fault { IfOk result (λ a. a ≢ Attempt.Refused LoaderFault) }
 {

@@ -4,7 +4,7 @@ ghost use Rattle.sqlite.specs.Held.{state};
 ghost use Rattle.entity_manifest.specs.Accepted.{IsAccepted};
 ghost use Rattle.entity_manifest.specs.OfPolicies.{IsManifestOf};
 ghost use Rattle.entity_files.specs.Table.{IsReady, Continues};
-ghost use Rattle.entity_files.specs.Rows.{told_store};
+ghost use Rattle.entity_files.specs.Rows.{known_store};
 ghost use Rattle.directory_service.specs.Attempts.{OfStore};
 ghost use Rattle.directory_service.specs.Lines.{IsLineOn, AreLinesAnswered};
 
@@ -41,14 +41,14 @@ impl<S: Alter + Drop, L: Ledger> AnswersLines for LineDecider<'_, S, L> {
         × IsReady (state S.Store d.directory.conn) };
 
     ghost is_answer = { λ d faults asked text.
-        OfStore d.schema.now (told_store (state S.Store d.directory.conn))
+        OfStore d.schema.now (known_store (state S.Store d.directory.conn))
         (λ w. IsLineOn d.schema.now d.policies.now.policies w faults asked text) };
 
     ghost faults = { λ d. d.directory.faults };
 
     ghost comes_of = { λ first d. (d.schema.now ≡ first.schema.now) × (d.policies.now ≡ first.policies.now)
-        × Continues (told_store (state S.Store first.directory.conn))
-        (told_store (state S.Store d.directory.conn)) };
+        × Continues (known_store (state S.Store first.directory.conn))
+        (known_store (state S.Store d.directory.conn)) };
 
     fn answer(&mut self, alloc: Global, line: &[u8]) -> Result<String, AllocError> {
         answer_line(
@@ -85,10 +85,10 @@ fn answer_marked<S: Alter + Drop, L: Ledger, I: Source + Drop, K: Sink>(
     requires manifest { IsManifestOf schema.now policies.now.policies manifest.now }
     requires ready { IsReady (state S.Store directory.conn) }
     ensures ready { IsReady (state S.Store result.1.conn) }
-    ensures answered { AreLinesAnswered schema.now policies.now (told_store (state S.Store result.1.conn))
+    ensures answered { AreLinesAnswered schema.now policies.now (known_store (state S.Store result.1.conn))
         directory.faults result.1.faults lines.old (K.state sink.old) (K.state sink.new) result.0 }
-    ensures goes_on { Continues (told_store (state S.Store directory.conn))
-        (told_store (state S.Store result.1.conn)) }
+    ensures goes_on { Continues (known_store (state S.Store directory.conn))
+        (known_store (state S.Store result.1.conn)) }
 {
     let steps = Steps::<L>::new(blank);
     let mut decider = LineDecider {
@@ -124,10 +124,10 @@ pub fn answer_lines<S: Alter + Drop, I: Source + Drop, K: Sink>(
     requires manifest { IsManifestOf schema.now policies.now.policies manifest.now }
     requires ready { IsReady (state S.Store directory.conn) }
     ensures ready { IsReady (state S.Store result.1.conn) }
-    ensures answered { AreLinesAnswered schema.now policies.now (told_store (state S.Store result.1.conn))
+    ensures answered { AreLinesAnswered schema.now policies.now (known_store (state S.Store result.1.conn))
         directory.faults result.1.faults lines.old (K.state sink.old) (K.state sink.new) result.0 }
-    ensures goes_on { Continues (told_store (state S.Store directory.conn))
-        (told_store (state S.Store result.1.conn)) }
+    ensures goes_on { Continues (known_store (state S.Store directory.conn))
+        (known_store (state S.Store result.1.conn)) }
 {
     let blank = Blank::new(1);
     answer_marked::<S, Brand, I, K>(

@@ -11,7 +11,7 @@ ghost use Rattle.entity_manifest.specs.declared.EntitySliceError.TheVariants.{Lo
 ghost use Rattle.entity_manifest.specs.Answers.{IsAnswerOrFault, is_fault};
 ghost use Rattle.entity_files.specs.Table.{IsReady, Continues};
 ghost use Rattle.entity_files.specs.Fetched.{AreFetched};
-ghost use Rattle.entity_files.specs.Rows.{told_store};
+ghost use Rattle.entity_files.specs.Rows.{known_store};
 ghost use Rattle.directory_service.specs.Attempts.{OfStore};
 
 use crate::attempt::{Attempt, try_decide};
@@ -47,11 +47,11 @@ fn fetch<S: Alter>(
     uid: &EntityUID,
 ) -> Result<(), LoadError>
     requires ready { IsReady (state S.Store conn.old) }
-    requires fetched { AreFetched (told_store (state S.Store conn.old)) fetched.old }
+    requires fetched { AreFetched (known_store (state S.Store conn.old)) fetched.old }
     ensures ready { IsReady (state S.Store conn.new) }
-    ensures goes_on { Continues (told_store (state S.Store conn.old))
-        (told_store (state S.Store conn.new)) }
-    ensures fetched { OnOk result (AreFetched (told_store (state S.Store conn.new)) fetched.new) }
+    ensures goes_on { Continues (known_store (state S.Store conn.old))
+        (known_store (state S.Store conn.new)) }
+    ensures fetched { OnOk result (AreFetched (known_store (state S.Store conn.new)) fetched.new) }
 {
     match fetched.fetch(alloc, conn, uid) {
         Ok(()) => Ok(()),
@@ -68,11 +68,11 @@ fn fetch_all<S: Alter>(
     ids: &Vec<EntityUID>,
 ) -> Result<(), LoadError>
     requires ready { IsReady (state S.Store conn.old) }
-    requires fetched { AreFetched (told_store (state S.Store conn.old)) fetched.old }
+    requires fetched { AreFetched (known_store (state S.Store conn.old)) fetched.old }
     ensures ready { IsReady (state S.Store conn.new) }
-    ensures goes_on { Continues (told_store (state S.Store conn.old))
-        (told_store (state S.Store conn.new)) }
-    ensures fetched { OnOk result (AreFetched (told_store (state S.Store conn.new)) fetched.new) }
+    ensures goes_on { Continues (known_store (state S.Store conn.old))
+        (known_store (state S.Store conn.new)) }
+    ensures fetched { OnOk result (AreFetched (known_store (state S.Store conn.new)) fetched.new) }
 {
     for uid in ids {
         fetch(alloc, conn, fetched, uid)?;
@@ -96,9 +96,9 @@ fn decided<S: Alter, L: Ledger>(
     requires conforms { RequestConforms schema.now request.now }
     requires ready { IsReady (state S.Store conn.old) }
     ensures ready { IsReady (state S.Store conn.new) }
-    ensures goes_on { Continues (told_store (state S.Store conn.old))
-        (told_store (state S.Store conn.new)) }
-    ensures answer { OfStore schema.now (told_store (state S.Store conn.new)) (λ w.
+    ensures goes_on { Continues (known_store (state S.Store conn.old))
+        (known_store (state S.Store conn.new)) }
+    ensures answer { OfStore schema.now (known_store (state S.Store conn.new)) (λ w.
         IfOk result (IsAnswerOrFault schema.now policies.now.policies w request.now)) }
     ensures no_fault { IfOk result (λ a. a ≢ BatchAnswer.Loading LoaderFault) }
 {
@@ -139,9 +139,9 @@ pub fn decide_on<S: Alter + Drop, L: Ledger>(
     requires manifest { IsManifestOf schema.now policies.now.policies manifest.now }
     requires ready { IsReady (state S.Store directory.old.conn) }
     ensures ready { IsReady (state S.Store directory.new.conn) }
-    ensures goes_on { Continues (told_store (state S.Store directory.old.conn))
-        (told_store (state S.Store directory.new.conn)) }
-    ensures answer { OfStore schema.now (told_store (state S.Store directory.new.conn)) (λ w.
+    ensures goes_on { Continues (known_store (state S.Store directory.old.conn))
+        (known_store (state S.Store directory.new.conn)) }
+    ensures answer { OfStore schema.now (known_store (state S.Store directory.new.conn)) (λ w.
         IfOk result (IsAnswerOrFault schema.now policies.now.policies w request.now)) }
     ensures counted { IfOk result (λ answer.
         RoseBy (is_fault answer) directory.old.faults directory.new.faults) }

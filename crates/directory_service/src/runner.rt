@@ -46,7 +46,7 @@ pub fn run<S: Start, I: Source + Drop, K: Sink>(
     source: I,
     sink: &mut K,
 ) -> Status
-    // Of words that are no command the usage is told, and of no others.
+    // Of words that are no command the usage is known, and of no others.
     ensures usage { asked_for (map string_bytes words.now.items) ≡ None
         → Gives Status.Usage usage (K.state sink.old) (K.state sink.new) result }
     ensures no_command { result ≡ Status.Usage → asked_for (map string_bytes words.now.items) ≡ None }

@@ -4,8 +4,9 @@ ghost use Rattle.sqlite.specs.Held.{state};
 ghost use Rattle.entity_files.specs.Table.{IsReady};
 
 use byte_streams::{MemorySink, SliceSource};
-use directory_service::{Directory, Ended, Lines, answer_lines, compute_entity_manifest};
-use directory_service::read_bytes;
+use directory_service::{
+    Directory, Ended, Lines, answer_lines, compute_entity_manifest, read_bytes,
+};
 use entity_files::{FileError, all_entities, blank_or_made, check_store, import, is_ready};
 use json_document::Document;
 use schema_core::ValidatorSchema;

@@ -180,7 +180,7 @@ is_schema = record {
 }
 
 once : (k : EntityUID) → IsRepeated (view ∷ []) k → ⊥
-once k (i, at_i, (j, in_front, at_j)) = let within : i < 1 = slice_get_within (view ∷ []) i k at_i in omega (arith, length-take-le i (view ∷ []) (omega arith))
+once k (i, at_i, (j, in_prefix, at_j)) = let within : i < 1 = slice_get_within (view ∷ []) i k at_i in omega (arith, length-take-le i (view ∷ []) (omega arith))
 
 pub schema_made : IsSchemaOf declarations schema_of_sample
 schema_made = record {

@@ -109,7 +109,7 @@ ids_are seed size a zero = refl
 ids_are seed size a (suc n) = ap (λ us. user_id a ∷ us) (ids_are seed size (a + 1) n)
 
 once : (n : ℕ) → n ≤ 2 ^ 64 → (k : EntityUID) → IsRepeated (map user_id (range_with_len 0 n)) k → ⊥
-once n small k (i, at_i, (j, in_front, at_j)) =
+once n small k (i, at_i, (j, in_prefix, at_j)) =
     let ids : List EntityUID = map user_id (range_with_len 0 n) in
     let size : length ids ≡ n = length-map-range_with_len user_id 0 n in
     let within : i < length ids = slice_get_within ids i k at_i in

@@ -7,7 +7,7 @@ use Rattle.policy_values.specs.Uid.{uid_cmp}
 use Rattle.entity_store.specs.Store.{Store, entity_at, coded_entity}
 use Rattle.entity_files.specs.declared.fetched.Fetched.{Fetched}
 
--- of the ids that were looked up, the entities that were found are those of the store, where one is told
+-- of the ids that were looked up, the entities that were found are those of the store, where one is known
 abbrev pub AreFetchedOf : Option Store → BTreeSet EntityUID → Store → Type 0
 AreFetchedOf told seen found = (w : Store) → told ≡ Some w →
     (u : EntityUID) → contains uid_cmp seen u ≡ true → entity_at found u ≡ entity_at w u

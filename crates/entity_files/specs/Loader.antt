@@ -1,4 +1,4 @@
--- What a loader of what was looked up tells.
+-- What a loader of what was looked up says.
 use Rattle.std.specs.Prelude.{ℕ, true, Option}
 use Rattle.entity_store.specs.Store.{Store}
 use Rattle.entity_loader.specs.State.{LoaderState}

@@ -9,7 +9,7 @@ use Rattle.policy_values.specs.declared.entity_uid.EntityUID.{EntityUID}
 use Rattle.policy_values.specs.Uid.{uid_cmp}
 use Rattle.entity_store.specs.Store.{StoredEntity, Store}
 use Rattle.entity_files.specs.Entities.{entity_in}
-use Rattle.entity_files.specs.Table.{is_of, told_rows}
+use Rattle.entity_files.specs.Table.{is_of, known_rows}
 
 -- the entity that a value spells: a text alone spells one
 abbrev pub cell_entity : Value → Option StoredEntity
@@ -38,9 +38,9 @@ abbrev pub rows_store : List Row → Store
 rows_store [] = []
 rows_store (r ∷ rs) = with_row (row_entity r) (rows_store rs)
 
--- the store of the rows, where these are told
-abbrev pub told_store : State → Option Store
-told_store s = option_map rows_store (told_rows s)
+-- the store of the rows, where these are known
+abbrev pub known_store : State → Option Store
+known_store s = option_map rows_store (known_rows s)
 
 -- what was found by an id: no row, or one, whose text spells the entity with this id
 abbrev pub IsRowFound : List Row → EntityUID → Option StoredEntity → Type 0

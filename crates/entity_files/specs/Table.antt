@@ -1,4 +1,4 @@
--- The table of entities, and what a connection tells of it.
+-- The table of entities, and what a connection says of it.
 use Rattle.sqlite.specs.Collation.TheVariants.{Binary}
 use Rattle.std.specs.Prelude.{◌≡◌, ◌&&◌, if◌then◌else◌, Option, None, IsTrue, true, false, [], ◌∷◌, Some, codes, List, ℕ, filter, map, Bool, IsPermutation}
 use Rattle.std.specs.List.{list_all}
@@ -89,10 +89,10 @@ IsReady s = IsConnectionSound s → (s.now.schema ≡ entity_schema) × (s.commi
 abbrev pub RowsStay : State → State → Type 0
 RowsStay old new = IsConnectionSound new → IsConnectionSound old × (new.now.trees 0 ≡ old.now.trees 0)
 
--- the rows, where they are told: while the connection is open and clean
-abbrev pub told_rows : State → Option (List Row)
-told_rows s = if s.is_clean && s.is_open then Some (s.now.trees 0) else None
+-- the rows, where they are known: while the connection is open and clean
+abbrev pub known_rows : State → Option (List Row)
+known_rows s = if s.is_clean && s.is_open then Some (s.now.trees 0) else None
 
--- what is told after a call was told before it, and is the same
+-- what is known after a call was known before it, and is the same
 abbrev pub Continues : {X : Type 0} → Option X → Option X → Type 0
 Continues {X} old new = (x : X) → new ≡ Some x → old ≡ Some x

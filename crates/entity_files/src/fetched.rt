@@ -8,7 +8,7 @@ ghost use Rattle.policy_values.specs.Uid.{uid_cmp};
 ghost use Rattle.sqlite.specs.Held.{state};
 ghost use Rattle.entity_store.specs.Store.{entity_at};
 ghost use Rattle.entity_files.specs.Table.{IsReady, Continues};
-ghost use Rattle.entity_files.specs.Rows.{told_store};
+ghost use Rattle.entity_files.specs.Rows.{known_store};
 
 use crate::{FindError, find_entity};
 use entity_store::{Entities, EntitiesError, Entity};
@@ -64,11 +64,11 @@ impl Fetched {
         uid: &EntityUID,
     ) -> Result<(), FindError>
         requires ready { IsReady (state S.Store conn.old) }
-        requires fetched { AreFetched (told_store (state S.Store conn.old)) self.old }
+        requires fetched { AreFetched (known_store (state S.Store conn.old)) self.old }
         ensures ready { IsReady (state S.Store conn.new) }
-        ensures goes_on { Continues (told_store (state S.Store conn.old))
-            (told_store (state S.Store conn.new)) }
-        ensures fetched { OnOk result (AreFetched (told_store (state S.Store conn.new)) self.new) }
+        ensures goes_on { Continues (known_store (state S.Store conn.old))
+            (known_store (state S.Store conn.new)) }
+        ensures fetched { OnOk result (AreFetched (known_store (state S.Store conn.new)) self.new) }
     {
         if self.seen.contains(uid) {
             return Ok(());

@@ -6,7 +6,7 @@ ghost use Rattle.sqlite.specs.Held.{state};
 ghost use Rattle.sqlite.specs.State.{HasCleanDisk, FailsToQuery, Shown, Survives, CommitsShowing};
 ghost use Rattle.entity_store.specs.Store.{Store, entity_at};
 ghost use Rattle.entity_files.specs.Table.{AreCells, IsConnectionSound, IsReady, RowsStay, Continues};
-ghost use Rattle.entity_files.specs.Rows.{told_store};
+ghost use Rattle.entity_files.specs.Rows.{known_store};
 
 use crate::reading::read_found;
 use entity_store::Entity;
@@ -96,10 +96,10 @@ pub fn find_entity<S: Alter>(
 ) -> Result<Option<Entity>, FindError>
     requires { IsReady (state S.Store conn.old) }
     ensures ready { IsReady (state S.Store conn.new) }
-    ensures goes_on { Continues (told_store (state S.Store conn.old))
-        (told_store (state S.Store conn.new)) }
+    ensures goes_on { Continues (known_store (state S.Store conn.old))
+        (known_store (state S.Store conn.new)) }
     ensures id { IfOk result (λ o. IfSome o (λ e. e.uid ≡ uid.now)) }
-    ensures honest { (w : Store) → told_store (state S.Store conn.new) ≡ Some w →
+    ensures honest { (w : Store) → known_store (state S.Store conn.new) ≡ Some w →
         IfOk result (λ o. o ≡ entity_at w uid.now) }
 {
     let rows = look_up(conn, uid.entity_type().as_str(), uid.eid().as_str())?;

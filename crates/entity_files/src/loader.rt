@@ -5,7 +5,7 @@ ghost use Rattle.std.specs.List.{list_all};
 ghost use Rattle.std.specs.BTreeSet.{contains};
 ghost use Rattle.policy_values.specs.Uid.{uid_cmp};
 ghost use Rattle.sqlite.specs.Held.{state};
-ghost use Rattle.entity_files.specs.Rows.{told_store};
+ghost use Rattle.entity_files.specs.Rows.{known_store};
 ghost use Rattle.entity_files.specs.Fetched.{AreFetchedOf, AreFetchedOf-prop};
 
 use entity_loader::{
@@ -20,7 +20,7 @@ use std::collections::BTreeSet;
 /// A loader of what was looked up in a database, which answers just what is asked. A call that asks for an id
 /// that was not looked up fails, is counted, and leaves the id among the missing ones.
 ///
-/// It tells the store of the database's rows, where the database is open and its disk has returned what was
+/// It says the store of the database's rows, where the database is open and its disk has returned what was
 /// written.
 #[derive(Drop)]
 pub struct FetchedLoader<'a, S: Alter> {
@@ -38,7 +38,7 @@ pub struct FetchedLoader<'a, S: Alter> {
     pub rounds: u64,
     /// How often ancestors were asked for; at the last value of u64 it stays.
     pub lists: u64,
-    pub ghost found: { AreFetchedOf (told_store (state S.Store database.now)) seen.now entities.now } by { AreFetchedOf-prop (told_store (state S.Store database.now)) seen.now entities.now },
+    pub ghost found: { AreFetchedOf (known_store (state S.Store database.now)) seen.now entities.now } by { AreFetchedOf-prop (known_store (state S.Store database.now)) seen.now entities.now },
 }
 
 impl<'a, S: Alter> FetchedLoader<'a, S> {
@@ -49,7 +49,7 @@ impl<'a, S: Alter> FetchedLoader<'a, S> {
         seen: &'a BTreeSet<EntityUID>,
         entities: &'a Entities,
     ) -> FetchedLoader<'a, S>
-        requires { AreFetchedOf (told_store (state S.Store database.now)) seen.now entities.now }
+        requires { AreFetchedOf (known_store (state S.Store database.now)) seen.now entities.now }
         ensures database { result.database.now ≡ database.now }
         ensures faults { result.faults ≡ 0 }
     {
@@ -127,7 +127,7 @@ fn note_ancestors(
 impl<S: Alter> EntityLoader for FetchedLoader<'_, S> {
     ghost use Rattle.entity_files.specs.Loader.{loader_state};
 
-    ghost state = { λ l. loader_state (told_store (state S.Store l.database.now)) l.faults l.rounds l.lists };
+    ghost state = { λ l. loader_state (known_store (state S.Store l.database.now)) l.faults l.rounds l.lists };
 
     fn load_entities(
         &mut self,

@@ -1,4 +1,4 @@
--- What loaders in memory tell.
+-- What loaders in memory say.
 use Rattle.std.specs.Prelude.{true, Some}
 use Rattle.entity_loader.specs.declared.slicer.EntitySlicer.{EntitySlicer}
 use Rattle.entity_loader.specs.State.{LoaderState}

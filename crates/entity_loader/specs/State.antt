@@ -3,7 +3,7 @@ use Rattle.std.specs.Prelude.{◌≡◌, ◌⊎◌, ℕ, ◌+◌, ◌≤◌, ◌
 use Rattle.entity_store.specs.Store.{Store}
 
 pub record LoaderState : Type 0 where
-  -- the store that the loader stands for, where it tells it
+  -- the store that the loader stands for, where it says it
   pub store : Option Store
   -- whether it answers no more than what is asked
   pub exact : Bool
@@ -16,7 +16,7 @@ pub record LoaderState : Type 0 where
   -- how often ancestors were asked for
   pub lists : ℕ
 
--- a store that is told stays told, and the same; no count falls, and a loader that tells its store does
+-- a store that is known stays known, and the same; no count falls, and a loader that says its store does
 -- not stray
 pub record Continues (old new : LoaderState) : Type 0 where
   pub told : (s : Store) → old.store ≡ Some s → new.store ≡ Some s

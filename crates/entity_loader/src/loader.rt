@@ -69,12 +69,12 @@ pub struct AncestorsRequest {
 
 /// What gives entities of a store.
 ///
-/// A loader that tells its store is honest: it answers at least what is asked, and at most what the store
+/// A loader that says its store is honest: it answers at least what is asked, and at most what the store
 /// has. An entity that is there is answered also where none of its attributes is asked for. A trie goes on
 /// below ids, and its nodes have no types, so a loader may answer whole attributes. All rounds of one load
 /// have to see one state of the data.
 pub trait EntityLoader {
-    // The store that it stands for, where it tells it, and counts of what has happened so far.
+    // The store that it stands for, where it says it, and counts of what has happened so far.
     ghost state: { Self → LoaderState };
 
     /// An answer for each request, in their order. Each id is asked for once, and they ascend.

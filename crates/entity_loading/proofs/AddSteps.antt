@@ -11,7 +11,7 @@ use Rattle.policy_values.specs.Uid.{uid_cmp, uid_eq}
 use Rattle.entity_store.specs.Store.{StoredEntity}
 use Rattle.reads_spec.proofs.Lists.{same_uid}
 use Rattle.entity_loader.specs.declared.loader.AncestorsRequest.{AncestorsRequest}
-use Rattle.entity_loading.specs.declared.lent.Lent.{Lent}
+use Rattle.entity_loading.specs.declared.lent.Borrowed.{Borrowed}
 use Rattle.entity_loading.specs.Answering.{AreUnderIds}
 use Rattle.entity_store.specs.FromParents.{without_links}
 use Rattle.entity_loading.specs.KeptPart.{AreAlike}
@@ -43,15 +43,15 @@ ids_pushed [] r = refl
 ids_pushed (x ∷ rs) r = ap (λ us. x.entity_id ∷ us) (ids_pushed rs r)
 
 -- the ids of the requests, and those that are left
-pub id_skipped : (rs : List AncestorsRequest) (rest more : List (EntityUID × Lent)) (e : EntityUID × Lent) → rest ≡ e ∷ more → IsStrictlySortedBy uid_cmp (ids_of rs ++ keys_of rest) → IsStrictlySortedBy uid_cmp (ids_of rs ++ keys_of more)
+pub id_skipped : (rs : List AncestorsRequest) (rest more : List (EntityUID × Borrowed)) (e : EntityUID × Borrowed) → rest ≡ e ∷ more → IsStrictlySortedBy uid_cmp (ids_of rs ++ keys_of rest) → IsStrictlySortedBy uid_cmp (ids_of rs ++ keys_of more)
 id_skipped rs rest more e s h = sorted_without (ids_of rs) e.0 (keys_of more) (subst (λ es. IsStrictlySortedBy uid_cmp (ids_of rs ++ keys_of es)) s h)
 
-pub id_taken : (rs now : List AncestorsRequest) (rest more : List (EntityUID × Lent)) (e : EntityUID × Lent) (r : AncestorsRequest) → rest ≡ e ∷ more → now ≡ rs ++ r ∷ [] → r.entity_id ≡ e.0 → IsStrictlySortedBy uid_cmp (ids_of rs ++ keys_of rest) → IsStrictlySortedBy uid_cmp (ids_of now ++ keys_of more)
+pub id_taken : (rs now : List AncestorsRequest) (rest more : List (EntityUID × Borrowed)) (e : EntityUID × Borrowed) (r : AncestorsRequest) → rest ≡ e ∷ more → now ≡ rs ++ r ∷ [] → r.entity_id ≡ e.0 → IsStrictlySortedBy uid_cmp (ids_of rs ++ keys_of rest) → IsStrictlySortedBy uid_cmp (ids_of now ++ keys_of more)
 id_taken rs now rest more e r s p is h =
     subst (IsStrictlySortedBy uid_cmp) (sym (ap (λ us. us ++ keys_of more) (ap ids_of p ∙ ids_pushed rs r ∙ ap (λ u. ids_of rs ++ u ∷ []) is) ∙ append_assoc (ids_of rs) (e.0 ∷ []) (keys_of more)))
     (subst (λ es. IsStrictlySortedBy uid_cmp (ids_of rs ++ keys_of es)) s h)
 
-pub ids_done : (rs : List AncestorsRequest) (rest : List (EntityUID × Lent)) → rest ≡ [] → IsStrictlySortedBy uid_cmp (ids_of rs ++ keys_of rest) → IsStrictlySortedBy uid_cmp (ids_of rs)
+pub ids_done : (rs : List AncestorsRequest) (rest : List (EntityUID × Borrowed)) → rest ≡ [] → IsStrictlySortedBy uid_cmp (ids_of rs ++ keys_of rest) → IsStrictlySortedBy uid_cmp (ids_of rs)
 ids_done rs rest e h = subst (IsStrictlySortedBy uid_cmp) (ap (λ es. ids_of rs ++ keys_of es) e ∙ nil_right (ids_of rs)) h
   where
     nil_right : (xs : List EntityUID) → xs ++ [] ≡ xs

@@ -13,15 +13,15 @@ use Rattle.access_tries.specs.Table.{Table}
 use Rattle.entity_loading.specs.declared.place.Place.{Place}
 use Rattle.entity_loader.specs.Answers.{IsHonest}
 use Rattle.entity_loader.specs.declared.loader.EntityRequest.{EntityRequest}
-use Rattle.entity_loading.specs.declared.lent.Lent.{Lent}
+use Rattle.entity_loading.specs.declared.lent.Borrowed.{Borrowed}
 use Rattle.entity_loading.specs.Answering.{AreHonest}
 use Rattle.entity_loading.specs.Keeping.{Found}
-use Rattle.entity_loading.specs.Lending.{view_in, lent_sees, AreLent, request_of}
+use Rattle.entity_loading.specs.Lending.{view_in, borrowed_sees, AreBorrowed, request_of}
 use Rattle.entity_loading.specs.Rounds.{AsksFor, AreHonestAt}
 
 module _ (ns : Table) where
   -- what holds of all requests holds of the one for an id
-  request_at : (P : EntityRequest → Type 0) (x : EntityUID) (l : Lent) (es : List (EntityUID × Lent)) → lookup (is_at (uid_cmp x)) es ≡ Some l → AllByRecursion P (map (request_of ns) es) → P (record { entity_id = x; access_trie = view_in ns l })
+  request_at : (P : EntityRequest → Type 0) (x : EntityUID) (l : Borrowed) (es : List (EntityUID × Borrowed)) → lookup (is_at (uid_cmp x)) es ≡ Some l → AllByRecursion P (map (request_of ns) es) → P (record { entity_id = x; access_trie = view_in ns l })
   request_at P x l [] h all = absurd (cc)
   request_at P x l (e ∷ es) h all = by (uid_eq x e.0) refl h (request_at P x l es)
     where
@@ -36,7 +36,7 @@ module _ (ns : Table) where
       by (inl i) = absurd (false≢true (sym h ∙ subst (λ z. uid_eq x z ≡ true) (sym (same_uid y x i)) (uid_self x)))
       by (inr i) = i
 
-  not_requested : (x : EntityUID) (es : List (EntityUID × Lent)) → lookup (is_at (uid_cmp x)) es ≡ None → list_any (λ r. uid_eq r.entity_id x) (map (request_of ns) es) ≡ false
+  not_requested : (x : EntityUID) (es : List (EntityUID × Borrowed)) → lookup (is_at (uid_cmp x)) es ≡ None → list_any (λ r. uid_eq r.entity_id x) (map (request_of ns) es) ≡ false
   not_requested x [] h = refl
   not_requested x (e ∷ es) h = by (uid_eq x e.0) refl h (not_requested x es)
     where
@@ -44,20 +44,20 @@ module _ (ns : Table) where
       by true f g ih = absurd (cc)
       by false f g ih = (λ i. swapped x e.0 f i || ih g i)
 
-  pub are_answers : (exact : Bool) (s : Store) (ps : List Place) (lent : BTreeMap EntityUID Lent) (rs : List EntityRequest) (found : Found) → AreLent ns ps lent → rs ≡ map (request_of ns) lent.entries → AreHonest exact s rs found → AreHonestAt exact s ns ps found
+  pub are_answers : (exact : Bool) (s : Store) (ps : List Place) (lent : BTreeMap EntityUID Borrowed) (rs : List EntityRequest) (found : Found) → AreBorrowed ns ps lent → rs ≡ map (request_of ns) lent.entries → AreHonest exact s rs found → AreHonestAt exact s ns ps found
   are_answers exact s ps lent rs found l e h = record {
     each = λ x asked. seen x (get uid_cmp lent x) refl (l.some x ∙ asked);
     others = λ x not_asked. h.others x (ap (list_any (λ r. uid_eq r.entity_id x)) e ∙ not_requested x lent.entries (none (get uid_cmp lent x) (l.some x ∙ not_asked)));
   }
     where
-      none : (o : Option Lent) → is_some o ≡ false → o ≡ None
+      none : (o : Option Borrowed) → is_some o ≡ false → o ≡ None
       none None g = refl
       none (Some k) g = absurd (false≢true (sym g))
 
-      seen : (x : EntityUID) (o : Option Lent) → get uid_cmp lent x ≡ o → is_some (get uid_cmp lent x) ≡ true → (r : EntityRequest) × AsksFor ns ps x r × IsHonest exact s r (found x)
+      seen : (x : EntityUID) (o : Option Borrowed) → get uid_cmp lent x ≡ o → is_some (get uid_cmp lent x) ≡ true → (r : EntityRequest) × AsksFor ns ps x r × IsHonest exact s r (found x)
       seen x None f g = absurd (false≢true (ap is_some (sym f) ∙ g))
       seen x (Some k) f g = (
         record { entity_id = x; access_trie = view_in ns k },
-        record { id = refl; each = λ b a. ap (λ o. lent_sees b ns o a) (sym f) ∙ l.each b x a },
+        record { id = refl; each = λ b a. ap (λ o. borrowed_sees b ns o a) (sym f) ∙ l.each b x a },
         request_at (λ r. IsHonest exact s r (found r.entity_id)) x k lent.entries f (subst (AllByRecursion (λ r. IsHonest exact s r (found r.entity_id))) e h.each),
       )

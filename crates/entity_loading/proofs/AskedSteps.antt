@@ -20,22 +20,22 @@ use Rattle.plain_lemmas.proofs.Booleans.{or_false, or_left_true, or_right_true}
 use Rattle.entity_loading.specs.Names.{IsNamed}
 use Rattle.entity_loading.specs.declared.place.Place.{Place}
 use Rattle.entity_loader.specs.declared.loader.AncestorsRequest.{AncestorsRequest}
-use Rattle.entity_loading.specs.declared.lent.Lent.{Lent}
-use Rattle.entity_loading.specs.Lending.{view_in, lent_sees, AreLent}
+use Rattle.entity_loading.specs.declared.lent.Borrowed.{Borrowed}
+use Rattle.entity_loading.specs.Lending.{view_in, borrowed_sees, AreBorrowed}
 use Rattle.entity_loading.specs.Joining.{lists, asks, IsAskedFor}
 
 module _ (ns : Table) (q : Request) (t : Store) where
-  -- a trie that is lent for the entity names the ancestor
-  abbrev pub AreNaming : List (EntityUID × Lent) → EntityUID → EntityUID → Type 0
+  -- a trie that is borrowed for the entity names the ancestor
+  abbrev pub AreNaming : List (EntityUID × Borrowed) → EntityUID → EntityUID → Type 0
   AreNaming [] x y = ⊥
   AreNaming (e ∷ es) x y = ((e.0 ≡ x) × IsNamed (view_in ns e.1) q t y) ⊎ AreNaming es x y
 
-  later : (k : EntityUID) (es : List (EntityUID × Lent)) (x y : EntityUID) → AllByRecursion (λ j. uid_cmp k j ≡ Less) (keys_of es) → AreNaming es x y → uid_cmp k x ≡ Less
+  later : (k : EntityUID) (es : List (EntityUID × Borrowed)) (x y : EntityUID) → AllByRecursion (λ j. uid_cmp k j ≡ Less) (keys_of es) → AreNaming es x y → uid_cmp k x ≡ Less
   later k [] x y a h = absurd h
   later k (e ∷ es) x y a (inl h) = subst (λ z. uid_cmp k z ≡ Less) h.0 a.0
   later k (e ∷ es) x y a (inr h) = later k es x y a.1 h
 
-  naming_found : (es : List (EntityUID × Lent)) (x y : EntityUID) → IsStrictlySortedBy uid_cmp (keys_of es) → AreNaming es x y → (l : Lent) × (lookup (is_at (uid_cmp x)) es ≡ Some l) × IsNamed (view_in ns l) q t y
+  naming_found : (es : List (EntityUID × Borrowed)) (x y : EntityUID) → IsStrictlySortedBy uid_cmp (keys_of es) → AreNaming es x y → (l : Borrowed) × (lookup (is_at (uid_cmp x)) es ≡ Some l) × IsNamed (view_in ns l) q t y
   unfolding IsStrictlySortedBy
   naming_found [] x y up h = absurd h
   naming_found (e ∷ es) x y up (inl h) = (e.1, ap (λ b. cond b (Some e.1) (lookup (is_at (uid_cmp x)) es)) (subst (λ z. uid_eq x z ≡ true) (sym h.0) (uid_self x)), h.1)
@@ -44,7 +44,7 @@ module _ (ns : Table) (q : Request) (t : Store) where
       let after = uid_cmp_total.antisymm x e.0 ∙ ap ordering_reverse (later e.0 es x y up.0 h) in
       (r.0, ap (λ b. cond b (Some e.1) (lookup (is_at (uid_cmp x)) es)) (ap is_eq after) ∙ r.1, r.2)
 
-  naming_from : (es : List (EntityUID × Lent)) (x y : EntityUID) (l : Lent) → lookup (is_at (uid_cmp x)) es ≡ Some l → IsNamed (view_in ns l) q t y → AreNaming es x y
+  naming_from : (es : List (EntityUID × Borrowed)) (x y : EntityUID) (l : Borrowed) → lookup (is_at (uid_cmp x)) es ≡ Some l → IsNamed (view_in ns l) q t y → AreNaming es x y
   naming_from [] x y l h n = absurd (cc)
   naming_from (e ∷ es) x y l h n = by (uid_eq x e.0) refl h (naming_from es x y l)
     where
@@ -53,26 +53,26 @@ module _ (ns : Table) (q : Request) (t : Store) where
       by false f g ih = inr (ih g n)
 
   -- what was pushed, and what is left, ask for what the places do
-  abbrev pub IsAsking : List Place → List AncestorsRequest → List (EntityUID × Lent) → Type 0
+  abbrev pub IsAsking : List Place → List AncestorsRequest → List (EntityUID × Borrowed) → Type 0
   IsAsking ps rs es = (x y : EntityUID) → ((asks rs x y ≡ true) ⊎ AreNaming es x y) ↔ IsAskedFor ns q ps t x y
 
-  pub asking_start : (ps : List Place) (lent : BTreeMap EntityUID Lent) → IsStrictlySortedBy uid_cmp (keys_of lent.entries) → AreLent ns ps lent → IsAsking ps [] lent.entries
+  pub asking_start : (ps : List Place) (lent : BTreeMap EntityUID Borrowed) → IsStrictlySortedBy uid_cmp (keys_of lent.entries) → AreBorrowed ns ps lent → IsAsking ps [] lent.entries
   asking_start ps lent up a x y = (to, from)
     where
       to : (asks [] x y ≡ true) ⊎ AreNaming lent.entries x y → IsAskedFor ns q ps t x y
       to (inl h) = absurd (false≢true h)
       to (inr h) =
           let r = naming_found lent.entries x y up h in
-          record { path = r.2.path; marked = sym (a.each true x (address_of r.2.path)) ∙ ap (λ o. lent_sees true ns o (address_of r.2.path)) r.1 ∙ r.2.marked; named = r.2.named }
+          record { path = r.2.path; marked = sym (a.each true x (address_of r.2.path)) ∙ ap (λ o. borrowed_sees true ns o (address_of r.2.path)) r.1 ∙ r.2.marked; named = r.2.named }
 
       from : IsAskedFor ns q ps t x y → (asks [] x y ≡ true) ⊎ AreNaming lent.entries x y
       from h = inr (by (get uid_cmp lent x) refl (a.each true x (address_of h.path) ∙ h.marked))
         where
-          by : (o : Option Lent) → get uid_cmp lent x ≡ o → lent_sees true ns (get uid_cmp lent x) (address_of h.path) ≡ true → AreNaming lent.entries x y
-          by None e g = absurd (false≢true (sym (ap (λ o. lent_sees true ns o (address_of h.path)) e) ∙ g))
-          by (Some l) e g = naming_from lent.entries x y l e (record { path = h.path; marked = sym (ap (λ o. lent_sees true ns o (address_of h.path)) e) ∙ g; named = h.named })
+          by : (o : Option Borrowed) → get uid_cmp lent x ≡ o → borrowed_sees true ns (get uid_cmp lent x) (address_of h.path) ≡ true → AreNaming lent.entries x y
+          by None e g = absurd (false≢true (sym (ap (λ o. borrowed_sees true ns o (address_of h.path)) e) ∙ g))
+          by (Some l) e g = naming_from lent.entries x y l e (record { path = h.path; marked = sym (ap (λ o. borrowed_sees true ns o (address_of h.path)) e) ∙ g; named = h.named })
 
-  module _ (ps : List Place) (rs : List AncestorsRequest) (rest more : List (EntityUID × Lent)) (e : EntityUID × Lent) (ids : List EntityUID) (s : rest ≡ e ∷ more) (named : (y : EntityUID) → (lists ids y ≡ true) ↔ IsNamed (view_in ns e.1) q t y) (w : IsAsking ps rs rest) where
+  module _ (ps : List Place) (rs : List AncestorsRequest) (rest more : List (EntityUID × Borrowed)) (e : EntityUID × Borrowed) (ids : List EntityUID) (s : rest ≡ e ∷ more) (named : (y : EntityUID) → (lists ids y ≡ true) ↔ IsNamed (view_in ns e.1) q t y) (w : IsAsking ps rs rest) where
     all : (x y : EntityUID) → ((asks rs x y ≡ true) ⊎ AreNaming (e ∷ more) x y) ↔ IsAskedFor ns q ps t x y
     all = subst (λ es. IsAsking ps rs es) s w
 
@@ -119,7 +119,7 @@ module _ (ns : Table) (q : Request) (t : Store) where
         back (inr (inl i)) = absurd (false≢true (sym (ap (λ z. lists z y) none) ∙ (named y).1 i.1))
         back (inr (inr i)) = inr i
 
-  pub asking_done : (ps : List Place) (rs : List AncestorsRequest) (rest : List (EntityUID × Lent)) → rest ≡ [] → IsAsking ps rs rest → (x y : EntityUID) → (asks rs x y ≡ true) ↔ IsAskedFor ns q ps t x y
+  pub asking_done : (ps : List Place) (rs : List AncestorsRequest) (rest : List (EntityUID × Borrowed)) → rest ≡ [] → IsAsking ps rs rest → (x y : EntityUID) → (asks rs x y ≡ true) ↔ IsAskedFor ns q ps t x y
   asking_done ps rs rest none w x y = (λ h. (all x y).0 (inl h), λ h. back ((all x y).1 h))
     where
       all : (x y : EntityUID) → ((asks rs x y ≡ true) ⊎ AreNaming [] x y) ↔ IsAskedFor ns q ps t x y

@@ -39,7 +39,7 @@ use Rattle.entity_loading.specs.Ordered.{HasOrder}
 use Rattle.entity_loading.specs.Reached.{IsReached}
 use Rattle.entity_loading.proofs.MoreSteps.{has_from, from_has}
 use Rattle.entity_loading.proofs.NamedSteps.{entity_gone, names_larger}
-use Rattle.entity_loading.proofs.ReachSteps.{front_leads}
+use Rattle.entity_loading.proofs.ReachSteps.{prefix_leads}
 use Rattle.entity_loading.proofs.StateSteps.{asked_reached}
 
 -- ---- parts that ascend
@@ -191,7 +191,7 @@ module _ (exact : Bool) (ns : Table) (q : Request) (s : Store) (asked : List Pla
   only_demanded : exact ≡ true → (x y : EntityUID) → IsAskedFor ns q asked (part k s) x y → n.ancestors x y ≡ true
   only_demanded e x y a =
       let r = wanted_reached true x (address_of a.path) a.marked in
-      let front : IsReached false ns q s x [] = record { path = r.path; reached = r.reached; passes = ap (sees false (whole ns)) (nil_right (address_of r.path)) ∙ front_leads true ns 0 (address_of r.path) (address_of a.path) r.passes } in
+      let front : IsReached false ns q s x [] = record { path = r.path; reached = r.reached; passes = ap (sees false (whole ns)) (nil_right (address_of r.path)) ∙ prefix_leads true ns 0 (address_of r.path) (address_of a.path) r.passes } in
       let d : Demand = (r.path, a.path) in
       and_from (kept_chain reads q s x []) (kept_ancestor reads demands q s x y) (from_reached x [] front)
       (any_in (asks_for x y) d demands ((fit.asks r.path a.path).0 r.passes)

@@ -1,4 +1,4 @@
--- What sticks, by one address.
+-- What blocks, by one address.
 use Rattle.std.proofs.Common.{◌≡◌, ◌⊎◌, ℕ, Bool, true, false, ◌&&◌, List, [], ◌∷◌, Option, Some, None, map, refl, sym, ap, ◌∙◌, subst, inl, inr}
 use Rattle.std.proofs.lemmas.Bool.{and_parts, and_from}
 use Rattle.policy_values.specs.declared.entity_uid.EntityUID.{EntityUID}
@@ -14,10 +14,10 @@ use Rattle.reads_spec.specs.Restrict.{values_in}
 use Rattle.reads_spec.proofs.Lists.{IsIn, any_in, same_uid, uid_self}
 use Rattle.reads_spec.proofs.Words.{any_out}
 use Rattle.entity_loading.specs.declared.place.Place.{Place}
-use Rattle.entity_loading.specs.Answered.{AnswerSticks, SomeAnswerSticks}
-use Rattle.entity_loading.specs.Begun.{SomeRootSticks}
+use Rattle.entity_loading.specs.Answered.{AnswerBlocks, SomeAnswerBlocks}
+use Rattle.entity_loading.specs.Begun.{SomeRootBlocks}
 use Rattle.entity_loading.specs.Places.{node_of}
-use Rattle.entity_loading.specs.Stuck.{Tests, tests_of, behind, GoesOn, Demands, Sticks, FieldsStick, SomeSticks, EntitySticks, IsStuck}
+use Rattle.entity_loading.specs.CannotGoOn.{Tests, tests_of, behind, GoesOn, Demands, Sticks, FieldsBlock, SomeBlocks, EntityBlocks, CannotStep}
 use Rattle.entity_loading.specs.Wants.{Test, sees}
 use Rattle.entity_loading.specs.Blocked.{IsBlockedInStore, IsBlocked}
 use Rattle.entity_loading.specs.Reached.{IsReached, AreReachedAsked}
@@ -62,7 +62,7 @@ mutual
   by_value : (v : Val) (t : Tests) (u : Val) → Sticks v t u → By (λ w. Sticks v w u) t
   by_value (entity y) t u h = absurd h
   by_value (rec fs) t u (inl (e, d)) = by_demand (λ w. Sticks (rec fs) w u) t (λ w k. inl (e, k)) d
-  by_value (rec fs) t u (inr h) = by_weaker (λ w. FieldsStick fs w u) (λ w. Sticks (rec fs) w u) t (λ w k. inr k) (by_fields fs t u h)
+  by_value (rec fs) t u (inr h) = by_weaker (λ w. FieldsBlock fs w u) (λ w. Sticks (rec fs) w u) t (λ w k. inr k) (by_fields fs t u h)
   by_value (truth b) t u (e, h) = by_end (λ w. Sticks (truth b) w u) t (λ w k. (e, k)) h
   by_value (long b) t u (e, h) = by_end (λ w. Sticks (long b) w u) t (λ w k. (e, k)) h
   by_value (string b) t u (e, h) = by_end (λ w. Sticks (string b) w u) t (λ w k. (e, k)) h
@@ -72,28 +72,28 @@ mutual
   by_value (datetime b) t u (e, h) = by_end (λ w. Sticks (datetime b) w u) t (λ w k. (e, k)) h
   by_value (duration b) t u (e, h) = by_end (λ w. Sticks (duration b) w u) t (λ w k. (e, k)) h
 
-  by_fields : (fs : Fields) (t : Tests) (u : Val) → FieldsStick fs t u → By (λ w. FieldsStick fs w u) t
+  by_fields : (fs : Fields) (t : Tests) (u : Val) → FieldsBlock fs t u → By (λ w. FieldsBlock fs w u) t
   by_fields no_fields t u h = absurd h
-  by_fields (field n v fs) t u (inl h) = by_weaker (λ w. Sticks v (behind (Field n) w) u) (λ w. FieldsStick (field n v fs) w u) t (λ w k. inl k) (by_field n (λ w. Sticks v w u) t (by_value v (behind (Field n) t) u h))
-  by_fields (field n v fs) t u (inr h) = by_weaker (λ w. FieldsStick fs w u) (λ w. FieldsStick (field n v fs) w u) t (λ w k. inr k) (by_fields fs t u h)
+  by_fields (field n v fs) t u (inl h) = by_weaker (λ w. Sticks v (behind (Field n) w) u) (λ w. FieldsBlock (field n v fs) w u) t (λ w k. inl k) (by_field n (λ w. Sticks v w u) t (by_value v (behind (Field n) t) u h))
+  by_fields (field n v fs) t u (inr h) = by_weaker (λ w. FieldsBlock fs w u) (λ w. FieldsBlock (field n v fs) w u) t (λ w k. inr k) (by_fields fs t u h)
 
-by_some : (vs : List Val) (t : Tests) (u : Val) → SomeSticks vs t u → By (λ w. SomeSticks vs w u) t
+by_some : (vs : List Val) (t : Tests) (u : Val) → SomeBlocks vs t u → By (λ w. SomeBlocks vs w u) t
 by_some [] t u h = absurd h
-by_some (v ∷ vs) t u (inl h) = by_weaker (λ w. Sticks v w u) (λ w. SomeSticks (v ∷ vs) w u) t (λ w k. inl k) (by_value v t u h)
-by_some (v ∷ vs) t u (inr h) = by_weaker (λ w. SomeSticks vs w u) (λ w. SomeSticks (v ∷ vs) w u) t (λ w k. inr k) (by_some vs t u h)
+by_some (v ∷ vs) t u (inl h) = by_weaker (λ w. Sticks v w u) (λ w. SomeBlocks (v ∷ vs) w u) t (λ w k. inl k) (by_value v t u h)
+by_some (v ∷ vs) t u (inr h) = by_weaker (λ w. SomeBlocks vs w u) (λ w. SomeBlocks (v ∷ vs) w u) t (λ w k. inr k) (by_some vs t u h)
 
-by_entity : (e : StoredEntity) (t : Tests) (u : Val) → EntitySticks e t u → By (λ w. EntitySticks e w u) t
-by_entity e t u (inl h) = by_weaker (λ w. FieldsStick e.attrs w u) (λ w. EntitySticks e w u) t (λ w k. inl k) (by_fields e.attrs t u h)
-by_entity e t u (inr h) = by_weaker (λ w. SomeSticks (values_in e.tags) (behind AnyTag w) u) (λ w. EntitySticks e w u) t (λ w k. inr k) (by_tag (λ w. SomeSticks (values_in e.tags) w u) t (by_some (values_in e.tags) (behind AnyTag t) u h))
+by_entity : (e : StoredEntity) (t : Tests) (u : Val) → EntityBlocks e t u → By (λ w. EntityBlocks e w u) t
+by_entity e t u (inl h) = by_weaker (λ w. FieldsBlock e.attrs w u) (λ w. EntityBlocks e w u) t (λ w k. inl k) (by_fields e.attrs t u h)
+by_entity e t u (inr h) = by_weaker (λ w. SomeBlocks (values_in e.tags) (behind AnyTag w) u) (λ w. EntityBlocks e w u) t (λ w k. inr k) (by_tag (λ w. SomeBlocks (values_in e.tags) w u) t (by_some (values_in e.tags) (behind AnyTag t) u h))
 
 -- ---- of places, and of paths
 
 module _ (ns : Table) (q : Request) (s : Store) (ps : List Place) (found : AreReachedAsked ns q s ps) where
-  -- what sticks at a place is blocked
-  pub place_blocked : (u : Val) → SomeAnswerSticks ns (entity_at s) ps u → IsBlockedInStore ns q s u
+  -- what blocks at a place is blocked
+  pub place_blocked : (u : Val) → SomeAnswerBlocks ns (entity_at s) ps u → IsBlockedInStore ns q s u
   place_blocked u h = from (entity_at s h.place.uid) refl h.sticks
     where
-      from : (o : Option StoredEntity) → entity_at s h.place.uid ≡ o → AnswerSticks o (tests_of (node_of ns h.place)) u → IsBlockedInStore ns q s u
+      from : (o : Option StoredEntity) → entity_at s h.place.uid ≡ o → AnswerBlocks o (tests_of (node_of ns h.place)) u → IsBlockedInStore ns q s u
       from None at k = absurd k
       from (Some e) at k = record {
         id = h.place.uid;
@@ -104,8 +104,8 @@ module _ (ns : Table) (q : Request) (s : Store) (ps : List Place) (found : AreRe
         sticks = k;
       }
 
-  -- and what is blocked sticks at a place
-  pub blocked_placed : (u : Val) → IsBlockedInStore ns q s u → SomeAnswerSticks ns (entity_at s) ps u
+  -- and what is blocked blocks at a place
+  pub blocked_placed : (u : Val) → IsBlockedInStore ns q s u → SomeAnswerBlocks ns (entity_at s) ps u
   blocked_placed u h =
       let b = by_entity h.stored (record { leads = h.below false; marks = h.below true }) u h.sticks in
       placed b.marked b.address (h.reached b.marked b.address (at_test b.marked b.address b.passes)) b.so
@@ -118,14 +118,14 @@ module _ (ns : Table) (q : Request) (s : Store) (ps : List Place) (found : AreRe
       seen false p a k = k
       seen true p a k = k
 
-      placed : (m : Bool) (a : Address) → IsReached m ns q s h.id a → ((w : Tests) → test w m a ≡ true → EntitySticks h.stored w u) → SomeAnswerSticks ns (entity_at s) ps u
+      placed : (m : Bool) (a : Address) → IsReached m ns q s h.id a → ((w : Tests) → test w m a ≡ true → EntityBlocks h.stored w u) → SomeAnswerBlocks ns (entity_at s) ps u
       placed m a r so =
           let w = any_out (λ p. uid_eq p.uid h.id && sees m (node_of ns p) a) ps ((found m h.id a).1 r) in
           let c = and_parts (uid_eq w.0.uid h.id) (sees m (node_of ns w.0) a) w.2 in
           let at : entity_at s w.0.uid ≡ Some h.stored = ap (entity_at s) (same_uid w.0.uid h.id c.0) ∙ h.at in
-          record { place = w.0; among = w.1; sticks = subst (λ o. AnswerSticks o (tests_of (node_of ns w.0)) u) (sym at) (so (tests_of (node_of ns w.0)) (seen m w.0 a c.1)) }
+          record { place = w.0; among = w.1; sticks = subst (λ o. AnswerBlocks o (tests_of (node_of ns w.0)) u) (sym at) (so (tests_of (node_of ns w.0)) (seen m w.0 a c.1)) }
 
-  pub blocked_whole : (o : Option Val) → ((u : Val) → SomeRootSticks ns q u → ⊥) → IsStuck (SomeAnswerSticks ns (entity_at s) ps) o → IsStuck (IsBlocked ns q s) o
+  pub blocked_whole : (o : Option Val) → ((u : Val) → SomeRootBlocks ns q u → ⊥) → CannotStep (SomeAnswerBlocks ns (entity_at s) ps) o → CannotStep (IsBlocked ns q s) o
   blocked_whole None free h = λ u k. elim k [
     | inl r ↦ free u r
     | inr b ↦ h u (blocked_placed u b)
@@ -134,27 +134,27 @@ module _ (ns : Table) (q : Request) (s : Store) (ps : List Place) (found : AreRe
 
 -- ---- places, one after another
 
--- whatever sticks at a place sticks at one of those that are left
+-- whatever blocks at a place blocks at one of those that are left
 pub record IsLooking (ns : Table) (found : EntityUID → Option StoredEntity) (all left : List Place) : Type 0 where
-  pub later : (u : Val) → SomeAnswerSticks ns found all u → SomeAnswerSticks ns found left u
+  pub later : (u : Val) → SomeAnswerBlocks ns found all u → SomeAnswerBlocks ns found left u
   pub among : (p : Place) → IsIn p left → IsIn p all
 
 pub looking_start : (ns : Table) (found : EntityUID → Option StoredEntity) (all left : List Place) → left ≡ all → IsLooking ns found all left
 looking_start ns found all left same = rw same (record { later = λ u h. h; among = λ p h. h })
 
 module _ (ns : Table) (found : EntityUID → Option StoredEntity) (all left : List Place) (p : Place) (rest : List Place) (is : left ≡ p ∷ rest) (t : IsLooking ns found all left) where
-  pub looking_more : ((u : Val) → AnswerSticks (found p.uid) (tests_of (node_of ns p)) u → ⊥) → IsLooking ns found all rest
+  pub looking_more : ((u : Val) → AnswerBlocks (found p.uid) (tests_of (node_of ns p)) u → ⊥) → IsLooking ns found all rest
   looking_more free = record { later = λ u h. on u (t.later u h); among = λ z h. t.among z (subst (IsIn z) (sym is) (inr h)) }
     where
-      on : (u : Val) → SomeAnswerSticks ns found left u → SomeAnswerSticks ns found rest u
+      on : (u : Val) → SomeAnswerBlocks ns found left u → SomeAnswerBlocks ns found rest u
       on u h = by (subst (IsIn h.place) is h.among)
         where
-          by : IsIn h.place (p ∷ rest) → SomeAnswerSticks ns found rest u
-          by (inl same) = absurd (free u (subst (λ z. AnswerSticks (found z.uid) (tests_of (node_of ns z)) u) (sym same) h.sticks))
+          by : IsIn h.place (p ∷ rest) → SomeAnswerBlocks ns found rest u
+          by (inl same) = absurd (free u (subst (λ z. AnswerBlocks (found z.uid) (tests_of (node_of ns z)) u) (sym same) h.sticks))
           by (inr i) = record { place = h.place; among = i; sticks = h.sticks }
 
-  pub looking_found : (u : Val) → AnswerSticks (found p.uid) (tests_of (node_of ns p)) u → SomeAnswerSticks ns found all u
+  pub looking_found : (u : Val) → AnswerBlocks (found p.uid) (tests_of (node_of ns p)) u → SomeAnswerBlocks ns found all u
   looking_found u h = record { place = p; among = t.among p (subst (IsIn p) (sym is) (inl refl)); sticks = h }
 
-pub looking_done : (ns : Table) (found : EntityUID → Option StoredEntity) (all left : List Place) → left ≡ [] → IsLooking ns found all left → (u : Val) → SomeAnswerSticks ns found all u → ⊥
+pub looking_done : (ns : Table) (found : EntityUID → Option StoredEntity) (all left : List Place) → left ≡ [] → IsLooking ns found all left → (u : Val) → SomeAnswerBlocks ns found all u → ⊥
 looking_done ns found all left none t u h = let k = t.later u h in subst (IsIn k.place) none k.among

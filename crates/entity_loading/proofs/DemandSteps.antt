@@ -14,7 +14,7 @@ use Rattle.access_tries.specs.Paths.{edge_of}
 use Rattle.access_tries.specs.Table.{Table, NodeData, at_path, has_mark, links_at, IsTable}
 use Rattle.std.specs.declared.option.Option.{Option}
 use Rattle.reads_spec.specs.Paths.{Step, along, any_tag}
-use Rattle.entity_loading.specs.Stuck.{tests_of, is_step, GoesOn, MarksSome, Demands}
+use Rattle.entity_loading.specs.CannotGoOn.{tests_of, is_step, GoesOn, MarksSome, Demands}
 use Rattle.plain_lemmas.proofs.Lists.{is_some_within}
 
 pub edge_self : (e : Edge) → edge_eq e e ≡ true

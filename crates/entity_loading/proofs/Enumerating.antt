@@ -10,11 +10,11 @@ use Rattle.access_tries.specs.Edges.{Address, edge_eq}
 use Rattle.access_tries.specs.Paths.{edge_of, address_of, demand_of, has_path, asks}
 use Rattle.access_tries.specs.Table.{Table, NodeData, IsTable, IsClosed, links_at, has_mark, at_path, leads}
 use Rattle.reads_spec.specs.Paths.{AccessPath, Demand, beyond}
-use Rattle.reads_spec.specs.Among.{IsIn, IsFrontOfRead}
+use Rattle.reads_spec.specs.Among.{IsIn, IsPrefixOfRead}
 use Rattle.reads_spec.proofs.Lists.{in_map, in_filter, in_flat_map}
 use Rattle.reads_spec.proofs.Words.{any_out}
 use Rattle.entity_loading.specs.Tries.{IsTrieOf, EveryTrieIsOfSome}
-use Rattle.entity_loading.proofs.Fronts.{front_leads}
+use Rattle.entity_loading.proofs.Fronts.{prefix_leads}
 use Rattle.entity_loading.proofs.LeastSteps.{first_path, behind_first, first_then, rest_then, path_alone, demand, map_append, in_filter_out, whole_path}
 use Rattle.access_tries.specs.SameLaws.{edge_is}
 
@@ -87,16 +87,16 @@ module _ (t : Table) where
   all_demands = filter asked (map both_paths all_addresses)
 
   module _ (table : IsTable t) where
-    to_read : (p : AccessPath) → has_path t p ≡ true → IsFrontOfRead all_reads p
+    to_read : (p : AccessPath) → has_path t p ≡ true → IsPrefixOfRead all_reads p
     to_read p h =
         let i = in_map first_path (address_of p) all_addresses (listed is_some t table.closed (length t) 0 (omega arith) (address_of p) h) in
         let j = in_filter (has_path t) p (map first_path all_addresses) (subst (λ z. IsIn z (map first_path all_addresses)) (path_alone p) i) h in
         record { rest = []; among = subst (λ z. IsIn z all_reads) (sym (whole_path p)) j }
 
-    from_read : (p : AccessPath) → IsFrontOfRead all_reads p → has_path t p ≡ true
+    from_read : (p : AccessPath) → IsPrefixOfRead all_reads p → has_path t p ≡ true
     from_read p r =
         let f = in_filter_out (has_path t) (beyond p r.rest) (map first_path all_addresses) r.among in
-        front_leads is_some refl t (address_of p) (map edge_of r.rest) 0 (subst (λ es. leads t (Root p.root ∷ es) ≡ true) (map_append p.steps r.rest) f.1)
+        prefix_leads is_some refl t (address_of p) (map edge_of r.rest) 0 (subst (λ es. leads t (Root p.root ∷ es) ≡ true) (map_append p.steps r.rest) f.1)
 
     to_demand : (p r : AccessPath) → asks t p r ≡ true → IsIn (demand p r) all_demands
     to_demand p r h =

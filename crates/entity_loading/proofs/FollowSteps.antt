@@ -15,7 +15,7 @@ use Rattle.entity_loading.specs.declared.follow.FollowError.{FollowError}
 use Rattle.entity_loading.specs.declared.follow.FollowError.TheVariants as error
 use Rattle.entity_loading.specs.Places.{IsPlaced, IsAtOrBelow, IsPlaceBelow}
 use Rattle.entity_loading.specs.Wants.{Test, sees, wants, points, Adds}
-use Rattle.entity_loading.specs.Stuck.{tests_of, behind, RefusedBy}
+use Rattle.entity_loading.specs.CannotGoOn.{tests_of, behind, RefusedBy}
 use Rattle.entity_loading.proofs.PlacePointSteps.{points_none, any_point_none, no_mark}
 use Rattle.plain_lemmas.proofs.Lists.{within_of_is_some}
 use Rattle.plain_lemmas.proofs.Booleans.{or_assoc, or_false}

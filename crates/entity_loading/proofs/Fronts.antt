@@ -26,10 +26,10 @@ module _ (f : Option NodeData → Bool) (none : f None ≡ false) (ns : Table) w
       by (Some n) g = refl
 
   -- a front of what leads to a node that passes the test leads to a node
-  pub front_leads : (es a : Address) (i : ℕ) → at_path f ns i (es ++ a) ≡ true → at_path is_some ns i es ≡ true
-  front_leads [] a i h = there i a h
-  front_leads (e ∷ es) a i h =
+  pub prefix_leads : (es a : Address) (i : ℕ) → at_path f ns i (es ++ a) ≡ true → at_path is_some ns i es ≡ true
+  prefix_leads [] a i h = there i a h
+  prefix_leads (e ∷ es) a i h =
       let l = any_out (λ l. edge_eq l.edge e && at_path f ns l.number (es ++ a)) (links_at ns i) h in
       let b = and_parts (edge_eq l.0.edge e) (at_path f ns l.0.number (es ++ a)) l.2 in
       any_in (λ l. edge_eq l.edge e && at_path is_some ns l.number es) l.0 (links_at ns i) l.1
-      (and_from (edge_eq l.0.edge e) (at_path is_some ns l.0.number es) b.0 (front_leads es a l.0.number b.1))
+      (and_from (edge_eq l.0.edge e) (at_path is_some ns l.0.number es) b.0 (prefix_leads es a l.0.number b.1))

@@ -20,7 +20,7 @@ use Rattle.plain_lemmas.proofs.Booleans.{false_of_not_true, or_false, or_left_tr
 use Rattle.reads_spec.proofs.Words.{any_out}
 use Rattle.entity_loading.specs.Places.{node_of}
 use Rattle.entity_loading.specs.Ordered.{HasOrder}
-use Rattle.entity_loading.proofs.ReachSteps.{front_leads}
+use Rattle.entity_loading.proofs.ReachSteps.{prefix_leads}
 use Rattle.plain_lemmas.proofs.Lists.{any_weaker, is_some_within}
 use Rattle.reads_spec.proofs.Merging.{merge_entities-cut}
 use Rattle.reads_spec.proofs.Order.{IsClosed, cases, cut_fields-same, either_keep, IsWellFormed}
@@ -39,13 +39,13 @@ pub down : (Chain → Bool) → Chain → Bool
 down k [] = true
 down k (n ∷ c) = k (n ∷ []) && down (λ d. k (n ∷ d)) c
 
-down_front : (k : Chain → Bool) (c rest : Chain) → down k (c ++ rest) ≡ true → down k c ≡ true
+down_prefix : (k : Chain → Bool) (c rest : Chain) → down k (c ++ rest) ≡ true → down k c ≡ true
 unfolding down
-down_front k [] rest h = refl
-down_front k (n ∷ c) rest h = let b = and_parts (k (n ∷ [])) (down (λ d. k (n ∷ d)) (c ++ rest)) h in and_from (k (n ∷ [])) (down (λ d. k (n ∷ d)) c) b.0 (down_front (λ d. k (n ∷ d)) c rest b.1)
+down_prefix k [] rest h = refl
+down_prefix k (n ∷ c) rest h = let b = and_parts (k (n ∷ [])) (down (λ d. k (n ∷ d)) (c ++ rest)) h in and_from (k (n ∷ [])) (down (λ d. k (n ∷ d)) c) b.0 (down_prefix (λ d. k (n ∷ d)) c rest b.1)
 
 down_closed : (k : Chain → Bool) → IsClosed (down k)
-down_closed k = record { first = λ m c rest h. down_front k (m ∷ c) rest h }
+down_closed k = record { first = λ m c rest h. down_prefix k (m ∷ c) rest h }
 
 down_first : (k : Chain → Bool) → down k [] ≡ true
 unfolding down
@@ -181,10 +181,10 @@ any_asked : (ns : Table) (ps : List Place) (x : EntityUID) (a : Address) → wan
 any_asked ns ps x a h = any_weaker (λ p. uid_eq p.uid x && sees false (node_of ns p) a) (λ p. uid_eq p.uid x) ps (λ p g. (and_parts (uid_eq p.uid x) (sees false (node_of ns p) a) g).0) h
 
 -- a front of what is asked for is asked for
-wants_front : (ns : Table) (ps : List Place) (x : EntityUID) (es a : Address) → wants false ns ps x (es ++ a) ≡ true → wants false ns ps x es ≡ true
-wants_front ns ps x es a h =
+wants_prefix : (ns : Table) (ps : List Place) (x : EntityUID) (es a : Address) → wants false ns ps x (es ++ a) ≡ true → wants false ns ps x es ≡ true
+wants_prefix ns ps x es a h =
     any_weaker (λ p. uid_eq p.uid x && sees false (node_of ns p) (es ++ a)) (λ p. uid_eq p.uid x && sees false (node_of ns p) es) ps
-    (λ p g. let b = and_parts (uid_eq p.uid x) (sees false (node_of ns p) (es ++ a)) g in and_from (uid_eq p.uid x) (sees false (node_of ns p) es) b.0 (front_leads false ns p.number es a b.1)) h
+    (λ p g. let b = and_parts (uid_eq p.uid x) (sees false (node_of ns p) (es ++ a)) g in and_from (uid_eq p.uid x) (sees false (node_of ns p) es) b.0 (prefix_leads false ns p.number es a b.1)) h
 
 along_append : (c rest : Chain) → along (c ++ rest) ≡ along c ++ along rest
 along_append [] rest = refl
@@ -282,12 +282,12 @@ module _ (exact : Bool) (s : Store) (ns : Table) (ps : List Place) (found : Foun
 
   enough_chains : (x : EntityUID) (b : Bool) (e : list_any (λ p. uid_eq p.uid x) ps ≡ b) → b ≡ true → (c : Chain) → wants false ns ps x (along c) ≡ true → (extra_at x b e).chains c ≡ true
   enough_chains x true e h c w = down_from ((mask x e).keep.chains x) c (λ n d rest f. (mask x e).chains (n ∷ d)
-      (wants_front ns ps x (along (n ∷ d)) (along rest) (subst (λ es. wants false ns ps x es ≡ true) (ap along f ∙ along_append (n ∷ d) rest) w)))
+      (wants_prefix ns ps x (along (n ∷ d)) (along rest) (subst (λ es. wants false ns ps x es ≡ true) (ap along f ∙ along_append (n ∷ d) rest) w)))
   enough_chains x false e h c w = absurd (false≢true h)
 
   enough_tags : (x : EntityUID) (b : Bool) (e : list_any (λ p. uid_eq p.uid x) ps ≡ b) → b ≡ true → (m : List ℕ) (c : Chain) → wants false ns ps x (AnyTag ∷ along c) ≡ true → (extra_at x b e).tags (m ∷ c) ≡ true
   enough_tags x true e h m c w = down_from ((mask x e).keep.tags x) (m ∷ c) (λ n d rest f. (mask x e).tags n d
-      (wants_front ns ps x (AnyTag ∷ along d) (along rest) (subst (λ es. wants false ns ps x (AnyTag ∷ es) ≡ true) (ap along (tail_same m n c (d ++ rest) f) ∙ along_append d rest) w)))
+      (wants_prefix ns ps x (AnyTag ∷ along d) (along rest) (subst (λ es. wants false ns ps x (AnyTag ∷ es) ≡ true) (ap along (tail_same m n c (d ++ rest) f) ∙ along_append d rest) w)))
     where
       tail_same : (p q : List ℕ) (ds es : Chain) → p ∷ ds ≡ q ∷ es → ds ≡ es
       tail_same p q ds es g = cc

@@ -24,7 +24,7 @@ use Rattle.reads_spec.specs.Reads.{shape_of, wholly, binary_reads, reads, reads_
 use Rattle.reads_spec.proofs.Lists.{IsIn, in_left, in_right, in_map, any_in, in_map_out}
 use Rattle.plain_lemmas.proofs.Booleans.{or_left_true}
 use Rattle.plain_lemmas.proofs.Lists.{append_empty}
-use Rattle.reads_spec.specs.Among.{IsFrontOfRead}
+use Rattle.reads_spec.specs.Among.{IsPrefixOfRead}
 use Rattle.reads_spec.proofs.Words.{any_out}
 use Rattle.reads_spec.proofs.DeclaredPaths.{declared_read}
 use Rattle.entity_loading.specs.Tries.{IsTrieOf, LeastTriesFit}
@@ -47,11 +47,11 @@ address_self : (es : Address) → is_same es es ≡ true
 address_self [] = refl
 address_self (e ∷ es) = and_from (edge_eq e e) (is_same es es) (edge_self e) (address_self es)
 
-front_self : (es fs : Address) → is_front es (es ++ fs) ≡ true
-front_self [] fs = refl
-front_self (e ∷ es) fs = and_from (edge_eq e e) (is_front es (es ++ fs)) (edge_self e) (front_self es fs)
+prefix_self : (es fs : Address) → is_front es (es ++ fs) ≡ true
+prefix_self [] fs = refl
+prefix_self (e ∷ es) fs = and_from (edge_eq e e) (is_front es (es ++ fs)) (edge_self e) (prefix_self es fs)
 
--- the steps in front of the next root, and what comes behind them
+-- the steps before the next root, and what comes behind them
 abbrev steps_in : Address → List Step
 steps_in [] = []
 steps_in (Field n ∷ es) = along n ∷ steps_in es
@@ -118,22 +118,22 @@ no_step_root : (m : Step) (r : EntityRoot) → Root r ≡ edge_of m → ⊥
 no_step_root (along m) r h = cc
 no_step_root any_tag r h = cc
 
-front_alone : (ms ns : List Step) → is_front (map edge_of ms) (map edge_of ns) ≡ true → (rest : List Step) × (ns ≡ ms ++ rest)
-front_alone [] ns h = (ns, refl)
-front_alone (m ∷ ms) [] h = absurd (cc)
-front_alone (m ∷ ms) (n ∷ ns) h =
+prefix_alone : (ms ns : List Step) → is_front (map edge_of ms) (map edge_of ns) ≡ true → (rest : List Step) × (ns ≡ ms ++ rest)
+prefix_alone [] ns h = (ns, refl)
+prefix_alone (m ∷ ms) [] h = absurd (cc)
+prefix_alone (m ∷ ms) (n ∷ ns) h =
     let b = and_parts (edge_eq (edge_of n) (edge_of m)) (is_front (map edge_of ms) (map edge_of ns)) h in
-    let r = front_alone ms ns b.1 in
+    let r = prefix_alone ms ns b.1 in
     (r.0, λ i. edge_step n m (edge_is (edge_of n) (edge_of m) b.0) i ∷ r.1 i)
 
-front_before : (ms ns : List Step) (r : AccessPath) → is_front (map edge_of ms) (map edge_of ns ++ address_of r) ≡ true → (rest : List Step) × (ns ≡ ms ++ rest)
-front_before [] ns r h = (ns, refl)
-front_before (m ∷ ms) [] r h =
+prefix_before : (ms ns : List Step) (r : AccessPath) → is_front (map edge_of ms) (map edge_of ns ++ address_of r) ≡ true → (rest : List Step) × (ns ≡ ms ++ rest)
+prefix_before [] ns r h = (ns, refl)
+prefix_before (m ∷ ms) [] r h =
     let b = and_parts (edge_eq (Root r.root) (edge_of m)) (is_front (map edge_of ms) (map edge_of r.steps)) h in
     absurd (no_step_root m r.root (edge_is (Root r.root) (edge_of m) b.0))
-front_before (m ∷ ms) (n ∷ ns) r h =
+prefix_before (m ∷ ms) (n ∷ ns) r h =
     let b = and_parts (edge_eq (edge_of n) (edge_of m)) (is_front (map edge_of ms) (map edge_of ns ++ address_of r)) h in
-    let k = front_before ms ns r b.1 in
+    let k = prefix_before ms ns r b.1 in
     (k.0, λ i. edge_step n m (edge_is (edge_of n) (edge_of m) b.0) i ∷ k.1 i)
 
 root_same : (r k : EntityRoot) → edge_eq (Root k) (Root r) ≡ true → k ≡ r
@@ -143,55 +143,55 @@ root_same r k h = let same = edge_is (Root k) (Root r) h in cc
 abbrev Front : AccessPath → AccessPath → Type 0
 Front p z = (rest : List Step) × (z ≡ beyond p rest)
 
-path_front : (p z : AccessPath) → is_front (address_of p) (address_of z) ≡ true → Front p z
-path_front p z h =
+path_prefix : (p z : AccessPath) → is_front (address_of p) (address_of z) ≡ true → Front p z
+path_prefix p z h =
     let b = and_parts (edge_eq (Root z.root) (Root p.root)) (is_front (map edge_of p.steps) (map edge_of z.steps)) h in
-    let r = front_alone p.steps z.steps b.1 in
+    let r = prefix_alone p.steps z.steps b.1 in
     (r.0, λ i. record { root = root_same p.root z.root b.0 i; steps = r.1 i })
 
-demand_front : (p : AccessPath) (d : Demand) → is_front (address_of p) (demand_of d) ≡ true → Front p d.0
-demand_front p d h =
+demand_prefix : (p : AccessPath) (d : Demand) → is_front (address_of p) (demand_of d) ≡ true → Front p d.0
+demand_prefix p d h =
     let b = and_parts (edge_eq (Root d.0.root) (Root p.root)) (is_front (map edge_of p.steps) (map edge_of d.0.steps ++ address_of d.1)) h in
-    let r = front_before p.steps d.0.steps d.1 b.1 in
+    let r = prefix_before p.steps d.0.steps d.1 b.1 in
     (r.0, λ i. record { root = root_same p.root d.0.root b.0 i; steps = r.1 i })
 
 pub map_append : (ms ns : List Step) → map edge_of (ms ++ ns) ≡ map edge_of ms ++ map edge_of ns
 map_append [] ns = refl
 map_append (m ∷ ms) ns = ap (λ es. edge_of m ∷ es) (map_append ms ns)
 
-front_beyond : (p : AccessPath) (rest : List Step) → is_front (address_of p) (address_of (beyond p rest)) ≡ true
-front_beyond p rest = subst (λ es. is_front (address_of p) (Root p.root ∷ es) ≡ true) (sym (map_append p.steps rest)) (front_self (address_of p) (map edge_of rest))
+prefix_beyond : (p : AccessPath) (rest : List Step) → is_front (address_of p) (address_of (beyond p rest)) ≡ true
+prefix_beyond p rest = subst (λ es. is_front (address_of p) (Root p.root ∷ es) ≡ true) (sym (map_append p.steps rest)) (prefix_self (address_of p) (map edge_of rest))
 
 longer : (p z : AccessPath) (more rest : List Step) → z ≡ beyond p more → beyond z rest ≡ beyond p (more ++ rest)
 longer p z more rest is = ap (λ y. beyond y rest) is ∙ (λ i. record { root = p.root; steps = append_assoc p.steps more rest i })
 
-module _ (rs : List AccessPath) (ds : List Demand) (t : Table) (read : (d : Demand) → IsIn d ds → IsFrontOfRead rs d.0) (l : IsLeast rs ds t) where
-  read_part : (p : AccessPath) → list_any (is_front (address_of p)) (map address_of rs) ≡ true → IsFrontOfRead rs p
+module _ (rs : List AccessPath) (ds : List Demand) (t : Table) (read : (d : Demand) → IsIn d ds → IsPrefixOfRead rs d.0) (l : IsLeast rs ds t) where
+  read_part : (p : AccessPath) → list_any (is_front (address_of p)) (map address_of rs) ≡ true → IsPrefixOfRead rs p
   read_part p h =
       let a = any_out (is_front (address_of p)) (map address_of rs) h in
       let z = in_map_out address_of a.0 rs a.1 in
-      let f = path_front p z.0 (ap (is_front (address_of p)) z.2 ∙ a.2) in
+      let f = path_prefix p z.0 (ap (is_front (address_of p)) z.2 ∙ a.2) in
       record { rest = f.0; among = subst (λ y. IsIn y rs) f.1 z.1 }
 
-  demanded_part : (p : AccessPath) → list_any (is_front (address_of p)) (map demand_of ds) ≡ true → IsFrontOfRead rs p
+  demanded_part : (p : AccessPath) → list_any (is_front (address_of p)) (map demand_of ds) ≡ true → IsPrefixOfRead rs p
   demanded_part p h =
       let a = any_out (is_front (address_of p)) (map demand_of ds) h in
       let d = in_map_out demand_of a.0 ds a.1 in
-      let f = demand_front p d.0 (ap (is_front (address_of p)) d.2 ∙ a.2) in
+      let f = demand_prefix p d.0 (ap (is_front (address_of p)) d.2 ∙ a.2) in
       let r = read d.0 d.1 in
       record { rest = f.0 ++ r.rest; among = subst (λ y. IsIn y rs) (longer p d.0.0 f.0 r.rest f.1) r.among }
 
-  to_read : (p : AccessPath) → has_path t p ≡ true → IsFrontOfRead rs p
+  to_read : (p : AccessPath) → has_path t p ≡ true → IsPrefixOfRead rs p
   to_read p h = by (or_cases (list_any (is_front (address_of p)) (map address_of rs)) (list_any (is_front (address_of p)) (map demand_of ds)) (sym (l.paths (address_of p)) ∙ h))
     where
-      by : (list_any (is_front (address_of p)) (map address_of rs) ≡ true) ⊎ (list_any (is_front (address_of p)) (map demand_of ds) ≡ true) → IsFrontOfRead rs p
+      by : (list_any (is_front (address_of p)) (map address_of rs) ≡ true) ⊎ (list_any (is_front (address_of p)) (map demand_of ds) ≡ true) → IsPrefixOfRead rs p
       by (inl i) = read_part p i
       by (inr i) = demanded_part p i
 
-  from_read : (p : AccessPath) → IsFrontOfRead rs p → has_path t p ≡ true
+  from_read : (p : AccessPath) → IsPrefixOfRead rs p → has_path t p ≡ true
   from_read p r =
       l.paths (address_of p) ∙ or_left_true (list_any (is_front (address_of p)) (map address_of rs)) (list_any (is_front (address_of p)) (map demand_of ds))
-      (any_in (is_front (address_of p)) (address_of (beyond p r.rest)) (map address_of rs) (in_map address_of (beyond p r.rest) rs r.among) (front_beyond p r.rest))
+      (any_in (is_front (address_of p)) (address_of (beyond p r.rest)) (map address_of rs) (in_map address_of (beyond p r.rest) rs r.among) (prefix_beyond p r.rest))
 
   to_demand : (p r : AccessPath) → asks t p r ≡ true → IsIn (demand p r) ds
   to_demand p r h =
@@ -284,7 +284,7 @@ pub whole_path : (p : AccessPath) → beyond p [] ≡ p
 whole_path p i = record { root = p.root; steps = append_empty p.steps i }
 
 -- each declared path of which conditions demand something is read
-pub declared_demand : {A : Type 0} (schema : SchemaData) (env : EnvData) (ts : List (Tree A)) (d : Demand) → IsIn d (declared_demands schema env ts) → IsFrontOfRead (declared_reads schema env ts) d.0
+pub declared_demand : {A : Type 0} (schema : SchemaData) (env : EnvData) (ts : List (Tree A)) (d : Demand) → IsIn d (declared_demands schema env ts) → IsPrefixOfRead (declared_reads schema env ts) d.0
 declared_demand schema env ts d h =
     let f = in_filter_out (are_declared schema env) d (demands_of ts) h in
     let declared = and_parts (is_declared_path schema env d.0) (is_declared_path schema env d.1) f.1 in

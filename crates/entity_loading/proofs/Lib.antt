@@ -1,4 +1,4 @@
-mod LendSteps
+mod BorrowSteps
 mod AskSteps
 mod AnswerSteps
 mod KeepSteps
@@ -21,7 +21,7 @@ mod FollowSteps
 mod DemandSteps
 mod BeginSteps
 mod LedSteps
-mod StuckSteps
+mod CannotGoOnSteps
 mod NameSteps
 mod WaitSteps
 mod ValueSteps

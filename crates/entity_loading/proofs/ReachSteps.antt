@@ -32,7 +32,7 @@ use Rattle.entity_loading.specs.Leads.{RootLeads}
 use Rattle.entity_loading.specs.Wants.{Test, sees, wants, points, fields_point, entity_points}
 use Rattle.entity_loading.specs.declared.place.Place.{Place}
 use Rattle.entity_loading.specs.Reached.{IsReached}
-use Rattle.entity_loading.proofs.Fronts.{front_leads as front_there}
+use Rattle.entity_loading.proofs.Fronts.{prefix_leads as prefix_there}
 use Rattle.entity_loading.proofs.PointSteps.{points_more, in_fields}
 use Rattle.entity_loading.proofs.LeastSteps.{map_append}
 use Rattle.access_tries.specs.SameLaws.{edge_is}
@@ -40,9 +40,9 @@ use Rattle.access_tries.specs.SameLaws.{edge_is}
 -- ---- addresses
 
 -- a front of what is seen leads somewhere
-pub front_leads : (b : Bool) (ns : Table) (i : ℕ) (es a : Address) → sees b (record { nodes = ns; number = i }) (es ++ a) ≡ true → sees false (record { nodes = ns; number = i }) es ≡ true
-front_leads true ns i es a h = front_there has_mark refl ns es a i h
-front_leads false ns i es a h = front_there is_some refl ns es a i h
+pub prefix_leads : (b : Bool) (ns : Table) (i : ℕ) (es a : Address) → sees b (record { nodes = ns; number = i }) (es ++ a) ≡ true → sees false (record { nodes = ns; number = i }) es ≡ true
+prefix_leads true ns i es a h = prefix_there has_mark refl ns es a i h
+prefix_leads false ns i es a h = prefix_there is_some refl ns es a i h
 
 -- the link that an address begins with
 record Begins (b : Bool) (ns : Table) (e : Edge) (a : Address) : Type 0 where

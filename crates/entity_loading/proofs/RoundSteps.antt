@@ -11,10 +11,10 @@ use Rattle.reads_spec.specs.Merge.{merge_entities}
 use Rattle.reads_spec.proofs.Cuts.{uid_at}
 use Rattle.reads_spec.proofs.Lists.{IsIn}
 use Rattle.entity_loading.specs.declared.place.Place.{Place}
-use Rattle.entity_loading.specs.Answered.{AnswerSticks}
+use Rattle.entity_loading.specs.Answered.{AnswerBlocks}
 use Rattle.entity_loading.specs.Begun.{PathsWithin, IsFirst}
 use Rattle.entity_loading.specs.Places.{Allows, IsBelowSome, node_of}
-use Rattle.entity_loading.specs.Stuck.{tests_of}
+use Rattle.entity_loading.specs.CannotGoOn.{tests_of}
 use Rattle.entity_loader.specs.Answers.{Fits, IsHonest}
 use Rattle.entity_loader.specs.State.{LoaderState, Continues}
 use Rattle.entity_loader.specs.declared.loader.EntityRequest.{EntityRequest}
@@ -84,7 +84,7 @@ pub not_taken : (ns : Table) (ps : List Place) (old new : LoaderState) (kept fou
     → (e : EntitySliceError) → AreNotTaken ns ps kept found e → CauseOf (Sticks ns) old new e
 not_taken ns ps old new kept found ku fu (error.IncompatibleEntityManifest e) h = sticks (found h.place.uid) h.sticks
   where
-    sticks : (o : Option StoredEntity) → AnswerSticks o (tests_of (node_of ns h.place)) e.value → Sticks ns e.value
+    sticks : (o : Option StoredEntity) → AnswerBlocks o (tests_of (node_of ns h.place)) e.value → Sticks ns e.value
     sticks None g = absurd g
     sticks (Some d) g = record { entity = d; number = h.place.number; sticks = g }
 not_taken ns ps old new kept found ku fu (error.InconsistentLoader u k d) h = inr (by k h.1)

@@ -32,7 +32,7 @@ use Rattle.entity_loading.specs.KeptPart.{IsState, IsBegun, IsLoaded, AreAlike, 
 use Rattle.entity_store.specs.FromParents.{without_links}
 use Rattle.entity_loading.proofs.KeptSteps.{kept_more, kept_start}
 use Rattle.entity_loading.proofs.PointSteps.{entity_or, entity_any, fields_kept, tags_kept, fields_cut, tags_cut}
-use Rattle.entity_loading.proofs.ReachSteps.{front_leads, start_reached, entity_leads, further_reached, reached_asked}
+use Rattle.entity_loading.proofs.ReachSteps.{prefix_leads, start_reached, entity_leads, further_reached, reached_asked}
 
 module _ (exact : Bool) (s : Store) (ns : Table) (ps : List Place) (found : Found) (t : AreHonestAt exact s ns ps found) where
   -- a place whose entity leads there
@@ -64,9 +64,9 @@ module _ (exact : Bool) (s : Store) (ns : Table) (ps : List Place) (found : Foun
       subst (λ z. entity_points z (sees b (node_of ns p)) x a ≡ true) (sym g.is)
       (or_weaker (fields_point g.stored.attrs (sees b (node_of ns p)) x a) (list_any (λ v. points v (λ c. sees b (node_of ns p) (AnyTag ∷ c)) x a) (values_in g.stored.tags)) _ _
       (fields_kept x a g.stored.attrs (g.keep.chains g.stored.uid) (sees b (node_of ns p))
-      (λ n c k j. g.chains (n ∷ c) (asks.each false (map edge_of (steps_of (n ∷ c))) ∙ wanted false p i (map edge_of (steps_of (n ∷ c))) (front_leads b ns p.number (map edge_of (steps_of (n ∷ c))) k j))))
+      (λ n c k j. g.chains (n ∷ c) (asks.each false (map edge_of (steps_of (n ∷ c))) ∙ wanted false p i (map edge_of (steps_of (n ∷ c))) (prefix_leads b ns p.number (map edge_of (steps_of (n ∷ c))) k j))))
       (tags_kept x a g.stored.tags (g.keep.tags g.stored.uid) (λ c. sees b (node_of ns p) (AnyTag ∷ c))
-      (λ n c k j. g.tags (n ∷ c) (asks.each false (AnyTag ∷ map edge_of (steps_of c)) ∙ wanted false p i (AnyTag ∷ map edge_of (steps_of c)) (front_leads b ns p.number (AnyTag ∷ map edge_of (steps_of c)) k j))))
+      (λ n c k j. g.tags (n ∷ c) (asks.each false (AnyTag ∷ map edge_of (steps_of c)) ∙ wanted false p i (AnyTag ∷ map edge_of (steps_of c)) (prefix_leads b ns p.number (AnyTag ∷ map edge_of (steps_of c)) k j))))
       (subst (λ z. entity_points z (sees b (node_of ns p)) x a ≡ true) (sym same) h))
 
   -- and nowhere else

@@ -9,7 +9,7 @@ use Rattle.access_tries.specs.Views.{ViewData}
 use Rattle.reads_spec.specs.Among.{IsIn}
 use Rattle.entity_loading.specs.declared.place.Place.{Place}
 use Rattle.entity_loading.specs.Places.{node_of}
-use Rattle.entity_loading.specs.Stuck.{Tests, tests_of, EntitySticks}
+use Rattle.entity_loading.specs.CannotGoOn.{Tests, tests_of, EntityBlocks}
 use Rattle.entity_loading.specs.Wants.{Test, sees, entity_points}
 
 -- where an answer leads from a node; an absent one leads nowhere
@@ -22,13 +22,13 @@ abbrev pub answers_point : Table → (EntityUID → Option StoredEntity) → Lis
 answers_point ns found ps b x a = list_any (λ p. answer_points (found p.uid) (node_of ns p) b x a) ps
 
 -- a path cannot go on from a value of the answer
-abbrev pub AnswerSticks : Option StoredEntity → Tests → Val → Type 0
-AnswerSticks None t u = ⊥
-AnswerSticks (Some e) t u = EntitySticks e t u
+abbrev pub AnswerBlocks : Option StoredEntity → Tests → Val → Type 0
+AnswerBlocks None t u = ⊥
+AnswerBlocks (Some e) t u = EntityBlocks e t u
 
 -- a path cannot go on from a value of some answer, where it was asked for at some place
-pub record SomeAnswerSticks (ns : Table) (found : EntityUID → Option StoredEntity)
+pub record SomeAnswerBlocks (ns : Table) (found : EntityUID → Option StoredEntity)
     (ps : List Place) (u : Val) : Type 0 where
   pub place : Place
   pub among : IsIn place ps
-  pub sticks : AnswerSticks (found place.uid) (tests_of (node_of ns place)) u
+  pub sticks : AnswerBlocks (found place.uid) (tests_of (node_of ns place)) u

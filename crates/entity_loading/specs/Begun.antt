@@ -15,7 +15,7 @@ use Rattle.reads_spec.specs.Restrict.{root_value}
 use Rattle.entity_loading.specs.declared.place.Place.{Place}
 use Rattle.entity_loading.specs.Places.{Allows}
 use Rattle.entity_loading.specs.Wants.{Test, sees, points}
-use Rattle.entity_loading.specs.Stuck.{Tests, tests_of, behind, Sticks}
+use Rattle.entity_loading.specs.CannotGoOn.{Tests, tests_of, behind, Sticks}
 
 -- where the value of a root leads from the node behind it
 abbrev pub root_points : Bool → ViewData → Request → Edge → EntityUID → Test
@@ -43,10 +43,10 @@ IsRoot (Root r) = Unit {0}
 IsRoot e = ⊥
 
 -- in the value of the root a value stands from which a path cannot go on
-abbrev pub RootSticks : Request → Edge → Tests → Val → Type 0
-RootSticks q (Root r) t u = Sticks (root_value q r) t u
-RootSticks q e t u = ⊥
+abbrev pub RootBlocks : Request → Edge → Tests → Val → Type 0
+RootBlocks q (Root r) t u = Sticks (root_value q r) t u
+RootBlocks q e t u = ⊥
 
 -- in the value of some root a value stands from which a path of the trie cannot go on
-abbrev pub SomeRootSticks : Table → Request → Val → Type 0
-SomeRootSticks ns q u = (r : EntityRoot) × Sticks (root_value q r) (behind (Root r) (tests_of (whole ns))) u
+abbrev pub SomeRootBlocks : Table → Request → Val → Type 0
+SomeRootBlocks ns q u = (r : EntityRoot) × Sticks (root_value q r) (behind (Root r) (tests_of (whole ns))) u

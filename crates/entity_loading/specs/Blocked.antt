@@ -6,8 +6,8 @@ use Rattle.entity_store.specs.Store.{StoredEntity, Store, entity_at}
 use Rattle.policy_values.specs.Value.{Val}
 use Rattle.access_tries.specs.Edges.{Address}
 use Rattle.access_tries.specs.Table.{Table}
-use Rattle.entity_loading.specs.Begun.{SomeRootSticks}
-use Rattle.entity_loading.specs.Stuck.{EntitySticks}
+use Rattle.entity_loading.specs.Begun.{SomeRootBlocks}
+use Rattle.entity_loading.specs.CannotGoOn.{EntityBlocks}
 use Rattle.entity_loading.specs.Wants.{Test}
 use Rattle.entity_loading.specs.Reached.{IsReached}
 
@@ -18,8 +18,8 @@ pub record IsBlockedInStore (ns : Table) (q : Request) (s : Store) (u : Val) : T
   pub at : entity_at s id ≡ Some stored
   pub below : Bool → Test
   pub reached : (b : Bool) (a : Address) → below b a ≡ true → IsReached b ns q s id a
-  pub sticks : EntitySticks stored (record { leads = below false; marks = below true }) u
+  pub sticks : EntityBlocks stored (record { leads = below false; marks = below true }) u
 
 -- or in the value of a root one from which paths that begin there cannot
 abbrev pub IsBlocked : Table → Request → Store → Val → Type 0
-IsBlocked ns q s u = SomeRootSticks ns q u ⊎ IsBlockedInStore ns q s u
+IsBlocked ns q s u = SomeRootBlocks ns q u ⊎ IsBlockedInStore ns q s u

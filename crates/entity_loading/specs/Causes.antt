@@ -24,7 +24,7 @@ CauseOf P old new (error.InconsistentLoader uid kept got) =
 CauseOf P old new error.LoaderFault = Rose old.faults new.faults
 CauseOf P old new error.OutOfMemory = Unit {0}
 
--- why a loader that tells its store is refused: never for what it answers
+-- why a loader that says its store is refused: never for what it answers
 abbrev pub IsRight : (Val → Type 0) → LoaderState → LoaderState → EntitySliceError → Type 0
 IsRight P old new (error.IncompatibleEntityManifest e) = P e.value
 IsRight P old new error.LoaderFault = Rose old.faults new.faults

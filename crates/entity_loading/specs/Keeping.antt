@@ -5,7 +5,7 @@ use Rattle.policy_values.specs.Uid.{uid_eq}
 use Rattle.entity_store.specs.Store.{StoredEntity}
 use Rattle.reads_spec.specs.Merge.{merge_entities}
 use Rattle.access_tries.specs.Table.{Table}
-use Rattle.entity_loading.specs.Answered.{SomeAnswerSticks}
+use Rattle.entity_loading.specs.Answered.{SomeAnswerBlocks}
 use Rattle.entity_loading.specs.declared.follow.FollowError.{FollowError}
 use Rattle.entity_loading.specs.declared.follow.FollowError.TheVariants as follow
 use Rattle.entity_loading.specs.declared.place.Place.{Place}
@@ -47,5 +47,5 @@ AreNotKept old found c = ⊥
 
 -- the same, or a path of the trie cannot go on from a value of an answer
 abbrev pub AreNotTaken : Table → List Place → Found → Found → EntitySliceError → Type 0
-AreNotTaken ns ps old found (error.IncompatibleEntityManifest e) = SomeAnswerSticks ns found ps e.value
+AreNotTaken ns ps old found (error.IncompatibleEntityManifest e) = SomeAnswerBlocks ns found ps e.value
 AreNotTaken ns ps old found c = AreNotKept old found c

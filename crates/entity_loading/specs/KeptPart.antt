@@ -46,7 +46,7 @@ pub record IsKeptPart (exact : Bool) (s : Store) (ns : Table)
       choice.tags x (n ∷ c) ≡ true → wants false ns asked x (AnyTag ∷ along c) ≡ true
   pub bare : exact ≡ true → (x y : EntityUID) → choice.ancestors x y ≡ false
 
--- after some rounds, where the loader tells its store
+-- after some rounds, where the loader says its store
 pub record IsState (exact : Bool) (ns : Table) (q : Request) (s : Store)
     (asked pending : List Place) (kept : Found) : Type 0 where
   pub complete : IsComplete ns q s asked pending
@@ -59,7 +59,7 @@ pub record IsBegun (ns : Table) (q : Request) (s : Store) (start : List Place) :
   pub leads : (b : Bool) (x : EntityUID) (a : Address) → roots_point ns q b x a ≡ true → RootLeads ns q b x a
   pub order : HasOrder s
 
--- it holds of the store that the loader tells, and of each request whose roots lead to these first places
+-- it holds of the store that the loader says, and of each request whose roots lead to these first places
 abbrev pub WhereBegun : LoaderState → Table → List Place → (Store → Request → Type 0) → Type 0
 WhereBegun l ns start P = (s : Store) → l.store ≡ Some s → (q : Request) → IsBegun ns q s start → P s q
 

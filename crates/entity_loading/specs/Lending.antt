@@ -11,36 +11,36 @@ use Rattle.entity_loading.specs.declared.place.Place.{Place}
 use Rattle.entity_loading.specs.Places.{node_of}
 use Rattle.entity_loading.specs.Wants.{Test, sees, wants}
 use Rattle.entity_loader.specs.declared.loader.EntityRequest.{EntityRequest}
-use Rattle.entity_loading.specs.declared.lent.Lent.{Lent}
-use Rattle.entity_loading.specs.declared.lent.Lent.TheVariants.{One, Many}
+use Rattle.entity_loading.specs.declared.lent.Borrowed.{Borrowed}
+use Rattle.entity_loading.specs.declared.lent.Borrowed.TheVariants.{One, Many}
 
--- the trie that is lent
-abbrev pub view_in : Table → Lent → ViewData
+-- the trie that is borrowed
+abbrev pub view_in : Table → Borrowed → ViewData
 view_in ns (One n) = record { nodes = ns; number = n }
 view_in ns (Many t) = whole t
 
-abbrev pub lent_sees : Bool → Table → Option Lent → Test
-lent_sees b ns None a = false
-lent_sees b ns (Some l) a = sees b (view_in ns l) a
+abbrev pub borrowed_sees : Bool → Table → Option Borrowed → Test
+borrowed_sees b ns None a = false
+borrowed_sees b ns (Some l) a = sees b (view_in ns l) a
 
 -- of each entity is asked what some place asks of it, and nothing else; none is asked for but those of
 -- the places
-pub record AreLent (ns : Table) (ps : List Place) (lent : BTreeMap EntityUID Lent) : Type 0 where
+pub record AreBorrowed (ns : Table) (ps : List Place) (lent : BTreeMap EntityUID Borrowed) : Type 0 where
   pub each : (b : Bool) (x : EntityUID) (a : Address) →
-      lent_sees b ns (get uid_cmp lent x) a ≡ wants b ns ps x a
+      borrowed_sees b ns (get uid_cmp lent x) a ≡ wants b ns ps x a
   pub some : (x : EntityUID) → is_some (get uid_cmp lent x) ≡ list_any (λ p. uid_eq p.uid x) ps
 
 -- the same with one place more
-pub record Lends (ns : Table) (p : Place) (old new : BTreeMap EntityUID Lent) : Type 0 where
-  pub each : (b : Bool) (x : EntityUID) (a : Address) → lent_sees b ns (get uid_cmp new x) a ≡
-      (lent_sees b ns (get uid_cmp old x) a || (uid_eq p.uid x && sees b (node_of ns p) a))
+pub record Borrows (ns : Table) (p : Place) (old new : BTreeMap EntityUID Borrowed) : Type 0 where
+  pub each : (b : Bool) (x : EntityUID) (a : Address) → borrowed_sees b ns (get uid_cmp new x) a ≡
+      (borrowed_sees b ns (get uid_cmp old x) a || (uid_eq p.uid x && sees b (node_of ns p) a))
   pub some : (x : EntityUID) → is_some (get uid_cmp new x) ≡ (is_some (get uid_cmp old x) || uid_eq p.uid x)
 
 -- what is known of an entity, with what stands at one more node
-pub record IsUnited (ns : Table) (known : Option Lent) (n : ℕ) (l : Lent) : Type 0 where
+pub record IsUnited (ns : Table) (known : Option Borrowed) (n : ℕ) (l : Borrowed) : Type 0 where
   pub each : (b : Bool) (a : Address) → sees b (view_in ns l) a ≡
-      (lent_sees b ns known a || sees b (record { nodes = ns; number = n }) a)
+      (borrowed_sees b ns known a || sees b (record { nodes = ns; number = n }) a)
 
 -- the request for an id
-abbrev pub request_of : Table → EntityUID × Lent → EntityRequest
+abbrev pub request_of : Table → EntityUID × Borrowed → EntityRequest
 request_of ns e = record { entity_id = e.0; access_trie = view_in ns e.1 }

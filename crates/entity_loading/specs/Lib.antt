@@ -13,7 +13,7 @@ pub mod Sliced
 pub mod Places
 pub mod Wants
 pub mod Leads
-pub mod Stuck
+pub mod CannotGoOn
 pub mod Begun
 pub mod Answered
 pub mod Names

@@ -9,7 +9,7 @@ use Rattle.policy_values.specs.Value.{Val}
 use Rattle.access_tries.specs.Edges.{Address}
 use Rattle.access_tries.specs.Table.{Table}
 use Rattle.entity_loading.specs.Answered.{answers_point}
-use Rattle.entity_loading.specs.Stuck.{tests_of, EntitySticks}
+use Rattle.entity_loading.specs.CannotGoOn.{tests_of, EntityBlocks}
 use Rattle.entity_loading.specs.Begun.{roots_point}
 use Rattle.entity_loading.specs.Wants.{Adds, sees, wants, entity_points}
 use Rattle.entity_loading.specs.declared.place.Place.{Place}
@@ -22,7 +22,7 @@ use Rattle.entity_loading.specs.Reached.{IsReached}
 pub record Sticks (ns : Table) (u : Val) : Type 0 where
   pub entity : StoredEntity
   pub number : ℕ
-  pub sticks : EntitySticks entity (tests_of (record { nodes = ns; number = number })) u
+  pub sticks : EntityBlocks entity (tests_of (record { nodes = ns; number = number })) u
 
 -- the request asks the entity for all that the places do, and for nothing else
 pub record AsksFor (ns : Table) (ps : List Place) (x : EntityUID) (r : EntityRequest) : Type 0 where

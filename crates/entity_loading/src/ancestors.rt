@@ -18,11 +18,11 @@ ghost use Rattle.entity_loading.specs.Causes.{CauseOf, IsRight};
 ghost use Rattle.entity_loading.specs.Joining.{lists, asks, brings, AreJoined, IsAskedFor, AreAscending, HasMore};
 ghost use Rattle.entity_store.specs.FromParents.{without_links};
 ghost use Rattle.entity_loading.specs.KeptPart.{AreAlike};
-ghost use Rattle.entity_loading.specs.Ordered.{WhereTold};
+ghost use Rattle.entity_loading.specs.Ordered.{WhereKnown};
 ghost use Rattle.entity_loading.specs.Unasked.{DemandNothing, AsksForSome};
 
 use crate::error::EntitySliceError;
-use crate::lent::lent_tries;
+use crate::lent::borrowed_tries;
 use crate::rounds::Loaded;
 use crate::{Place, named_ids};
 use access_tries::Node;
@@ -52,11 +52,11 @@ pub(crate) fn with_ancestors<D: EntityLoader>(
     ensures alike { IfOk result (λ found. AreAlike (get uid_cmp found) (get uid_cmp loaded.kept)) }
     ensures ascending { IfOk result (λ found. AreAscending (get uid_cmp loaded.kept) →
         AreAscending (get uid_cmp found)) }
-    ensures honest { WhereTold (D.state loader.old) (λ s. (t : Store) → IsKept loaded.kept t →
+    ensures honest { WhereKnown (D.state loader.old) (λ s. (t : Store) → IsKept loaded.kept t →
         IfOk result (λ found.
         AreJoined (D.state loader.old).exact s nodes.now request.now loaded t found)) }
     ensures cause { IfErr result (CauseOf (λ v. ⊥) (D.state loader.old) (D.state loader.new)) }
-    ensures right { WhereTold (D.state loader.old) (λ s.
+    ensures right { WhereKnown (D.state loader.old) (λ s.
         IfErr result (IsRight (λ v. ⊥) (D.state loader.old) (D.state loader.new))) }
 {
     let Loaded { asked, mut kept } = loaded;
@@ -85,7 +85,7 @@ fn ancestors_requests(
     ensures asked { IfOk result (λ requests. (t : Store) → IsKept kept.now t → (x y : EntityUID) →
         (asks requests.items x y ≡ true) ↔ IsAskedFor nodes.now request.now asked.now.keys t x y) }
 {
-    let lent = lent_tries(alloc, nodes, asked)?;
+    let lent = borrowed_tries(alloc, nodes, asked)?;
     let mut requests = Vec::new(alloc);
     for (uid, lent) in lent.iter() {
         let ids = named_ids(alloc, request, kept, &lent.trie(nodes))?;
@@ -122,9 +122,9 @@ fn lists_for<D: EntityLoader>(
     ensures lists { (D.state loader.new).lists ≤ (D.state loader.old).lists + 1 }
     ensures fit { IfOk result (λ lists. length requests.now.items ≡ length lists.items) }
     ensures cause { IfErr result (CauseOf (λ v. ⊥) (D.state loader.old) (D.state loader.new)) }
-    ensures honest { WhereTold (D.state loader.old) (λ s. IfOk result (λ lists.
+    ensures honest { WhereKnown (D.state loader.old) (λ s. IfOk result (λ lists.
         AllZip (IsHonestList (D.state loader.old).exact s) requests.now.items lists.items)) }
-    ensures right { WhereTold (D.state loader.old) (λ s.
+    ensures right { WhereKnown (D.state loader.old) (λ s.
         IfErr result (IsRight (λ v. ⊥) (D.state loader.old) (D.state loader.new))) }
 {
     let lists = match loader.load_ancestors(alloc, requests) {

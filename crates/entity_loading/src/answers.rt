@@ -8,7 +8,7 @@ ghost use Rattle.policy_values.specs.Uid.{uid_cmp, uid_eq};
 ghost use Rattle.entity_loader.specs.State.{Continues};
 ghost use Rattle.entity_loading.specs.Answering.{AreUnderIds, AreHonest, IsPut, IsStray, IsStrayAnswer, AreStray, answered};
 ghost use Rattle.entity_loading.specs.Causes.{CauseOf, IsRight};
-ghost use Rattle.entity_loading.specs.Ordered.{WhereTold};
+ghost use Rattle.entity_loading.specs.Ordered.{WhereKnown};
 
 use crate::error::{EntitySliceError, WrongNumberOfEntitiesError};
 use entity_loader::{EntityAnswer, EntityLoader, EntityRequest, LoadError};
@@ -29,9 +29,9 @@ pub(crate) fn answers_for<D: EntityLoader>(
     ensures lists { (D.state loader.new).lists ≡ (D.state loader.old).lists }
     ensures ids { IfOk result AreUnderIds }
     ensures cause { IfErr result (CauseOf (λ v. ⊥) (D.state loader.old) (D.state loader.new)) }
-    ensures honest { WhereTold (D.state loader.old) (λ s. IfOk result (λ found.
+    ensures honest { WhereKnown (D.state loader.old) (λ s. IfOk result (λ found.
         AreHonest (D.state loader.old).exact s requests.now.items (get uid_cmp found))) }
-    ensures right { WhereTold (D.state loader.old) (λ s.
+    ensures right { WhereKnown (D.state loader.old) (λ s.
         IfErr result (IsRight (λ v. ⊥) (D.state loader.old) (D.state loader.new))) }
 {
     let answers = match loader.load_entities(alloc, requests) {

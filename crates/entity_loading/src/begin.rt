@@ -9,15 +9,15 @@ ghost use Rattle.policy_values.specs.declared.entity_uid.EntityUID.{EntityUID};
 ghost use Rattle.entity_store.specs.Request.{IsWhole, known};
 ghost use Rattle.policy_values.specs.Value.{entity, rec};
 ghost use Rattle.entity_loading.specs.declared.place.Place.{Place};
-ghost use Rattle.entity_loading.specs.Begun.{root_points, roots_point, IsFirst, IsRoot, SomeRootSticks};
+ghost use Rattle.entity_loading.specs.Begun.{root_points, roots_point, IsFirst, IsRoot, SomeRootBlocks};
 ghost use Rattle.entity_loading.specs.Leads.{Leads, RootLeads, IsLed, IsEdgeLed};
 ghost use Rattle.entity_loading.specs.Places.{IsAtOrBelow};
-ghost use Rattle.entity_loading.specs.Stuck.{RefusedBy};
+ghost use Rattle.entity_loading.specs.CannotGoOn.{RefusedBy};
 ghost use Rattle.entity_loading.specs.Wants.{Adds, sees, points};
 
 use crate::follow::{FollowError, follow_fields};
 use crate::place::{Place, ask};
-use crate::stuck::stuck_in_context;
+use crate::stuck::blocked_in_context;
 use access_tries::{Edge, EntityRoot, RootAccessTrie, TrieRef, links_of};
 use entity_store::{Context, Request};
 use policy_expressions::Var;
@@ -38,9 +38,9 @@ pub fn first_places(
     ensures first { IfOk result (λ start. (q : Place) → IsIn q start.keys → IsFirst trie.now q) }
     ensures leads { IfOk result (λ _. (b : Bool) (x : EntityUID) (a : Address) →
         roots_point trie.now request.now b x a ≡ true → RootLeads trie.now request.now b x a) }
-    ensures why { IfErr result (RefusedBy (SomeRootSticks trie.now request.now)) }
+    ensures why { IfErr result (RefusedBy (SomeRootBlocks trie.now request.now)) }
 {
-    if let Some(value) = stuck_in_context(alloc, request, trie)? {
+    if let Some(value) = blocked_in_context(alloc, request, trie)? {
         return Err(FollowError::Incompatible(value));
     }
     Ok(root_places(alloc, request, trie)?)

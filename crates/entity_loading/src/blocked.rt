@@ -5,13 +5,13 @@ ghost use Rattle.std.specs.Option.{option_copied};
 ghost use Rattle.access_tries.specs.Table.{IsTable};
 ghost use Rattle.entity_store.specs.Request.{IsWhole};
 ghost use Rattle.entity_store.specs.Store.{entity_at};
-ghost use Rattle.entity_loading.specs.Answered.{AnswerSticks, SomeAnswerSticks};
+ghost use Rattle.entity_loading.specs.Answered.{AnswerBlocks, SomeAnswerBlocks};
 ghost use Rattle.entity_loading.specs.Places.{node_of};
-ghost use Rattle.entity_loading.specs.Stuck.{tests_of, IsStuck};
+ghost use Rattle.entity_loading.specs.CannotGoOn.{tests_of, CannotStep};
 ghost use Rattle.entity_loading.specs.Blocked.{IsBlocked};
 
 use crate::reach::reached_places;
-use crate::{Place, stuck_in_context, stuck_in_entity};
+use crate::{Place, blocked_in_context, blocked_in_entity};
 use access_tries::{Node, RootAccessTrie, TrieRef};
 use entity_store::{Entities, Request};
 use policy_values::Value;
@@ -28,17 +28,17 @@ pub fn blocked_value(
     entities: &Entities,
 ) -> Result<Option<Value>, AllocError>
     requires { IsWhole request.now }
-    ensures { IfOk result (IsStuck (IsBlocked trie.now request.now entities.now)) }
+    ensures { IfOk result (CannotStep (IsBlocked trie.now request.now entities.now)) }
 {
-    if let Some(value) = stuck_in_context(alloc, request, trie)? {
+    if let Some(value) = blocked_in_context(alloc, request, trie)? {
         return Ok(Some(value));
     }
     let places = reached_places(alloc, request, trie, entities)?;
-    stuck_at_some(alloc, trie.nodes(), &places, entities)
+    blocked_at_some(alloc, trie.nodes(), &places, entities)
 }
 
 // In an entity of some place.
-fn stuck_at_some(
+fn blocked_at_some(
     alloc: Global,
     nodes: &[Node],
     places: &BTreeSet<Place>,
@@ -46,10 +46,10 @@ fn stuck_at_some(
 ) -> Result<Option<Value>, AllocError>
     requires { IsTable nodes.now }
     ensures { IfOk result
-        (IsStuck (SomeAnswerSticks nodes.now (entity_at entities.now) places.now.keys)) }
+        (CannotStep (SomeAnswerBlocks nodes.now (entity_at entities.now) places.now.keys)) }
 {
     for place in places.iter() {
-        if let Some(value) = stuck_at(nodes, place, entities) {
+        if let Some(value) = blocked_at(nodes, place, entities) {
             return Ok(Some(value.try_clone(alloc)?));
         }
     }
@@ -57,13 +57,13 @@ fn stuck_at_some(
 }
 
 // In the entity of a place, where the store has it.
-fn stuck_at<'a>(nodes: &[Node], place: &Place, entities: &'a Entities) -> Option<&'a Value>
+fn blocked_at<'a>(nodes: &[Node], place: &Place, entities: &'a Entities) -> Option<&'a Value>
     requires { IsTable nodes.now }
-    ensures { IsStuck (AnswerSticks (entity_at entities.now place.now.uid)
+    ensures { CannotStep (AnswerBlocks (entity_at entities.now place.now.uid)
         (tests_of (node_of nodes.now place.now))) (option_copied result) }
 {
     match entities.entity(&place.uid) {
-        Some(entity) => stuck_in_entity(entity, &TrieRef::new(nodes, place.number)),
+        Some(entity) => blocked_in_entity(entity, &TrieRef::new(nodes, place.number)),
         None => None,
     }
 }

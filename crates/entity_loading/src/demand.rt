@@ -1,7 +1,7 @@
 //! Where tries go on, and where ancestors are asked for.
 
 ghost use Rattle.std.specs.Prelude.{◌≡◌, ◌⊎◌, ◌↔◌, IsTrue};
-ghost use Rattle.entity_loading.specs.Stuck.{tests_of, Demands, GoesOn, MarksSome, is_step};
+ghost use Rattle.entity_loading.specs.CannotGoOn.{tests_of, Demands, GoesOn, MarksSome, is_step};
 
 use access_tries::{Edge, TrieRef, links_of};
 

@@ -5,7 +5,7 @@ ghost use Rattle.std.specs.BTreeMap.{get};
 ghost use Rattle.std.specs.List.Sorted.{IsStrictlySortedBy};
 ghost use Rattle.access_tries.specs.Table.{IsTable};
 ghost use Rattle.policy_values.specs.Uid.{uid_cmp};
-ghost use Rattle.entity_loading.specs.Lending.{view_in, AreLent, Lends, IsUnited, request_of};
+ghost use Rattle.entity_loading.specs.Lending.{view_in, AreBorrowed, Borrows, IsUnited, request_of};
 
 use crate::Place;
 use access_tries::{AccessTrie, Node, TrieRef};
@@ -16,34 +16,34 @@ use std::collections::{BTreeMap, BTreeSet};
 
 /// What is read of an entity: what stands at a node of a table, or at several of them.
 #[derive(Debug, Drop)]
-pub(crate) enum Lent {
+pub(crate) enum Borrowed {
     /// At the node with this number.
     One(usize),
     /// At several nodes, united.
     Many(AccessTrie),
 }
 
-impl Lent {
+impl Borrowed {
     // The trie, borrowed.
     pub(crate) fn trie<'a>(&'a self, nodes: &'a [Node]) -> TrieRef<'a>
         requires { IsTable nodes.now }
         ensures { result ≡ view_in nodes.now self.now }
     {
         match self {
-            Lent::One(number) => TrieRef::new(nodes, *number),
-            Lent::Many(trie) => trie.as_trie_ref(),
+            Borrowed::One(number) => TrieRef::new(nodes, *number),
+            Borrowed::Many(trie) => trie.as_trie_ref(),
         }
     }
 }
 
 /// For each id of the places what is read of it at any of them.
-pub(crate) fn lent_tries(
+pub(crate) fn borrowed_tries(
     alloc: Global,
     nodes: &[Node],
     places: &BTreeSet<Place>,
-) -> Result<BTreeMap<EntityUID, Lent>, AllocError>
+) -> Result<BTreeMap<EntityUID, Borrowed>, AllocError>
     requires { IsTable nodes.now }
-    ensures { IfOk result (AreLent nodes.now places.now.keys) }
+    ensures { IfOk result (AreBorrowed nodes.now places.now.keys) }
 {
     let mut lent = BTreeMap::new(alloc);
     for place in places.iter() {
@@ -56,10 +56,10 @@ fn lend(
     alloc: Global,
     nodes: &[Node],
     place: &Place,
-    lent: &mut BTreeMap<EntityUID, Lent>,
+    lent: &mut BTreeMap<EntityUID, Borrowed>,
 ) -> Result<(), AllocError>
     requires { IsTable nodes.now }
-    ensures { OnOk result (Lends nodes.now place.now lent.old lent.new) }
+    ensures { OnOk result (Borrows nodes.now place.now lent.old lent.new) }
 {
     let known = lent.remove(&place.uid);
     let with = united(alloc, nodes, known, place.number)?;
@@ -71,25 +71,25 @@ fn lend(
 fn united(
     alloc: Global,
     nodes: &[Node],
-    known: Option<Lent>,
+    known: Option<Borrowed>,
     number: usize,
-) -> Result<Lent, AllocError>
+) -> Result<Borrowed, AllocError>
     requires { IsTable nodes.now }
     ensures { IfOk result (IsUnited nodes.now known number) }
 {
     let trie = TrieRef::new(nodes, number);
     match known {
-        None => Ok(Lent::One(number)),
-        Some(Lent::One(first)) => {
+        None => Ok(Borrowed::One(number)),
+        Some(Borrowed::One(first)) => {
             let first = TrieRef::new(nodes, first);
             let mut both = AccessTrie::new(alloc);
             both.add(alloc, &first)?;
             both.add(alloc, &trie)?;
-            Ok(Lent::Many(both))
+            Ok(Borrowed::Many(both))
         }
-        Some(Lent::Many(mut all)) => {
+        Some(Borrowed::Many(mut all)) => {
             all.add(alloc, &trie)?;
-            Ok(Lent::Many(all))
+            Ok(Borrowed::Many(all))
         }
     }
 }
@@ -98,7 +98,7 @@ fn united(
 pub(crate) fn requests_of<'a>(
     alloc: Global,
     nodes: &'a [Node],
-    lent: &'a BTreeMap<EntityUID, Lent>,
+    lent: &'a BTreeMap<EntityUID, Borrowed>,
 ) -> Result<Vec<EntityRequest<'a>>, AllocError>
     requires { IsTable nodes.now }
     ensures requests { IfOk result (λ requests. requests.items ≡

@@ -41,4 +41,4 @@ pub use plain_lemmas::Steps;
 pub use restricted::restricted_store;
 pub use roots::named_ids;
 pub use slice::slice_entities;
-pub use stuck::{stuck_in_context, stuck_in_entity};
+pub use stuck::{blocked_in_context, blocked_in_entity};

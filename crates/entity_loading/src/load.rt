@@ -14,7 +14,7 @@ ghost use Rattle.entity_loading.specs.Between.{LiesBetween};
 ghost use Rattle.entity_loading.specs.Causes.{CauseOf, IsPartial};
 ghost use Rattle.entity_loading.specs.KeptPart.{IsLoaded};
 ghost use Rattle.entity_loading.specs.Ordered.{WhereIdsAscend, WhereKeysAscend};
-ghost use Rattle.entity_loading.specs.Right.{IsRefusedRightly, RootOrEntitySticks};
+ghost use Rattle.entity_loading.specs.Right.{IsRefusedRightly, RootOrEntityBlocks};
 ghost use Rattle.entity_loading.specs.Unasked.{DemandsNothing, ReadsNothing};
 
 use crate::ancestors::with_ancestors;
@@ -67,7 +67,7 @@ pub fn load_trie<D: EntityLoader, L: Ledger>(
     ensures between { WhereIdsAscend (D.state loader.old) (λ s.
         LiesBetween (D.state loader.old).exact trie.now request.now s result) }
     ensures cause { IsWhole request.now →
-        IfErr result (CauseOf (RootOrEntitySticks trie.now request.now)
+        IfErr result (CauseOf (RootOrEntityBlocks trie.now request.now)
         (D.state loader.old) (D.state loader.new)) }
     ensures right { IsWhole request.now →
         IsRefusedRightly trie.now request.now (D.state loader.old) (D.state loader.new) result }
@@ -101,7 +101,7 @@ fn load_whole<D: EntityLoader, L: Ledger>(
         IfOk result (IsLoaded (D.state loader.old).exact trie.now request.now s)) }
     ensures between { WhereIdsAscend (D.state loader.old) (λ s.
         LiesBetween (D.state loader.old).exact trie.now request.now s result) }
-    ensures cause { IfErr result (CauseOf (RootOrEntitySticks trie.now request.now)
+    ensures cause { IfErr result (CauseOf (RootOrEntityBlocks trie.now request.now)
         (D.state loader.old) (D.state loader.new)) }
     ensures right { IsRefusedRightly trie.now request.now (D.state loader.old) (D.state loader.new) result }
 {

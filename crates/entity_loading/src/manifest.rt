@@ -7,7 +7,7 @@ ghost use Rattle.entity_loader.specs.State.{Continues};
 ghost use Rattle.entity_loading.specs.Between.{LiesBetween};
 ghost use Rattle.entity_loading.specs.Causes.{CauseOf, IsPartial};
 ghost use Rattle.entity_loading.specs.Ordered.{WhereIdsAscend};
-ghost use Rattle.entity_loading.specs.Right.{IsRefusedRightly, RootOrEntitySticks};
+ghost use Rattle.entity_loading.specs.Right.{IsRefusedRightly, RootOrEntityBlocks};
 ghost use Rattle.entity_loading.specs.Sliced.{WhereTrie};
 ghost use Rattle.entity_loading.specs.Unasked.{DemandsNothing, ReadsNothing};
 ghost use Rattle.entity_loading.specs.declared.error.EntitySliceError.TheVariants.{OutOfMemory};
@@ -56,7 +56,7 @@ pub fn load_entities<D: EntityLoader, L: Ledger>(
     ensures between { WhereTrie manifest.now request.now (λ t. WhereIdsAscend (D.state loader.old) (λ s.
         LiesBetween (D.state loader.old).exact t request.now s result)) }
     ensures cause { IsWhole request.now → WhereTrie manifest.now request.now (λ t.
-        IfErr result (CauseOf (RootOrEntitySticks t request.now)
+        IfErr result (CauseOf (RootOrEntityBlocks t request.now)
         (D.state loader.old) (D.state loader.new))) }
     ensures cause_without { IsWhole request.now → trie_for manifest.now request.now ≡ None →
         IfErr result (λ e. e ≡ OutOfMemory) }

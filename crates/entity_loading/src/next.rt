@@ -8,13 +8,13 @@ ghost use Rattle.std.specs.BTreeMap.{get};
 ghost use Rattle.std.specs.Option.{option_copied};
 ghost use Rattle.entity_loading.specs.declared.place.Place.{Place};
 ghost use Rattle.entity_loading.specs.Places.{IsPlaceBelow, IsBelowSome, node_of};
-ghost use Rattle.entity_loading.specs.Stuck.{tests_of, RefusedBy};
-ghost use Rattle.entity_loading.specs.Answered.{answer_points, answers_point, AnswerSticks, SomeAnswerSticks};
+ghost use Rattle.entity_loading.specs.CannotGoOn.{tests_of, RefusedBy};
+ghost use Rattle.entity_loading.specs.Answered.{answer_points, answers_point, AnswerBlocks, SomeAnswerBlocks};
 ghost use Rattle.entity_loading.specs.Wants.{Adds};
 
 use crate::follow::{FollowError, follow_entity};
 use crate::place::Place;
-use crate::stuck::stuck_in_entity;
+use crate::stuck::blocked_in_entity;
 use access_tries::{Node, TrieRef};
 use entity_store::Entity;
 use policy_values::EntityUID;
@@ -35,7 +35,7 @@ pub fn next_places(
     ensures below { IfOk result (λ next. (q : Place) → IsIn q next.keys →
         IsBelowSome nodes.now pending.now.keys q) }
     ensures why { IfErr result
-        (RefusedBy (SomeAnswerSticks nodes.now (get uid_cmp found.now) pending.now.keys)) }
+        (RefusedBy (SomeAnswerBlocks nodes.now (get uid_cmp found.now) pending.now.keys)) }
 {
     let mut next = BTreeSet::new(alloc);
     for place in pending.iter() {
@@ -59,11 +59,11 @@ fn follow_answer(
     ensures below { OnOk result ((q : Place) → IsIn q next.new.keys → IsIn q next.old.keys ⊎
         IsPlaceBelow trie.now q) }
     ensures why { IfErr result
-        (RefusedBy (AnswerSticks (option_copied answer.entry) (tests_of trie.now))) }
+        (RefusedBy (AnswerBlocks (option_copied answer.entry) (tests_of trie.now))) }
 {
     match answer {
         Some(entity) => {
-            if let Some(value) = stuck_in_entity(entity, trie) {
+            if let Some(value) = blocked_in_entity(entity, trie) {
                 return Err(FollowError::Incompatible(value.try_clone(alloc)?));
             }
             Ok(follow_entity(entity, trie, next)?)

@@ -10,17 +10,17 @@ ghost use Rattle.entity_loader.specs.State.{Continues};
 ghost use Rattle.policy_values.specs.Uid.{uid_cmp};
 ghost use Rattle.reads_spec.specs.Among.{IsIn};
 ghost use Rattle.entity_loading.specs.KeptPart.{IsState, WhereBegun};
-ghost use Rattle.entity_loading.specs.Ordered.{WhereTold};
+ghost use Rattle.entity_loading.specs.Ordered.{WhereKnown};
 ghost use Rattle.entity_loading.specs.Answering.{AreUnderIds};
 ghost use Rattle.entity_loading.specs.Causes.{CauseOf, IsRight};
-ghost use Rattle.entity_loading.specs.Right.{IsStuck, RoundIsRefused};
+ghost use Rattle.entity_loading.specs.Right.{CannotStep, RoundIsRefused};
 ghost use Rattle.entity_loading.specs.Rounds.{AreHonestAt, IsRound, Sticks, AreNoted};
 ghost use Rattle.entity_loading.specs.Unasked.{DemandNothing};
 
 use crate::answers::answers_for;
 use crate::error::EntitySliceError;
 use crate::keeping::take_answers;
-use crate::lent::{lent_tries, requests_of};
+use crate::lent::{borrowed_tries, requests_of};
 use crate::{Place, ask};
 use access_tries::Node;
 use entity_loader::EntityLoader;
@@ -53,12 +53,12 @@ fn answers_at<D: EntityLoader>(
     ensures lists { (D.state loader.new).lists ≡ (D.state loader.old).lists }
     ensures ids { IfOk result AreUnderIds }
     ensures cause { IfErr result (CauseOf (λ v. ⊥) (D.state loader.old) (D.state loader.new)) }
-    ensures honest { WhereTold (D.state loader.old) (λ s. IfOk result (λ found.
+    ensures honest { WhereKnown (D.state loader.old) (λ s. IfOk result (λ found.
         AreHonestAt (D.state loader.old).exact s nodes.now pending.now.keys (get uid_cmp found))) }
-    ensures right { WhereTold (D.state loader.old) (λ s.
+    ensures right { WhereKnown (D.state loader.old) (λ s.
         IfErr result (IsRight (λ v. ⊥) (D.state loader.old) (D.state loader.new))) }
 {
-    let lent = lent_tries(alloc, nodes, pending)?;
+    let lent = borrowed_tries(alloc, nodes, pending)?;
     let requests = requests_of(alloc, nodes, &lent)?;
     answers_for(alloc, &requests, loader)
 }
@@ -84,10 +84,10 @@ fn one_round<D: EntityLoader, L: Ledger>(
     ensures quiet { IfOk result (λ next. DemandNothing nodes.now pending.now.keys →
         DemandNothing nodes.now next.keys) }
     ensures cause { IfErr result (CauseOf (Sticks nodes.now) (D.state loader.old) (D.state loader.new)) }
-    ensures honest { WhereTold (D.state loader.old) (λ s. IfOk result (λ next.
+    ensures honest { WhereKnown (D.state loader.old) (λ s. IfOk result (λ next.
         IsRound (D.state loader.old).exact s nodes.now pending.now.keys (get uid_cmp kept.old)
         (get uid_cmp kept.new) next.keys)) }
-    ensures right { WhereTold (D.state loader.old) (λ s. IfErr result
+    ensures right { WhereKnown (D.state loader.old) (λ s. IfErr result
         (RoundIsRefused s nodes.now pending.now.keys (get uid_cmp kept.old)
         (D.state loader.old) (D.state loader.new))) }
 {
@@ -131,7 +131,7 @@ pub(crate) fn load_rounds<D: EntityLoader, L: Ledger>(
         IfOk result (λ loaded. IsState (D.state loader.old).exact nodes.now q s loaded.asked.keys []
         (get uid_cmp loaded.kept))) }
     ensures right { WhereBegun (D.state loader.old) nodes.now start.keys (λ s q.
-        IfErr result (IsRight (IsStuck nodes.now q s) (D.state loader.old) (D.state loader.new))) }
+        IfErr result (IsRight (CannotStep nodes.now q s) (D.state loader.old) (D.state loader.new))) }
     ensures cause { IfErr result (CauseOf (Sticks nodes.now) (D.state loader.old) (D.state loader.new)) }
 {
     let mut asked = BTreeSet::new(alloc);

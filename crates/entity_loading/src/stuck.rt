@@ -5,8 +5,8 @@ ghost use Rattle.std.specs.Option.{option_copied};
 ghost use Rattle.reads_spec.specs.Restrict.{values_in};
 ghost use Rattle.entity_store.specs.Request.{IsWhole};
 ghost use Rattle.policy_values.specs.Value.{rec, fields_of};
-ghost use Rattle.entity_loading.specs.Begun.{SomeRootSticks};
-ghost use Rattle.entity_loading.specs.Stuck.{tests_of, Sticks, FieldsStick, SomeSticks, EntitySticks, IsStuck};
+ghost use Rattle.entity_loading.specs.Begun.{SomeRootBlocks};
+ghost use Rattle.entity_loading.specs.CannotGoOn.{tests_of, Sticks, FieldsBlock, SomeBlocks, EntityBlocks, CannotStep};
 
 use crate::demand::{is_demanded, is_needed_whole};
 use access_tries::{EntityRoot, RootAccessTrie, TrieRef};
@@ -18,34 +18,34 @@ use std::collections::BTreeMap;
 
 /// A value in the context from which a path of the trie cannot go on; none where there is no such value. The
 /// value of any other root is an id, from which each path goes on.
-pub fn stuck_in_context(
+pub fn blocked_in_context(
     alloc: Global,
     request: &Request,
     trie: &RootAccessTrie,
 ) -> Result<Option<Value>, AllocError>
     requires { IsWhole request.now }
-    ensures { IfOk result (IsStuck (SomeRootSticks trie.now request.now)) }
+    ensures { IfOk result (CannotStep (SomeRootBlocks trie.now request.now)) }
 {
     match trie.trie(&EntityRoot::Var(Var::Context)) {
         Some(below) => match &request.context {
-            Some(context) => stuck_below(alloc, context, &below),
+            Some(context) => blocked_below(alloc, context, &below),
             None => Ok(None),
         },
         None => Ok(None),
     }
 }
 
-fn stuck_below(
+fn blocked_below(
     alloc: Global,
     context: &Context,
     trie: &TrieRef<'_>,
 ) -> Result<Option<Value>, AllocError>
-    ensures { IfOk result (IsStuck (Sticks (rec context.now) (tests_of trie.now))) }
+    ensures { IfOk result (CannotStep (Sticks (rec context.now) (tests_of trie.now))) }
 {
     if is_demanded(trie) {
         return Ok(Some(Value::record(try_clone_fields(alloc, context.fields())?)));
     }
-    match stuck_in_fields(context.fields(), trie) {
+    match blocked_in_fields(context.fields(), trie) {
         Some(value) => Ok(Some(value.try_clone(alloc)?)),
         None => Ok(None),
     }
@@ -53,25 +53,25 @@ fn stuck_below(
 
 /// A value in the attributes or the tags of the entity from which a path of the trie cannot go on; none where
 /// there is no such value.
-pub fn stuck_in_entity<'a>(entity: &'a Entity, trie: &TrieRef<'_>) -> Option<&'a Value>
-    ensures { IsStuck (EntitySticks entity.now (tests_of trie.now)) (option_copied result) }
+pub fn blocked_in_entity<'a>(entity: &'a Entity, trie: &TrieRef<'_>) -> Option<&'a Value>
+    ensures { CannotStep (EntityBlocks entity.now (tests_of trie.now)) (option_copied result) }
 {
-    if let Some(value) = stuck_in_fields(entity.attrs(), trie) {
+    if let Some(value) = blocked_in_fields(entity.attrs(), trie) {
         return Some(value);
     }
     match trie.tags() {
-        Some(below) => stuck_in_each(entity.tags(), &below),
+        Some(below) => blocked_in_each(entity.tags(), &below),
         None => None,
     }
 }
 
 // In some of the values.
-fn stuck_in_each<'a>(values: &'a BTreeMap<Text, Value>, trie: &TrieRef<'_>) -> Option<&'a Value>
-    ensures { IsStuck (SomeSticks (values_in (fields_of values.now.entries)) (tests_of trie.now))
+fn blocked_in_each<'a>(values: &'a BTreeMap<Text, Value>, trie: &TrieRef<'_>) -> Option<&'a Value>
+    ensures { CannotStep (SomeBlocks (values_in (fields_of values.now.entries)) (tests_of trie.now))
         (option_copied result) }
 {
     for value in values.values() {
-        if let Some(stuck) = stuck_in(value, trie) {
+        if let Some(stuck) = blocked_in(value, trie) {
             return Some(stuck);
         }
     }
@@ -80,13 +80,13 @@ fn stuck_in_each<'a>(values: &'a BTreeMap<Text, Value>, trie: &TrieRef<'_>) -> O
 
 // In some of the fields along the trie.
 #[cycle(sticking)]
-fn stuck_in_fields<'a>(fields: &'a BTreeMap<Text, Value>, trie: &TrieRef<'_>) -> Option<&'a Value>
-    ensures { IsStuck (FieldsStick (fields_of fields.now.entries) (tests_of trie.now))
+fn blocked_in_fields<'a>(fields: &'a BTreeMap<Text, Value>, trie: &TrieRef<'_>) -> Option<&'a Value>
+    ensures { CannotStep (FieldsBlock (fields_of fields.now.entries) (tests_of trie.now))
         (option_copied result) }
 {
     for (key, value) in fields.iter() {
         if let Some(below) = trie.field(key) {
-            if let Some(stuck) = stuck_in(value, &below) {
+            if let Some(stuck) = blocked_in(value, &below) {
                 return Some(stuck);
             }
         }
@@ -96,8 +96,8 @@ fn stuck_in_fields<'a>(fields: &'a BTreeMap<Text, Value>, trie: &TrieRef<'_>) ->
 
 // In a value: from an id each path goes on, and a record's fields are looked through.
 #[cycle(sticking)]
-fn stuck_in<'a>(value: &'a Value, trie: &TrieRef<'_>) -> Option<&'a Value>
-    ensures { IsStuck (Sticks value.now (tests_of trie.now)) (option_copied result) }
+fn blocked_in<'a>(value: &'a Value, trie: &TrieRef<'_>) -> Option<&'a Value>
+    ensures { CannotStep (Sticks value.now (tests_of trie.now)) (option_copied result) }
 {
     match value.kind() {
         ValueKind::EntityUID(_) => None,
@@ -105,7 +105,7 @@ fn stuck_in<'a>(value: &'a Value, trie: &TrieRef<'_>) -> Option<&'a Value>
             if is_demanded(trie) {
                 return Some(value);
             }
-            stuck_in_fields(fields, trie)
+            blocked_in_fields(fields, trie)
         }
         _ => {
             if is_needed_whole(trie) {

@@ -10,7 +10,7 @@ use Rattle.typing_spec.specs.Conforms.{RequestConforms}
 use Rattle.entity_loader.specs.State.{LoaderState}
 use Rattle.entity_manifest.specs.declared.EntitySliceError.{EntitySliceError}
 use Rattle.entity_manifest.specs.declared.EntitySliceError.TheVariants as error
-use Rattle.entity_manifest.specs.Loaded.{AreDecidedAlike, OfToldStores, WhyNotLoaded}
+use Rattle.entity_manifest.specs.Loaded.{AreDecidedAlike, OfKnownStores, WhyNotLoaded}
 use Rattle.entity_manifest.specs.declared.answer.BatchAnswer.{BatchAnswer}
 use Rattle.entity_manifest.specs.Answers.{IsLoaderAnswer}
 use Rattle.entity_manifest.specs.BatchLoaded.{answer_of}
@@ -23,7 +23,7 @@ answer_is P a (Err e) is not_memory f = tt
 
 pub answered : (schema : SchemaData) (policies : PolicySetData) (q : Request) → IsWhole q → RequestConforms schema q → (old new : LoaderState) →
     (result : Result Store EntitySliceError) →
-    OfToldStores schema old (λ w. IfOk result (λ s. AreDecidedAlike policies.policies q s w)) →
+    OfKnownStores schema old (λ w. IfOk result (λ s. AreDecidedAlike policies.policies q s w)) →
     IfErr result (λ e. e ≢ error.OutOfMemory → WhyNotLoaded schema old new e) → (result ≡ Err error.OutOfMemory → ⊥) →
     IsLoaderAnswer schema policies.policies old new q (answer_of policies.policies q result)
 answered schema policies q whole conforms old new (Ok s) alike why not_memory = (whole, conforms, λ w told stored. (alike w told stored).response)

@@ -26,13 +26,13 @@ use Rattle.entity_loader.specs.State.{LoaderState}
 use Rattle.entity_loading.specs.Between.{IsBetween}
 use Rattle.entity_loading.specs.Ordered.{HasOrder}
 use Rattle.entity_loading.specs.Causes.{CauseOf, IsRight}
-use Rattle.entity_loading.specs.Right.{SticksAt}
+use Rattle.entity_loading.specs.Right.{BlocksAt}
 use Rattle.entity_loading.specs.declared.error.EntitySliceError.{EntitySliceError}
 use Rattle.entity_loading.specs.declared.error.EntitySliceError.TheVariants as error
 use Rattle.manifest_core.specs.Manifest.{Manifest, trie_for}
 use Rattle.manifest_computation.specs.Computed.{IsManifestOf}
 use Rattle.manifest_computation.proofs.RequestTries.{tries_of_reads}
-use Rattle.entity_manifest.specs.Loaded.{LoadedIsEnough, AreDecidedAlike, RefusalsAreFaults, IsFaultOrMemory, IsTold, OfToldStores, WhyNotLoaded}
+use Rattle.entity_manifest.specs.Loaded.{LoadedIsEnough, AreDecidedAlike, RefusalsAreFaults, IsFaultOrMemory, IsReported, OfKnownStores, WhyNotLoaded}
 use Rattle.entity_manifest.proofs.Loaded.{tries_there}
 
 -- what loading by the manifest for a whole request promises of its result
@@ -42,7 +42,7 @@ module _ (m : Manifest) (q : Request) (old new : LoaderState) (result : Result S
         (reads : List AccessPath) (demands : List Demand) →
         IsTrieOf reads demands t → IfOk result (IsBetween old.exact reads demands q w)
     pub right : IsWhole q → (t : Table) → trie_for m q ≡ Some t → (w : Store) → old.store ≡ Some w → HasOrder w →
-        IfErr result (IsRight (SticksAt t q w) old new)
+        IfErr result (IsRight (BlocksAt t q w) old new)
     pub cause : IsWhole q → (t : Table) → trie_for m q ≡ Some t → IfErr result (CauseOf (sticks t) old new)
     pub without : IsWhole q → trie_for m q ≡ None → IfErr result (λ e. e ≡ error.OutOfMemory)
     pub none : IsWhole q → trie_for m q ≡ None → IfOk result (λ s. s ≡ [])
@@ -78,16 +78,16 @@ module _ (sticks : Table → Val → Type 0) (covered : LoadedIsEnough) (faults 
       by None h = g h
       by (Some t) h = f t h
 
-  -- where a loader tells a store that conforms, it is refused for faults alone
-  refusal : (e : EntitySliceError) → Loads m q old new (Err e) sticks → (w : Store) → IsTold old w → StoreConforms schema w → IsFaultOrMemory old new e
+  -- where a loader says a store that conforms, it is refused for faults alone
+  refusal : (e : EntitySliceError) → Loads m q old new (Err e) sticks → (w : Store) → IsReported old w → StoreConforms schema w → IsFaultOrMemory old new e
   refusal e loads w told stored =
       faults schema valid policies.policies m computed q conforms w stored old new e
       record { without = λ h. loads.without whole h; right = λ t h. loads.right whole t h w told.told (record { each = told.order.order }) }
 
   module _ (e : EntitySliceError) (loads : Loads m q old new (Err e) sticks) (not_memory : e ≡ error.OutOfMemory → ⊥) where
-    -- a loader that tells its store is refused for none of its answers
-    righted : (w : Store) → IsTold old w → IsRight (λ v. Unit {0}) old new e
-    righted w told = by_trie (λ t h. weaker (SticksAt t q w) e (loads.right whole t h w told.told (record { each = told.order.order }))) (λ h. absurd (not_memory (loads.without whole h)))
+    -- a loader that says its store is refused for none of its answers
+    righted : (w : Store) → IsReported old w → IsRight (λ v. Unit {0}) old new e
+    righted w told = by_trie (λ t h. weaker (BlocksAt t q w) e (loads.right whole t h w told.told (record { each = told.order.order }))) (λ h. absurd (not_memory (loads.without whole h)))
       where
         weaker : (P : Val → Type 0) (d : EntitySliceError) → IsRight P old new d → IsRight (λ v. Unit {0}) old new d
         weaker P (error.PartialRequest d) h = h
@@ -98,7 +98,7 @@ module _ (sticks : Table → Val → Type 0) (covered : LoadedIsEnough) (faults 
         weaker P error.LoaderFault h = h
         weaker P error.OutOfMemory h = h
 
-    fault_alone : (w : Store) → IsTold old w → StoreConforms schema w → e ≡ error.LoaderFault
+    fault_alone : (w : Store) → IsReported old w → StoreConforms schema w → e ≡ error.LoaderFault
     fault_alone w told stored =
         elim (refusal e loads w told stored) [
           | inl h ↦ h.0
@@ -129,7 +129,7 @@ module _ (sticks : Table → Val → Type 0) (covered : LoadedIsEnough) (faults 
   why (error.PartialRequest e) loads not_memory = caused (error.PartialRequest e) loads not_memory
   why error.OutOfMemory loads not_memory = not_memory refl
 
-  module _ (s : Store) (loads : Loads m q old new (Ok s) sticks) (w : Store) (told : IsTold old w) (stored : StoreConforms schema w) where
+  module _ (s : Store) (loads : Loads m q old new (Ok s) sticks) (w : Store) (told : IsReported old w) (stored : StoreConforms schema w) where
     lies : Lies old.exact (slice schema policies.policies q w) w s
     lies = by_trie with_trie without
       where
@@ -159,11 +159,11 @@ module _ (sticks : Table → Val → Type 0) (covered : LoadedIsEnough) (faults 
 
   -- what is promised of the result
   pub record Promised (result : Result Store EntitySliceError) : Type 0 where
-    pub enough : OfToldStores schema old (λ w. IfOk result (λ s. IsPartOf (slice schema policies.policies q w) s))
-    pub part : OfToldStores schema old (λ w. IfOk result (λ s. IsPartOf s w))
-    pub exact : old.exact ≡ true → OfToldStores schema old (λ w. IfOk result (λ s. s ≡ slice schema policies.policies q w))
-    pub decided : OfToldStores schema old (λ w. IfOk result (λ s. AreDecidedAlike policies.policies q s w))
-    pub honest : OfToldStores schema old (λ w. IfErr result (IsFaultOrMemory old new))
+    pub enough : OfKnownStores schema old (λ w. IfOk result (λ s. IsPartOf (slice schema policies.policies q w) s))
+    pub part : OfKnownStores schema old (λ w. IfOk result (λ s. IsPartOf s w))
+    pub exact : old.exact ≡ true → OfKnownStores schema old (λ w. IfOk result (λ s. s ≡ slice schema policies.policies q w))
+    pub decided : OfKnownStores schema old (λ w. IfOk result (λ s. AreDecidedAlike policies.policies q s w))
+    pub honest : OfKnownStores schema old (λ w. IfErr result (IsFaultOrMemory old new))
     pub cause : IfErr result (λ e. e ≢ error.OutOfMemory → WhyNotLoaded schema old new e)
 
   pub promised : (result : Result Store EntitySliceError) → Loads m q old new result sticks → Promised result

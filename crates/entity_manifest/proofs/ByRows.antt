@@ -16,7 +16,7 @@ use Rattle.entity_manifest.specs.declared.EntitySliceError.TheVariants as error
 use Rattle.table_loader.specs.Laws.{IsStoreOrdered}
 use Rattle.entity_manifest.specs.declared.answer.BatchAnswer.{BatchAnswer}
 use Rattle.entity_manifest.specs.declared.answer.BatchAnswer.TheVariants.{Partial, Refused, Loading, Decided}
-use Rattle.entity_manifest.specs.Loaded.{IsTold}
+use Rattle.entity_manifest.specs.Loaded.{IsReported}
 use Rattle.entity_manifest.specs.Answers.{IsLoaderAnswer, AreLoaderAnswers, IsStoreAnswer, IsRowAnswer, is_fault, faults_in, AreCounted}
 use Rattle.entity_manifest.proofs.OneAfterAnother.{goes_on}
 
@@ -26,12 +26,12 @@ no_stray a b c none below (inl more) = absurd (omega (arith, none, below, more))
 no_stray a b c none below (inr last) = absurd (omega (arith, none, below, last))
 
 module _ (schema : SchemaData) (ps : List PolicyData) (o : Option Store) (ordered : (w : Store) → o ≡ Some w → IsStoreOrdered w) where
-  -- a state tells the store at least
-  abbrev Tells : LoaderState → Type 0
-  Tells l = (w : Store) → o ≡ Some w → l.store ≡ Some w
+  -- a state says the store at least
+  abbrev Reports : LoaderState → Type 0
+  Reports l = (w : Store) → o ≡ Some w → l.store ≡ Some w
 
-  module _ (old mid new : LoaderState) (tells : Tells old) (none : new.strays ≡ 0) (on : Continues mid new) (q : Request) where
-    told : (w : Store) → o ≡ Some w → IsTold old w
+  module _ (old mid new : LoaderState) (tells : Reports old) (none : new.strays ≡ 0) (on : Continues mid new) (q : Request) where
+    told : (w : Store) → o ≡ Some w → IsReported old w
     told w is = record { told = tells w is; order = ordered w is }
 
     row_answer : (a : BatchAnswer) → IsLoaderAnswer schema ps old mid q a → IsRowAnswer schema ps o q a
@@ -58,7 +58,7 @@ module _ (schema : SchemaData) (ps : List PolicyData) (o : Option Store) (ordere
     row_answer (Loading (error.PartialRequest e)) h = absurd h.2
     row_answer (Loading error.OutOfMemory) h = absurd h.2
 
-  pub row_answers : (old new : LoaderState) (qs : List Request) (answers : List BatchAnswer) → Tells old → new.strays ≡ 0 →
+  pub row_answers : (old new : LoaderState) (qs : List Request) (answers : List BatchAnswer) → Reports old → new.strays ≡ 0 →
       AreLoaderAnswers schema ps old qs answers new → AllZip (IsRowAnswer schema ps o) qs answers
   row_answers old new [] [] tells none h = tt
   row_answers old new (q ∷ qs) (a ∷ answers) tells none h = (

@@ -5,18 +5,18 @@ use Rattle.policy_values.specs.Value.{Val}
 use Rattle.access_tries.specs.Table.{Table}
 use Rattle.entity_loader.specs.State.{LoaderState}
 use Rattle.entity_loading.specs.Causes.{IsRight}
-use Rattle.entity_loading.specs.Right.{SticksAt}
+use Rattle.entity_loading.specs.Right.{BlocksAt}
 use Rattle.entity_loading.specs.declared.error.EntitySliceError.{EntitySliceError}
 use Rattle.entity_loading.specs.declared.error.EntitySliceError.TheVariants as error
 use Rattle.entity_manifest.specs.Computed.{ComputedManifestsFit, ComputedSlicesFit, HonestLoadingSucceeds}
 use Rattle.manifest_core.specs.Manifest.{trie_for}
-use Rattle.entity_manifest.proofs.Conforming.{nothing_sticks, nothing_is_blocked}
+use Rattle.entity_manifest.proofs.Conforming.{nothing_blocks, nothing_is_blocked}
 use Rattle.entity_manifest.proofs.Manifests.{trie_chosen}
 
 pub manifests_fit : ComputedManifestsFit
 manifests_fit schema valid ps m is q request s store t at v =
     let c = trie_chosen schema valid ps m is q t at in
-    nothing_sticks schema valid c.linked q request c.of s store t c.declared v
+    nothing_blocks schema valid c.linked q request c.of s store t c.declared v
 
 memory_alone : (P : Val → Type 0) → ((v : Val) → ¬ P v) → (old new : LoaderState) → ¬ Rose old.faults new.faults → (e : EntitySliceError) → IsRight P old new e → e ≡ error.OutOfMemory
 memory_alone P none old new quiet (error.PartialRequest e) h = absurd h
@@ -32,7 +32,7 @@ honest_succeeds schema valid ps m is q request s store old new quiet e h = by (t
   where
     by : (o : Option Table) → trie_for m q ≡ o → e ≡ error.OutOfMemory
     by None i = h.without i
-    by (Some t) i = memory_alone (SticksAt t q s) (manifests_fit schema valid ps m is q request s store t i) old new quiet e (h.right t i)
+    by (Some t) i = memory_alone (BlocksAt t q s) (manifests_fit schema valid ps m is q request s store t i) old new quiet e (h.right t i)
 
 pub slices_fit : ComputedSlicesFit
 slices_fit schema valid ps m is q request s store t at v =

@@ -12,4 +12,4 @@ pub mod OfStore
 mod Answered
 mod ByRows
 mod OneAfterAnother
-mod Told
+mod KnownText

@@ -29,7 +29,7 @@ use Rattle.manifest_computation.specs.Typed.{typed_conditions}
 use Rattle.entity_loading.proofs.LeastSteps.{declared_trie}
 use Rattle.entity_loader.specs.State.{LoaderState}
 use Rattle.entity_loading.specs.Causes.{IsRight}
-use Rattle.entity_loading.specs.Right.{SticksAt}
+use Rattle.entity_loading.specs.Right.{BlocksAt}
 use Rattle.entity_loading.specs.declared.error.EntitySliceError.{EntitySliceError}
 use Rattle.entity_loading.specs.declared.error.EntitySliceError.TheVariants as error
 use Rattle.manifest_core.specs.Manifest.{Manifest, trie_for}
@@ -119,4 +119,4 @@ refused fit schema valid ps m is q request s store old new e h = by (trie_for m 
   where
     by : (o : Option Table) → trie_for m q ≡ o → IsFaultOrMemory old new e
     by None i = inr (h.without i)
-    by (Some t) i = faults_alone (SticksAt t q s) (fit schema valid ps m is q request s store t i) old new e (h.right t i)
+    by (Some t) i = faults_alone (BlocksAt t q s) (fit schema valid ps m is q request s store t i) old new e (h.right t i)

@@ -1,5 +1,5 @@
--- Nothing sticks where paths are declared.
--- The plan. A walk along a trie sticks at a value that is neither an id nor a record. Where the value has its declared type
+-- Nothing blocks where paths are declared.
+-- The plan. A walk along a trie blocks at a value that is neither an id nor a record. Where the value has its declared type
 -- and the trie's paths are declared from there, no step comes to such a value: first one value, then an entity, whole or
 -- cut, then each root of the request, then each place that a path reaches (`none_stuck`, `none_blocked`).
 use Rattle.std.proofs.Common.{◌≡◌, ◌⊎◌, ℕ, Bool, true, false, ◌&&◌, List, [], ◌∷◌, ◌++◌, map, Option, Some, None, IsTrue, is_some, refl, sym, ap, ◌∙◌, subst, IfSome, inl, inr, append_assoc}
@@ -31,11 +31,11 @@ use Rattle.reads_spec.specs.Cover.{IsMemberOf}
 use Rattle.reads_spec.proofs.Cuts.{uid_at, all_at}
 use Rattle.reads_spec.proofs.Fitting.{types_along-append}
 use Rattle.reads_spec.proofs.Lists.{IsIn}
-use Rattle.entity_loading.specs.Begun.{SomeRootSticks}
-use Rattle.entity_loading.specs.Stuck.{Tests, tests_of, behind, GoesOn, Demands, Sticks, FieldsStick, SomeSticks, EntitySticks}
+use Rattle.entity_loading.specs.Begun.{SomeRootBlocks}
+use Rattle.entity_loading.specs.CannotGoOn.{Tests, tests_of, behind, GoesOn, Demands, Sticks, FieldsBlock, SomeBlocks, EntityBlocks}
 use Rattle.entity_loading.specs.Wants.{Test}
 use Rattle.entity_loading.specs.Reached.{IsReached}
-use Rattle.entity_loading.specs.Right.{IsStuck}
+use Rattle.entity_loading.specs.Right.{CannotStep}
 use Rattle.entity_loading.specs.Blocked.{IsBlockedInStore}
 use Rattle.entity_manifest.specs.DeclaredPaths.{is_of_ids, IsDeclaredTrie}
 use Rattle.entity_manifest.proofs.Below.{is_plain}
@@ -97,43 +97,43 @@ module _ (d : SchemaData) where
     marks = λ ns r ms h. f.marks (n ∷ ns) r ms h;
   }
 
-  plain_sticks : (o : Option Ty) (v : Val) (t : Tests) → IsPlainValue v → IsMemberOf o v → TestsFit o t → GoesOn t ⊎ Demands t → ⊥
-  plain_sticks None v t p m f s = absurd m
-  plain_sticks (Some w) v t p m f (inl (n, h)) = plain_ends d w n (plain_type w v p m) (and_parts (is_some (type_along d w n)) true (f.leads (n ∷ []) h)).0
-  plain_sticks (Some w) v t p m f (inr (r, ns, h)) = plain_no_ids w (plain_type w v p m) (f.marks [] r ns h)
+  plain_blocks : (o : Option Ty) (v : Val) (t : Tests) → IsPlainValue v → IsMemberOf o v → TestsFit o t → GoesOn t ⊎ Demands t → ⊥
+  plain_blocks None v t p m f s = absurd m
+  plain_blocks (Some w) v t p m f (inl (n, h)) = plain_ends d w n (plain_type w v p m) (and_parts (is_some (type_along d w n)) true (f.leads (n ∷ []) h)).0
+  plain_blocks (Some w) v t p m f (inr (r, ns, h)) = plain_no_ids w (plain_type w v p m) (f.marks [] r ns h)
 
   record_demands : (xs : Attrs) (p : OpenTag) (t : Tests) → TestsFit (Some (record_of xs p)) t → Demands t → ⊥
   record_demands xs p t f (r, ns, h) = let no : false ≡ true = f.marks [] r ns h in cc
 
   mutual
-    pub never_sticks : (o : Option Ty) (v : Val) (t : Tests) (u : Val) → Has d o v → TestsFit o t → Sticks v t u → ⊥
-    never_sticks o (id y) t u h f s = s
-    never_sticks (Some (record_of xs p)) (rec fs) t u h f (inl (e, k)) = record_demands xs p t f k
-    never_sticks (Some (record_of xs p)) (rec fs) t u h f (inr s) = never_fields (Some (record_of xs p)) xs (λ n. refl) fs t u h f s
-    never_sticks o (rec fs) t u h f s = absurd h
-    never_sticks o (truth b) t u h f (e, s) = plain_sticks o (truth b) t tt h f s
-    never_sticks o (long b) t u h f (e, s) = plain_sticks o (long b) t tt h f s
-    never_sticks o (string b) t u h f (e, s) = plain_sticks o (string b) t tt h f s
-    never_sticks o (set b) t u h f (e, s) = plain_sticks o (set b) t tt h f s
-    never_sticks o (decimal b) t u h f (e, s) = plain_sticks o (decimal b) t tt h f s
-    never_sticks o (ip b) t u h f (e, s) = plain_sticks o (ip b) t tt h f s
-    never_sticks o (datetime b) t u h f (e, s) = plain_sticks o (datetime b) t tt h f s
-    never_sticks o (duration b) t u h f (e, s) = plain_sticks o (duration b) t tt h f s
+    pub never_blocks : (o : Option Ty) (v : Val) (t : Tests) (u : Val) → Has d o v → TestsFit o t → Sticks v t u → ⊥
+    never_blocks o (id y) t u h f s = s
+    never_blocks (Some (record_of xs p)) (rec fs) t u h f (inl (e, k)) = record_demands xs p t f k
+    never_blocks (Some (record_of xs p)) (rec fs) t u h f (inr s) = never_fields (Some (record_of xs p)) xs (λ n. refl) fs t u h f s
+    never_blocks o (rec fs) t u h f s = absurd h
+    never_blocks o (truth b) t u h f (e, s) = plain_blocks o (truth b) t tt h f s
+    never_blocks o (long b) t u h f (e, s) = plain_blocks o (long b) t tt h f s
+    never_blocks o (string b) t u h f (e, s) = plain_blocks o (string b) t tt h f s
+    never_blocks o (set b) t u h f (e, s) = plain_blocks o (set b) t tt h f s
+    never_blocks o (decimal b) t u h f (e, s) = plain_blocks o (decimal b) t tt h f s
+    never_blocks o (ip b) t u h f (e, s) = plain_blocks o (ip b) t tt h f s
+    never_blocks o (datetime b) t u h f (e, s) = plain_blocks o (datetime b) t tt h f s
+    never_blocks o (duration b) t u h f (e, s) = plain_blocks o (duration b) t tt h f s
 
-    never_fields : (o : Option Ty) (xs : Attrs) → ((n : List ℕ) → step_on d o (along n) ≡ option_map (λ a. a.attr_type) (attr_at xs n)) → (fs : Fields) (t : Tests) (u : Val) → HaveAll d xs fs → TestsFit o t → FieldsStick fs t u → ⊥
+    never_fields : (o : Option Ty) (xs : Attrs) → ((n : List ℕ) → step_on d o (along n) ≡ option_map (λ a. a.attr_type) (attr_at xs n)) → (fs : Fields) (t : Tests) (u : Val) → HaveAll d xs fs → TestsFit o t → FieldsBlock fs t u → ⊥
     never_fields o xs is no_fields t u h f s = s
     never_fields o xs is (field n v fs) t u h f (inl s) =
-        never_sticks (Some h.0.0.attr_type) v (behind (Field n) t) u h.0.2
+        never_blocks (Some h.0.0.attr_type) v (behind (Field n) t) u h.0.2
         (subst (λ p. TestsFit p (behind (Field n) t)) (is n ∙ ap (option_map (λ a. a.attr_type)) h.0.1) (behind_fits o (along n) t f)) s
     never_fields o xs is (field n v fs) t u h f (inr s) = never_fields o xs is fs t u h.1 f s
 
-  never_tags : (o : Option Ty) (fs : Fields) (t : Tests) (u : Val) → HaveOne d o fs → TestsFit o t → SomeSticks (values_in fs) t u → ⊥
+  never_tags : (o : Option Ty) (fs : Fields) (t : Tests) (u : Val) → HaveOne d o fs → TestsFit o t → SomeBlocks (values_in fs) t u → ⊥
   never_tags o no_fields t u h f s = s
-  never_tags o (field n v fs) t u h f (inl s) = never_sticks o v t u h.0 f s
+  never_tags o (field n v fs) t u h f (inl s) = never_blocks o v t u h.0 f s
   never_tags o (field n v fs) t u h f (inr s) = never_tags o fs t u h.1 f s
 
   -- in what is left of an entity
-  pub entity_never : (e : StoredEntity) (k : Keep) (t : Tests) (u : Val) → EntityHas d e → TestsFit (Some (entity (e.uid.entity_type ∷ []))) t → EntitySticks (cut_entity k e) t u → ⊥
+  pub entity_never : (e : StoredEntity) (k : Keep) (t : Tests) (u : Val) → EntityHas d e → TestsFit (Some (entity (e.uid.entity_type ∷ []))) t → EntityBlocks (cut_entity k e) t u → ⊥
   entity_never e k t u h f (inl s) =
       never_fields (Some (entity (e.uid.entity_type ∷ []))) (or_none (declared_attributes d e.uid.entity_type)) (λ n. refl) (cut_entity k e).attrs t u
       (have_cut d (or_none (declared_attributes d e.uid.entity_type)) e.attrs (k.chains e.uid) h.0) f s
@@ -142,7 +142,7 @@ module _ (d : SchemaData) where
       (one_cut d (declared_tags d e.uid.entity_type) e.tags (k.tags e.uid) h.1) (behind_fits (Some (entity (e.uid.entity_type ∷ []))) any_tag t f) s
 
   -- in a whole entity
-  pub whole_never : (e : StoredEntity) (t : Tests) (u : Val) → EntityHas d e → TestsFit (Some (entity (e.uid.entity_type ∷ []))) t → EntitySticks e t u → ⊥
+  pub whole_never : (e : StoredEntity) (t : Tests) (u : Val) → EntityHas d e → TestsFit (Some (entity (e.uid.entity_type ∷ []))) t → EntityBlocks e t u → ⊥
   whole_never e t u h f (inl s) =
       never_fields (Some (entity (e.uid.entity_type ∷ []))) (or_none (declared_attributes d e.uid.entity_type)) (λ n. refl) e.attrs t u h.0 f s
   whole_never e t u h f (inr s) =
@@ -162,9 +162,9 @@ module _ (d : SchemaData) (g : EnvData) (ns : Table) (trie : IsDeclaredTrie d g 
       (trie.asked (beyond p ms) (record { root = r; steps = ls })
       (subst (λ es. is_marked ns (Root p.root ∷ es) ≡ true) (sym (ap (λ es. es ++ (Root r ∷ map edge_of ls)) (map_append p.steps ms) ∙ append_assoc (map edge_of p.steps) (map edge_of ms) (Root r ∷ map edge_of ls))) h))
 
-  declared_front : (o : Option Ty) (ms ls : List Step) → is_declared d o (ms ++ ls) ≡ true → is_declared d (types_along d o ms) ls ≡ true
-  declared_front o [] ls h = h
-  declared_front o (m ∷ ms) ls h = declared_front (step_on d o m) ms ls (and_parts (is_some (step_on d o m)) (is_declared d (step_on d o m) (ms ++ ls)) h).1
+  declared_prefix : (o : Option Ty) (ms ls : List Step) → is_declared d o (ms ++ ls) ≡ true → is_declared d (types_along d o ms) ls ≡ true
+  declared_prefix o [] ls h = h
+  declared_prefix o (m ∷ ms) ls h = declared_prefix (step_on d o m) ms ls (and_parts (is_some (step_on d o m)) (is_declared d (step_on d o m) (ms ++ ls)) h).1
 
   -- of a root
   root_tests : (r : EntityRoot) → TestsFit d (root_type d g r) (behind (Root r) (tests_of (whole ns)))
@@ -173,8 +173,8 @@ module _ (d : SchemaData) (g : EnvData) (ns : Table) (trie : IsDeclaredTrie d g 
     marks = λ ms k ls h. path_to_ids (record { root = r; steps = [] }) ms k ls h;
   }
 
-  pub no_root_sticks : (q : Request) → ((r : EntityRoot) → Has d (root_type d g r) (root_value q r)) → (u : Val) → SomeRootSticks ns q u → ⊥
-  no_root_sticks q has u (r, s) = never_sticks d (root_type d g r) (root_value q r) (behind (Root r) (tests_of (whole ns))) u (has r) (root_tests r) s
+  pub no_root_blocks : (q : Request) → ((r : EntityRoot) → Has d (root_type d g r) (root_value q r)) → (u : Val) → SomeRootBlocks ns q u → ⊥
+  no_root_blocks q has u (r, s) = never_blocks d (root_type d g r) (root_value q r) (behind (Root r) (tests_of (whole ns))) u (has r) (root_tests r) s
 
   module _ (q : Request) (s : Store) (all : AllByRecursion (EntityHas d) s) (has : (r : EntityRoot) → Has d (root_type d g r) (root_value q r)) where
     -- what a path that reaches an id says of its type
@@ -192,7 +192,7 @@ module _ (d : SchemaData) (g : EnvData) (ns : Table) (trie : IsDeclaredTrie d g 
     reached_tests : (x : EntityUID) (below : Bool → Test) → ((b : Bool) (a : Address) → below b a ≡ true → IsReached b ns q s x a) → TestsFit d (Some (entity (x.entity_type ∷ []))) (record { leads = below false; marks = below true })
     reached_tests x below reached = record {
       leads = λ ms h. let r = reached false (map edge_of ms) h in
-          id_declared r.path x r.reached ms (declared_front (root_type d g r.path.root) r.path.steps ms (path_declared r.path ms r.passes));
+          id_declared r.path x r.reached ms (declared_prefix (root_type d g r.path.root) r.path.steps ms (path_declared r.path ms r.passes));
       marks = λ ms k ls h. let r = reached true (map edge_of ms ++ (Root k ∷ map edge_of ls)) h in
           id_marked r.path x r.reached ms (path_to_ids r.path ms k ls r.passes);
     }
@@ -201,7 +201,7 @@ module _ (d : SchemaData) (g : EnvData) (ns : Table) (trie : IsDeclaredTrie d g 
         TestsFit d (Some (entity (e.uid.entity_type ∷ []))) (record { leads = below false; marks = below true })
     stored_tests x e i below reached = subst (λ y. TestsFit d (Some (entity (y.entity_type ∷ []))) (record { leads = below false; marks = below true })) (sym (uid_at s x e i)) (reached_tests x below reached)
 
-    pub none_stuck : (u : Val) → IsStuck ns q s u → ⊥
+    pub none_stuck : (u : Val) → CannotStep ns q s u → ⊥
     none_stuck u k =
         entity_never d k.stored k.keep (record { leads = k.below false; marks = k.below true }) u (all_at (EntityHas d) s k.id k.stored all k.at)
         (stored_tests k.id k.stored k.at k.below k.reached) k.sticks

@@ -12,19 +12,19 @@ use Rattle.byte_streams.specs.Steps.{RoseBy}
 use Rattle.entity_loader.specs.State.{LoaderState, Continues}
 use Rattle.entity_manifest.specs.declared.EntitySliceError.{EntitySliceError}
 use Rattle.entity_manifest.specs.declared.EntitySliceError.TheVariants as error
-use Rattle.entity_manifest.specs.Loaded.{OfToldStores, WhyNotLoaded}
+use Rattle.entity_manifest.specs.Loaded.{OfKnownStores, WhyNotLoaded}
 use Rattle.entity_manifest.specs.declared.answer.BatchAnswer.{BatchAnswer}
 use Rattle.entity_manifest.specs.declared.answer.BatchAnswer.TheVariants.{Partial, Refused, Loading, Decided}
 
 module _ (schema : SchemaData) (ps : List PolicyData) where
-  -- the answer to a request, for which the loader goes from one state to another; where it tells a store that
+  -- the answer to a request, for which the loader goes from one state to another; where it says a store that
   -- conforms, the decision is the response on that store
   abbrev pub IsLoaderAnswer : LoaderState → LoaderState → Request → BatchAnswer → Type 0
   IsLoaderAnswer old new q Partial = ¬ IsWhole q
   IsLoaderAnswer old new q (Refused e) = IsWhole q × (first_request_fault schema (λ _. true) q ≡ Some e)
   IsLoaderAnswer old new q (Loading e) = IsWhole q × RequestConforms schema q × WhyNotLoaded schema old new e
   IsLoaderAnswer old new q (Decided r) =
-      IsWhole q × RequestConforms schema q × OfToldStores schema old (λ w. r ≡ response ps q w)
+      IsWhole q × RequestConforms schema q × OfKnownStores schema old (λ w. r ≡ response ps q w)
 
   -- the answers to requests, one after another
   abbrev pub AreLoaderAnswers : LoaderState → List Request → List BatchAnswer → LoaderState → Type 0
@@ -46,7 +46,7 @@ module _ (schema : SchemaData) (ps : List PolicyData) where
   IsAnswerOrFault w q (Loading e) = IsWhole q × RequestConforms schema q × (e ≡ error.LoaderFault)
   IsAnswerOrFault w q a = IsStoreAnswer w q a
 
-  -- why rows that tell this store, or none, do not give what a request reads: they failed, the store does not
+  -- why rows that say this store, or none, do not give what a request reads: they failed, the store does not
   -- conform, or there is none and answers do not agree
   abbrev pub WhyNotGiven : Option Store → EntitySliceError → Type 0
   WhyNotGiven told error.LoaderFault = ⊤
@@ -54,7 +54,7 @@ module _ (schema : SchemaData) (ps : List PolicyData) where
   WhyNotGiven told (error.InconsistentLoader uid kept got) = told ≡ None
   WhyNotGiven told e = ⊥
 
-  -- the answer to a request by rows that tell this store, or none; where the store conforms, a decision is
+  -- the answer to a request by rows that say this store, or none; where the store conforms, a decision is
   -- the response on it
   abbrev pub IsRowAnswer : Option Store → Request → BatchAnswer → Type 0
   IsRowAnswer told q Partial = ¬ IsWhole q

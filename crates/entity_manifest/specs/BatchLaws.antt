@@ -1,4 +1,4 @@
--- Answers to many requests, by the store that the loader tells and by its count of faults.
+-- Answers to many requests, by the store that the loader says and by its count of faults.
 use Rattle.std.specs.Prelude.{List}
 use Rattle.std.specs.List.{AllZip}
 use Rattle.entity_store.specs.declared.request.Request.{Request}
@@ -8,15 +8,15 @@ use Rattle.schema_core.specs.Schema.{SchemaData}
 use Rattle.typing_spec.specs.Conforms.{StoreConforms}
 use Rattle.entity_loader.specs.State.{LoaderState}
 use Rattle.entity_manifest.specs.declared.answer.BatchAnswer.{BatchAnswer}
-use Rattle.entity_manifest.specs.Loaded.{IsTold}
+use Rattle.entity_manifest.specs.Loaded.{IsReported}
 use Rattle.entity_manifest.specs.Answers.{AreLoaderAnswers, IsAnswerOrFault, AreCounted}
 
--- where the loader tells a store that conforms, each answer is that on this store, or a fault
+-- where the loader says a store that conforms, each answer is that on this store, or a fault
 abbrev pub AnswersAreWhole : Type 0
 AnswersAreWhole =
     (schema : SchemaData) (ps : List PolicyData) (old new : LoaderState) (qs : List Request)
     (answers : List BatchAnswer) →
-    AreLoaderAnswers schema ps old qs answers new → (w : Store) → IsTold old w → StoreConforms schema w →
+    AreLoaderAnswers schema ps old qs answers new → (w : Store) → IsReported old w → StoreConforms schema w →
     AllZip (IsAnswerOrFault schema ps w) qs answers
 
 -- no more faults are answered than are counted

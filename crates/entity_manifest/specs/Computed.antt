@@ -15,7 +15,7 @@ use Rattle.reads_spec.specs.Reads.{declared_reads, declared_demands}
 use Rattle.manifest_computation.specs.Typed.{typed_conditions}
 use Rattle.entity_loader.specs.State.{LoaderState}
 use Rattle.entity_loading.specs.Causes.{IsRight}
-use Rattle.entity_loading.specs.Right.{SticksAt}
+use Rattle.entity_loading.specs.Right.{BlocksAt}
 use Rattle.entity_loading.specs.declared.error.EntitySliceError.{EntitySliceError}
 use Rattle.entity_loading.specs.declared.error.EntitySliceError.TheVariants.{OutOfMemory}
 use Rattle.entity_loading.specs.Blocked.{IsBlocked}
@@ -31,20 +31,20 @@ ComputedTriesAreDeclared =
     IsLeast (declared_reads schema env (typed_conditions schema env ps))
     (declared_demands schema env (typed_conditions schema env ps)) t → IsDeclaredTrie schema env t
 
--- where the request and the store conform, the trie that the manifest of policies has for the request sticks
+-- where the request and the store conform, the trie that the manifest of policies has for the request blocks
 -- at no value
 abbrev pub ComputedManifestsFit : Type 0
 ComputedManifestsFit =
     (schema : SchemaData) → IsSchema schema → (ps : List PolicyData) (m : Manifest) →
     IsManifestOf schema ps m →
     (q : Request) → RequestConforms schema q → (s : Store) → StoreConforms schema s → (t : Table) →
-    trie_for m q ≡ Some t → (v : Val) → ¬ SticksAt t q s v
+    trie_for m q ≡ Some t → (v : Val) → ¬ BlocksAt t q s v
 
 -- a refusal as loading by the manifest promises it of an honest loader of the store
 pub record IsRightRefusal (m : Manifest) (q : Request) (s : Store)
     (old new : LoaderState) (e : EntitySliceError) : Type 0 where
   pub without : trie_for m q ≡ None → e ≡ OutOfMemory
-  pub right : (t : Table) → trie_for m q ≡ Some t → IsRight (SticksAt t q s) old new e
+  pub right : (t : Table) → trie_for m q ≡ Some t → IsRight (BlocksAt t q s) old new e
 
 -- there an honest loader whose count of faults did not rise is refused for want of memory alone
 abbrev pub HonestLoadingSucceeds : Type 0

@@ -66,27 +66,27 @@ RefusalsAreFaults =
     (old new : LoaderState) (e : EntitySliceError) → IsRightRefusal m q s old new e →
     IsFaultOrMemory old new e
 
--- a store in order that a loader tells
-pub record IsTold (l : LoaderState) (w : Store) : Type 0 where
+-- a store in order that a loader says
+pub record IsReported (l : LoaderState) (w : Store) : Type 0 where
   pub told : l.store ≡ Some w
   pub order : IsStoreOrdered w
 
 module _ (schema : SchemaData) where
-  -- it holds of each store in order that the loader tells and that conforms to the schema
-  abbrev pub OfToldStores : LoaderState → (Store → Type 0) → Type 0
-  OfToldStores l P = (w : Store) → IsTold l w → StoreConforms schema w → P w
+  -- it holds of each store in order that the loader says and that conforms to the schema
+  abbrev pub OfKnownStores : LoaderState → (Store → Type 0) → Type 0
+  OfKnownStores l P = (w : Store) → IsReported l w → StoreConforms schema w → P w
 
   -- why a loader that goes from one state to another does not give what a request reads: it failed; the store
-  -- does not conform; or it does not tell its store, and its answers do not agree or are not for what was
+  -- does not conform; or it does not say its store, and its answers do not agree or are not for what was
   -- asked
   abbrev pub WhyNotLoaded : LoaderState → LoaderState → EntitySliceError → Type 0
   WhyNotLoaded old new error.LoaderFault = Rose old.faults new.faults
   WhyNotLoaded old new (error.IncompatibleEntityManifest e) =
-      (w : Store) → IsTold old w → ¬ StoreConforms schema w
-  WhyNotLoaded old new (error.InconsistentLoader uid kept got) = (w : Store) → ¬ IsTold old w
+      (w : Store) → IsReported old w → ¬ StoreConforms schema w
+  WhyNotLoaded old new (error.InconsistentLoader uid kept got) = (w : Store) → ¬ IsReported old w
   WhyNotLoaded old new (error.WrongNumberOfEntities e) =
-      Rose old.strays new.strays × ((w : Store) → ¬ IsTold old w)
+      Rose old.strays new.strays × ((w : Store) → ¬ IsReported old w)
   WhyNotLoaded old new (error.WrongNumberOfAncestors n m) =
-      Rose old.strays new.strays × ((w : Store) → ¬ IsTold old w)
+      Rose old.strays new.strays × ((w : Store) → ¬ IsReported old w)
   WhyNotLoaded old new (error.PartialRequest e) = ⊥
   WhyNotLoaded old new error.OutOfMemory = ⊥

@@ -2,7 +2,7 @@
 
 ghost use Rattle.entity_manifest.specs.BatchLaws.{AnswersAreWhole, FaultsAreCounted};
 
-/// Where a loader tells a store that conforms, each decision is the response on all of it, and each whole
+/// Where a loader says a store that conforms, each decision is the response on all of it, and each whole
 /// request that conforms is decided or ends with a fault of the loader.
 pub fn answers_are_whole()
     ensures { AnswersAreWhole }

@@ -1,12 +1,12 @@
 //! Laws of loading by computed manifests.
 
 ghost use Rattle.entity_manifest.specs.Computed.{ComputedTriesAreDeclared, ComputedManifestsFit, ComputedSlicesFit, HonestLoadingSucceeds};
-ghost use Rattle.entity_manifest.specs.Sticking.{NothingIsBlocked, NothingSticks};
+ghost use Rattle.entity_manifest.specs.Sticking.{NothingIsBlocked, NothingBlocks};
 
 /// A trie of declared paths that asks only ids for ancestors fits what it reaches: where request and store
 /// conform to the schema, no path of it comes to a value from which it cannot go on.
-pub fn nothing_sticks()
-    ensures { NothingSticks }
+pub fn nothing_blocks()
+    ensures { NothingBlocks }
 {}
 
 /// Nor does a path of it come to such a value in the whole store.

@@ -12,7 +12,7 @@ ghost use Rattle.manifest_computation.specs.Slice.{slice};
 ghost use Rattle.manifest_computation.specs.Computed.{IsManifestOf};
 ghost use Rattle.manifest_core.specs.Manifest.{trie_for};
 ghost use Rattle.entity_loading.specs.declared.error.EntitySliceError.TheVariants.{OutOfMemory};
-ghost use Rattle.entity_manifest.specs.Loaded.{OfToldStores, AreDecidedAlike, IsFaultOrMemory, WhyNotLoaded};
+ghost use Rattle.entity_manifest.specs.Loaded.{OfKnownStores, AreDecidedAlike, IsFaultOrMemory, WhyNotLoaded};
 
 use crate::loading_laws::{loaded_is_enough, refusals_are_faults};
 use entity_loader::{EntityLoader, EntitySlicer};
@@ -28,7 +28,7 @@ use table_loader::entities_are_ordered;
 
 /// What a request reads, as a loader gives it, by the manifest of accepted policies.
 ///
-/// Where the loader tells a store that conforms, what is loaded has at least the slice of that store and at
+/// Where the loader says a store that conforms, what is loaded has at least the slice of that store and at
 /// most the store; each policy has on it the outcome that it has on the whole store, and the response is the
 /// same. A loader that answers just what is asked gives the slice.
 ///
@@ -36,8 +36,8 @@ use table_loader::entities_are_ordered;
 /// and no more steps are counted; for ancestors once at most. Without a trie it is not asked.
 ///
 /// Errs with `LoaderFault` only where a call of the loader failed, and with `OutOfMemory` where memory runs
-/// out. A loader that tells such a store is refused for nothing else: `IncompatibleEntityManifest` comes
-/// where its store does not conform, and the others where it tells no store.
+/// out. A loader that says such a store is refused for nothing else: `IncompatibleEntityManifest` comes
+/// where its store does not conform, and the others where it says no store.
 pub fn load_for_request<D: EntityLoader, L: Ledger>(
     alloc: Global,
     schema: &ValidatorSchema,
@@ -51,14 +51,14 @@ pub fn load_for_request<D: EntityLoader, L: Ledger>(
     requires manifest { IsManifestOf schema.now policies.now.policies manifest.now }
     requires whole { IsWhole request.now }
     requires conforms { RequestConforms schema.now request.now }
-    ensures enough { OfToldStores schema.now (D.state loader.old) (λ w.
+    ensures enough { OfKnownStores schema.now (D.state loader.old) (λ w.
         IfOk result (λ s. IsPartOf (slice schema.now policies.now.policies request.now w) s)) }
-    ensures part { OfToldStores schema.now (D.state loader.old) (λ w. IfOk result (λ s. IsPartOf s w)) }
-    ensures exact { (D.state loader.old).exact ≡ true → OfToldStores schema.now (D.state loader.old) (λ w.
+    ensures part { OfKnownStores schema.now (D.state loader.old) (λ w. IfOk result (λ s. IsPartOf s w)) }
+    ensures exact { (D.state loader.old).exact ≡ true → OfKnownStores schema.now (D.state loader.old) (λ w.
         IfOk result (λ s. s ≡ slice schema.now policies.now.policies request.now w)) }
-    ensures decided { OfToldStores schema.now (D.state loader.old) (λ w.
+    ensures decided { OfKnownStores schema.now (D.state loader.old) (λ w.
         IfOk result (λ s. AreDecidedAlike policies.now.policies request.now s w)) }
-    ensures honest { OfToldStores schema.now (D.state loader.old) (λ w.
+    ensures honest { OfKnownStores schema.now (D.state loader.old) (λ w.
         IfErr result (IsFaultOrMemory (D.state loader.old) (D.state loader.new))) }
     ensures cause { IfErr result (λ e. e ≢ OutOfMemory →
         WhyNotLoaded schema.now (D.state loader.old) (D.state loader.new) e) }

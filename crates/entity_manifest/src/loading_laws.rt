@@ -18,7 +18,7 @@ pub fn loaded_is_enough()
     slices_are_enough();
 }
 
-/// An honest loader is refused for a fault that it tells or for want of memory alone.
+/// An honest loader is refused for a fault that it says or for want of memory alone.
 pub fn refusals_are_faults()
     ensures { RefusalsAreFaults }
 {

@@ -5,7 +5,7 @@ ghost use Rattle.std.specs.List.{AllZip};
 ghost use Rattle.typing_spec.specs.Conforms.{StoreConforms};
 ghost use Rattle.entity_manifest.specs.Accepted.{IsAccepted};
 ghost use Rattle.entity_manifest.specs.OfPolicies.{WhyNone};
-ghost use Rattle.table_loader.specs.State.{store_told};
+ghost use Rattle.table_loader.specs.State.{store_known};
 ghost use Rattle.entity_manifest.specs.Answers.{IsStoreAnswer, IsRowAnswer, AreCounted};
 
 use crate::{BatchAnswer, EntityManifestError, decide_batch};
@@ -13,10 +13,10 @@ use entity_store::{Entities, Request};
 use policy_set::PolicySet;
 use schema_core::ValidatorSchema;
 use std::alloc::Global;
-use table_loader::laws::told_stores_are_ordered;
-use table_loader::{RowLoader, Rows, StoreRows, store_rows_tell};
+use table_loader::laws::known_stores_are_ordered;
+use table_loader::{RowLoader, Rows, StoreRows, store_rows_say};
 
-/// The same over rows of tables. Where the rows tell a store that conforms, each decision is the response on
+/// The same over rows of tables. Where the rows say a store that conforms, each decision is the response on
 /// all of it, and each whole request that conforms is decided, or the rows failed: at most as often as their
 /// count of faults rose.
 pub fn decide_batch_on_rows<R: Rows>(
@@ -27,14 +27,14 @@ pub fn decide_batch_on_rows<R: Rows>(
     loader: &mut RowLoader<R>,
 ) -> Result<Vec<BatchAnswer>, EntityManifestError>
     ensures answers { IfOk result (λ answers. AllZip
-        (IsRowAnswer schema.now policies.now.policies (store_told (R.state loader.old.rows)))
+        (IsRowAnswer schema.now policies.now.policies (store_known (R.state loader.old.rows)))
         requests.now.items answers.items) }
     ensures faults { IfOk result (λ answers. AreCounted answers.items
         (R.state loader.old.rows).faults (R.state loader.new.rows).faults) }
     ensures accepted { IfOk result (λ _. IsAccepted schema.now policies.now) }
     ensures refused { IfErr result (WhyNone schema.now policies.now) }
 {
-    told_stores_are_ordered();
+    known_stores_are_ordered();
     decide_batch(alloc, schema, policies, requests, loader)
 }
 
@@ -52,7 +52,7 @@ pub fn decide_batch_on_store(
     ensures accepted { IfOk result (λ _. IsAccepted schema.now policies.now) }
     ensures refused { IfErr result (WhyNone schema.now policies.now) }
 {
-    store_rows_tell(entities);
+    store_rows_say(entities);
     let mut loader = RowLoader::new(StoreRows::new(entities));
     decide_batch_on_rows(alloc, schema, policies, requests, &mut loader)
 }

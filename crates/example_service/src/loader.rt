@@ -1,4 +1,4 @@
-//! A loader over a database, as docs/LIBRARY.md tells of it.
+//! A loader over a database, as docs/LIBRARY.md says of it.
 
 use entity_loader::{AncestorsRequest, EntityAnswer, EntityLoader, EntityRequest, LoadError};
 use entity_store::Entity;
@@ -26,7 +26,7 @@ pub trait Database {
     fn is_member(&mut self, uid: &EntityUID, ancestor: &EntityUID) -> Result<bool, LoadError>;
 }
 
-/// A loader over a database. What that holds is not in the loader's value, so it tells no store; and each
+/// A loader over a database. What that holds is not in the loader's value, so it says no store; and each
 /// list of answers counts as one that may stray, so nothing has to be proved of what it answers.
 #[derive(Debug, Drop)]
 pub struct DatabaseLoader<D: Database + Drop> {

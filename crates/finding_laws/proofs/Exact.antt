@@ -9,7 +9,7 @@ use Rattle.policy_values.specs.Ties.{equal_of}
 use denote.Enum.Declared.{Declared}
 use denote.Enum.Bare.{Bare, sameb, same_true}
 
--- It is a record so that its type tells E.
+-- It is a record so that its type says E.
 pub record IsExact {K : Type 0} (E : K → K → Bool) : Type 0 where
   pub same : (x y : K) → E x y ≡ true → x ≡ y
 

@@ -77,7 +77,7 @@ fn in_a_row(alloc: Global, types: &[Type]) -> Result<String, AllocError>
     if let Some(first) = rest.next() {
         let mut last = first;
         for t in rest {
-            add_in_front(&mut text, last)?;
+            add_in_prefix(&mut text, last)?;
             last = t;
         }
         add_last(&mut text, last)?;
@@ -85,8 +85,8 @@ fn in_a_row(alloc: Global, types: &[Type]) -> Result<String, AllocError>
     Ok(text)
 }
 
-// Adds a type in front of others.
-fn add_in_front(text: &mut String, t: &Type) -> Result<(), AllocError>
+// Adds a type before others.
+fn add_in_prefix(text: &mut String, t: &Type) -> Result<(), AllocError>
     ensures { OnOk result (string_bytes text.new ≡ string_bytes text.old ++ (ty_text t.now ++ codes ", ")) }
 {
     write!(text, "{t}, ")?;

@@ -65,7 +65,7 @@ fn access_of(
         Some(types) => Ok(AttributeAccess::EntityLUB(types.try_clone()?, ListOf::new(attrs))),
         None => match target.kind() {
             ExprKind::GetAttr(x, attr) => {
-                let more = in_front(attrs, attr)?;
+                let more = in_prefix(attrs, attr)?;
                 access_of(env, x, more)
             }
             ExprKind::Var(v) => variable_access(env, *v, attrs),
@@ -108,7 +108,7 @@ fn variable_access(
 }
 
 // The attribute, and then the attributes.
-fn in_front(mut attrs: Vec<Text>, attr: &Text) -> Result<Vec<Text>, AllocError>
+fn in_prefix(mut attrs: Vec<Text>, attr: &Text) -> Result<Vec<Text>, AllocError>
     ensures { IfOk result (λ more. more.items ≡ attr.now ∷ attrs.items) }
 {
     let attr = attr.try_clone()?;

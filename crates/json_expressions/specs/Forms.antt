@@ -83,7 +83,7 @@ other_form_named key = or_else
     ∷ []) key)
     (option_map form.Unary (unary_named key))
 
--- the form that the name of an object's one member tells
+-- the form that the name of an object's one member says
 abbrev pub form_named : List ℕ → Option Form
 form_named key = or_else (option_map form.List (list_form_named key)) (other_form_named key)
 

@@ -127,7 +127,7 @@ fn other_form_named(key: &str) -> Option<Form>
     }
 }
 
-/// The form that the name of an object's one member tells.
+/// The form that the name of an object's one member says.
 pub(crate) fn form_named(key: &str) -> Option<Form>
     ensures { result ≡ form_named key.now }
 {

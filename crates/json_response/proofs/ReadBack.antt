@@ -15,7 +15,7 @@ use Rattle.serde_json.specs.Find.{as_i64, of_integer}
 use Rattle.policy_values.proofs.ReadSteps.{reads_grammars}
 use Rattle.json_values.specs.Lists.{with_first, with_field}
 use Rattle.json_values.specs.Names.{uid_of}
-use Rattle.json_values.proofs.NameTest.{name_told}
+use Rattle.json_values.proofs.NameTest.{name_reported}
 use Rattle.json_values.specs.Values.{extension_form, values_of, value_entries_of}
 use Rattle.json_response.specs.ValueJson.{items_data, members_data, uid_data}
 use Rattle.json_response.specs.ReadBack.{IsReadBack}
@@ -41,7 +41,7 @@ unfolding IsReadBack
 string_back t = refl
 
 pub uid_back : (u : EntityUID) → IsName u.entity_type → uid_of (uid_data u) ≡ Some u
-uid_back u h = rw ((name_told u.entity_type).1 h) refl
+uid_back u h = rw ((name_reported u.entity_type).1 h) refl
 
 pub id_back : (u : EntityUID) → uid_of (uid_data u) ≡ Some u → IsReadBack (entity u)
 unfolding IsReadBack

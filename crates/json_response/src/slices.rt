@@ -106,7 +106,7 @@ fn open_response(alloc: Global, response: &Response) -> Result<String, AllocErro
     Ok(text)
 }
 
-// Appends what stands in front of an item: a comma, where it is a later one.
+// Appends what stands before an item: a comma, where it is a later one.
 fn append_comma(text: &mut String, is_later: bool) -> Result<(), AllocError>
     ensures { OnOk result (string_bytes text.new ≡ string_bytes text.old ++ comma_if is_later) }
 {

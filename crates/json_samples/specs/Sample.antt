@@ -27,7 +27,7 @@ unfoldable pub users_text : ℕ → ℕ → ℕ → List ℕ
 users_text seed size n =
     join_with_byte 44 (map (λ i. drawn_user (iterate next_state (3 * i) seed) size i) (range_with_len 0 n))
 
--- what stands in front of the user number i
+-- what stands before the user number i
 abbrev pub comma : ℕ → List ℕ
 comma i = if i == 0 then [] else 44 ∷ []
 

@@ -57,7 +57,7 @@ fn add_users(text: &mut String, seed: u64, size: u64) -> Result<(), AllocError>
     Ok(())
 }
 
-// Adds what stands in front of the user number `i`.
+// Adds what stands before the user number `i`.
 fn add_comma(text: &mut String, i: u64) -> Result<(), AllocError>
     ensures { OnOk result (string_bytes text.new ≡ string_bytes text.old ++ comma i) }
 {

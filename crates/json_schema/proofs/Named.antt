@@ -2,11 +2,11 @@
 use Rattle.std.proofs.Common.{◌≡◌, ◌⊎◌, inl, inr, ℕ, List, [], true, codes, refl}
 use Rattle.policy_values.specs.Name.{IsName}
 use Rattle.json_values.specs.Names.{is_name, is_name_after}
-use Rattle.json_values.proofs.NameTest.{name_told}
+use Rattle.json_values.proofs.NameTest.{name_reported}
 
 test : (t : List ℕ) → is_name_after [] t ≡ true → IsName t
 unfolding is_name
-test t e = (name_told t).0 e
+test t e = (name_reported t).0 e
 
 pub decimal_is_name : IsName (codes "decimal")
 unfolding is_name_after

@@ -13,8 +13,8 @@ use Rattle.json_trees.specs.Places.{is_other, placed_view, said_at}
 use Rattle.json_trees.specs.Trees.{data_of, members_data, tree_view}
 use Rattle.json_trees.proofs.Found.{same_texts}
 
-abbrev pub Lent : Type 0 → Type 0
-Lent A = Bor (List ℕ) × Bor (Value A)
+abbrev pub Borrowed : Type 0 → Type 0
+Borrowed A = Bor (List ℕ) × Bor (Value A)
 
 abbrev pub Entry : Type 0
 Entry = Bor (List ℕ) × ℕ
@@ -37,11 +37,11 @@ said_there (m ∷ ms) zero d h = refl
 said_there (m ∷ ms) (suc i) d h = said_there ms i d (omega arith)
 
 -- the one member that was found
-abbrev pub lone : {A : Type 0} → Option (Lent A) → Members
+abbrev pub lone : {A : Type 0} → Option (Borrowed A) → Members
 lone None = no_members
 lone (Some m) = member m.0.now (tree_view m.1.now) no_members
 
-pub only_lone : {A : Type 0} (o : Option (Lent A)) → option_map (λ m. (m.0.now, tree_view m.1.now)) o ≡ only_member (lone o)
+pub only_lone : {A : Type 0} (o : Option (Borrowed A)) → option_map (λ m. (m.0.now, tree_view m.1.now)) o ≡ only_member (lone o)
 only_lone None = refl
 only_lone (Some m) = refl
 
@@ -85,7 +85,7 @@ put_other k l d f other = by (slice_cmp nat_cmp k l) refl where
   by Greater e = refl
 
 -- where a member has another name than the one before, there is not one member alone
-pub none_beside : {A : Type 0} (k : List ℕ) (j : json.Json) (ms : json.Members) (o : Option (Lent A)) → is_other (option_map (λ m. m.0.now) o) k ≡ true → None ≡ only_member (members_data (json.member k j ms) (lone o))
+pub none_beside : {A : Type 0} (k : List ℕ) (j : json.Json) (ms : json.Members) (o : Option (Borrowed A)) → is_other (option_map (λ m. m.0.now) o) k ≡ true → None ≡ only_member (members_data (json.member k j ms) (lone o))
 none_beside k j ms None e = cc
 none_beside k j ms (Some m) e = none_of_many _ (data_many ms _ (put_other k m.0.now (data_of j) (tree_view m.1.now) (λ (same : k ≡ m.0.now). differ (bytes_eq m.0.now k) e ((bytes_eq-Decides m.0.now k).1 (sym same))))) where
   differ : (b : Bool) → not b ≡ true → b ≡ true → ⊥
@@ -96,7 +96,7 @@ same_text : (xs : List ℕ) → slice_cmp nat_cmp xs xs ≡ Equal
 same_text xs = tied_itself nat_list_cmp_total xs
 
 -- where it has the same name, it stays in the place of that one
-pub put_lone : {A : Type 0} (k : List ℕ) (d : Data) (o : Option (Lent A)) → is_other (option_map (λ m. m.0.now) o) k ≡ false → put k d (lone o) ≡ member k d no_members
+pub put_lone : {A : Type 0} (k : List ℕ) (d : Data) (o : Option (Borrowed A)) → is_other (option_map (λ m. m.0.now) o) k ≡ false → put k d (lone o) ≡ member k d no_members
 put_lone k d None e = refl
 put_lone k d (Some m) e =
     let same : m.0.now ≡ k = (bytes_eq-Decides m.0.now k).0 (same_by (bytes_eq m.0.now k) e) in

@@ -11,19 +11,19 @@ use Rattle.json_tries.specs.Laws.{PlacesLead}
 use Rattle.plain_lemmas.proofs.Booleans.{and_exchange, or_false}
 
 -- whether the test passes for one of the places
-abbrev front_of : Address → Place → Bool
-front_of es p = is_front es p.0
+abbrev prefix_of : Address → Place → Bool
+prefix_of es p = is_front es p.0
 
 abbrev same_of : Address → Place → Bool
 same_of es p = p.1 && is_same es p.0
 
-front_behind : (x e : Edge) (es : Address) (ps : List Place) → list_any (front_of (e ∷ es)) (map (behind x) ps) ≡ (edge_eq x e && list_any (front_of es) ps)
-front_behind x e es ps = by (edge_eq x e) refl ps where
-  by : (b : Bool) → edge_eq x e ≡ b → (qs : List Place) → list_any (front_of (e ∷ es)) (map (behind x) qs) ≡ (b && list_any (front_of es) qs)
+prefix_behind : (x e : Edge) (es : Address) (ps : List Place) → list_any (prefix_of (e ∷ es)) (map (behind x) ps) ≡ (edge_eq x e && list_any (prefix_of es) ps)
+prefix_behind x e es ps = by (edge_eq x e) refl ps where
+  by : (b : Bool) → edge_eq x e ≡ b → (qs : List Place) → list_any (prefix_of (e ∷ es)) (map (behind x) qs) ≡ (b && list_any (prefix_of es) qs)
   by true h [] = refl
   by false h [] = refl
-  by true h (q ∷ qs) = ap (λ b. (b && is_front es q.0) || list_any (front_of (e ∷ es)) (map (behind x) qs)) h ∙ ap (λ b. is_front es q.0 || b) (by true h qs)
-  by false h (q ∷ qs) = ap (λ b. (b && is_front es q.0) || list_any (front_of (e ∷ es)) (map (behind x) qs)) h ∙ by false h qs
+  by true h (q ∷ qs) = ap (λ b. (b && is_front es q.0) || list_any (prefix_of (e ∷ es)) (map (behind x) qs)) h ∙ ap (λ b. is_front es q.0 || b) (by true h qs)
+  by false h (q ∷ qs) = ap (λ b. (b && is_front es q.0) || list_any (prefix_of (e ∷ es)) (map (behind x) qs)) h ∙ by false h qs
 
 same_behind : (x e : Edge) (es : Address) (ps : List Place) → list_any (same_of (e ∷ es)) (map (behind x) ps) ≡ (edge_eq x e && list_any (same_of es) ps)
 same_behind x e es ps = by (edge_eq x e) refl ps where
@@ -33,8 +33,8 @@ same_behind x e es ps = by (edge_eq x e) refl ps where
   by true h (q ∷ qs) = ap (λ b. (q.1 && (b && is_same es q.0)) || list_any (same_of (e ∷ es)) (map (behind x) qs)) h ∙ ap (λ b. (q.1 && is_same es q.0) || b) (by true h qs)
   by false h (q ∷ qs) = ap (λ b. b || list_any (same_of (e ∷ es)) (map (behind x) qs)) (and_exchange q.1 (edge_eq x e) (is_same es q.0) ∙ ap (λ b. b && (q.1 && is_same es q.0)) h) ∙ by false h qs
 
-front_start : (ps : List Place) (p : Place) → list_any (front_of []) (p ∷ ps) ≡ true
-front_start ps p = refl
+prefix_start : (ps : List Place) (p : Place) → list_any (prefix_of []) (p ∷ ps) ≡ true
+prefix_start ps p = refl
 
 none_same : (x : Edge) (ps : List Place) → list_any (same_of []) (map (behind x) ps) ≡ false
 none_same x [] = refl
@@ -55,16 +55,16 @@ abbrev own : Bool → Bool
 own m = m
 
 mutual
-  fronts : (b : Branch) (es : Address) → list_any (front_of es) (places_of b) ≡ passes any b es
+  fronts : (b : Branch) (es : Address) → list_any (prefix_of es) (places_of b) ≡ passes any b es
   fronts (branch m bs) [] = refl
-  fronts (branch m bs) (e ∷ es) = fronts_in bs e es
+  fronts (branch m bs) (e ∷ es) = prefixes_in bs e es
 
-  fronts_in : (bs : Branches) (e : Edge) (es : Address) → list_any (front_of (e ∷ es)) (places_in bs) ≡ some_passes any bs e es
-  fronts_in no_branches e es = refl
-  fronts_in (leading x b bs) e es =
-      list_any-append (front_of (e ∷ es)) (map (behind x) (places_of b)) (places_in bs)
-      ∙ ap (λ c. c || list_any (front_of (e ∷ es)) (places_in bs)) (front_behind x e es (places_of b) ∙ ap (λ c. edge_eq x e && c) (fronts b es))
-      ∙ ap (λ c. (edge_eq x e && passes any b es) || c) (fronts_in bs e es)
+  prefixes_in : (bs : Branches) (e : Edge) (es : Address) → list_any (prefix_of (e ∷ es)) (places_in bs) ≡ some_passes any bs e es
+  prefixes_in no_branches e es = refl
+  prefixes_in (leading x b bs) e es =
+      list_any-append (prefix_of (e ∷ es)) (map (behind x) (places_of b)) (places_in bs)
+      ∙ ap (λ c. c || list_any (prefix_of (e ∷ es)) (places_in bs)) (prefix_behind x e es (places_of b) ∙ ap (λ c. edge_eq x e && c) (fronts b es))
+      ∙ ap (λ c. (edge_eq x e && passes any b es) || c) (prefixes_in bs e es)
 
 mutual
   sames : (b : Branch) (es : Address) → list_any (same_of es) (places_of b) ≡ passes own b es
@@ -88,6 +88,6 @@ mutual
 
 pub places_lead : PlacesLead
 places_lead = record {
-  paths = λ bs t is e es. is.paths (e ∷ es) ∙ fronts_in bs e es;
+  paths = λ bs t is e es. is.paths (e ∷ es) ∙ prefixes_in bs e es;
   marks = λ bs t is e es. is.marks (e ∷ es) ∙ sames_in bs e es;
 }

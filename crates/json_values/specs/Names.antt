@@ -23,7 +23,7 @@ abbrev pub is_component : List ℕ → Bool
 is_component cs = nat_lt 0 (length cs) && (is_head (slice_index cs 0) &&
     (list_all is_tail cs && not (bytes_eq cs (codes "__cedar"))))
 
--- between double colons stand components alone, where `word` stands in front of the first one
+-- between double colons stand components alone, where `word` stands before the first one
 unfoldable pub is_name_after : List ℕ → List ℕ → Bool
 is_name_after word [] = is_component word
 is_name_after word (c ∷ []) = is_component (word ++ c ∷ [])
@@ -35,9 +35,9 @@ is_name_after word (c ∷ d ∷ rest) =
 unfoldable pub is_name : List ℕ → Bool
 is_name text = is_name_after [] text
 
--- the test tells the names
-abbrev pub TellsNames : Type 0
-TellsNames = (text : List ℕ) → IsTrue (is_name text) ↔ IsName text
+-- the test says the names
+abbrev pub SaysNames : Type 0
+SaysNames = (text : List ℕ) → IsTrue (is_name text) ↔ IsName text
 
 -- the text, where it is a name
 abbrev pub name_of_text : List ℕ → Option (List ℕ)

@@ -1,4 +1,4 @@
--- What typing tells of an expression and its typed tree on a request and a store.
+-- What typing says of an expression and its typed tree on a request and a store.
 use Rattle.std.proofs.Common.{◌≡◌, ℕ, Bool, true, false, ◌||◌, List, [], ◌∷◌, ◌++◌, Option, Some, None, is_some, refl, sym, ap, ◌∙◌, subst}
 use Rattle.std.specs.Prelude.{Ok, IfSome}
 use Rattle.std.specs.Option.{option_and_then, option_map, option_map_or}

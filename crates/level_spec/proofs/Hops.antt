@@ -15,14 +15,14 @@ use Rattle.entity_store.specs.declared.request.Request.{Request}
 use Rattle.entity_store.specs.Store.{StoredEntity, Store, is_named, entity_at}
 use Rattle.level_spec.specs.Cut.{ids_held, ids_asked, is_among, entities_among, reach}
 use Rattle.level_spec.specs.Hops.{held_at, held_by, IsHop, IsNextHop, HopsReach}
-use Rattle.level_spec.proofs.Reached.{same_uid, in_front, AllAmong, held_reached}
+use Rattle.level_spec.proofs.Reached.{same_uid, in_prefix, AllAmong, held_reached}
 use Rattle.plain_lemmas.proofs.Booleans.{equal_by_both_ways, or_cases}
 
 append_split : (us ws : List EntityUID) (u : EntityUID) → is_among (us ++ ws) u ≡ true → (is_among us u ≡ true) ⊎ (is_among ws u ≡ true)
 append_split us ws u h = or_cases (is_among us u) (is_among ws u) (sym (list_any-append (uid_eq u) us ws) ∙ h)
 
 append_left : (us ws : List EntityUID) (u : EntityUID) → is_among us u ≡ true → is_among (us ++ ws) u ≡ true
-append_left us ws u h = in_front us ws u h
+append_left us ws u h = in_prefix us ws u h
 
 append_right : (us ws : List EntityUID) (u : EntityUID) → is_among ws u ≡ true → is_among (us ++ ws) u ≡ true
 append_right us ws u h = list_any-append (uid_eq u) us ws ∙ or_right (is_among us u) (is_among ws u) h

@@ -22,7 +22,7 @@ use Rattle.policy_core.specs.declared.outcome.EvalError.TheVariants.{MissingAttr
 use Rattle.policy_core.specs.declared.outcome.Outcome.{Outcome}
 use Rattle.policy_core.specs.declared.outcome.Outcome.TheVariants.{Value, Error}
 use Rattle.policy_core.specs.Operators.{found_or, attr_of, attr_value, tag_of, get_tag_value, binary_value}
-use Rattle.policy_core.specs.Eval.{literal_value, variable_value, truth_of, choose, with_value, in_front, record_outcome, eval, eval_named, known_fields}
+use Rattle.policy_core.specs.Eval.{literal_value, variable_value, truth_of, choose, with_value, in_prefix, record_outcome, eval, eval_named, known_fields}
 use Rattle.policy_expressions.specs.Tree.{Tree, lit, var, slot, ite, conj, disj, unary, binary, attr, has, like, is_type, call, set as set_tree, rec as rec_tree, Named, no_named, named, Mark}
 use Rattle.schema_types.specs.Ty.{Ty}
 use Rattle.typing_spec.specs.Typing.{Typed}
@@ -153,7 +153,7 @@ module _ (q : Request) (s : Store) where
   binary_levelled p o ns x y h = tt
 
   -- a record literal: what stands under the first pending field
-  one_field : (o : Option ℕ) (ns : List (List ℕ)) (b : Bool) (k : List ℕ) (n : List ℕ) (j l : Option ℕ) (x : Outcome) (r : Result (List (List ℕ × Val)) EvalError) → is_eq (text_cmp n k) ≡ b → Levelled q s j ns x → Levelled q s l (n ∷ ns) (record_outcome r) → Levelled q s (cond b j l) (n ∷ ns) (record_outcome (in_front (λ v. (k, v)) x r))
+  one_field : (o : Option ℕ) (ns : List (List ℕ)) (b : Bool) (k : List ℕ) (n : List ℕ) (j l : Option ℕ) (x : Outcome) (r : Result (List (List ℕ × Val)) EvalError) → is_eq (text_cmp n k) ≡ b → Levelled q s j ns x → Levelled q s l (n ∷ ns) (record_outcome r) → Levelled q s (cond b j l) (n ∷ ns) (record_outcome (in_prefix (λ v. (k, v)) x r))
   one_field o ns true k n None l x r e h i = tt
   one_field o ns true k n (Some j) l (Error f) r e h i = tt
   one_field o ns true k n (Some j) l (Value v) (Err f) e h i = tt

@@ -26,8 +26,8 @@ uid_self x = ap is_eq (tied_itself uid_cmp_total x)
 abbrev pub Within : List EntityUID → List EntityUID → Type 0
 Within us ws = (u : EntityUID) → is_among us u ≡ true → is_among ws u ≡ true
 
-pub in_front : (us ws : List EntityUID) → Within us (us ++ ws)
-in_front us ws u h = list_any-append (uid_eq u) us ws ∙ or_left (is_among us u) (is_among ws u) h
+pub in_prefix : (us ws : List EntityUID) → Within us (us ++ ws)
+in_prefix us ws u h = list_any-append (uid_eq u) us ws ∙ or_left (is_among us u) (is_among ws u) h
 
 behind : (us ws : List EntityUID) → Within ws (us ++ ws)
 behind us ws u h = list_any-append (uid_eq u) us ws ∙ or_right (is_among us u) (is_among ws u) h
@@ -70,7 +70,7 @@ reach_grows q s j m h = here m (or_equal j m h)
     here : (m : ℕ) → (j ≡ m) ⊎ (nat_lt j m ≡ true) → Within (reach j q s) (reach m q s)
     here m (inl e) u i = subst (λ k. is_among (reach k q s) u ≡ true) e i
     here zero (inr l) u i = absurd (search (arith))
-    here (suc m) (inr l) u i = in_front (reach m q s) (flat_map ids_held (entities_among (reach m q s) s)) u (here m (or_equal j m l) u i)
+    here (suc m) (inr l) u i = in_prefix (reach m q s) (flat_map ids_held (entities_among (reach m q s) s)) u (here m (or_equal j m l) u i)
 
 -- an entity that is reached is found in the cut store as in the whole one
 pub found_among : (us : List EntityUID) (u : EntityUID) → is_among us u ≡ true → (s : Store) → entity_at (entities_among us s) u ≡ entity_at s u
@@ -98,7 +98,7 @@ held_among us u h (e ∷ s) = here (is_among us e.uid) refl (is_named u e) refl 
     weaker true (Some x) k = more_among (flat_map ids_held (entities_among us s)) (flat_map ids_held (e ∷ entities_among us s)) (ids_held x) (behind (ids_held e) (flat_map ids_held (entities_among us s))) k
 
     here : (b : Bool) → is_among us e.uid ≡ b → (c : Bool) → is_named u e ≡ c → IfSome (entity_at s u) (λ x. AllAmong (flat_map ids_held (entities_among us s)) (ids_held x)) → IfSome (cond c (Some e) (find (is_named u) s)) (λ x. AllAmong (flat_map ids_held (cond b (e ∷ entities_among us s) (entities_among us s))) (ids_held x))
-    here true i true j r = more_among (ids_held e) (flat_map ids_held (e ∷ entities_among us s)) (ids_held e) (in_front (ids_held e) (flat_map ids_held (entities_among us s))) (among_self (ids_held e))
+    here true i true j r = more_among (ids_held e) (flat_map ids_held (e ∷ entities_among us s)) (ids_held e) (in_prefix (ids_held e) (flat_map ids_held (entities_among us s))) (among_self (ids_held e))
     here false i true j r = let f : true ≡ false = sym (subst (λ w. is_among us w ≡ true) (same_uid u e.uid j) h) ∙ i in absurd (cc)
     here b i false j r = weaker b (find (is_named u) s) r
 

@@ -16,7 +16,7 @@ use Rattle.policy_core.specs.declared.outcome.Outcome.TheVariants.{Value, Error}
 use Rattle.policy_core.specs.Calls.{call_outcome}
 use Rattle.policy_values.specs.Uid.{uid_eq}
 use Rattle.policy_core.specs.Operators.{above, or_within, within, within_any, in_value, attr_of, attr_value, has_of, has_value, tag_of, get_tag_value, has_tag_of, has_tag_value, unary_value, binary_value, like_value, is_value}
-use Rattle.policy_core.specs.Eval.{truth_of, truth_outcome, choose, with_value, in_front, set_outcome, record_outcome, eval, eval_all, eval_named}
+use Rattle.policy_core.specs.Eval.{truth_of, truth_outcome, choose, with_value, in_prefix, set_outcome, record_outcome, eval, eval_all, eval_named}
 use Rattle.policy_expressions.specs.Tree.{Tree, lit, var, slot, ite, conj, disj, unary, binary, attr, has, like, is_type, call, set as set_tree, rec as rec_tree, Trees, no_trees, tree, Named, no_named, named, Mark}
 use Rattle.schema_types.specs.Ty.{Ty}
 use Rattle.typing_spec.specs.Typing.{Typed}
@@ -156,7 +156,7 @@ module _ (q : Request) (s : Store) (n : ℕ) where
       same_all no_trees no_trees f p = refl
       same_all (tree x xs) (tree y ys) f p =
           let r = both_below n (dereferences g y) (dereferences_all g ys) p in
-          (λ i. in_front (λ v. v) (same x y f.0 r.0 i) (same_all xs ys f.1 r.1 i))
+          (λ i. in_prefix (λ v. v) (same x y f.0 r.0 i) (same_all xs ys f.1 r.1 i))
       same_all no_trees (tree y ys) f p = absurd f
       same_all (tree x xs) no_trees f p = absurd f
 
@@ -164,6 +164,6 @@ module _ (q : Request) (s : Store) (n : ℕ) where
       same_named no_named no_named f p = refl
       same_named (named k x xs) (named l y ys) f p =
           let r = both_below n (dereferences g y) (dereferences_named g ys) p in
-          (λ i. in_front (λ v. (k, v)) (same x y f.1 r.0 i) (same_named xs ys f.2 r.1 i))
+          (λ i. in_prefix (λ v. (k, v)) (same x y f.1 r.0 i) (same_named xs ys f.2 r.1 i))
       same_named no_named (named l y ys) f p = absurd f
       same_named (named k x xs) no_named f p = absurd f

@@ -91,14 +91,14 @@ IsIn x [] = ⊥
 IsIn x (y ∷ ys) = (y ≡ x) ⊎ IsIn x ys
 
 -- the level that is needed is one more than that of the left operand of some dereference, which is not below
--- the maximum; a literal is told only where some left operand has no level
-abbrev pub IsFaultTold : ℕ → List (Option ℕ) → LevelFault → Type 0
-IsFaultTold n os (needs_level j l) = (k : ℕ) × (j ≡ k + 1) × (nat_lt k n ≡ false) × IsIn (Some k) os
-IsFaultTold n os (literal_target l) = IsIn None os
+-- the maximum; a literal is reported only where some left operand has no level
+abbrev pub IsFaultReported : ℕ → List (Option ℕ) → LevelFault → Type 0
+IsFaultReported n os (needs_level j l) = (k : ℕ) × (j ≡ k + 1) × (nat_lt k n ≡ false) × IsIn (Some k) os
+IsFaultReported n os (literal_target l) = IsIn None os
 
 -- nothing is found exactly where an expression passes, and what is found is so
 abbrev pub LevelFaultsAreExact : Type 0
 LevelFaultsAreExact =
     (action : Option EntityUID) (n : ℕ) (e : Typed) →
     ((level_faults action n e ≡ []) ↔ (passes action n e ≡ true)) ×
-    AllByRecursion (IsFaultTold n (dereferences action e)) (level_faults action n e)
+    AllByRecursion (IsFaultReported n (dereferences action e)) (level_faults action n e)

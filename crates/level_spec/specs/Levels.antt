@@ -72,7 +72,7 @@ module _ (action : Option EntityUID) where
   literal_level l = None
 
   -- how many steps from the request the ids are that an expression gives, or those under the pending fields
-  -- of the record that it gives; none where that cannot be told
+  -- of the record that it gives; none where that cannot be reported
   abbrev mutual
     pub level : Typed → List (List ℕ) → Option ℕ
     level (lit l a) fs = literal_level l

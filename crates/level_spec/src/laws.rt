@@ -35,7 +35,7 @@ pub fn static_levels_are_sound()
     levels_are_sound();
 }
 
-/// Nothing is found exactly where an expression passes at a level; each finding tells of a dereference.
+/// Nothing is found exactly where an expression passes at a level; each finding says of a dereference.
 pub fn level_faults_are_exact()
     ensures { LevelFaultsAreExact }
 {}

@@ -3,9 +3,9 @@ use Rattle.std.proofs.Common.{◌≡◌, ℕ, List, [], ◌∷◌, ◌++◌, Opt
 use Rattle.std.specs.Prelude.{◌↔◌}
 use Rattle.std.specs.List.{flat_map, AllByRecursion}
 use Rattle.policy_scope.specs.Names.{distinct}
-use Rattle.level_spec.specs.Findings.{LevelFault, needs_level, literal_target, IsIn, IsFaultTold, LevelFaultsAreExact}
+use Rattle.level_spec.specs.Findings.{LevelFault, needs_level, literal_target, IsIn, IsFaultReported, LevelFaultsAreExact}
 use Rattle.level_validate.specs.Faults.{fault_cmp}
-use Rattle.level_validate.specs.Errors.{level_error, Condition, faults_in, dereferences_in, PassesIn, IsToldOf, LevelErrorsAreExact}
+use Rattle.level_validate.specs.Errors.{level_error, Condition, faults_in, dereferences_in, PassesIn, IsReportedOf, LevelErrorsAreExact}
 use Rattle.level_validate.proofs.Once.{all_kept, none_distinct}
 use Rattle.plain_lemmas.proofs.Lists.{append_empty_parts}
 
@@ -43,32 +43,32 @@ module _ (exact : LevelFaultsAreExact) (n : ℕ) where
     (λ h. ap (λ fs. map (level_error id n) (distinct fault_cmp fs)) (none_found cs h)),
   )
 
-  more_told : (os ps : List (Option ℕ)) → ((x : Option ℕ) → IsIn x os → IsIn x ps) → (fs : List LevelFault) → AllByRecursion (IsFaultTold n os) fs → AllByRecursion (IsFaultTold n ps) fs
-  more_told os ps f [] h = tt
-  more_told os ps f (needs_level j l ∷ fs) h = ((h.0.0, h.0.1, h.0.2, f (Some h.0.0) h.0.3), more_told os ps f fs h.1)
-  more_told os ps f (literal_target l ∷ fs) h = (f None h.0, more_told os ps f fs h.1)
+  more_reported : (os ps : List (Option ℕ)) → ((x : Option ℕ) → IsIn x os → IsIn x ps) → (fs : List LevelFault) → AllByRecursion (IsFaultReported n os) fs → AllByRecursion (IsFaultReported n ps) fs
+  more_reported os ps f [] h = tt
+  more_reported os ps f (needs_level j l ∷ fs) h = ((h.0.0, h.0.1, h.0.2, f (Some h.0.0) h.0.3), more_reported os ps f fs h.1)
+  more_reported os ps f (literal_target l ∷ fs) h = (f None h.0, more_reported os ps f fs h.1)
 
   both_all : (P : LevelFault → Type 0) (fs gs : List LevelFault) → AllByRecursion P fs → AllByRecursion P gs → AllByRecursion P (fs ++ gs)
   both_all P [] gs h i = i
   both_all P (f ∷ fs) gs h i = (h.0, both_all P fs gs h.1 i)
 
-  all_told : (cs : Conditions) → AllByRecursion (IsFaultTold n (flat_map dereferences_in cs)) (flat_map (faults_in n) cs)
-  all_told [] = tt
-  all_told (c ∷ cs) =
-      both_all (IsFaultTold n (flat_map dereferences_in (c ∷ cs))) (faults_in n c) (flat_map (faults_in n) cs)
-      (more_told (dereferences_in c) (dereferences_in c ++ flat_map dereferences_in cs) (λ x h. in_left x (dereferences_in c) (flat_map dereferences_in cs) h) (faults_in n c) (exact c.0 n c.1).1)
-      (more_told (flat_map dereferences_in cs) (dereferences_in c ++ flat_map dereferences_in cs) (λ x h. in_right x (dereferences_in c) (flat_map dereferences_in cs) h) (flat_map (faults_in n) cs) (all_told cs))
+  all_reported : (cs : Conditions) → AllByRecursion (IsFaultReported n (flat_map dereferences_in cs)) (flat_map (faults_in n) cs)
+  all_reported [] = tt
+  all_reported (c ∷ cs) =
+      both_all (IsFaultReported n (flat_map dereferences_in (c ∷ cs))) (faults_in n c) (flat_map (faults_in n) cs)
+      (more_reported (dereferences_in c) (dereferences_in c ++ flat_map dereferences_in cs) (λ x h. in_left x (dereferences_in c) (flat_map dereferences_in cs) h) (faults_in n c) (exact c.0 n c.1).1)
+      (more_reported (flat_map dereferences_in cs) (dereferences_in c ++ flat_map dereferences_in cs) (λ x h. in_right x (dereferences_in c) (flat_map dereferences_in cs) h) (flat_map (faults_in n) cs) (all_reported cs))
 
-  as_errors : (id : List ℕ) (os : List (Option ℕ)) (fs : List LevelFault) → AllByRecursion (IsFaultTold n os) fs → AllByRecursion (IsToldOf id n os) (map (level_error id n) fs)
+  as_errors : (id : List ℕ) (os : List (Option ℕ)) (fs : List LevelFault) → AllByRecursion (IsFaultReported n os) fs → AllByRecursion (IsReportedOf id n os) (map (level_error id n) fs)
   as_errors id os [] h = tt
   as_errors id os (needs_level j l ∷ fs) h = ((refl, (refl, h.0)), as_errors id os fs h.1)
   as_errors id os (literal_target l ∷ fs) h = ((refl, h.0), as_errors id os fs h.1)
 
-  -- each error tells of a dereference
-  told_exactly : (id : List ℕ) (cs : Conditions) → AllByRecursion (IsToldOf id n (flat_map dereferences_in cs)) (map (level_error id n) (distinct fault_cmp (flat_map (faults_in n) cs)))
-  told_exactly id cs =
+  -- each error says of a dereference
+  reported_exactly : (id : List ℕ) (cs : Conditions) → AllByRecursion (IsReportedOf id n (flat_map dereferences_in cs)) (map (level_error id n) (distinct fault_cmp (flat_map (faults_in n) cs)))
+  reported_exactly id cs =
       as_errors id (flat_map dereferences_in cs) (distinct fault_cmp (flat_map (faults_in n) cs))
-      (all_kept (IsFaultTold n (flat_map dereferences_in cs)) [] (flat_map (faults_in n) cs) tt (all_told cs))
+      (all_kept (IsFaultReported n (flat_map dereferences_in cs)) [] (flat_map (faults_in n) cs) tt (all_reported cs))
 
 pub errors_are_exact : LevelFaultsAreExact → LevelErrorsAreExact
-errors_are_exact exact id n cs = (none_exactly exact n id cs, told_exactly exact n id cs)
+errors_are_exact exact id n cs = (none_exactly exact n id cs, reported_exactly exact n id cs)

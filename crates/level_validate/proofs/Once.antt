@@ -36,11 +36,11 @@ pub record IsOnce (seen : BTreeSet Parts) (left whole found : List LevelFault) :
   pub rest : fold (with_new fault_cmp) found left ≡ whole
   pub told : HasSeen seen found
 
-new_told : (e s : Bool) → (s || (e || false)) ≡ cond e true s
-new_told true true = refl
-new_told true false = refl
-new_told false true = refl
-new_told false false = refl
+new_reported : (e s : Bool) → (s || (e || false)) ≡ cond e true s
+new_reported true true = refl
+new_reported true false = refl
+new_reported false true = refl
+new_reported false false = refl
 
 module _ (o : Option ℕ) (l : Option Loc) (seen seen2 : BTreeSet Parts) (left whole found : List LevelFault) (h : IsOnce seen (fault_at o l ∷ left) whole found) where
   -- what is new
@@ -51,7 +51,7 @@ module _ (o : Option ℕ) (l : Option Loc) (seen seen2 : BTreeSet Parts) (left w
     told = λ f.
         list_any-append (λ x. is_eq (fault_cmp f x)) found (fault_at o l ∷ [])
         ∙ (λ i. h.told f i || (is_eq (parts_cmp (parts_of f) (parts_back o l i)) || false))
-        ∙ new_told (is_eq (parts_cmp (parts_of f) (o, l))) (contains parts_cmp seen (parts_of f))
+        ∙ new_reported (is_eq (parts_cmp (parts_of f) (o, l))) (contains parts_cmp seen (parts_of f))
         ∙ ap (λ b. cond b true (contains parts_cmp seen (parts_of f))) ((eq_by_cmp_equiv parts_total).symm (parts_of f) (o, l))
         ∙ sym (updates (parts_of f));
   }

@@ -51,22 +51,22 @@ abbrev pub level_errors_in : List ℕ → ℕ → List Condition → List Valida
 level_errors_in id n cs = map (level_error id n) (distinct fault_cmp (flat_map (faults_in n) cs))
 
 -- by the levels of the left operands of dereferences: the level that is needed is one more than one of these
--- that is not below the level allowed; and of a literal is told only where one has no level
-abbrev pub IsToldBy : ℕ → List (Option ℕ) → EntityDerefViolationKind → Type 0
-IsToldBy n os (MaximumLevelExceeded allowed actual) =
+-- that is not below the level allowed; and of a literal is reported only where one has no level
+abbrev pub IsReportedBy : ℕ → List (Option ℕ) → EntityDerefViolationKind → Type 0
+IsReportedBy n os (MaximumLevelExceeded allowed actual) =
     (allowed.level ≡ n) × ((k : ℕ) × (actual.level ≡ k + 1) × (nat_lt k n ≡ false) × IsIn (Some k) os)
-IsToldBy n os LiteralDerefTarget = IsIn None os
+IsReportedBy n os LiteralDerefTarget = IsIn None os
 
-abbrev pub IsToldOf : List ℕ → ℕ → List (Option ℕ) → ValidationError → Type 0
-IsToldOf id n os (EntityDerefLevelViolation e) = (e.policy_id ≡ id) × IsToldBy n os e.violation_kind
-IsToldOf id n os e = ⊥
+abbrev pub IsReportedOf : List ℕ → ℕ → List (Option ℕ) → ValidationError → Type 0
+IsReportedOf id n os (EntityDerefLevelViolation e) = (e.policy_id ≡ id) × IsReportedBy n os e.violation_kind
+IsReportedOf id n os e = ⊥
 
--- there is no error exactly where each condition passes, and each error tells of a dereference
+-- there is no error exactly where each condition passes, and each error says of a dereference
 abbrev pub LevelErrorsAreExact : Type 0
 LevelErrorsAreExact =
     (id : List ℕ) (n : ℕ) (cs : List Condition) →
     ((level_errors_in id n cs ≡ []) ↔ AllByRecursion (PassesIn n) cs) ×
-    AllByRecursion (IsToldOf id n (flat_map dereferences_in cs)) (level_errors_in id n cs)
+    AllByRecursion (IsReportedOf id n (flat_map dereferences_in cs)) (level_errors_in id n cs)
 
 -- a condition as code has it
 abbrev pub condition_in : RequestEnv × Typed → Condition

@@ -18,7 +18,7 @@ fault_at None l = literal_target l
 abbrev pub fault_of : Fault → LevelFault
 fault_of f = fault_at f.needed f.source_loc
 
--- two are the same one where they tell the same of the same place
+-- two are the same one where they say the same of the same place
 abbrev pub parts_of : LevelFault → Option ℕ × Option Loc
 parts_of (needs_level k l) = (Some k, l)
 parts_of (literal_target l) = (None, l)

@@ -7,7 +7,7 @@ ghost use Rattle.schema_core.specs.RequestEnvs.{env_data_of};
 ghost use Rattle.policy_scope.specs.Names.{distinct, with_new};
 ghost use Rattle.level_spec.specs.Findings.{level_faults};
 ghost use Rattle.level_validate.specs.Faults.{fault_of, fault_cmp};
-ghost use Rattle.level_validate.specs.Errors.{level_error, level_errors_in, faults_in, dereferences_in, PassesIn, IsToldOf, condition_in};
+ghost use Rattle.level_validate.specs.Errors.{level_error, level_errors_in, faults_in, dereferences_in, PassesIn, IsReportedOf, condition_in};
 ghost use Rattle.level_validate.specs.Seen.{HasSeen};
 
 use crate::fault::Fault;
@@ -26,7 +26,7 @@ use std::marker::Model;
 /// dereference that needs a higher level, and for each that is of a literal or a slot. They stand in the
 /// order of the conditions, and in each in the order of the walk: those in the left operand of a dereference,
 /// those in its right operand, and that of the dereference; equal ones once, at the first place. Of a chain
-/// of dereferences only the outermost is told.
+/// of dereferences only the outermost is reported.
 pub fn level_errors(
     alloc: Global,
     policy_id: &Text,
@@ -39,7 +39,7 @@ pub fn level_errors(
         AllByRecursion (PassesIn max_level) (map condition_in conditions.now.items)) }
     ensures told { IfOk result
         (λ errors. AllByRecursion
-        (IsToldOf policy_id.now max_level
+        (IsReportedOf policy_id.now max_level
         (flat_map dereferences_in (map condition_in conditions.now.items))) errors.items) }
 {
     level_errors_are_exact();

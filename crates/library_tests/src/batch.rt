@@ -49,18 +49,18 @@ fn told(answer: &BatchAnswer) -> &'static str {
         BatchAnswer::Refused(_) => "refused ",
         BatchAnswer::Loading(EntitySliceError::LoaderFault) => "fault ",
         BatchAnswer::Loading(_) => "not loaded ",
-        BatchAnswer::Decided(response) => told_response(response),
+        BatchAnswer::Decided(response) => reported_response(response),
     }
 }
 
-fn told_response(response: &Response) -> &'static str {
+fn reported_response(response: &Response) -> &'static str {
     match response.decision() {
         Decision::Allow => "allow ",
         Decision::Deny => "deny ",
     }
 }
 
-fn told_all(alloc: Global, answers: &Vec<BatchAnswer>) -> Result<String, Fail> {
+fn reported_all(alloc: Global, answers: &Vec<BatchAnswer>) -> Result<String, Fail> {
     let mut text = String::new(alloc);
     for answer in answers {
         text.push_str(told(answer))?;
@@ -84,7 +84,7 @@ fn on_rows(
         ..
     } = document;
     let answers = decide_batch_on_rows(alloc, schema, policies, requests, &mut loader)?;
-    told_all(alloc, &answers)
+    reported_all(alloc, &answers)
 }
 
 fn on_store(alloc: Global, document: &Document, requests: &Vec<Request>) -> Result<String, Fail> {
@@ -95,7 +95,7 @@ fn on_store(alloc: Global, document: &Document, requests: &Vec<Request>) -> Resu
         ..
     } = document;
     let answers = decide_batch_on_store(alloc, schema, policies, requests, entities)?;
-    told_all(alloc, &answers)
+    reported_all(alloc, &answers)
 }
 
 // The answers over rows of which this call fails; without one, over the store.

@@ -1,4 +1,4 @@
-//! Environments of a schema, types of ids and capabilities: that these calls succeed, and what they tell.
+//! Environments of a schema, types of ids and capabilities: that these calls succeed, and what they say.
 
 use json_document::{parse_json, read_schema};
 use policy_expressions::{Expr, Var};
@@ -32,7 +32,7 @@ fn schema(alloc: Global) -> Result<ValidatorSchema, Fail> {
 }
 
 // The entries of an environment, where all its types can be made.
-fn told_env(alloc: Global, schema: &ValidatorSchema, env: &RequestEnv) -> Result<String, Fail> {
+fn reported_env(alloc: Global, schema: &ValidatorSchema, env: &RequestEnv) -> Result<String, Fail> {
     drop(env.principal_type(alloc)?);
     drop(env.action_type(alloc, schema)?);
     drop(env.resource_type(alloc)?);
@@ -51,7 +51,7 @@ fn environments_of_a_schema(rt: HostRuntime) -> Result<(), Fail> {
     let schema = schema(alloc)?;
     let mut told = String::new(alloc);
     for env in schema.unlinked_request_envs(alloc)? {
-        told.push_str(told_env(alloc, &schema, &env)?.as_str())?;
+        told.push_str(reported_env(alloc, &schema, &env)?.as_str())?;
         if let Some(action) = env.action_entity_uid() {
             assert!(rt; euid_literal(alloc, action, &schema)?.is_some());
         }

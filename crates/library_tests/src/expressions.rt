@@ -127,7 +127,7 @@ fn store(alloc: Global) -> Result<Entities, AllocError> {
     }
 }
 
-fn told_value(alloc: Global, value: &Value) -> Result<String, AllocError> {
+fn reported_value(alloc: Global, value: &Value) -> Result<String, AllocError> {
     let json = write_value(alloc, value)?;
     let text = json.to_string(alloc);
     drop(json);
@@ -135,18 +135,21 @@ fn told_value(alloc: Global, value: &Value) -> Result<String, AllocError> {
 }
 
 // The value in JSON, or the name of the error.
-fn told_outcome(alloc: Global, outcome: &Outcome) -> Result<String, AllocError> {
+fn reported_outcome(alloc: Global, outcome: &Outcome) -> Result<String, AllocError> {
     match outcome {
-        Outcome::Value(value) => told_value(alloc, value),
+        Outcome::Value(value) => reported_value(alloc, value),
         Outcome::Error(EvalError::MissingEntity(uid)) => format!(in alloc; "MissingEntity {uid}"),
         Outcome::Error(error) => format!(in alloc; "{error:?}"),
     }
 }
 
-fn told_result(alloc: Global, outcome: Result<Outcome, AllocError>) -> Result<String, AllocError> {
+fn reported_result(
+    alloc: Global,
+    outcome: Result<Outcome, AllocError>,
+) -> Result<String, AllocError> {
     match outcome {
         Ok(outcome) => {
-            let told = told_outcome(alloc, &outcome);
+            let told = reported_outcome(alloc, &outcome);
             drop(outcome);
             told
         }
@@ -154,27 +157,27 @@ fn told_result(alloc: Global, outcome: Result<Outcome, AllocError>) -> Result<St
     }
 }
 
-fn told_for(alloc: Global, expr: &Expr<()>, request: &Request) -> Result<String, AllocError> {
+fn reported_for(alloc: Global, expr: &Expr<()>, request: &Request) -> Result<String, AllocError> {
     if !request.is_whole() {
         return Err(AllocError);
     }
     let store = store(alloc)?;
     let outcome = evaluate(alloc, expr, request, &store);
     drop(store);
-    told_result(alloc, outcome)
+    reported_result(alloc, outcome)
 }
 
-fn told_expr(alloc: Global, expr: &Expr<()>, context: &str) -> Result<String, AllocError> {
+fn reported_expr(alloc: Global, expr: &Expr<()>, context: &str) -> Result<String, AllocError> {
     let request = request(alloc, context)?;
-    let told = told_for(alloc, expr, &request);
+    let told = reported_for(alloc, expr, &request);
     drop(request);
     told
 }
 
-fn told_tree(alloc: Global, tree: &Tree<'_>, context: &str) -> Result<String, AllocError> {
+fn reported_tree(alloc: Global, tree: &Tree<'_>, context: &str) -> Result<String, AllocError> {
     match read_expr(alloc, tree)? {
         Some(Bounded::Within(expr)) => {
-            let told = told_expr(alloc, &expr, context);
+            let told = reported_expr(alloc, &expr, context);
             drop(expr);
             told
         }
@@ -188,7 +191,7 @@ fn told(alloc: Global, text: &str, context: &str) -> Result<String, AllocError> 
     let mut scratch = Scratch::new(alloc);
     match read_tree(alloc, text.as_bytes(), &mut scratch)? {
         Some(tree) => {
-            let told = told_tree(alloc, &tree, context);
+            let told = reported_tree(alloc, &tree, context);
             drop(tree);
             told
         }

@@ -171,7 +171,7 @@ fn warnings_are_copied(found: &ValidationResult) -> Result<bool, Fail> {
     Ok(equal)
 }
 
-// What the schema tells of the contexts of the action with this eid.
+// What the schema says of the contexts of the action with this eid.
 fn context_of<'a>(
     alloc: Global,
     document: &'a Document,
@@ -192,7 +192,7 @@ fn context_of<'a>(
     }
 }
 
-// Whether what is told of the contexts of one action equals its copy, and whether it equals that of another.
+// Whether what is reported of the contexts of one action equals its copy, and whether it equals that of another.
 fn copied_contexts(alloc: Global, document: &Document) -> Result<String, Fail> {
     let Some(view) = context_of(alloc, document, "view")? else {
         return Ok(String::new(alloc));

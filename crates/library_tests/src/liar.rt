@@ -30,7 +30,7 @@ pub(crate) enum Way {
     FailsAt(u64),
 }
 
-/// A loader that tells no store. It counts each list of answers as one that may stray.
+/// A loader that says no store. It counts each list of answers as one that may stray.
 #[derive(Drop)]
 pub(crate) struct Liar<'a> {
     /// From where the answers are.
@@ -64,7 +64,7 @@ impl<'a> Liar<'a> {
 impl EntityLoader for Liar<'_> {
     ghost use Rattle.std.specs.Prelude.{false, None};
 
-    // It tells no store, and what it has counted.
+    // It says no store, and what it has counted.
     ghost state = { λ l. record {
       store = None;
       exact = false;

@@ -20,7 +20,7 @@ use std::test::Fail;
 const SCHEMA: &str =
     r#"{"entityTypes":{"Group":{},"Photo":{},"User":{"memberOf":["Group"],"attributes":{"name":"String"}}},"actions":[{"id":["Action","view"],"principals":["User"],"resources":["Photo"]}]}"#;
 
-// Edits, what each is told with the ids of the templates and policies behind it, and how many environments may be typed for
+// Edits, what each is reported with the ids of the templates and policies behind it, and how many environments may be typed for
 // all of them: two for a policy or a link, four for a template, of which there are two.
 const ROWS: [(&str, &str, u64); 8] = [
     ("", "", 0),
@@ -66,7 +66,7 @@ const ROWS: [(&str, &str, u64); 8] = [
     ),
 ];
 
-fn told_fault(fault: &PolicySetError) -> &'static str {
+fn reported_fault(fault: &PolicySetError) -> &'static str {
     match fault {
         PolicySetError::DuplicateId(_) => "duplicate id",
         PolicySetError::UnknownTemplate(_) => "unknown template",
@@ -76,12 +76,12 @@ fn told_fault(fault: &PolicySetError) -> &'static str {
     }
 }
 
-fn told_added(alloc: Global, added: Result<(), LiveManifestError>) -> Result<String, Fail> {
+fn reported_added(alloc: Global, added: Result<(), LiveManifestError>) -> Result<String, Fail> {
     match added {
         Ok(()) => Ok(String::from_str(alloc, "ok")?),
         Err(LiveManifestError::PolicySet(fault)) => Ok(String::from_str(
             alloc,
-            told_fault(&fault),
+            reported_fault(&fault),
         )?),
         Err(LiveManifestError::Validation(found)) => {
             let errors = found.validation_errors().len();
@@ -92,7 +92,7 @@ fn told_added(alloc: Global, added: Result<(), LiveManifestError>) -> Result<Str
     }
 }
 
-fn told_removed(removed: Result<(), LiveRemovalError<'_>>) -> &'static str {
+fn reported_removed(removed: Result<(), LiveRemovalError<'_>>) -> &'static str {
     match removed {
         Ok(()) => "ok",
         Err(LiveRemovalError::PolicySet(RemovalError::UnknownPolicy(_))) => "unknown id",
@@ -102,7 +102,7 @@ fn told_removed(removed: Result<(), LiveRemovalError<'_>>) -> &'static str {
 }
 
 fn remove(alloc: Global, live: &mut LiveManifest<'_>, id: Text) -> Result<String, Fail> {
-    let told = told_removed(live.remove(&id));
+    let told = reported_removed(live.remove(&id));
     drop(id);
     Ok(String::from_str(alloc, told)?)
 }
@@ -120,10 +120,10 @@ fn link<L: Ledger>(
     } = link;
     let pairs = slot_pairs(alloc, values)?;
     let added = live.link(&template, id, pairs, steps);
-    told_added(alloc, added)
+    reported_added(alloc, added)
 }
 
-// Makes an edit, and says what is told of it.
+// Makes an edit, and says what is reported of it.
 fn make<L: Ledger>(
     alloc: Global,
     live: &mut LiveManifest<'_>,
@@ -137,7 +137,7 @@ fn make<L: Ledger>(
             } else {
                 live.add_static(template, steps)
             };
-            told_added(alloc, added)
+            reported_added(alloc, added)
         }
         Edit::Link(values) => link(alloc, live, values, steps),
         Edit::Remove(id) => remove(alloc, live, id),
@@ -176,8 +176,8 @@ fn is_computed(
     }
 }
 
-// What an edit is told, with the ids behind it.
-fn told_edit<L: Ledger>(
+// What an edit is reported, with the ids behind it.
+fn reported_edit<L: Ledger>(
     alloc: Global,
     schema: &ValidatorSchema,
     live: &mut LiveManifest<'_>,
@@ -194,8 +194,8 @@ fn told_edit<L: Ledger>(
     Ok(format!(in alloc; "{told}{ids}{kept}; ")?)
 }
 
-// What each edit is told, one after another.
-fn told_edits<L: Ledger>(
+// What each edit is reported, one after another.
+fn reported_edits<L: Ledger>(
     alloc: Global,
     schema: &ValidatorSchema,
     edits: Edits,
@@ -204,7 +204,7 @@ fn told_edits<L: Ledger>(
     let mut live = LiveManifest::new(alloc, schema);
     let mut text = String::new(alloc);
     for edit in edits.into_vec() {
-        let told = told_edit(alloc, schema, &mut live, edit, steps)?;
+        let told = reported_edit(alloc, schema, &mut live, edit, steps)?;
         text.push_str(told.as_str())?;
     }
     Ok(text)
@@ -222,11 +222,11 @@ fn told<L: Ledger>(
 {
     let edits = mem::replace(&mut document.edits, Edits::new(Vec::new(alloc)));
     let mut steps = Steps::<L>::new(blank);
-    let text = told_edits(alloc, &document.schema, edits, &mut steps)?;
+    let text = reported_edits(alloc, &document.schema, edits, &mut steps)?;
     Ok((text, steps.count()))
 }
 
-fn told_of(alloc: Global, edits: &str) -> Result<(String, u64), Fail> {
+fn reported_of(alloc: Global, edits: &str) -> Result<(String, u64), Fail> {
     let text = format!(in alloc; "{{\"schema\":{SCHEMA},\"edits\":[{edits}]}}")?;
     match read_document_as(alloc, Shape::Live, text.as_bytes()) {
         Ok(document) => told::<Brand>(alloc, document, Blank::new(1)),
@@ -240,7 +240,7 @@ fn told_of(alloc: Global, edits: &str) -> Result<(String, u64), Fail> {
 #[test]
 fn refused_edits_change_nothing(rt: HostRuntime) -> Result<(), Fail> {
     for (edits, due, most) in ROWS {
-        let (told, steps) = told_of(rt.alloc(), edits)?;
+        let (told, steps) = reported_of(rt.alloc(), edits)?;
         assert_eq!(rt; told.as_str(), due);
         assert!(rt; steps <= most, "{steps} environments for {edits}");
     }

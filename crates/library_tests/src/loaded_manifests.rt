@@ -50,7 +50,7 @@ fn told(
     let text = match &manifest {
         Ok(manifest) => written(alloc, manifest),
         Err(EntityManifestFromJsonError::MismatchedEntityManifest(mismatch)) => {
-            told_mismatch(alloc, mismatch)
+            reported_mismatch(alloc, mismatch)
         }
         Err(_) => Ok(String::from_str(alloc, "no manifest")?),
     };
@@ -58,7 +58,10 @@ fn told(
     text
 }
 
-fn told_mismatch(alloc: Global, mismatch: &MismatchedEntityManifestError) -> Result<String, Fail> {
+fn reported_mismatch(
+    alloc: Global,
+    mismatch: &MismatchedEntityManifestError,
+) -> Result<String, Fail> {
     match mismatch {
         MismatchedEntityManifestError::MismatchedMissingEntity(missing) => {
             Ok(format!(in alloc; "MismatchedMissingEntity {}", missing.entity)?)

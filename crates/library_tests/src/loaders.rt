@@ -122,7 +122,7 @@ fn told(
             };
             Ok(format!(in alloc; "{text}{on_these}{otherwise}")?)
         }
-        Err(error) => told_error(alloc, error),
+        Err(error) => reported_error(alloc, error),
     }
 }
 
@@ -140,7 +140,7 @@ fn decided(alloc: Global, document: &Document, entities: &Entities) -> Result<St
     Ok(text.as_str().replace(alloc, "\n", "")?)
 }
 
-fn told_error(alloc: Global, error: &EntitySliceError) -> Result<String, Fail> {
+fn reported_error(alloc: Global, error: &EntitySliceError) -> Result<String, Fail> {
     match error {
         EntitySliceError::PartialRequest(_) => Ok(String::from_str(alloc, "PartialRequest")?),
         EntitySliceError::IncompatibleEntityManifest(stuck) => {

@@ -33,7 +33,10 @@ const REFUSED: &str =
 {"perAction":[],"more":[]} => SerdeJsonParseError
 {"perAction":[] => SerdeJsonParseError"#;
 
-fn told_mismatch(alloc: Global, mismatch: &MismatchedEntityManifestError) -> Result<String, Fail> {
+fn reported_mismatch(
+    alloc: Global,
+    mismatch: &MismatchedEntityManifestError,
+) -> Result<String, Fail> {
     match mismatch {
         MismatchedEntityManifestError::MismatchedMissingEntity(missing) => {
             Ok(format!(in alloc; "MismatchedMissingEntity {}", missing.entity)?)
@@ -47,13 +50,13 @@ fn told_mismatch(alloc: Global, mismatch: &MismatchedEntityManifestError) -> Res
     }
 }
 
-fn told_error(alloc: Global, error: &EntityManifestFromJsonError) -> Result<String, Fail> {
+fn reported_error(alloc: Global, error: &EntityManifestFromJsonError) -> Result<String, Fail> {
     match error {
         EntityManifestFromJsonError::SerdeJsonParseError => {
             Ok(String::from_str(alloc, "SerdeJsonParseError")?)
         }
         EntityManifestFromJsonError::MismatchedEntityManifest(mismatch) => {
-            told_mismatch(alloc, mismatch)
+            reported_mismatch(alloc, mismatch)
         }
         EntityManifestFromJsonError::OutOfMemory => Ok(String::from_str(alloc, "OutOfMemory")?),
     }
@@ -78,7 +81,7 @@ fn told(
             text
         }
         Err(error) => {
-            let text = told_error(alloc, &error);
+            let text = reported_error(alloc, &error);
             drop(error);
             text
         }

@@ -20,7 +20,7 @@ fn named(alloc: Global, fault: &SchemaFault) -> Result<String, AllocError> {
     }
 }
 
-fn told_place(alloc: Global, place: &Place) -> Result<String, AllocError> {
+fn reported_place(alloc: Global, place: &Place) -> Result<String, AllocError> {
     match place {
         Place::SchemaFault(fault) => {
             let name = named(alloc, fault)?;
@@ -30,7 +30,7 @@ fn told_place(alloc: Global, place: &Place) -> Result<String, AllocError> {
     }
 }
 
-fn told_schema(
+fn reported_schema(
     alloc: Global,
     schema: Result<ValidatorSchema, DocumentFault>,
 ) -> Result<String, AllocError> {
@@ -40,7 +40,7 @@ fn told_schema(
             String::from_str(alloc, "ok")
         }
         Err(DocumentFault::Place(place)) => {
-            let told = told_place(alloc, &place);
+            let told = reported_place(alloc, &place);
             drop(place);
             told
         }
@@ -54,13 +54,13 @@ fn told(alloc: Global, text: &str) -> Result<String, AllocError> {
         Some(value) => {
             let schema = read_schema(alloc, &value);
             drop(value);
-            told_schema(alloc, schema)
+            reported_schema(alloc, schema)
         }
         None => String::from_str(alloc, "document: json"),
     }
 }
 
-// The lines that do not hold, each with what is told in place of what it says.
+// The lines that do not hold, each with what is reported in place of what it says.
 fn failures(alloc: Global, table: &str) -> Result<String, AllocError> {
     let mut failures = String::new(alloc);
     for line in table.lines() {
@@ -277,7 +277,7 @@ const OF_TWO_FAULTS_THE: &str =
 {"actions":[{"id":["Action","a"],"memberOf":[["Action","a"]],"context":{"x":{"entity":"V"}}}]} => document: schema: type is not declared: V"#;
 
 #[test]
-fn tells_schema_faults(rt: HostRuntime) -> Result<(), Fail> {
+fn says_schema_faults(rt: HostRuntime) -> Result<(), Fail> {
     let tables = [
         EACH_FAULT_ALONE,
         TYPES_THAT_ARE_NOT,

@@ -33,10 +33,10 @@ use Rattle.policy_set.specs.declared.constraint.ActionConstraint.TheVariants as 
 use Rattle.policy_set.specs.Condition.{id_literal, literals, action_part}
 use Rattle.policy_scope.specs.Scope.{action_meets}
 use Rattle.link_spec.specs.Linked.{linked_env}
-use Rattle.typecheck_rules.specs.Walked.{Success, has_typing, ended, lent_by_all, trees_walked, findings_of_all, lends}
+use Rattle.typecheck_rules.specs.Walked.{Success, has_typing, ended, given_by_all, trees_walked, findings_of_all, lends}
 use Rattle.findings.specs.Finding.{Finding}
 use Rattle.typecheck_rules.specs.Own.{set_found}
-use Rattle.typecheck_rules.specs.Operators.{leaf_walked, binary_lent, binary_own, binary_typing, binary_walked, set_typing, set_walked}
+use Rattle.typecheck_rules.specs.Operators.{leaf_walked, binary_given, binary_own, binary_typing, binary_walked, set_typing, set_walked}
 use Rattle.typecheck_rules.specs.Walk.{walked_all}
 use Rattle.policy_scope.specs.PlainScope.{is_action_of, are_plain_actions, is_plain_action}
 use Rattle.plain_lemmas.proofs.Booleans.{and_parts_of}
@@ -109,9 +109,9 @@ module _ (schema : SchemaData) where
       (λ j. join_rest Strict (cond ((and_parts_of (is_some (action_at schema w)) (text_eq u.entity_type w.entity_type) k.0).1 j) (Ok (action_type schema u)) (Err EntityType)) (map (action_type schema) us)) ∙
       joined_likes u us k.1
 
-  all_lent : (ts : List Typing) → lent_by_all (map Success ts) ≡ Some ts
-  all_lent [] = refl
-  all_lent (t ∷ ts) = ap (option_map (λ us. t ∷ us)) (all_lent ts)
+  all_given : (ts : List Typing) → given_by_all (map Success ts) ≡ Some ts
+  all_given [] = refl
+  all_given (t ∷ ts) = ap (option_map (λ us. t ∷ us)) (all_given ts)
 
   all_typed : (ts : List Typing) → list_all has_typing (map Success ts) ≡ true
   all_typed [] = refl
@@ -123,7 +123,7 @@ module _ (schema : SchemaData) where
   set_ends : (us : List EntityUID) → are_plain_actions schema us ≡ true → set_walked unmarked (map Success (map id_typing us)) ≡ Success (listed_typing us)
   set_ends [] h = absurd (true≢false (sym h))
   set_ends (u ∷ us) h =
-      (λ j. ended (all_typed (map id_typing (u ∷ us)) j) (option_and_then (set_typing unmarked) (all_lent (map id_typing (u ∷ us)) j)) failed found) ∙
+      (λ j. ended (all_typed (map id_typing (u ∷ us)) j) (option_and_then (set_typing unmarked) (all_given (map id_typing (u ∷ us)) j)) failed found) ∙
       (λ j. ended true (option_map (λ t. typing t [] (set (same_trees (u ∷ us) j) (at t unmarked))) (set_type (same_types (u ∷ us) j))) failed found) ∙
       (λ j. ended true (option_map (λ t. typing t [] (set (typed_ids schema (u ∷ us)) (at t unmarked))) (option_map set_of (result_ok (joined_likes u us (and_parts_of (is_action_of schema u.entity_type u) (list_all (is_action_of schema u.entity_type) us) h).1 j)))) failed found)
     where
@@ -131,7 +131,7 @@ module _ (schema : SchemaData) where
       failed = set (trees_walked (map Success (map id_typing (u ∷ us)))) (lends None unmarked)
 
       found : List Finding
-      found = findings_of_all (map Success (map id_typing (u ∷ us))) ++ option_map_or (λ ys. set_found None (types_in ys)) (lent_by_all (map Success (map id_typing (u ∷ us)))) []
+      found = findings_of_all (map Success (map id_typing (u ∷ us))) ++ option_map_or (λ ys. set_found None (types_in ys)) (given_by_all (map Success (map id_typing (u ∷ us)))) []
 
   module _ (env : EnvData) where
     all_walk : (cs : List Capability) (us : List EntityUID) → are_declared us ≡ true → walked_all schema env cs (literals us) ≡ map Success (map id_typing us)
@@ -198,7 +198,7 @@ module _ (schema : SchemaData) (actions : (u : EntityUID) → IsSome (action_at 
         (λ j. binary_walked schema env IsIn (has_cap cs (tag_known x y)) x y unmarked (leaf_walked (var variable.Action) unmarked (declared_type schema a.name named j))
         (set_walked unmarked (all_walk schema env cs (u ∷ us) (plain_declared (u ∷ us) h) j))) ∙
         (λ j. binary_walked schema env IsIn (has_cap cs (tag_known x y)) x y unmarked (Success v) (set_ends schema (u ∷ us) h j)) ∙
-        two_end (binary_typing schema env IsIn (has_cap cs (tag_known x y)) x y unmarked) (binary IsIn v.tree w.tree (lends (binary_lent schema env IsIn x y (Some v.type)) unmarked))
+        two_end (binary_typing schema env IsIn (has_cap cs (tag_known x y)) x y unmarked) (binary IsIn v.tree w.tree (lends (binary_given schema env IsIn x y (Some v.type)) unmarked))
         (binary_own schema env IsIn (has_cap cs (tag_known x y)) x y unmarked (Some v.type) (Some w.type)) v w
         (typing (verdict b false) [] (binary IsIn v.tree w.tree (at (verdict b false) unmarked)))
         (ap (λ z. Some (typing z [] (binary IsIn v.tree w.tree (at z unmarked)))) (in_set (u ∷ us) h))

@@ -19,7 +19,7 @@ use Rattle.policy_set.specs.Condition.{scope_of, condition_of}
 use Rattle.link_spec.specs.Linked.{linked_env}
 use Rattle.typecheck_rules.specs.Expected.{a_boolean}
 use Rattle.typecheck_rules.specs.Check.{TooDeep, Check, Fail as CheckFail, check_walked, condition_walked}
-use Rattle.typecheck_rules.specs.Walked.{Walked, Success, Fail, expect, expect_lent, untyped, unexpected, lent_by, lends, ended}
+use Rattle.typecheck_rules.specs.Walked.{Walked, Success, Fail, expect, expect_given, untyped, unexpected, given_by, lends, ended}
 use Rattle.typecheck_rules.specs.Operators.{place, and_sides, and_walked}
 use Rattle.typecheck_rules.specs.Walk.{walked}
 use Rattle.link_spec.specs.Parts.{Part, part, part_typing, whole_part, verdict, is_met_in}
@@ -40,7 +40,7 @@ expected_test l (Success b) = by (is_boolean b.type) refl
     by false h = tt
 expected_test l (Fail t fs) = by (mark_of t).note
   where
-    by : (n : Option Ty) → IsTest (expect_lent a_boolean l n t fs)
+    by : (n : Option Ty) → IsTest (expect_given a_boolean l n t fs)
     by None = tt
     by (Some u) = last (is_boolean u)
       where
@@ -99,8 +99,8 @@ module _ (l : Option Loc) (x : Typed) where
 
   right_ends : (s : Bool) (w : Walked) → IsTest w → whole s w ≡ behind (part true s x) w
   right_ends s (Success b) h = typed_right s b.type b.caps b.tree h
-  right_ends true (Fail t fs) h = failed_by true (lent_by (Fail t fs)) t fs
-  right_ends false (Fail t fs) h = failed_by false (lent_by (Fail t fs)) t fs
+  right_ends true (Fail t fs) h = failed_by true (given_by (Fail t fs)) t fs
+  right_ends false (Fail t fs) h = failed_by false (given_by (Fail t fs)) t fs
 
 module _ (schema : SchemaData) (env : EnvData) (scope body : Plain) where
   abbrev checked_with : Walked → Check

@@ -1,4 +1,4 @@
--- A check of a template that fails tells why.
+-- A check of a template that fails says why.
 use Rattle.std.proofs.Common.{ℕ, Bool, true, false, List, [], ◌∷◌, cond, Option, Some, None, IsSome, refl, sym, subst}
 use Rattle.std.specs.Cmp.{tied_itself}
 use Rattle.std.specs.List.{AllByRecursion, find}
@@ -10,8 +10,8 @@ use Rattle.schema_core.specs.Environments.{Environment, environment, environment
 use Rattle.schema_core.specs.Schema.{TypeData, ActionData, SchemaData, is_action_named, type_at, action_at}
 use Rattle.policy_set.specs.Data.{TemplateData}
 use Rattle.policy_set.specs.Condition.{condition_of}
-use Rattle.typecheck_rules.specs.Check.{checked, TellsWhy, RefusalIsTold}
-use Rattle.link_spec.specs.Laws.{RefusalsAreTold}
+use Rattle.typecheck_rules.specs.Check.{checked, SaysWhy, RefusalIsReported}
+use Rattle.link_spec.specs.Laws.{RefusalsAreReported}
 use Rattle.link_spec.specs.Linked.{linked_env, slot_types, linked_envs_with, linked_envs_at, linked_envs_of, linked_envs}
 use Rattle.link_spec.proofs.Links.{all_more, to_mapped, to_each}
 
@@ -63,6 +63,6 @@ actions_declared schema t = to_each Q (linked_envs_of schema t) schema.action_id
         R : Environment → Type 0
         R e = AllByRecursion Q (linked_envs_at schema t a e)
 
-pub refusals_told : RefusalIsTold → RefusalsAreTold
-refusals_told told schema t names =
-    all_more (λ env. IsSome (action_type_in schema env)) (λ env. TellsWhy (checked schema env (condition_of t))) (λ env h. told schema env h (condition_of t) names) (linked_envs schema t) (actions_declared schema t)
+pub refusals_reported : RefusalIsReported → RefusalsAreReported
+refusals_reported told schema t names =
+    all_more (λ env. IsSome (action_type_in schema env)) (λ env. SaysWhy (checked schema env (condition_of t))) (λ env h. told schema env h (condition_of t) names) (linked_envs schema t) (actions_declared schema t)

@@ -25,8 +25,8 @@ use Rattle.link_spec.proofs.Slots.{same_variable, same_known, same_binary}
 use Rattle.plain_lemmas.proofs.Booleans.{or_false_left, or_false_right}
 use Rattle.typecheck_rules.specs.Expected.{a_boolean, an_owner, no_help, left_of, right_of}
 use Rattle.typecheck_rules.specs.Own.{attribute_found, binary_found}
-use Rattle.typecheck_rules.specs.Walked.{Walked, tree_of, lent_by, lends, expect, expect_if, one_walked, two_walked}
-use Rattle.typecheck_rules.specs.Operators.{place, type_lent, leaf_walked, unary_walked, like_walked, is_walked, has_walked, attr_typing, attr_lent, attr_walked, binary_lent, binary_walked, and_walked, or_walked, if_walked, set_walked, record_walked, call_walked}
+use Rattle.typecheck_rules.specs.Walked.{Walked, tree_of, given_by, lends, expect, expect_if, one_walked, two_walked}
+use Rattle.typecheck_rules.specs.Operators.{place, type_given, leaf_walked, unary_walked, like_walked, is_walked, has_walked, attr_typing, attr_given, attr_walked, binary_given, binary_walked, and_walked, or_walked, if_walked, set_walked, record_walked, call_walked}
 use Rattle.typecheck_rules.specs.Walk.{walked, walked_all, walked_named}
 use Rattle.link_spec.specs.ScopeLaws.{BodiesReadNoSlots}
 
@@ -45,22 +45,22 @@ module _ (schema : SchemaData) (a : ActionData) (e : Environment) (p r p' r' : O
 
   same_attr : (known : Bool) (n : List ℕ) (m : Mark (Unit {0})) (l : Option Loc) (w : Walked) → attr_walked schema this known n m l w ≡ attr_walked schema other known n m l w
   same_attr known n m l w =
-      λ i. one_walked (attr_typing schema this known n m) (attr (tree_of v) n (lends (option_and_then (attr_lent schema this n) (type_lent v)) m))
-      (option_map_or (λ b. attribute_found schema (same_access b.tree (n ∷ []) i) known n m.loc b.type (attribute_of schema b.type n)) (lent_by v) []) v
+      λ i. one_walked (attr_typing schema this known n m) (attr (tree_of v) n (lends (option_and_then (attr_given schema this n) (type_given v)) m))
+      (option_map_or (λ b. attribute_found schema (same_access b.tree (n ∷ []) i) known n m.loc b.type (attribute_of schema b.type n)) (given_by v) []) v
     where
       v : Walked
       v = expect (an_owner no_help) l w
 
-  same_lent : (o : BinaryOp) (x y : Plain) (t : Option Ty) → binary_lent schema this o x y t ≡ binary_lent schema other o x y t
-  same_lent Eq x y t = λ i. Some (option_map_or truth_type (are_one (same_known schema a e p r p' r' x i) (same_known schema a e p r p' r' y i)) bool_type)
-  same_lent o x y t = refl
+  same_given : (o : BinaryOp) (x y : Plain) (t : Option Ty) → binary_given schema this o x y t ≡ binary_given schema other o x y t
+  same_given Eq x y t = λ i. Some (option_map_or truth_type (are_one (same_known schema a e p r p' r' x i) (same_known schema a e p r p' r' y i)) bool_type)
+  same_given o x y t = refl
 
-  -- an operator of two operands, by its rule and by what it lends
+  -- an operator of two operands, by its rule and by what it gives
   same_two : (o : BinaryOp) (known : Bool) (x y : Plain) (m : Mark (Unit {0})) (w z : Walked) → binary_walked schema this o known x y m w z ≡ binary_walked schema other o known x y m w z
   same_two o known x y m w z =
       λ i. two_walked (λ b c. option_map (λ t. typing t (binary_caps o x y) (binary o b.tree c.tree (at t m))) (rules i b.type c.type))
-      (binary o (tree_of v) (tree_of u) (lends (same_lent o x y (type_lent v) i) m))
-      (binary_found schema o known y (option_and_then (λ s. option_and_then (rules i s) (type_lent u)) (type_lent v)) (place x) (place y) m.loc (type_lent v) (type_lent u)) v u
+      (binary o (tree_of v) (tree_of u) (lends (same_given o x y (type_given v) i) m))
+      (binary_found schema o known y (option_and_then (λ s. option_and_then (rules i s) (type_given u)) (type_given v)) (place x) (place y) m.loc (type_given v) (type_given u)) v u
     where
       v : Walked
       v = expect_if (left_of o) (place x) w

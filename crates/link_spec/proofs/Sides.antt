@@ -36,7 +36,7 @@ use Rattle.link_spec.specs.Linked.{linked_env}
 use Rattle.type_relations.specs.Join.{is_entity}
 use Rattle.typecheck_rules.specs.Expected.{entities}
 use Rattle.typecheck_rules.specs.Walked.{Walked, Success, Fail, tree_of, untyped, unexpected, lends, two_walked}
-use Rattle.typecheck_rules.specs.Operators.{place, type_lent, leaf_walked, binary_lent, binary_own, binary_typing, binary_walked}
+use Rattle.typecheck_rules.specs.Operators.{place, type_given, leaf_walked, binary_given, binary_own, binary_typing, binary_walked}
 use Rattle.policy_scope.specs.PlainScope.{is_plain_side}
 use Rattle.typecheck_rules.specs.Walk.{walked}
 use Rattle.link_spec.specs.Parts.{part_typing, verdict, typed_variable, compared_part, type_part, side_part, Stands}
@@ -159,8 +159,8 @@ module _ (schema : SchemaData) (a : ActionData) (e : Environment) (s s' : Option
     in_id h cs =
         (λ j. binary_walked schema env IsIn (has_cap cs (tag_known x (id_literal u))) x (id_literal u) unmarked (variable_walked i cs j) (leaf_walked (lit (literal.EntityUID u)) unmarked (typed j))) ∙
         (λ j. two_walked (binary_typing schema env IsIn (has_cap cs (tag_known x (id_literal u))) x (id_literal u) unmarked)
-        (binary IsIn v.tree (tree_of (fitting (h j))) (lends (binary_lent schema env IsIn x (id_literal u) (Some v.type)) unmarked))
-        (binary_own schema env IsIn (has_cap cs (tag_known x (id_literal u))) x (id_literal u) unmarked (Some v.type) (type_lent (fitting (h j)))) (Success v) (fitting (h j))) ∙
+        (binary IsIn v.tree (tree_of (fitting (h j))) (lends (binary_given schema env IsIn x (id_literal u) (Some v.type)) unmarked))
+        (binary_own schema env IsIn (has_cap cs (tag_known x (id_literal u))) x (id_literal u) unmarked (Some v.type) (type_given (fitting (h j)))) (Success v) (fitting (h j))) ∙
         two_end (binary_typing schema env IsIn (has_cap cs (tag_known x (id_literal u))) x (id_literal u) unmarked) _ _ v w
         (typing (verdict within false) [] (binary IsIn v.tree w.tree (at (verdict within false) unmarked)))
         ((λ j. option_map (λ z. typing z [] (binary IsIn v.tree w.tree (at z unmarked))) (if true && (h j || is_entity_set t) then Some (in_listed_by i (u ∷ []) j) else None)) ∙

@@ -42,7 +42,7 @@ use Rattle.link_spec.proofs.Folds.{fold_same, all_in, all_listed, slots_stand}
 use Rattle.link_spec.proofs.Links.{to_each, to_mapped}
 use Rattle.link_spec.proofs.Whole.{side_comes, side_met}
 
--- the test for an action that is not declared finds nothing, and lends the type False
+-- the test for an action that is not declared finds nothing, and gives the type False
 abbrev tested : SchemaData → ActionData → EntityUID → Bool → Walked
 tested schema a u b = Fail (binary IsEqual (typed_action schema a) (lit (literal.EntityUID u) (lends None unmarked)) (lends (Some (truth_type b)) unmarked)) []
 
@@ -109,7 +109,7 @@ module _ (schema : SchemaData) (ok : IsSchema schema) (t : TemplateData) where
 
   module _ (u : EntityUID) (names : t.action ≡ asked.Eq u) (untyped : literal_type schema u ≡ None) (principal : is_plain_side schema t.principal ≡ true) (resource : is_plain_side schema t.resource ≡ true)
       (depth : nat_lt 200 (depth_of (condition_of t)) ≡ false) {S : Type 0} (h : Check → S → S) (skips : (x : Typed) (s : S) → h (Irrelevant x) s ≡ s) where
-    -- the step of a check and of what it tells are one
+    -- the step of a check and of what it says are one
     abbrev IsSame : EnvData → Type 0
     IsSame env = (s : S) → h (checked schema env (condition_of t)) s ≡ h (refused_check schema t env) s
 
@@ -153,6 +153,6 @@ module _ (schema : SchemaData) (ok : IsSchema schema) (t : TemplateData) where
         by true = refl
         by false = skips (unmet first None None second None (place t.body) body x.tree) s ∙ sym (skips unreached s)
 
-    -- the checks of the condition in all environments tell what is found of the body where the principal meets the scope
+    -- the checks of the condition in all environments say what is found of the body where the principal meets the scope
     pub refused_follow : (s : S) → fold (λ s env. h (checked schema env (condition_of t)) s) s (linked_envs schema t) ≡ fold (λ s env. h (refused_check schema t env) s) s (linked_envs schema t)
     refused_follow s = fold_same (λ s env. h (checked schema env (condition_of t)) s) (λ s env. h (refused_check schema t env) s) (linked_envs schema t) (all_linked IsSame same_in) s

@@ -29,7 +29,7 @@ use Rattle.policy_set.specs.declared.constraint.PrincipalOrResourceConstraint.{P
 use Rattle.policy_set.specs.Data.{TemplateData}
 use Rattle.policy_set.specs.Condition.{condition_of, asks_slot}
 use Rattle.policy_set.specs.Links.{own_condition, linked_of, HasPlainBody, Fills}
-use Rattle.typecheck_rules.specs.Check.{checked, TellsWhy}
+use Rattle.typecheck_rules.specs.Check.{checked, SaysWhy}
 use Rattle.typecheck_rules.specs.Names.{has_known_names}
 use Rattle.link_spec.specs.Linked.{linked_env, linked_envs}
 use Rattle.policy_scope.specs.Scope.{is_applicable}
@@ -176,8 +176,8 @@ StaticsAreSound =
     (q : Request) → RequestConforms schema q → (s : Store) → StoreConforms schema s →
     IsConditionFor schema (condition_of t) q s
 
--- where each name of a template is known, a check that fails in one of its environments tells why
-abbrev pub RefusalsAreTold : Type 0
-RefusalsAreTold =
+-- where each name of a template is known, a check that fails in one of its environments says why
+abbrev pub RefusalsAreReported : Type 0
+RefusalsAreReported =
     (schema : SchemaData) (t : TemplateData) → IsTrue (has_known_names schema (condition_of t)) →
-    AllByRecursion (λ env. TellsWhy (checked schema env (condition_of t))) (linked_envs schema t)
+    AllByRecursion (λ env. SaysWhy (checked schema env (condition_of t))) (linked_envs schema t)

@@ -25,7 +25,7 @@ module _ (schema : SchemaData) (t : TemplateData) where
   abbrev pub body_check : EnvData → Check
   body_check env = check_walked (condition_walked schema env t.body)
 
-  -- what the check of the condition tells where the scope names an action that is not declared
+  -- what the check of the condition says where the scope names an action that is not declared
   abbrev pub refused_check : EnvData → Check
   refused_check env =
       refused (option_map_or (type_meets schema t.principal) (principal_in env) false)

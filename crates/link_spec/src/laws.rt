@@ -1,8 +1,8 @@
 //! Laws of links.
 
-ghost use Rattle.link_spec.specs.Laws.{SlotsAreNotRead, LinksFollowTemplates, LinksAreTyped, StaticsAreTyped, TypedEverywhere, LinksHaveKeysOnce, TypedAreSound, LinksAreSound, StaticsAreSound, LinksAreWrittenOut, FilledKeeps, StaticsAreUnlinked, RefusalsAreTold};
+ghost use Rattle.link_spec.specs.Laws.{SlotsAreNotRead, LinksFollowTemplates, LinksAreTyped, StaticsAreTyped, TypedEverywhere, LinksHaveKeysOnce, TypedAreSound, LinksAreSound, StaticsAreSound, LinksAreWrittenOut, FilledKeeps, StaticsAreUnlinked, RefusalsAreReported};
 
-use typecheck_rules::laws::refusal_is_told;
+use typecheck_rules::laws::refusal_is_reported;
 use typing_spec::laws::conditions_are_sound;
 
 /// The typing of an expression without slots does not depend on what stands for the slots.
@@ -78,8 +78,8 @@ pub fn statics_are_unlinked()
 {}
 
 /// Where each name of a template is known, a check that fails in one of its environments has a finding.
-pub fn refusals_are_told()
-    ensures { RefusalsAreTold }
+pub fn refusals_are_reported()
+    ensures { RefusalsAreReported }
 {
-    refusal_is_told();
+    refusal_is_reported();
 }

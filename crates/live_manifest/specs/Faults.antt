@@ -1,4 +1,4 @@
--- Why an entry is not added, as the parts of an edit tell it.
+-- Why an entry is not added, as the parts of an edit say it.
 use Rattle.std.specs.Prelude.{◌≡◌, ⊤, []}
 use Rattle.finding_messages.specs.Findings.{Findings}
 use Rattle.policy_set.specs.declared.policy_set.PolicySetError.{PolicySetError}

@@ -5,13 +5,14 @@ ghost use Rattle.schema_core.specs.EnvData.{unlinked_envs};
 ghost use Rattle.schema_core.specs.RequestEnvs.{env_data_of};
 ghost use Rattle.policy_set.specs.PolicySet.{IsTaken, policy_at};
 ghost use Rattle.policy_validate.specs.Entries.{findings_of_entry, steps_of_entry};
-ghost use Rattle.policy_validate.specs.Found.{condition_told};
+ghost use Rattle.policy_validate.specs.Found.{condition_reported};
 ghost use Rattle.live_manifest.specs.Faults.{IsFaulty};
 ghost use Rattle.live_manifest.specs.Tries.{AreFoundTries, IsFoundTrie};
 
 use crate::LiveManifestError;
 use access_tries::RootAccessTrie;
 use path_analysis::conditions_trie;
+use plain_lemmas::Steps;
 use policy_expressions::Expr;
 use policy_set::{Policy, PolicySet};
 use policy_validate::{PolicyCheck, Typechecker, Validator};
@@ -20,7 +21,6 @@ use schema_core::{RequestEnv, ValidationMode, ValidatorSchema};
 use schema_types::Type;
 use std::alloc::{AllocError, Global};
 use std::sync::ledger::Ledger;
-use plain_lemmas::Steps;
 use typing_spec::{ExtensionSchemas, all_objects};
 
 /// Errs with `Validation` exactly where an error is found of the entry with the id.
@@ -103,7 +103,7 @@ fn own_trie<'a>(
 
 // The condition that a check leaves, if it does.
 fn conditions_of(alloc: Global, check: PolicyCheck) -> Result<Vec<Expr<Option<Type>>>, AllocError>
-    ensures { IfOk result (λ r. r.items ≡ option_to_list (condition_told check)) }
+    ensures { IfOk result (λ r. r.items ≡ option_to_list (condition_reported check)) }
 {
     let mut conditions = Vec::new(alloc);
     match check {

@@ -9,6 +9,7 @@ use crate::{LiveManifestError, LiveRemovalError};
 use access_tries::RootAccessTrie;
 use link_spec::laws::statics_are_unlinked;
 use manifest_core::EntityManifest;
+use plain_lemmas::Steps;
 use policy_expressions::SlotId;
 use policy_set::laws::is_policy_set;
 use policy_set::{PolicySet, PolicySetError, Template};
@@ -20,7 +21,6 @@ use std::alloc::{AllocError, Global};
 use std::collections::BTreeMap;
 use std::marker::Model;
 use std::sync::ledger::Ledger;
-use plain_lemmas::Steps;
 
 /// A set of policies that is accepted by a schema, and its manifest, which is kept under edits: after each
 /// edit it is the one that [`manifest_computation::compute_entity_manifest`] answers for the policies. An

@@ -32,7 +32,7 @@ use Rattle.reads_spec.specs.Reads.{reads_of, reads, demands, demands_of, are_dec
 use Rattle.typecheck_rules.specs.Check.{Check, Success, Irrelevant, Fail, TooDeep, check_walked, checked, condition_walked}
 use Rattle.policy_validate.specs.AcceptanceLaws.{LeavesAll}
 use Rattle.policy_validate.specs.Found.{condition_in, found_conditions}
-use Rattle.typecheck_walk.specs.Answer.{Tells}
+use Rattle.typecheck_walk.specs.Answer.{Reports}
 use Rattle.typecheck_walk.specs.declared.policy_check.PolicyCheck.TheVariants as told
 use Rattle.manifest_computation.specs.Gathered.{goes_along, asks_along, part_in, HoldSame, IsHeld, AreHeld, IsTaken}
 use Rattle.manifest_computation.proofs.Additions.{goes_append, any_demand, and_then, one_taken, left_next}
@@ -148,13 +148,13 @@ module _ (schema : SchemaData) (env : EnvData) where
       (behind_same t ts (s ∷ more) (conj s unreached m ∷ more) (λ es. left_goes es s m more) (λ es. left_asks es s m more))
 
   -- a scope that is not met, one that fails, and one behind which the body fails or is taken
-  pub unmet_taken : (id : List ℕ) (c : Check) (s : Typed) → Tells id c (told.Irrelevant s) → (b o : Option Typed) → IsSplit c b o → (t u : Table) (ts us : List Typed) → IsTaken schema env u us t ts s →
+  pub unmet_taken : (id : List ℕ) (c : Check) (s : Typed) → Reports id c (told.Irrelevant s) → (b o : Option Typed) → IsSplit c b o → (t u : Table) (ts us : List Typed) → IsTaken schema env u us t ts s →
       IsSomeAnd o (IsTaken schema env u us t ts)
   unmet_taken id (Irrelevant r) s h b o split t u ts us took =
       subst (λ z. IsSomeAnd z (IsTaken schema env u us t ts)) (sym split.1) (left_taken t u ts us r split.0 (subst (IsTaken schema env u us t ts) h took))
   unmet_taken id c s h b o split t u ts us took = absurd h
 
-  pub met_taken : (id : List ℕ) (c : Check) (s : Typed) → Tells id c (told.Success s) → (b o : Option Typed) → IsSplit c b o → (t u v : Table) (ts us vs : List Typed) → IsTaken schema env u us t ts s →
+  pub met_taken : (id : List ℕ) (c : Check) (s : Typed) → Reports id c (told.Success s) → (b o : Option Typed) → IsSplit c b o → (t u v : Table) (ts us vs : List Typed) → IsTaken schema env u us t ts s →
       IsSomeAnd b (IsTaken schema env v vs u us) → IsSomeAnd o (IsTaken schema env v vs t ts)
   met_taken id (Success r) s h None o split t u v ts us vs took more = absurd more
   met_taken id (Success r) s h (Some b) o split t u v ts us vs took more =
@@ -231,12 +231,12 @@ module _ (schema : SchemaData) (env : EnvData) where
       by (Some c) e h = (one_taken schema env it rest p is c e t u old new all same h, left_next schema env it rest p is c e ps left)
 
 -- where its scope fails, or its body does behind one that may be met, nothing is left of a condition
-pub scope_fails : (id : List ℕ) (c : Check) (es : Vec ValidationError Global) → Tells id c (told.Fail es) → (b o : Option Typed) → IsSplit c b o → o ≡ None
+pub scope_fails : (id : List ℕ) (c : Check) (es : Vec ValidationError Global) → Reports id c (told.Fail es) → (b o : Option Typed) → IsSplit c b o → o ≡ None
 scope_fails id (Fail fs) es h b o split = split
 scope_fails id TooDeep es h b o split = split
 scope_fails id c es h b o split = absurd h
 
-pub body_fails : (id : List ℕ) (c : Check) (s : Typed) → Tells id c (told.Success s) → (b o : Option Typed) → b ≡ None → IsSplit c b o → o ≡ None
+pub body_fails : (id : List ℕ) (c : Check) (s : Typed) → Reports id c (told.Success s) → (b o : Option Typed) → b ≡ None → IsSplit c b o → o ≡ None
 body_fails id (Success r) s h None o none split = split
 body_fails id (Success r) s h (Some b) o none split = absurd (cc none)
 body_fails id c s h b o none split = absurd h

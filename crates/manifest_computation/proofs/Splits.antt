@@ -1,8 +1,8 @@
 -- The check of a policy's condition, by the checks of its scope and of its body.
 -- The plan. A condition is `scope && body`, and its check that of a walk over this `&&`. First what a walk comes to where
 -- both sides make nothing known or what is known before does not matter, then what it comes to as a boolean; so behind
--- each type of a scope (True, Bool, False, none) the check of the whole is told from the two (`policy_split`), and last
--- the same of the parts as code has them (`policy_told`).
+-- each type of a scope (True, Bool, False, none) the check of the whole is reported from the two (`policy_split`), and last
+-- the same of the parts as code has them (`policy_reported`).
 use Rattle.std.specs.Prelude.{⊤, cond, if◌then◌else◌, nat_lt, option_map}
 use Rattle.std.proofs.Common.{◌≡◌, ℕ, Bool, true, false, ◌&&◌, List, [], ◌++◌, Option, Some, None, IfSome, refl, sym, ap, subst, ◌∙◌}
 use Rattle.std.specs.Option.{option_and_then}
@@ -35,9 +35,9 @@ use Rattle.policy_set.specs.declared.constraint.PrincipalOrResourceConstraint.{P
 use Rattle.policy_set.specs.declared.constraint.PrincipalOrResourceConstraint.TheVariants.{Any, Eq, In, Is, IsIn as IsWithin}
 use Rattle.typecheck_rules.specs.Check.{Check, Success as Passes, Irrelevant, TooDeep, check_of, check_walked, checked, condition_walked}
 use Rattle.typecheck_rules.specs.Expected.{Expected, a_boolean, an_entity, test_help, left_of as expected_left, right_of as expected_right}
-use Rattle.typecheck_rules.specs.Operators.{place, type_lent, leaf_walked, is_typing, binary_lent, binary_own, binary_typing, binary_fitting, and_sides, reached_after, unless_false}
+use Rattle.typecheck_rules.specs.Operators.{place, type_given, leaf_walked, is_typing, binary_given, binary_own, binary_typing, binary_fitting, and_sides, reached_after, unless_false}
 use Rattle.typecheck_rules.specs.Walk.{walked}
-use Rattle.typecheck_rules.specs.Walked.{Walked, Success, Fail, findings_of, tree_of, has_typing, lent_by, lends, untyped, unexpected, expect_lent, expect, expect_if, ended, one_walked, both, two_walked}
+use Rattle.typecheck_rules.specs.Walked.{Walked, Success, Fail, findings_of, tree_of, has_typing, given_by, lends, untyped, unexpected, expect_given, expect, expect_if, ended, one_walked, both, two_walked}
 use Rattle.policy_validate.specs.Checks.{condition_in}
 use Rattle.manifest_computation.specs.Gathered.{part_in}
 
@@ -49,9 +49,9 @@ IsQuiet (Fail t fs) = ⊤
 abbrev IsQuietTyping : Typing → Type 0
 IsQuietTyping a = a.caps ≡ []
 
-lent_quiet : (x : Expected) (l : Option Loc) (o : Option Ty) (t : Typed) (fs : List Finding) → IsQuiet (expect_lent x l o t fs)
-lent_quiet x l None t fs = tt
-lent_quiet x l (Some u) t fs = by (x.fits u)
+given_quiet : (x : Expected) (l : Option Loc) (o : Option Ty) (t : Typed) (fs : List Finding) → IsQuiet (expect_given x l o t fs)
+given_quiet x l None t fs = tt
+given_quiet x l (Some u) t fs = by (x.fits u)
   where
     by : (b : Bool) → IsQuiet (cond b (Fail t fs) (Fail (untyped t) (fs ++ unexpected x l u)))
     by true = tt
@@ -63,7 +63,7 @@ expect_quiet x l (Success a) h = by (x.fits a.type)
     by : (b : Bool) → IsQuiet (cond b (Success a) (Fail (untyped a.tree) (unexpected x l a.type)))
     by true = h
     by false = tt
-expect_quiet x l (Fail t fs) h = lent_quiet x l (mark_of t).note t fs
+expect_quiet x l (Fail t fs) h = given_quiet x l (mark_of t).note t fs
 
 ended_quiet : (b : Bool) (o : Option Typing) (t : Typed) (fs : List Finding) → IfSome o IsQuietTyping → IsQuiet (ended b o t fs)
 ended_quiet true (Some a) t fs h = h
@@ -92,15 +92,15 @@ then_quiet rule h None = tt
 then_quiet rule h (Some a) = h a
 
 one_quiet : (rule : Typing → Option Typing) (t : Typed) (fs : List Finding) (v : Walked) → ((a : Typing) → IfSome (rule a) IsQuietTyping) → IsQuiet (one_walked rule t fs v)
-one_quiet rule t fs v h = ended_quiet (has_typing v) (option_and_then rule (lent_by v)) t (findings_of v ++ fs) (then_quiet rule h (lent_by v))
+one_quiet rule t fs v h = ended_quiet (has_typing v) (option_and_then rule (given_by v)) t (findings_of v ++ fs) (then_quiet rule h (given_by v))
 
 two_quiet : (rule : Typing → Typing → Option Typing) (t : Typed) (fs : List Finding) (v w : Walked) → ((a b : Typing) → IfSome (rule a b) IsQuietTyping) → IsQuiet (two_walked rule t fs v w)
 two_quiet rule t fs v w h =
-    ended_quiet (has_typing v && has_typing w) (both rule (lent_by v) (lent_by w)) t (findings_of v ++ (findings_of w ++ fs)) (both_quiet rule h (lent_by v) (lent_by w))
+    ended_quiet (has_typing v && has_typing w) (both rule (given_by v) (given_by w)) t (findings_of v ++ (findings_of w ++ fs)) (both_quiet rule h (given_by v) (given_by w))
 
 -- `&&`: its typing, its expression where it has none, and what is found of its sides
 abbrev sides_typing : Mark (Unit {0}) → Walked → Walked → Option Typing
-sides_typing m v w = option_and_then (λ a. and_typing a.type a.caps a.tree m (lent_by w)) (lent_by v)
+sides_typing m v w = option_and_then (λ a. and_typing a.type a.caps a.tree m (given_by w)) (given_by v)
 
 abbrev sides_tree : Mark (Unit {0}) → Walked → Walked → Typed
 sides_tree m v w = conj (tree_of v) (tree_of w) (lends (Some bool_type) m)
@@ -151,7 +151,7 @@ module _ (schema : SchemaData) (env : EnvData) where
 
   fitting_quiet : (o : BinaryOp) → ((x y : Plain) → binary_caps o x y ≡ []) → (known : Bool) (x y : Plain) (m : Mark (Unit {0})) (v w : Walked) → IsQuiet (binary_fitting schema env o known x y m v w)
   fitting_quiet o h known x y m v w =
-      two_quiet (binary_typing schema env o known x y m) (binary o (tree_of v) (tree_of w) (lends (binary_lent schema env o x y (type_lent v)) m)) (binary_own schema env o known x y m (type_lent v) (type_lent w)) v w
+      two_quiet (binary_typing schema env o known x y m) (binary o (tree_of v) (tree_of w) (lends (binary_given schema env o x y (type_given v)) m)) (binary_own schema env o known x y m (type_given v) (type_given w)) v w
       (λ a b. mapped_quiet (rule.binary_type schema env o known x y a.type b.type) (binary_caps o x y) (λ t. binary o a.tree b.tree (at t m)) (h x y))
 
   compared_quiet : (o : BinaryOp) → ((x y : Plain) → binary_caps o x y ≡ []) → (x y : Plain) → MakesNothingKnown (binary o x y unmarked)
@@ -189,9 +189,9 @@ abbrev IsTest : Walked → Type 0
 IsTest (Success a) = is_boolean a.type ≡ true
 IsTest (Fail t fs) = ⊤
 
-lent_test : (l : Option Loc) (o : Option Ty) (t : Typed) (fs : List Finding) → IsTest (expect_lent a_boolean l o t fs)
-lent_test l None t fs = tt
-lent_test l (Some u) t fs = by (is_boolean u)
+given_test : (l : Option Loc) (o : Option Ty) (t : Typed) (fs : List Finding) → IsTest (expect_given a_boolean l o t fs)
+given_test l None t fs = tt
+given_test l (Some u) t fs = by (is_boolean u)
   where
     by : (b : Bool) → IsTest (cond b (Fail t fs) (Fail (untyped t) (fs ++ unexpected a_boolean l u)))
     by true = tt
@@ -203,7 +203,7 @@ expected_test l (Success a) = by (is_boolean a.type) refl
     by : (b : Bool) → is_boolean a.type ≡ b → IsTest (cond b (Success a) (Fail (untyped a.tree) (unexpected a_boolean l a.type)))
     by true h = h
     by false h = tt
-expected_test l (Fail t fs) = lent_test l (mark_of t).note t fs
+expected_test l (Fail t fs) = given_test l (mark_of t).note t fs
 
 -- behind a scope that may be met
 abbrev pub IsBehind : Typed → Option Typed → Option Typed → Type 0
@@ -223,7 +223,7 @@ module _ (l : Option Loc) (m : Mark (Unit {0})) where
   failed : (o : Option Typing) (t : Typed) (fs : List Finding) → left_of (ended false o t fs) ≡ None
   failed (Some a) t fs = fails a.tree fs
     where
-      lent : (o : Option Ty) (t : Typed) (fs : List Finding) → condition_in (check_walked (expect_lent a_boolean l o t fs)) ≡ None
+      lent : (o : Option Ty) (t : Typed) (fs : List Finding) → condition_in (check_walked (expect_given a_boolean l o t fs)) ≡ None
       lent None t fs = refl
       lent (Some u) t fs = by (is_boolean u)
         where
@@ -235,7 +235,7 @@ module _ (l : Option Loc) (m : Mark (Unit {0})) where
       fails t fs = lent (mark_of t).note t fs
   failed None t fs = lent (mark_of t).note
     where
-      lent : (o : Option Ty) → condition_in (check_walked (expect_lent a_boolean l o t fs)) ≡ None
+      lent : (o : Option Ty) → condition_in (check_walked (expect_given a_boolean l o t fs)) ≡ None
       lent None = refl
       lent (Some u) = by (is_boolean u)
         where
@@ -301,8 +301,8 @@ module _ (schema : SchemaData) (env : EnvData) where
           (λ ds. expect a_boolean (place p.body) (walked schema env ([] ++ ds) p.body)) (condition_walked schema env p.body) refl (expected_test (place p.body) (walked schema env [] p.body))
 
   -- by its parts as code has them
-  pub policy_told : (p : PolicyData) → IsPolicy p → (e : Plain) → e ≡ p.condition → nat_lt 200 (depth_of e) ≡ false → (x : Plain) → x ≡ scope_of p.principal p.action p.resource →
+  pub policy_reported : (p : PolicyData) → IsPolicy p → (e : Plain) → e ≡ p.condition → nat_lt 200 (depth_of e) ≡ false → (x : Plain) → x ≡ scope_of p.principal p.action p.resource →
       IsSplit (check_walked (condition_walked schema env x)) (part_in schema env p.body) (condition_in (checked schema env p.condition))
-  policy_told p is e whole depth x scope =
+  policy_reported p is e whole depth x scope =
       subst (λ z. IsSplit (check_walked (condition_walked schema env z)) (part_in schema env p.body) (condition_in (checked schema env p.condition))) (sym scope)
       (policy_split p is (subst (λ z. nat_lt 200 (depth_of z) ≡ false) whole depth))

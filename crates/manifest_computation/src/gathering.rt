@@ -8,7 +8,7 @@ ghost use Rattle.typing_spec.specs.Typing.{Typed};
 ghost use Rattle.policy_validate.specs.AcceptanceLaws.{LeavesAll};
 ghost use Rattle.typecheck_rules.specs.Check.{checked};
 ghost use Rattle.manifest_computation.specs.Gathered.{AreHeld, HoldSame, IsConditionTaken, IsPartTaken, IsTaken, IsTrieLeft, part_in};
-ghost use Rattle.policy_validate.specs.Found.{condition_in, condition_told};
+ghost use Rattle.policy_validate.specs.Found.{condition_in, condition_reported};
 
 use access_tries::RootAccessTrie;
 use path_analysis::conditions_trie;
@@ -179,7 +179,7 @@ fn take_typed_body<'a>(
 }
 
 fn condition_of(check: PolicyCheck) -> Option<Expr<Option<Type>>>
-    ensures { result ≡ condition_told check }
+    ensures { result ≡ condition_reported check }
 {
     match check {
         PolicyCheck::Success(condition) | PolicyCheck::Irrelevant(condition) => Some(condition),

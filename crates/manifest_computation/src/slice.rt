@@ -15,6 +15,7 @@ ghost use Rattle.manifest_computation.specs.Slice.{env_of, slice};
 
 use crate::gathering::trie_of_policies;
 use access_tries::RootAccessTrie;
+use entity_loading::restricted_store;
 use entity_store::{Entities, Request};
 use link_spec::laws::typed_everywhere;
 use policy_set::PolicySet;
@@ -23,7 +24,6 @@ use policy_validate::condition_laws::found_are_typed;
 use policy_validate::laws::accepted_are_typed;
 use schema_core::{RequestEnv, ValidatorSchema};
 use std::alloc::{AllocError, Global};
-use entity_loading::restricted_store;
 use typecheck_walk::Extensions;
 use typing_spec::{ExtensionSchemas, all_objects};
 

@@ -1,3 +1,3 @@
 mod Codes
-mod Told
+mod KnownText
 mod Words

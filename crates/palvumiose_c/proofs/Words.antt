@@ -3,7 +3,7 @@ use Rattle.std.proofs.Common.{◌≡◌, ◌==◌, ℕ, List, [], Bool, true, fa
 use Rattle.std.specs.List.{slice_split}
 use Rattle.std.specs.Str.{IsUtf8, is_utf8}
 use Rattle.std.proofs.lemmas.Str.{is_utf8-from_IsUtf8, IsUtf8-from_is_utf8}
-use Rattle.palvumiose_c.specs.Told.{words_in}
+use Rattle.palvumiose_c.specs.KnownText.{words_in}
 
 -- of a text
 pub words_in-text : (bytes : List ℕ) → IsUtf8 bytes → slice_split (λ b. b == 0) bytes ≡ words_in bytes

@@ -7,7 +7,7 @@ ghost use Rattle.policy_gate.specs.Headline.{HasDocument, IsDecided, IsSliced};
 ghost use Rattle.policy_gate.specs.Reply.{Answer, answer};
 ghost use Rattle.policy_gate.specs.Status.{IsUnlessOutOfMemory, code_of};
 ghost use Rattle.std.specs.List.{slice_split};
-ghost use Rattle.palvumiose_c.specs.Told.{HandsOut, IsHanded, IsTold, KeepAllRules, laid_over, words_in};
+ghost use Rattle.palvumiose_c.specs.KnownText.{HandsOut, IsHanded, IsReported, KeepAllRules, laid_over, words_in};
 
 use byte_streams::{MemorySink, SliceSource};
 use policy_gate::{Command, Status, run};
@@ -52,7 +52,7 @@ fn own(alloc: Global, texts: &[&str]) -> Result<Vec<String>, AllocError>
 // What `run` answers where both document and text are in memory. The sink fails only for want of memory.
 fn reply_to(alloc: Global, command: &[u8], document: &[u8]) -> Result<Reply, AllocError>
     ensures told { IfOk result (λ r.
-        IsTold (command_of (words_in command.now)) document.now (answer r.status r.text.items)) }
+        IsReported (command_of (words_in command.now)) document.now (answer r.status r.text.items)) }
     ensures headline { command_of (words_in command.now) ≡ Some Command.Slice
         → IfOk result (λ r. r.status ≡ Status.Done
         → HasDocument Command.Slice document.now (λ d. IsSliced d r.text.items)) }
@@ -78,7 +78,7 @@ fn reply_to(alloc: Global, command: &[u8], document: &[u8]) -> Result<Reply, All
 
 // The same, with no text where memory ran out.
 fn answer_to(alloc: Global, command: &[u8], document: &[u8]) -> Reply
-    ensures told { IsTold (command_of (words_in command.now)) document.now
+    ensures told { IsReported (command_of (words_in command.now)) document.now
         (answer result.status result.text.items) }
     ensures headline { command_of (words_in command.now) ≡ Some Command.Slice → result.status ≡ Status.Done
         → HasDocument Command.Slice document.now (λ d. IsSliced d result.text.items) }
@@ -135,7 +135,7 @@ pub extern "C" fn palvumiose_c_run(
 ) -> u8
     // The answer that is due for the words and the document, or that memory ran out: its status is the
     // result, its text is in `out` as far as there is room, and `size` is the text's size.
-    ensures told { (a : Answer) × IsTold (command_of (words_in command.now)) document.now a
+    ensures told { (a : Answer) × IsReported (command_of (words_in command.now)) document.now a
         × (result ≡ code_of a.status) × IsHanded a.text size.new out.old out.new }
 
     // The headline: where `slice` answers 0 the document keeps every rule, and the text is its store

@@ -47,35 +47,35 @@ adds_next old all mid xs rest new h k = record {
 }
 
 -- what is added to a set
-set_fronts : (old xs : List AccessPath) (es : Address) → covers (with_paths old xs) es ≡ (covers old es || covers xs es)
-set_fronts old xs es = more exact_path (λ p. is_front es (address_of p)) old xs
+set_prefixes : (old xs : List AccessPath) (es : Address) → covers (with_paths old xs) es ≡ (covers old es || covers xs es)
+set_prefixes old xs es = more exact_path (λ p. is_front es (address_of p)) old xs
 
 pub adds_set : (old xs new : List AccessPath) → new ≡ with_paths old xs → Adds old xs new []
-adds_set old xs new is = record { fronts = λ es. or_false (covers new es) ∙ ap (λ ps. covers ps es) is ∙ set_fronts old xs es }
+adds_set old xs new is = record { fronts = λ es. or_false (covers new es) ∙ ap (λ ps. covers ps es) is ∙ set_prefixes old xs es }
 
 pub adds_set_more : (old xs mid ys new : List AccessPath) → Adds old xs mid [] → new ≡ with_paths mid ys → Adds old (xs ++ ys) new []
 adds_set_more old xs mid ys new h is = adds_more old xs mid ys new h (adds_set mid ys new is)
 
 -- a path's fronts are fronts of the path that goes on
-front_of_longer : (es : Address) (ss : List Step) (n : Step) → is_front es (map edge_of ss) ≡ true → is_front es (map edge_of (ss ++ n ∷ [])) ≡ true
-front_of_longer [] ss n h = refl
-front_of_longer (e ∷ es) [] n h = cc
-front_of_longer (e ∷ es) (s ∷ ss) n h =
+prefix_of_longer : (es : Address) (ss : List Step) (n : Step) → is_front es (map edge_of ss) ≡ true → is_front es (map edge_of (ss ++ n ∷ [])) ≡ true
+prefix_of_longer [] ss n h = refl
+prefix_of_longer (e ∷ es) [] n h = cc
+prefix_of_longer (e ∷ es) (s ∷ ss) n h =
     let parts = and_parts_of (edge_eq (edge_of s) e) (is_front es (map edge_of ss)) h in
-    λ i. parts.0 i && front_of_longer es ss n parts.1 i
+    λ i. parts.0 i && prefix_of_longer es ss n parts.1 i
 
-root_front : (es : Address) (r : PathRoot) (ss : List Step) (n : Step) → is_front es (address_of (record { root = r; steps = ss })) ≡ true → is_front es (address_of (record { root = r; steps = ss ++ n ∷ [] })) ≡ true
-root_front [] r ss n h = refl
-root_front (e ∷ es) r ss n h =
+root_prefix : (es : Address) (r : PathRoot) (ss : List Step) (n : Step) → is_front es (address_of (record { root = r; steps = ss })) ≡ true → is_front es (address_of (record { root = r; steps = ss ++ n ∷ [] })) ≡ true
+root_prefix [] r ss n h = refl
+root_prefix (e ∷ es) r ss n h =
     let parts = and_parts_of (edge_eq (Root r) e) (is_front es (map edge_of ss)) h in
-    λ i. parts.0 i && front_of_longer es ss n parts.1 i
+    λ i. parts.0 i && prefix_of_longer es ss n parts.1 i
 
 one_goes_on : (es : Address) (r : PathRoot) (ss : List Step) (n : Step) →
     covers (with_step (record { root = r; steps = ss } ∷ [])) es ≡ true → covers (with_step (record { root = r; steps = ss ++ n ∷ [] } ∷ [])) es ≡ true
 one_goes_on es r [] n h = cc
 one_goes_on es r (s ∷ ss) n h =
     let short = address_of (record { root = r; steps = s ∷ ss }) in
-    ap (λ b. b || false) (root_front es r (s ∷ ss) n (sym (or_false (is_front es short)) ∙ h))
+    ap (λ b. b || false) (root_prefix es r (s ∷ ss) n (sym (or_false (is_front es short)) ∙ h))
 
 -- the path that a shape is itself is one of its paths
 own_in : (a : Shape) (es : Address) → covers (own_path a) es ≡ true → covers (with_step (paths a)) es ≡ true
@@ -129,7 +129,7 @@ paths_go_on a n old xs mid new is h added = record {
       let ws = with_step (paths (extended a n)) in
       let before : covers mid es ≡ (covers old es || covers xs es) =
       sym (or_false (covers mid es)) ∙ ap (λ ps. covers mid es || covers ps es) (sym (none_own a is)) ∙ h.fronts es in
-      ap (λ b. b || covers (own_path (extended a n)) es) (ap (λ ps. covers ps es) added ∙ set_fronts mid ws es)
+      ap (λ b. b || covers (own_path (extended a n)) es) (ap (λ ps. covers ps es) added ∙ set_prefixes mid ws es)
       ∙ own_again (covers mid es) (covers old es) (covers xs es) (covers ws es) (covers (own_path (extended a n)) es) (own_in (extended a n) es) before
       ∙ ap (λ b. covers old es || b) (sym (covers_both xs ws es));
 }
@@ -139,7 +139,7 @@ pub adds_own : (a : Shape) (old xs mid new : List AccessPath) → Adds old (xs +
 adds_own a old xs mid new h added = record {
   fronts = λ es.
       let ws = with_step (paths a) in
-      or_false (covers new es) ∙ ap (λ ps. covers ps es) added ∙ set_fronts mid ws es
+      or_false (covers new es) ∙ ap (λ ps. covers ps es) added ∙ set_prefixes mid ws es
       ∙ with_own (covers old es) (covers xs es) (covers ws es) (covers mid es) (covers (own_path a) es) (own_in a es) (h.fronts es ∙ ap (λ b. covers old es || b) (covers_both xs ws es))
       ∙ ap (λ b. covers old es || b) (sym (covers_both xs ws es));
 }

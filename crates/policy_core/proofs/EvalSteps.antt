@@ -7,7 +7,7 @@ use Rattle.entity_store.specs.declared.request.Request.{Request}
 use Rattle.policy_values.specs.Value.{Val}
 use Rattle.entity_store.specs.Store.{Store}
 use Rattle.policy_expressions.specs.Tree.{Tree, named_of, deepest_named}
-use Rattle.policy_core.specs.Eval.{eval, eval_named, result_map, in_front}
+use Rattle.policy_core.specs.Eval.{eval, eval_named, result_map, in_prefix}
 use Rattle.policy_values.proofs.MapSteps.{keys_of-append}
 
 regroup : {X E : Type 0} → (done : List X) (x : X) (r : Result (List X) E) → result_map (λ vs. (done ++ x ∷ []) ++ vs) r ≡ result_map (λ vs. done ++ vs) (result_map (λ vs. x ∷ vs) r)
@@ -19,7 +19,7 @@ module _ {A : Type 0} (done new : List (List ℕ × Val)) (k : List ℕ) (x : Tr
   so_far_more all q s e h =
       ap (λ es. result_map (λ vs. es ++ vs) (eval_named (named_of rest) q s)) pushed
       ∙ regroup done (k, v) (eval_named (named_of rest) q s)
-      ∙ ap (λ o. result_map (λ vs. done ++ vs) (in_front (λ w. (k, w)) o (eval_named (named_of rest) q s))) (sym e)
+      ∙ ap (λ o. result_map (λ vs. done ++ vs) (in_prefix (λ w. (k, w)) o (eval_named (named_of rest) q s))) (sym e)
       ∙ ap (λ es. result_map (λ vs. done ++ vs) (eval_named (named_of es) q s)) (sym is)
       ∙ h
 

@@ -8,7 +8,7 @@ use Rattle.policy_expressions.specs.Tree.{Tree, lit, var, slot, ite, conj, disj,
 use Rattle.policy_expressions.specs.Shape.{SameShape, SameShapes, SameNamed}
 use Rattle.policy_core.specs.Operators.{unary_value, binary_value, attr_value, has_value, like_value, is_value}
 use Rattle.policy_core.specs.Calls.{call_outcome}
-use Rattle.policy_core.specs.Eval.{eval, eval_all, eval_named, literal_value, variable_value, truth_of, truth_outcome, choose, with_value, in_front, set_outcome, record_outcome}
+use Rattle.policy_core.specs.Eval.{eval, eval_all, eval_named, literal_value, variable_value, truth_of, truth_outcome, choose, with_value, in_prefix, set_outcome, record_outcome}
 
 module _ {A B : Type 0} (q : Request) (s : Store) where
   mutual
@@ -32,10 +32,10 @@ module _ {A B : Type 0} (q : Request) (s : Store) where
 
     same_outcomes : (xs : Trees A) (us : Trees B) → SameShapes xs us → eval_all xs q s ≡ eval_all us q s
     same_outcomes no_trees no_trees h = refl
-    same_outcomes (tree x xs) (tree u us) h = λ i. in_front (λ v. v) (same_outcome x u h.0 i) (same_outcomes xs us h.1 i)
+    same_outcomes (tree x xs) (tree u us) h = λ i. in_prefix (λ v. v) (same_outcome x u h.0 i) (same_outcomes xs us h.1 i)
     same_outcomes xs us h = absurd h
 
     same_fields : (xs : Named A) (us : Named B) → SameNamed xs us → eval_named xs q s ≡ eval_named us q s
     same_fields no_named no_named h = refl
-    same_fields (named m x xs) (named n u us) h = λ i. in_front (λ v. (h.0 i, v)) (same_outcome x u h.1 i) (same_fields xs us h.2 i)
+    same_fields (named m x xs) (named n u us) h = λ i. in_prefix (λ v. (h.0 i, v)) (same_outcome x u h.1 i) (same_fields xs us h.2 i)
     same_fields xs us h = absurd h

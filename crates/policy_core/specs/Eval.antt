@@ -69,10 +69,10 @@ with_value (Value v) f = f v
 with_value (Error e) f = Error e
 
 -- one more value in front; its error comes first
-abbrev pub in_front : {X : Type 0} → (Val → X) → Outcome →
+abbrev pub in_prefix : {X : Type 0} → (Val → X) → Outcome →
     Result (List X) EvalError → Result (List X) EvalError
-in_front f (Error e) r = Err e
-in_front f (Value v) r = result_map (λ xs. f v ∷ xs) r
+in_prefix f (Error e) r = Err e
+in_prefix f (Value v) r = result_map (λ xs. f v ∷ xs) r
 
 abbrev pub set_outcome : Result (List Val) EvalError → Outcome
 set_outcome (Ok vs) = Value (value.set (set_of vs))
@@ -110,11 +110,11 @@ module _ {A : Type 0} where
 
     pub eval_all : Trees A → Request → Store → Result (List Val) EvalError
     eval_all no_trees q s = Ok []
-    eval_all (tree x xs) q s = in_front (λ v. v) (eval x q s) (eval_all xs q s)
+    eval_all (tree x xs) q s = in_prefix (λ v. v) (eval x q s) (eval_all xs q s)
 
     pub eval_named : Named A → Request → Store → Result (List (List ℕ × Val)) EvalError
     eval_named no_named q s = Ok []
-    eval_named (named k x xs) q s = in_front (λ v. (k, v)) (eval x q s) (eval_named xs q s)
+    eval_named (named k x xs) q s = in_prefix (λ v. (k, v)) (eval x q s) (eval_named xs q s)
 
   -- a literal that is a boolean or a long
   abbrev pub IsPlainLiteral : Tree A → Type 0

@@ -16,7 +16,7 @@ number_after radix n (c ∷ cs) =
 abbrev pub number_of : ℕ → List ℕ → Option ℕ
 number_of radix digits = if length digits == 0 then None else number_after radix 0 digits
 
--- one more byte in front of the first part
+-- one more byte before the first part
 abbrev pub onto : ℕ → List ℕ × List ℕ → List ℕ × List ℕ
 onto b parts = (b ∷ parts.0, parts.1)
 
@@ -40,7 +40,7 @@ abbrev pub signed_of : Bool → ℕ → Option ℤ
 signed_of true n = if nat_lt (2 ^ 63) n then None else Some (neg_ℤ (pos n))
 signed_of false n = if nat_lt n (2 ^ 63) then Some (pos n) else None
 
--- the number, up to `most`, of digits with no zero in front of others
+-- the number, up to `most`, of digits with no zero before others
 abbrev pub plain_of : ℕ → List ℕ → Option ℕ
 plain_of most digits = option_and_then
     (λ n. if nat_lt most n || (slice_index digits 0 == 48 && nat_lt 1 (length digits)) then None else Some n)

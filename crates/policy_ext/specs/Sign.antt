@@ -1,4 +1,4 @@
--- Signs in front of numbers.
+-- Signs before numbers.
 use Rattle.std.specs.Prelude.{ℕ, Bool, true, false, List, [], ◌∷◌, ℤ, pos, neg_ℤ}
 
 -- a minus or nothing

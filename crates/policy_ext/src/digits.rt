@@ -59,7 +59,7 @@ pub(crate) fn signed_number(minus: bool, n: u128) -> Option<i64>
     }
 }
 
-/// The number, up to `most`, of digits with no zero in front of others.
+/// The number, up to `most`, of digits with no zero before others.
 pub(crate) fn plain_number(most: u64, digits: &[u8]) -> Option<u64>
     ensures value { result ≡ plain_of most digits.now }
     ensures low { IfSome result (λ n. n ≤ most) }

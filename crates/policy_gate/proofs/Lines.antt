@@ -8,7 +8,7 @@ use Rattle.entity_manifest.specs.Answers.{IsStoreAnswer}
 use Rattle.entity_manifest.specs.declared.answer.BatchAnswer.{BatchAnswer}
 use Rattle.entity_manifest.specs.declared.answer.BatchAnswer.TheVariants.{Partial, Refused, Loading, Decided}
 use Rattle.policy_gate.specs.Answer.{IsRefusedOr, IsWellMade, IsWork, refused_policies, request_line}
-use Rattle.policy_gate.specs.Batch.{IsToldOfStore, line_on}
+use Rattle.policy_gate.specs.Batch.{IsReportedOfStore, line_on}
 use Rattle.policy_gate.specs.Headline.{HasAcceptedPolicies}
 use Rattle.policy_gate.specs.Laws.{Laws}
 use Rattle.policy_gate.specs.Reply.{Answer}
@@ -32,20 +32,20 @@ module _ (laws : Laws) (d : Document) (made : IsWellMade d) where
   lines_are (q ∷ qs) [] h = absurd h
   lines_are (q ∷ qs) (a ∷ answers) h = rw (line_is q a h.0, lines_are qs answers h.1) refl
 
-  told : (q : Request) (a : BatchAnswer) → IsAnswer q a → IsToldOfStore a
+  told : (q : Request) (a : BatchAnswer) → IsAnswer q a → IsReportedOfStore a
   told q Partial is = tt
   told q (Refused e) is = tt
   told q (Loading e) is = is
   told q (Decided r) is = tt
 
-  each_told : (qs : List Request) (answers : List BatchAnswer) → AllZip IsAnswer qs answers → AllByRecursion IsToldOfStore answers
-  each_told [] [] h = tt
-  each_told [] (a ∷ answers) h = absurd h
-  each_told (q ∷ qs) [] h = tt
-  each_told (q ∷ qs) (a ∷ answers) h = (told q a h.0, each_told qs answers h.1)
+  each_reported : (qs : List Request) (answers : List BatchAnswer) → AllZip IsAnswer qs answers → AllByRecursion IsReportedOfStore answers
+  each_reported [] [] h = tt
+  each_reported [] (a ∷ answers) h = absurd h
+  each_reported (q ∷ qs) [] h = tt
+  each_reported (q ∷ qs) (a ∷ answers) h = (told q a h.0, each_reported qs answers h.1)
 
-  pub all_told : (qs : List Request) (answers : List BatchAnswer) → AllZip IsAnswer qs answers → All IsToldOfStore answers
-  all_told qs answers h = All-from_recursion IsToldOfStore answers (each_told qs answers h)
+  pub all_reported : (qs : List Request) (answers : List BatchAnswer) → AllZip IsAnswer qs answers → All IsReportedOfStore answers
+  all_reported qs answers h = All-from_recursion IsReportedOfStore answers (each_reported qs answers h)
 
   -- of accepted policies the lines
   pub answered : HasAcceptedPolicies d → (answers : List BatchAnswer) → AllZip IsAnswer d.requests answers → (a : Answer) → a.status ≡ status.Done → a.text ≡ flat_map line_on answers → IsRefusedOr (refused_policies d) (IsWork Batch d) a

@@ -34,8 +34,8 @@ refusing o W a h = subst (λ p. IsRefusedOr p W a) (sym h) refl
 behind : (a b : Option Answer) → a ≡ None → option_or a b ≡ b
 behind a b h = ap (λ o. option_or o b) h
 
-in_front : (a b : Option Answer) (x : Answer) → a ≡ Some x → option_or a b ≡ Some x
-in_front a b x h = ap (λ o. option_or o b) h
+in_prefix : (a b : Option Answer) (x : Answer) → a ≡ Some x → option_or a b ≡ Some x
+in_prefix a b x h = ap (λ o. option_or o b) h
 
 some_refused : (es : List ValidationError) (found : Findings) (W : List ℕ → Type 0) (a : Answer) → (es ≡ [] → ⊥) → IsRefusedOr (refused_with es found) W a → refused_with es found ≡ Some a
 some_refused [] found W a some h = absurd (some refl)
@@ -83,12 +83,12 @@ module _ (laws : Laws) (d : Document) (made : IsWellMade d) where
   pub no_request : (error : ListError) (e : RequestValidationError) (a : Answer) → error ≡ none.Request e → Why error → a ≡ answer status.Request (request_text e) → refused_listing d ≡ Some a
   no_request error e a is why same =
       let w : Why (none.Request e) = subst Why is why in
-      past_entries w.0 ∙ in_front (refused_asked d) (refused_batch d) (answer status.Request (request_text e)) (asked_broken e w.1) ∙ ap Some (sym same)
+      past_entries w.0 ∙ in_prefix (refused_asked d) (refused_batch d) (answer status.Request (request_text e)) (asked_broken e w.1) ∙ ap Some (sym same)
 
   pub no_store : (error : ListError) (e : EntityDoesNotConform) (a : Answer) → error ≡ none.EntityDoesNotConform e → Why error → a ≡ answer status.Store (entity_text e) → refused_listing d ≡ Some a
   no_store error e a is why same =
       let w : Why (none.EntityDoesNotConform e) = subst Why is why in
-      past_request w.0 w.1 ∙ in_front (refused_store d) (refused_policies d) (answer status.Store (entity_text e)) (store_broken e w.2) ∙ ap Some (sym same)
+      past_request w.0 w.1 ∙ in_prefix (refused_store d) (refused_policies d) (answer status.Store (entity_text e)) (store_broken e w.2) ∙ ap Some (sym same)
 
   pub no_policies : (error : ListError) (found : Findings) (a : Answer) → error ≡ none.Validation found → Why error → IsRefusedOr (refused_with found.errors found) (λ text. text ≡ findings_text found) a → refused_listing d ≡ Some a
   no_policies error found a is why h =

@@ -19,7 +19,7 @@ use Rattle.policy_gate.specs.declared.status.Status.TheVariants as status
 same_some : (x y : List ℕ) → Some x ≡ Some y → x ≡ y
 same_some x y h = cc h
 
--- what is made of an edit holds where nothing is told of it
+-- what is made of an edit holds where nothing is reported of it
 pub made_where : {A B E F : Type 0} (P : Type 0) (r : Result (Option A) E) (done : Result B F) → IfOk r (λ o. o ≡ None → IsOk done) → OnOk done P → IfOk r (λ o. o ≡ None → P)
 made_where P (Ok o) (Ok x) h p = λ e. p
 made_where P (Ok o) (Err x) h p = λ e. absurd (true≢false (sym (h e)))
@@ -30,9 +30,9 @@ pub taken_where : {B F : Type 0} (e : Edit) (old new : LiveData) (done : Result 
 taken_where e old new (Ok x) is = is.taken
 taken_where e old new (Err x) is = tt
 
--- what is told of a refusal
-pub told_by : (why : Option Refusal) (r : Refusal) (text : List ℕ) → text ≡ refusal_text r → why ≡ Some r → Some text ≡ option_map refusal_text why
-told_by why r text t h = ap Some t ∙ sym (ap (option_map refusal_text) h)
+-- what is reported of a refusal
+pub reported_by : (why : Option Refusal) (r : Refusal) (text : List ℕ) → text ≡ refusal_text r → why ≡ Some r → Some text ≡ option_map refusal_text why
+reported_by why r text t h = ap Some t ∙ sym (ap (option_map refusal_text) h)
 
 pub template_edit : (t : TemplateData) → has_scope_slot t ≡ true → edit_for (Policy t) ≡ add_template t
 template_edit t h = rw h refl
@@ -40,15 +40,15 @@ template_edit t h = rw h refl
 pub static_edit : (t : TemplateData) → has_scope_slot t ≡ false → edit_for (Policy t) ≡ add_static t
 static_edit t h = rw h refl
 
--- a removal that is refused is told as an edit is
-pub removal_told : (o : Option RemovalFault) (text : List ℕ) → Some text ≡ option_map removal_text o → Some text ≡ option_map refusal_text (option_map not_removed o)
-removal_told None text h = absurd (cc h)
-removal_told (Some f) text h = h
+-- a removal that is refused is reported as an edit is
+pub removal_reported : (o : Option RemovalFault) (text : List ℕ) → Some text ≡ option_map removal_text o → Some text ≡ option_map refusal_text (option_map not_removed o)
+removal_reported None text h = absurd (cc h)
+removal_reported (Some f) text h = h
 
 module _ (schema : SchemaData) (n : ℕ) (s : PolicySetData) (e : Edit) (es : List Edit) where
   -- the first edit is refused
-  pub first_told : (text : List ℕ) → Some text ≡ option_map refusal_text (refusal schema s e) → Some (codes "edit " ++ (decimal n ++ (codes ": " ++ text))) ≡ option_map edit_text (first_refused schema n s (e ∷ es))
-  first_told text h = by (refusal schema s e) h
+  pub first_reported : (text : List ℕ) → Some text ≡ option_map refusal_text (refusal schema s e) → Some (codes "edit " ++ (decimal n ++ (codes ": " ++ text))) ≡ option_map edit_text (first_refused schema n s (e ∷ es))
+  first_reported text h = by (refusal schema s e) h
     where
       by : (o : Option Refusal) → Some text ≡ option_map refusal_text o →
           Some (codes "edit " ++ (decimal n ++ (codes ": " ++ text))) ≡ option_map edit_text (option_or (option_map (λ why. (n, why)) o) (first_refused schema (n + 1) (made e s) es))

@@ -143,18 +143,18 @@ module _ (command : Option Command) (source source' : SourceState) (sink sink' :
   too_long_for (inr (a, d, g)) more = inl (past command a more d g)
 
 module _ (bytes : List ℕ) (source source' : SourceState) (sink sink' : SinkState) (status : Status) (told : source.left ≡ Some bytes) (q : IsQuiet source.faults source'.faults) where
-  told_at : (taken : List ℕ) → Consumes source.left source'.left taken → Consumes (Some bytes) source'.left taken
-  told_at taken p = subst (λ l. Consumes l source'.left taken) told p
+  reported_at : (taken : List ℕ) → Consumes source.left source'.left taken → Consumes (Some bytes) source'.left taken
+  reported_at taken p = subst (λ l. Consumes l source'.left taken) told p
 
-  past_told : (c : Command) (a : Answer) → document_limit < length bytes → IsDueAfterReading c source source' a → Gives a sink sink' status → status ≡ TooLong
-  past_told c a long (inl (taken, (short, t, end), is)) g = let same = ap length (all_taken bytes taken source'.left (told_at taken t.1) end) in absurd (omega (arith, same))
-  past_told c a long (inr (inl d)) g = absurd (quiet source.faults source'.faults q d.1)
-  past_told c a long (inr (inr d)) g = stays a TooLong sink sink' status (ap (λ b. b.status) d.0) refl g
+  past_reported : (c : Command) (a : Answer) → document_limit < length bytes → IsDueAfterReading c source source' a → Gives a sink sink' status → status ≡ TooLong
+  past_reported c a long (inl (taken, (short, t, end), is)) g = let same = ap length (all_taken bytes taken source'.left (reported_at taken t.1) end) in absurd (omega (arith, same))
+  past_reported c a long (inr (inl d)) g = absurd (quiet source.faults source'.faults q d.1)
+  past_reported c a long (inr (inr d)) g = stays a TooLong sink sink' status (ap (λ b. b.status) d.0) refl g
 
-  pub too_long_told : (command : Option Command) → Runs command source source' sink sink' status → IsReader command → document_limit < length bytes → IsUnlessOutOfMemory status TooLong
-  too_long_told None runs reads long = absurd reads
-  too_long_told (Some c) (inl d) reads long = inr d.1
-  too_long_told (Some c) (inr (a, d, g)) reads long = inl (past_told c a long (subst (λ o. IsDueFor o c source source' a) reads d) g)
+  pub too_long_reported : (command : Option Command) → Runs command source source' sink sink' status → IsReader command → document_limit < length bytes → IsUnlessOutOfMemory status TooLong
+  too_long_reported None runs reads long = absurd reads
+  too_long_reported (Some c) (inl d) reads long = inr d.1
+  too_long_reported (Some c) (inr (a, d, g)) reads long = inl (past_reported c a long (subst (λ o. IsDueFor o c source source' a) reads d) g)
 
 module _ (bytes : List ℕ) (source source' : SourceState) (sink sink' : SinkState) (status : Status) where
   -- which answer to the bytes is written

@@ -7,9 +7,9 @@ use Rattle.entity_manifest.specs.declared.answer.BatchAnswer.TheVariants.{Partia
 use Rattle.policy_gate.specs.Answer.{partial_message, refused_line}
 
 -- what a request reads was there: the store is in memory
-abbrev pub IsToldOfStore : BatchAnswer → Type 0
-IsToldOfStore (Loading e) = ⊥
-IsToldOfStore a = Unit {0}
+abbrev pub IsReportedOfStore : BatchAnswer → Type 0
+IsReportedOfStore (Loading e) = ⊥
+IsReportedOfStore a = Unit {0}
 
 -- the line on an answer
 abbrev pub line_on : BatchAnswer → List ℕ

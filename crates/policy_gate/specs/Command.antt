@@ -22,7 +22,7 @@ one_word word =
     (if bytes_eq word (codes "live") then Some Live else
     (if bytes_eq word (codes "review") then Some Review else None)))))))
 
--- a size of documents that are made, and a limit of pages: 1 to 10000, of digits with no zero in front of
+-- a size of documents that are made, and a limit of pages: 1 to 10000, of digits with no zero before
 -- others
 abbrev pub size_of : List ℕ → Option ℕ
 size_of digits = option_and_then (λ n. if nat_lt 0 n then Some n else None) (plain_of 10000 digits)

@@ -3,7 +3,7 @@ ghost use Rattle.std.specs.Prelude.{◌≡◌, None, IfOk, string_bytes};
 ghost use Rattle.std.specs.List.{All, flat_map};
 ghost use Rattle.serde_json.specs.View.{view};
 ghost use Rattle.policy_gate.specs.Answer.{IsAnswerTo, IsRefusedOr, IsWork, refused_json, refused_line, refused_policies, refused_store};
-ghost use Rattle.policy_gate.specs.Batch.{IsToldOfStore, line_on};
+ghost use Rattle.policy_gate.specs.Batch.{IsReportedOfStore, line_on};
 ghost use Rattle.policy_gate.specs.declared.command.Command.{Command};
 ghost use Rattle.policy_gate.specs.Reply.{reply_view};
 
@@ -53,7 +53,7 @@ fn over_store(alloc: Global, document: &Document) -> Result<Reply, AllocError>
 }
 
 fn lines_reply(alloc: Global, answers: &Vec<BatchAnswer>) -> Result<Reply, AllocError>
-    requires { All IsToldOfStore answers.now.items }
+    requires { All IsReportedOfStore answers.now.items }
     ensures { IfOk result (λ r. (r.status ≡ Status.Done) ×
         (string_bytes r.text ≡ flat_map line_on answers.now.items)) }
 {
@@ -65,7 +65,7 @@ fn lines_reply(alloc: Global, answers: &Vec<BatchAnswer>) -> Result<Reply, Alloc
 }
 
 fn lines(alloc: Global, answers: &Vec<BatchAnswer>) -> Result<String, AllocError>
-    requires { All IsToldOfStore answers.now.items }
+    requires { All IsReportedOfStore answers.now.items }
     ensures { IfOk result (λ s. string_bytes s ≡ flat_map line_on answers.now.items) }
 {
     let mut text = String::new(alloc);
@@ -78,7 +78,7 @@ fn lines(alloc: Global, answers: &Vec<BatchAnswer>) -> Result<String, AllocError
 
 // The line on the answer to a request.
 fn line_on(alloc: Global, answer: &BatchAnswer) -> Result<String, AllocError>
-    requires { IsToldOfStore answer.now }
+    requires { IsReportedOfStore answer.now }
     ensures { IfOk result (λ s. string_bytes s ≡ line_on answer.now) }
 {
     match answer {

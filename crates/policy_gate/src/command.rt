@@ -6,7 +6,7 @@ ghost use Rattle.policy_gate.specs.Command.{command_of, four_words, one_word, ow
 
 use json_document::Shape;
 use json_samples::sample_document;
-use json_values::laws::names_are_told;
+use json_values::laws::names_are_reported;
 use json_values::read_type_name;
 use policy_values::{Eid, EntityUID, Name, Text};
 use std::alloc::{AllocError, Global};
@@ -129,7 +129,7 @@ fn level_of(digits: &[u8]) -> Option<u32>
     Some(level as u32)
 }
 
-// The number, up to the most, of digits with no zero in front of others.
+// The number, up to the most, of digits with no zero before others.
 fn plain(digits: &[u8], most: u64) -> Option<u64>
     ensures { result ≡ plain_of most digits.now }
 {
@@ -229,7 +229,7 @@ fn page_after(
 fn is_type(word: &str) -> bool
     ensures { result ≡ is_name word.now }
 {
-    names_are_told();
+    names_are_reported();
     Name::is_name(word)
 }
 

@@ -202,7 +202,7 @@ fn fault_text(fault: &PolicySetError) -> &'static str
         PolicySetError::UnknownTemplate(_) => "unknown template\n",
         PolicySetError::SlotMissing(_) => "slot missing\n",
         PolicySetError::SlotExtra(_) => "slot extra\n",
-        // This is told in its own way.
+        // This is reported in its own way.
         PolicySetError::OutOfMemory => "",
     }
 }

@@ -150,7 +150,7 @@ pub fn run<S: Source, K: Sink>(
     ensures usage { command_of (map string_bytes words.now.items) ≡ None → result ≡ Status.Usage }
     ensures too_long { (S.state source.old).taken + document_limit < (S.state source.new).taken
         → IsUnlessOutOfMemory result Status.TooLong }
-    ensures too_long_told { IsReader (command_of (map string_bytes words.now.items))
+    ensures too_long_reported { IsReader (command_of (map string_bytes words.now.items))
         → HasTooMany (S.state source.old) (S.state source.new)
         → IsUnlessOutOfMemory result Status.TooLong }
     ensures exact { (command : Command) (bytes : List ℕ) → IsExact command bytes

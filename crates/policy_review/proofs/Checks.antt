@@ -1,4 +1,4 @@
--- What checks tell is what typing says, where they pass; and they all pass exactly where the policies are accepted.
+-- What checks say is what typing says, where they pass; and they all pass exactly where the policies are accepted.
 use Rattle.std.proofs.Common.{◌≡◌, ◌≤◌, ℕ, suc, Bool, true, false, ◌&&◌, List, [], ◌∷◌, map, length, nat_lt, Option, Some, None, is_some, IsTrue, IsSomeAnd, refl, sym, ap, ◌∙◌, if◌then◌else◌, arith}
 use Rattle.std.proofs.lemmas.Bool.{le-ltb}
 use Rattle.std.specs.Option.{option_map_or}
@@ -17,7 +17,7 @@ use Rattle.typing_spec.specs.Operands.{is_boolean}
 use Rattle.typing_spec.specs.Typing.{Typed, Typing, types}
 use Rattle.typecheck_rules.specs.Check.{Check, Success, Irrelevant, Fail, TooDeep, check_of, check_by, checked, condition_walked, CheckIsExact}
 use Rattle.typecheck_rules.specs.Walked.{findings_of}
-use Rattle.policy_typecheck.specs.Answer.{Tells}
+use Rattle.policy_typecheck.specs.Answer.{Reports}
 use Rattle.policy_typecheck.specs.declared.PolicyCheck.{PolicyCheck}
 use Rattle.policy_typecheck.specs.declared.PolicyCheck.TheVariants as told
 use Rattle.link_spec.specs.Accepted.{IsTypedIn, IsAcceptedTemplate}
@@ -31,7 +31,7 @@ use Rattle.policy_validate.specs.AcceptanceLaws.{LeavesAll}
 use Rattle.policy_validate.specs.Checks.{condition_in}
 use Rattle.policy_validate.proofs.Empty.{all_more, all_both}
 use Rattle.policy_review.specs.Levels.{greatest, least_level_in, least_level_of}
-use Rattle.policy_review.specs.Found.{passed_verdict, level_told, level_found_in, level_found}
+use Rattle.policy_review.specs.Found.{passed_verdict, level_reported, level_found_in, level_found}
 use Rattle.plain_lemmas.proofs.Booleans.{and_parts_of}
 use Rattle.plain_lemmas.proofs.Options.{some_injective}
 
@@ -43,7 +43,7 @@ verdict_in (Success t) = Some May
 verdict_in (Irrelevant t) = Some Never
 verdict_in c = None
 
-verdict_same : (id : List ℕ) (c : Check) (r : PolicyCheck) → Tells id c r → passed_verdict r ≡ verdict_in c
+verdict_same : (id : List ℕ) (c : Check) (r : PolicyCheck) → Reports id c r → passed_verdict r ≡ verdict_in c
 verdict_same id (Success t) (told.Success u) h = refl
 verdict_same id (Irrelevant t) (told.Irrelevant u) h = refl
 verdict_same id (Fail fs) (told.Fail es) h = refl
@@ -66,7 +66,7 @@ by_typing : (o : Option Typing) (fs : List Finding) (v : Verdict) → verdict_in
 by_typing None fs v h = absurd (cc h)
 by_typing (Some x) fs v h = by_type x.type x.tree fs v h
 
-module _ (exact : CheckIsExact) (schema : SchemaData) (env : EnvData) (e : Plain) (id : List ℕ) (r : PolicyCheck) (tells : Tells id (checked schema env e) r) where
+module _ (exact : CheckIsExact) (schema : SchemaData) (env : EnvData) (e : Plain) (id : List ℕ) (r : PolicyCheck) (tells : Reports id (checked schema env e) r) where
   pub verdict_is : (v : Verdict) → passed_verdict r ≡ Some v → v ≡ verdict_of schema e env
   verdict_is v h = by (nat_lt 200 (depth_of e)) (ap verdict_in (sym (exact schema env e)) ∙ sym (verdict_same id (checked schema env e) r tells) ∙ h)
     where
@@ -82,13 +82,13 @@ module _ (exact : CheckIsExact) (schema : SchemaData) (env : EnvData) (e : Plain
 
 -- ---- levels
 
-level_by_type : (a : Option EntityUID) (u : Ty) (t : Typed) (fs : List Finding) → is_boolean u ≡ true → level_told a (condition_in (check_of u t fs)) ≡ least_level a t
+level_by_type : (a : Option EntityUID) (u : Ty) (t : Typed) (fs : List Finding) → is_boolean u ≡ true → level_reported a (condition_in (check_of u t fs)) ≡ least_level a t
 level_by_type a true_type t fs h = refl
 level_by_type a false_type t fs h = refl
 level_by_type a (primitive BoolType) t fs h = refl
 level_by_type a u t fs h = absurd (cc h)
 
-level_by : (a : Option EntityUID) (o : Option Typing) (fs : List Finding) → IsSomeAnd o (λ x. IsTrue (is_boolean x.type)) → level_told a (condition_in (check_by o fs)) ≡ option_map_or (λ x. least_level a x.tree) o (Some 0)
+level_by : (a : Option EntityUID) (o : Option Typing) (fs : List Finding) → IsSomeAnd o (λ x. IsTrue (is_boolean x.type)) → level_reported a (condition_in (check_by o fs)) ≡ option_map_or (λ x. least_level a x.tree) o (Some 0)
 level_by a None fs h = absurd h
 level_by a (Some x) fs h = level_by_type a x.type x.tree fs h
 
@@ -100,7 +100,7 @@ module _ (exact : CheckIsExact) (schema : SchemaData) where
       here : level_found_in schema e env ≡ least_level_in schema e env
       here =
           let fs = findings_of (condition_walked schema env e) in
-          ap (λ c. level_told (action_in env) (condition_in c)) (exact schema env e ∙ ap (λ b. if b then TooDeep else check_by (types schema env [] e) fs) (le-ltb 200 (depth_of e) depth))
+          ap (λ c. level_reported (action_in env) (condition_in c)) (exact schema env e ∙ ap (λ b. if b then TooDeep else check_by (types schema env [] e) fs) (le-ltb 200 (depth_of e) depth))
           ∙ level_by (action_in env) (types schema env [] e) fs typed.0
 
   pub accepted_level : (t : TemplateData) → IsAcceptedTemplate schema t → level_found schema t ≡ least_level_of schema t

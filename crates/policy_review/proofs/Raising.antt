@@ -10,7 +10,7 @@ use Rattle.findings.specs.declared.level.EntityDerefViolationKind.{EntityDerefVi
 use Rattle.findings.specs.declared.level.EntityDerefViolationKind.TheVariants.{MaximumLevelExceeded, LiteralDerefTarget}
 use Rattle.level_spec.specs.Findings.{IsIn}
 use Rattle.level_spec.specs.Levels.{greater, one_more, least, is_below}
-use Rattle.policy_validate.specs.Errors.{Condition, dereferences_in, PassesIn, IsToldBy, IsToldOf}
+use Rattle.policy_validate.specs.Errors.{Condition, dereferences_in, PassesIn, IsReportedBy, IsReportedOf}
 use Rattle.policy_review.specs.Found.{needed_of, needed_in, needed_by}
 use Rattle.policy_review.proofs.Least.{at_most, all_at_most}
 use Rattle.plain_lemmas.proofs.Lists.{empty_of_length}
@@ -76,13 +76,13 @@ IsNeeded n os None = IsIn None os
 IsNeeded n os (Some m) = (k : ℕ) × (m ≡ k + 1) × (nat_lt k n ≡ false) × IsIn (Some k) os
 
 module _ (id : List ℕ) (n : ℕ) (os : List (Option ℕ)) where
-  needed_told : (e : ValidationError) → IsToldOf id n os e → IsNeeded n os (needed_in e)
-  needed_told (EntityDerefLevelViolation e) h = by e.violation_kind h.1
+  needed_reported : (e : ValidationError) → IsReportedOf id n os e → IsNeeded n os (needed_in e)
+  needed_reported (EntityDerefLevelViolation e) h = by e.violation_kind h.1
     where
-      by : (v : EntityDerefViolationKind) → IsToldBy n os v → IsNeeded n os (needed_of v)
+      by : (v : EntityDerefViolationKind) → IsReportedBy n os v → IsNeeded n os (needed_of v)
       by (MaximumLevelExceeded allowed actual) h = h.1
       by LiteralDerefTarget h = h
-  needed_told e h = absurd h
+  needed_reported e h = absurd h
 
   greater_needed : (o p : Option ℕ) → IsNeeded n os o → IsNeeded n os p → IsNeeded n os (greater o p)
   greater_needed None p h k = h
@@ -93,11 +93,11 @@ module _ (id : List ℕ) (n : ℕ) (os : List (Option ℕ)) where
       by true e = let same : m ≡ max j m = search (arith) in subst (λ x. IsNeeded n os (Some x)) same k
       by false e = let same : j ≡ max j m = search (arith) in subst (λ x. IsNeeded n os (Some x)) same h
 
-  needed_all : (e : ValidationError) (es : List ValidationError) → AllByRecursion (IsToldOf id n os) (e ∷ es) → IsNeeded n os (needed_by (e ∷ es))
-  needed_all e [] h = subst (IsNeeded n os) (sym (greater_zero (needed_in e))) (needed_told e h.0)
-  needed_all e (f ∷ fs) h = greater_needed (needed_in e) (needed_by (f ∷ fs)) (needed_told e h.0) (needed_all f fs h.1)
+  needed_all : (e : ValidationError) (es : List ValidationError) → AllByRecursion (IsReportedOf id n os) (e ∷ es) → IsNeeded n os (needed_by (e ∷ es))
+  needed_all e [] h = subst (IsNeeded n os) (sym (greater_zero (needed_in e))) (needed_reported e h.0)
+  needed_all e (f ∷ fs) h = greater_needed (needed_in e) (needed_by (f ∷ fs)) (needed_reported e h.0) (needed_all f fs h.1)
 
-  is_needed : (es : List ValidationError) → (es ≡ [] → ⊥) → AllByRecursion (IsToldOf id n os) es → IsNeeded n os (needed_by es)
+  is_needed : (es : List ValidationError) → (es ≡ [] → ⊥) → AllByRecursion (IsReportedOf id n os) es → IsNeeded n os (needed_by es)
   is_needed [] some h = absurd (some refl)
   is_needed (e ∷ es) some h = needed_all e es h
 
@@ -107,7 +107,7 @@ module _ (id : List ℕ) (n : ℕ) (os : List (Option ℕ)) where
     pub higher : n < m
     pub nearer : top os - m < top os - n
 
-  pub needed_raises : (es : List ValidationError) → (es ≡ [] → ⊥) → AllByRecursion (IsToldOf id n os) es → (m : ℕ) → needed_by es ≡ Some m → IsRaised m
+  pub needed_raises : (es : List ValidationError) → (es ≡ [] → ⊥) → AllByRecursion (IsReportedOf id n os) es → (m : ℕ) → needed_by es ≡ Some m → IsRaised m
   needed_raises es some h m is = by (subst (IsNeeded n os) is (is_needed es some h))
     where
       by : IsNeeded n os (Some m) → IsRaised m
@@ -122,7 +122,7 @@ module _ (id : List ℕ) (n : ℕ) (os : List (Option ℕ)) where
           with (Some l) f = let below = f l refl in ap Some (search (arith, r.1, r.2))
 
   -- where what is needed has no level, there is none
-  pub none_needed : (es : List ValidationError) → (es ≡ [] → ⊥) → AllByRecursion (IsToldOf id n os) es → needed_by es ≡ None → greater (Some n) (least os) ≡ None
+  pub none_needed : (es : List ValidationError) → (es ≡ [] → ⊥) → AllByRecursion (IsReportedOf id n os) es → needed_by es ≡ None → greater (Some n) (least os) ≡ None
   none_needed es some h is = ap (greater (Some n)) (none_within os (subst (IsNeeded n os) is (is_needed es some h)))
 
 -- ---- none and some

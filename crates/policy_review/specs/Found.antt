@@ -1,4 +1,4 @@
--- What checks of conditions tell of verdicts and levels.
+-- What checks of conditions say of verdicts and levels.
 use Rattle.std.specs.Prelude.{◌≡◌, ℕ, Bool, List, Option, Some, None, map, if◌then◌else◌}
 use Rattle.std.specs.BTreeMap.{insert_entry}
 use Rattle.std.specs.List.{list_all}
@@ -50,8 +50,8 @@ abbrev pub needed_by : List ValidationError → Option ℕ
 needed_by es = greatest (map needed_in es)
 
 -- the least level of what a check leaves of a condition
-abbrev pub level_told : Option EntityUID → Option Typed → Option ℕ
-level_told a o = option_map_or (least_level a) o (Some 0)
+abbrev pub level_reported : Option EntityUID → Option Typed → Option ℕ
+level_reported a o = option_map_or (least_level a) o (Some 0)
 
 -- a level with its id
 abbrev pub level_at : List ℕ × Option ℕ → PolicyLevel
@@ -60,7 +60,7 @@ level_at e = record { policy_id = e.0; level = e.1 }
 module _ (schema : SchemaData) where
   -- of a condition in an environment, and of a template or static policy in its environments
   abbrev pub level_found_in : Plain → EnvData → Option ℕ
-  level_found_in e env = level_told (action_in env) (condition_in (checked schema env e))
+  level_found_in e env = level_reported (action_in env) (condition_in (checked schema env e))
 
   abbrev pub level_found : TemplateData → Option ℕ
   level_found t = greatest (map (level_found_in (condition_of t)) (linked_envs schema t))

@@ -5,8 +5,8 @@ ghost use Rattle.schema_core.specs.EnvData.{action_in};
 ghost use Rattle.schema_core.specs.RequestEnvs.{env_data_of};
 ghost use Rattle.level_spec.specs.Levels.{greater, least, least_level};
 ghost use Rattle.policy_validate.specs.Errors.{condition_in, dereferences_in};
-ghost use Rattle.policy_validate.specs.Found.{condition_told};
-ghost use Rattle.policy_review.specs.Found.{needed_by, needed_in, level_told, level_found};
+ghost use Rattle.policy_validate.specs.Found.{condition_reported};
+ghost use Rattle.policy_review.specs.Found.{needed_by, needed_in, level_reported, level_found};
 
 use findings::{EntityDerefViolationKind, ValidationError};
 use policy_expressions::Expr;
@@ -46,7 +46,7 @@ pub(crate) fn raised_by(
     check: PolicyCheck,
 ) -> Result<Option<u32>, AllocError>
     ensures { IfOk result (λ l. l ≡
-        greater level (level_told (action_in (env_data_of env.now)) (condition_told check))) }
+        greater level (level_reported (action_in (env_data_of env.now)) (condition_reported check))) }
 {
     match condition_of(check) {
         Some(condition) => raised_past(alloc, policy_id, level, env, condition),
@@ -89,7 +89,7 @@ fn raised_to(
 }
 
 fn condition_of(check: PolicyCheck) -> Option<Expr<Option<Type>>>
-    ensures { result ≡ condition_told check }
+    ensures { result ≡ condition_reported check }
 {
     match check {
         PolicyCheck::Success(condition) | PolicyCheck::Irrelevant(condition) => Some(condition),
@@ -100,7 +100,7 @@ fn condition_of(check: PolicyCheck) -> Option<Expr<Option<Type>>>
     }
 }
 
-// The level, raised to the least at which conditions pass. The errors at a level tell which level they need,
+// The level, raised to the least at which conditions pass. The errors at a level say which level they need,
 // and so the second turn passes as a rule.
 fn raised(
     alloc: Global,
@@ -124,7 +124,7 @@ fn raised(
     }
 }
 
-// The greatest level that errors on levels need; none, where one tells of what has no level.
+// The greatest level that errors on levels need; none, where one says of what has no level.
 fn needed_by(errors: Vec<ValidationError>) -> Option<u32>
     ensures { result ≡ needed_by errors.items }
 {

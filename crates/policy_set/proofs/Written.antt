@@ -1,4 +1,4 @@
--- Templates that are lent are placed as they are.
+-- Templates that are given are placed as they are.
 use Rattle.std.proofs.Common.{◌≡◌, ℕ, List, [], ◌∷◌, map, Bor, refl, ap, ◌∙◌}
 use Rattle.std.specs.Prelude.{true, cond, fold, filter}
 use Rattle.std.specs.declared.cmp.Ordering.{Ordering}

@@ -8,7 +8,7 @@ use Rattle.schema_core.specs.RequestEnvs.{env_data_of}
 use Rattle.schema_core.specs.declared.request_env.RequestEnv.{RequestEnv}
 use Rattle.policy_expressions.specs.Plain.{Plain}
 use Rattle.typecheck_walk.specs.declared.policy_check.PolicyCheck.{PolicyCheck}
-use Rattle.typecheck_walk.specs.Answer.{TellsIn}
+use Rattle.typecheck_walk.specs.Answer.{SaysIn}
 use Rattle.plain_lemmas.proofs.Lists.{all_push}
 
 module _ (schema : SchemaData) (id : List ℕ) (x : Plain) where
@@ -22,5 +22,5 @@ module _ (schema : SchemaData) (id : List ℕ) (x : Plain) where
         ∙ ap (λ es. map (λ c. env_data_of c.0) done ++ map env_data_of es) (sym is)
         ∙ h
 
-    pub told_more : AllByRecursion (TellsIn schema id x) done → TellsIn schema id x r → AllByRecursion (TellsIn schema id x) new
-    told_more hs h = subst (AllByRecursion (TellsIn schema id x)) (sym pushed) (all_push (TellsIn schema id x) done r hs h)
+    pub reported_more : AllByRecursion (SaysIn schema id x) done → SaysIn schema id x r → AllByRecursion (SaysIn schema id x) new
+    reported_more hs h = subst (AllByRecursion (SaysIn schema id x)) (sym pushed) (all_push (SaysIn schema id x) done r hs h)

@@ -1,7 +1,7 @@
 pub mod AllChecks
 mod Lists
 mod MetActions
-pub mod Told
+pub mod Reported
 mod Verdicts
 pub mod NoteSteps
 pub mod Types

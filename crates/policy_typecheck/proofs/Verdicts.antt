@@ -12,10 +12,10 @@ use Rattle.policy_expressions.specs.Tree.{depth_of}
 use Rattle.typing_spec.specs.Typing.{Typed, Typing, types}
 use Rattle.typecheck_rules.specs.Check.{Check, Success, Irrelevant, Fail, TooDeep, check_of, check_by, checked, condition_walked, CheckIsExact}
 use Rattle.typecheck_rules.specs.Walked.{findings_of}
-use Rattle.typecheck_walk.specs.Answer.{Tells}
+use Rattle.typecheck_walk.specs.Answer.{Reports}
 use Rattle.typecheck_walk.specs.declared.policy_check.PolicyCheck.{PolicyCheck}
 use Rattle.typecheck_walk.specs.declared.policy_check.PolicyCheck.TheVariants as code
-use Rattle.policy_typecheck.specs.Checks.{verdict_told}
+use Rattle.policy_typecheck.specs.Checks.{verdict_reported}
 use Rattle.policy_typecheck.specs.Verdict.{verdict_by, verdict_of}
 use Rattle.policy_typecheck.specs.declared.verdict.Verdict.{Verdict}
 use Rattle.policy_typecheck.specs.declared.verdict.Verdict.TheVariants.{Never, May}
@@ -24,7 +24,7 @@ abbrev verdict_on : Check → Verdict
 verdict_on (Irrelevant t) = Never
 verdict_on c = May
 
-as_checked : (id : List ℕ) (c : Check) (r : PolicyCheck) → Tells id c r → verdict_told r ≡ verdict_on c
+as_checked : (id : List ℕ) (c : Check) (r : PolicyCheck) → Reports id c r → verdict_reported r ≡ verdict_on c
 as_checked id (Success t) (code.Success u) h = refl
 as_checked id (Irrelevant t) (code.Irrelevant u) h = refl
 as_checked id (Fail fs) (code.Fail es) h = refl
@@ -42,9 +42,9 @@ by_typing None fs = refl
 by_typing (Some x) fs = by_type x.type x.tree fs
 
 -- what is no deeper than 200
-pub told_verdict : CheckIsExact → (schema : SchemaData) (env : EnvData) (e : Plain) → depth_of e ≤ 200 →
-    (id : List ℕ) (r : PolicyCheck) → Tells id (checked schema env e) r → verdict_told r ≡ verdict_of schema e env
-told_verdict exact schema env e depth id r told =
+pub reported_verdict : CheckIsExact → (schema : SchemaData) (env : EnvData) (e : Plain) → depth_of e ≤ 200 →
+    (id : List ℕ) (r : PolicyCheck) → Reports id (checked schema env e) r → verdict_reported r ≡ verdict_of schema e env
+reported_verdict exact schema env e depth id r told =
     let fs = findings_of (condition_walked schema env e) in
     as_checked id (checked schema env e) r told ∙
     ap verdict_on (exact schema env e ∙ ap (λ b. if b then TooDeep else check_by (types schema env [] e) fs) (le-ltb 200 (depth_of e) depth)) ∙

@@ -18,6 +18,6 @@ abbrev pub errors_in : PolicyCheck → List ValidationError
 errors_in (Fail es) = es.items
 errors_in r = []
 
-abbrev pub verdict_told : PolicyCheck → Verdict
-verdict_told (Irrelevant t) = Never
-verdict_told r = May
+abbrev pub verdict_reported : PolicyCheck → Verdict
+verdict_reported (Irrelevant t) = Never
+verdict_reported r = May

@@ -5,7 +5,7 @@ pub mod NoAction
 pub mod Pointed
 pub mod Policies
 pub mod SlotEnvs
-pub mod Told
+pub mod Reported
 pub mod Verdict
 pub use Rattle.typecheck_walk.specs.Answer
 pub use Rattle.typecheck_walk.specs.Known

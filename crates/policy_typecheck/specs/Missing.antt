@@ -4,13 +4,13 @@ use Rattle.std.specs.List.{list_any}
 use Rattle.std.specs.Borrow.{Bor}
 use Rattle.policy_typecheck.specs.Added.{holds}
 
--- whether a list of lent items holds an equal one
+-- whether a list of given items holds an equal one
 abbrev pub lends : {T : Type 0} → (T → T → Bool) → List (Bor T) → T → Bool
 lends eq rs x = list_any (λ r. eq x r.now) rs
 
--- the lent items are those of the list
-abbrev pub LendsSame : {T : Type 0} → (T → T → Bool) → List (Bor T) → List T → Type 0
-LendsSame {T} eq rs xs = (x : T) → lends eq rs x ≡ holds eq xs x
+-- the given items are those of the list
+abbrev pub GivesSame : {T : Type 0} → (T → T → Bool) → List (Bor T) → List T → Type 0
+GivesSame {T} eq rs xs = (x : T) → lends eq rs x ≡ holds eq xs x
 
 -- the items whose mark is not set
 abbrev pub unmarked : {T : Type 0} → List T → List Bool → List T

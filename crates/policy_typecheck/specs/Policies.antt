@@ -1,4 +1,4 @@
--- What is told of the condition of a policy in its environments.
+-- What is reported of the condition of a policy in its environments.
 use Rattle.std.specs.Prelude.{ℕ, Bool, true, false, not, ◌&&◌, nat_lt, List, [], ◌∷◌, None, map, if◌then◌else◌}
 use Rattle.std.specs.List.{flat_map, list_all}
 use Rattle.schema_core.specs.Schema.{SchemaData}

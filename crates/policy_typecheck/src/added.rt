@@ -3,7 +3,7 @@
 ghost use Rattle.std.specs.Prelude.{◌≡◌, ◌++◌, IfOk, OnOk, OnErr, map};
 ghost use Rattle.std.specs.HashSet.{IsUnique};
 ghost use Rattle.policy_typecheck.specs.Added.{added, all_added, holds, same_error, same_warning};
-ghost use Rattle.policy_typecheck.specs.Missing.{lends, LendsSame, unmarked};
+ghost use Rattle.policy_typecheck.specs.Missing.{lends, GivesSame, unmarked};
 
 use findings::{ValidationError, ValidationWarning};
 use indexmap::IndexSet;
@@ -84,7 +84,7 @@ fn set_of<'a>(
     alloc: Global,
     errors: &'a [ValidationError],
 ) -> Result<IndexSet<&'a ValidationError>, AllocError>
-    ensures { IfOk result (λ held. LendsSame same_error held.keys errors.now) }
+    ensures { IfOk result (λ held. GivesSame same_error held.keys errors.now) }
 {
     let mut held = IndexSet::new(alloc);
     for error in errors {

@@ -5,7 +5,7 @@ ghost use Rattle.schema_core.specs.EnvData.{unlinked};
 ghost use Rattle.schema_core.specs.Environments.{environment};
 ghost use Rattle.schema_core.specs.Faults.{IsSchema};
 ghost use Rattle.schema_core.specs.RequestEnvs.{env_data_of};
-ghost use Rattle.policy_typecheck.specs.Told.{all_told};
+ghost use Rattle.policy_typecheck.specs.Reported.{all_reported};
 ghost use Rattle.link_spec.specs.Met.{body_check, met_at, met_envs, met_with};
 
 use crate::Typechecker;
@@ -29,7 +29,7 @@ pub(crate) fn check_bodies(
 ) -> Result<(), AllocError>
     ensures schema { IsSchema checker.now }
     ensures told { OnOk result ((summary.new, found.new.keys) ≡
-        all_told t.now.id (body_check checker.now t.now) (summary.old, found.old.keys)
+        all_reported t.now.id (body_check checker.now t.now) (summary.old, found.old.keys)
         (met_envs checker.now t.now)) }
 {
     for action in met_actions(alloc, checker.schema(), t.action_constraint())? {
@@ -48,7 +48,7 @@ fn check_of_action(
     found: &mut IndexSet<ValidationError>,
 ) -> Result<(), AllocError>
     ensures { OnOk result ((summary.new, found.new.keys) ≡
-        all_told t.now.id (body_check checker.now t.now) (summary.old, found.old.keys)
+        all_reported t.now.id (body_check checker.now t.now) (summary.old, found.old.keys)
         (met_with checker.now t.now action.now)) }
 {
     let schema = checker.schema();
@@ -71,14 +71,14 @@ fn check_of_principal(
     found: &mut IndexSet<ValidationError>,
 ) -> Result<(), AllocError>
     ensures { OnOk result ((summary.new, found.new.keys) ≡
-        all_told t.now.id (body_check checker.now t.now) (summary.old, found.old.keys)
+        all_reported t.now.id (body_check checker.now t.now) (summary.old, found.old.keys)
         (met_at checker.now t.now action.now principal.now)) }
 {
     let schema = checker.schema();
     for resource in action.applies_to_resources() {
         if type_meets(schema, t.resource_constraint(), resource) {
             let env = env_with(action, principal, resource);
-            checker.tell_body(alloc, t, &env, summary, found)?;
+            checker.say_body(alloc, t, &env, summary, found)?;
         }
     }
     Ok(())

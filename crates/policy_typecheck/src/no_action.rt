@@ -11,7 +11,7 @@ ghost use Rattle.link_spec.specs.Linked.{linked_envs, linked_envs_of};
 ghost use Rattle.link_spec.specs.Met.{refused_check};
 ghost use Rattle.typecheck_rules.specs.Check.{condition_walked};
 ghost use Rattle.policy_typecheck.specs.NoAction.{names_no_action};
-ghost use Rattle.policy_typecheck.specs.Told.{all_told, told};
+ghost use Rattle.policy_typecheck.specs.Reported.{all_reported, told};
 
 use crate::Typechecker;
 use crate::environments::add_of_action;
@@ -59,7 +59,7 @@ pub(crate) fn check_refused(
 ) -> Result<(), AllocError>
     ensures schema { IsSchema checker.now }
     ensures told { OnOk result ((summary.new, found.new.keys) ≡
-        all_told t.now.id (refused_check checker.now t.now) (summary.old, found.old.keys)
+        all_reported t.now.id (refused_check checker.now t.now) (summary.old, found.old.keys)
         (linked_envs checker.now t.now)) }
 {
     for action in checker.schema().action_ids() {
@@ -78,19 +78,19 @@ fn check_of_action(
     found: &mut IndexSet<ValidationError>,
 ) -> Result<(), AllocError>
     ensures { OnOk result ((summary.new, found.new.keys) ≡
-        all_told t.now.id (refused_check checker.now t.now) (summary.old, found.old.keys)
+        all_reported t.now.id (refused_check checker.now t.now) (summary.old, found.old.keys)
         (linked_envs_of checker.now t.now action.now)) }
 {
     let mut envs = Vec::new(alloc);
     add_of_action(&mut envs, checker.schema(), t, action)?;
     for env in envs {
-        tell_where_met(checker, alloc, t, &env, summary, found)?;
+        say_where_met(checker, alloc, t, &env, summary, found)?;
     }
     Ok(())
 }
 
-// Tells of the condition in an environment: nothing where its principal does not meet the scope.
-fn tell_where_met<'b>(
+// Reports of the condition in an environment: nothing where its principal does not meet the scope.
+fn say_where_met<'b>(
     checker: &Typechecker<'_, '_>,
     alloc: Global,
     t: &'b Template,
@@ -104,14 +104,14 @@ fn tell_where_met<'b>(
 {
     let principal = env.principal_entity_type();
     if is_met(checker.schema(), t.principal_constraint(), principal) {
-        tell_refused(checker, alloc, t, env, summary, found)
+        say_refused(checker, alloc, t, env, summary, found)
     } else {
         Ok(())
     }
 }
 
-// Tells that the condition fails, with what is found of its body.
-fn tell_refused<'b>(
+// Reports that the condition fails, with what is found of its body.
+fn say_refused<'b>(
     checker: &Typechecker<'_, '_>,
     alloc: Global,
     t: &'b Template,
@@ -124,7 +124,7 @@ fn tell_refused<'b>(
         (refused true (condition_walked checker.now (env_data_of env.now) t.now.body))
         (summary.old, found.old.keys)) }
 {
-    checker.tell_body(alloc, t, env, summary, found)?;
+    checker.say_body(alloc, t, env, summary, found)?;
     *summary = Summary {
         accepted: false,
         impossible: false,

@@ -1,10 +1,10 @@
-//! What is told of the condition of a policy in all its environments.
+//! What is reported of the condition of a policy in all its environments.
 
 ghost use Rattle.std.specs.Prelude.{◌≡◌, OnErr, OnOk, if◌then◌else◌};
 ghost use Rattle.policy_typecheck.specs.Added.{added, all_added, same_error, same_warning};
 ghost use Rattle.policy_typecheck.specs.Checks.{errors_in, has_passed, is_false};
 ghost use Rattle.policy_typecheck.specs.Policies.{impossible};
-ghost use Rattle.policy_typecheck.specs.Told.{told_by};
+ghost use Rattle.policy_typecheck.specs.Reported.{reported_by};
 
 use crate::PolicyCheck;
 use crate::added::{add_errors, add_warning, missing};
@@ -22,13 +22,13 @@ pub(crate) struct Summary {
     pub(crate) impossible: bool,
 }
 
-/// Tells of one check more, and adds its errors, each once.
-pub(crate) fn tell_check(
+/// Reports of one check more, and adds its errors, each once.
+pub(crate) fn say_check(
     summary: &mut Summary,
     found: &mut IndexSet<ValidationError>,
     check: PolicyCheck,
 ) -> Result<(), AllocError>
-    ensures { OnOk result ((summary.new, found.new.keys) ≡ told_by check (summary.old, found.old.keys)) }
+    ensures { OnOk result ((summary.new, found.new.keys) ≡ reported_by check (summary.old, found.old.keys)) }
 {
     summary.accepted = has_passed(&check) && summary.accepted;
     summary.impossible = is_false(&check) && summary.impossible;

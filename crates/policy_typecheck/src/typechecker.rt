@@ -11,16 +11,16 @@ ghost use Rattle.link_spec.specs.Linked.{linked_envs};
 ghost use Rattle.link_spec.specs.Met.{body_check};
 ghost use Rattle.typecheck_rules.specs.Check.{check_walked, checked, condition_walked};
 ghost use Rattle.policy_typecheck.specs.Added.{all_added, same_error};
-ghost use Rattle.typecheck_walk.specs.Answer.{Tells, TellsIn};
+ghost use Rattle.typecheck_walk.specs.Answer.{Reports, SaysIn};
 ghost use Rattle.typecheck_walk.specs.Known.{KnowsFunctions};
 ghost use Rattle.policy_typecheck.specs.Policies.{is_accepted, is_impossible, is_too_deep, refusals, warned};
-ghost use Rattle.policy_typecheck.specs.Told.{all_told, condition_check, told};
+ghost use Rattle.policy_typecheck.specs.Reported.{all_reported, condition_check, told};
 ghost use Rattle.policy_typecheck.specs.Verdict.{verdict_of};
 
 use crate::added::add_errors;
 use crate::bodies::check_bodies;
 use crate::no_action::{check_refused, names_no_action};
-use crate::policies::{Summary, add_found, tell_check};
+use crate::policies::{Summary, add_found, say_check};
 use crate::verdict::verdict_by;
 use crate::{Verdict, linked_request_envs};
 use findings::{ValidationError, ValidationWarning};
@@ -83,7 +83,7 @@ impl<'a, 'x> Typechecker<'a, 'x> {
         env: &'b RequestEnv<'b>,
     ) -> Result<PolicyCheck, AllocError>
         ensures { IfOk result
-            (λ r. Tells t.now.id (checked self.now (env_data_of env.now) (condition_of t.now)) r) }
+            (λ r. Reports t.now.id (checked self.now (env_data_of env.now) (condition_of t.now)) r) }
     {
         self.check_in(alloc, env, t.id(), t.condition())
     }
@@ -152,7 +152,7 @@ impl<'a, 'x> Typechecker<'a, 'x> {
         requires depth { is_too_deep self.now t.now ≡ false }
         requires body { has_slot t.now.body ≡ false }
         ensures { OnOk result ((summary.new, found.new.keys) ≡
-            all_told t.now.id (condition_check self.now t.now) (summary.old, found.old.keys)
+            all_reported t.now.id (condition_check self.now t.now) (summary.old, found.old.keys)
             (linked_envs self.now t.now)) }
     {
         let principal = t.principal_constraint();
@@ -175,12 +175,12 @@ impl<'a, 'x> Typechecker<'a, 'x> {
         found: &mut IndexSet<ValidationError>,
     ) -> Result<(), AllocError>
         ensures { OnOk result ((summary.new, found.new.keys) ≡
-            all_told t.now.id (condition_check self.now t.now) (summary.old, found.old.keys)
+            all_reported t.now.id (condition_check self.now t.now) (summary.old, found.old.keys)
             (linked_envs self.now t.now)) }
     {
         for env in linked_request_envs(alloc, self.schema, t)? {
             let check = self.check_in(alloc, &env, t.id(), t.condition())?;
-            tell_check(summary, found, check)?;
+            say_check(summary, found, check)?;
         }
         Ok(())
     }
@@ -194,7 +194,7 @@ impl<'a, 'x> Typechecker<'a, 'x> {
         ensures environments { IfOk result (λ r. map (λ c. env_data_of c.0) r.items ≡
             linked_envs self.now t.now) }
         ensures checks { IfOk result
-            (λ r. AllByRecursion (TellsIn self.now t.now.id (condition_of t.now)) r.items) }
+            (λ r. AllByRecursion (SaysIn self.now t.now.id (condition_of t.now)) r.items) }
     {
         let envs = linked_request_envs(alloc, self.schema, t)?;
         self.check_in_each(alloc, envs, t.id(), t.condition())
@@ -209,7 +209,7 @@ impl<'a, 'x> Typechecker<'a, 'x> {
         ensures environments { IfOk result (λ r. map (λ c. env_data_of c.0) r.items ≡
             unlinked_envs self.now) }
         ensures checks { IfOk result
-            (λ r. AllByRecursion (TellsIn self.now p.now.id p.now.condition) r.items) }
+            (λ r. AllByRecursion (SaysIn self.now p.now.id p.now.condition) r.items) }
     {
         let envs = self.schema.unlinked_request_envs(alloc)?;
         self.check_in_each(alloc, envs, p.id(), p.condition())
@@ -223,7 +223,7 @@ impl<'a, 'x> Typechecker<'a, 'x> {
         env: &'b RequestEnv<'b>,
     ) -> Result<PolicyCheck, AllocError>
         ensures { IfOk result
-            (λ r. Tells p.now.id (checked self.now (env_data_of env.now) p.now.condition) r) }
+            (λ r. Reports p.now.id (checked self.now (env_data_of env.now) p.now.condition) r) }
     {
         self.check_in(alloc, env, p.id(), p.condition())
     }
@@ -238,7 +238,7 @@ impl<'a, 'x> Typechecker<'a, 'x> {
         ensures environments { IfOk result (λ r. map (λ c. env_data_of c.0) r.items ≡
             map env_data_of envs.entry.items) }
         ensures checks { IfOk result
-            (λ r. AllByRecursion (TellsIn self.now id.now condition.now) r.items) }
+            (λ r. AllByRecursion (SaysIn self.now id.now condition.now) r.items) }
     {
         let mut checks = Vec::new(alloc);
         for env in envs {
@@ -274,13 +274,13 @@ impl<'a, 'x> Typechecker<'a, 'x> {
         condition: &'b Expr<()>,
     ) -> Result<PolicyCheck, AllocError>
         ensures { IfOk result
-            (λ r. Tells id.now (checked self.now (env_data_of env.now) condition.now) r) }
+            (λ r. Reports id.now (checked self.now (env_data_of env.now) condition.now) r) }
     {
         check_condition(&self.setting(alloc, env), id, condition)
     }
 
-    /// Tells of the check of a template's body in an environment.
-    pub(crate) fn tell_body<'b>(
+    /// Reports of the check of a template's body in an environment.
+    pub(crate) fn say_body<'b>(
         &self,
         alloc: Global,
         t: &'b Template,
@@ -295,7 +295,7 @@ impl<'a, 'x> Typechecker<'a, 'x> {
             )) }
     {
         let check = self.check_walk_in(alloc, env, t.id(), t.non_scope_constraints())?;
-        tell_check(summary, found, check)
+        say_check(summary, found, check)
     }
 
     // At any depth.
@@ -307,7 +307,7 @@ impl<'a, 'x> Typechecker<'a, 'x> {
         e: &'b Expr<()>,
     ) -> Result<PolicyCheck, AllocError>
         ensures { IfOk result
-            (λ r. Tells id.now (check_walked
+            (λ r. Reports id.now (check_walked
             (condition_walked self.now (env_data_of env.now) e.now)) r) }
     {
         check_walk(&self.setting(alloc, env), id, e)

@@ -1,7 +1,7 @@
 //! Whether a policy can be true.
 
 ghost use Rattle.std.specs.Prelude.{◌≡◌};
-ghost use Rattle.policy_typecheck.specs.Checks.{verdict_told};
+ghost use Rattle.policy_typecheck.specs.Checks.{verdict_reported};
 
 use typecheck_walk::PolicyCheck;
 
@@ -16,7 +16,7 @@ pub enum Verdict {
 
 /// By the check of its condition.
 pub(crate) fn verdict_by(check: &PolicyCheck) -> Verdict
-    ensures { result ≡ verdict_told check.now }
+    ensures { result ≡ verdict_reported check.now }
 {
     match check {
         PolicyCheck::Irrelevant(_) => Verdict::Never,

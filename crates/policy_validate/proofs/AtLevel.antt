@@ -17,29 +17,29 @@ use Rattle.level_validate.specs.Errors.{Condition, faults_in, level_error}
 use Rattle.level_validate.specs.Faults.{fault_cmp}
 use Rattle.typecheck_rules.specs.Check.{Check, checked}
 use Rattle.typecheck_rules.specs.Check as check
-use Rattle.policy_typecheck.specs.Answer.{Tells, errors_of, too_deep}
+use Rattle.policy_typecheck.specs.Answer.{Reports, errors_of, too_deep}
 use Rattle.policy_typecheck.specs.Checks.{errors_in, is_false}
 use Rattle.policy_typecheck.specs.Policies.{checks_of, impossible, is_irrelevant, is_too_deep, refusals}
 use Rattle.policy_typecheck.specs.Added.{all_added, same_error}
 use Rattle.policy_typecheck.specs.declared.PolicyCheck.{PolicyCheck}
 use Rattle.policy_typecheck.specs.declared.PolicyCheck.TheVariants.{Success, Irrelevant, Fail}
 use Rattle.policy_validate.specs.Accepted.{typing_errors, errors_of_written, warnings_of}
-use Rattle.policy_validate.specs.AtLevel.{faults_told, has_any, untyped_errors, IsTypedAtLevel}
+use Rattle.policy_validate.specs.AtLevel.{faults_reported, has_any, untyped_errors, IsTypedAtLevel}
 use Rattle.policy_validate.specs.Levels.{or_else, condition_at, conditions_of, level_errors_of}
 use Rattle.policy_validate.specs.declared.levels.TypedAt.{TypedAt}
 use Rattle.policy_validate.proofs.Empty.{parts_empty, none_grown}
-use Rattle.policy_validate.proofs.LevelErrors.{tells_same}
+use Rattle.policy_validate.proofs.LevelErrors.{says_same}
 
--- ---- a check in code tells what the check tells
+-- ---- a check in code says what the check says
 
-errors_same : (id : List ℕ) (c : Check) (r : PolicyCheck) → Tells id c r → errors_in r ≡ errors_of id c
+errors_same : (id : List ℕ) (c : Check) (r : PolicyCheck) → Reports id c r → errors_in r ≡ errors_of id c
 errors_same id (check.Success t) (Success u) h = refl
 errors_same id (check.Irrelevant t) (Irrelevant u) h = refl
 errors_same id (check.Fail fs) (Fail es) h = h
 errors_same id check.TooDeep (Fail es) h = h
 errors_same id c r h = absurd h
 
-false_same : (id : List ℕ) (c : Check) (r : PolicyCheck) → Tells id c r → is_false r ≡ is_irrelevant c
+false_same : (id : List ℕ) (c : Check) (r : PolicyCheck) → Reports id c r → is_false r ≡ is_irrelevant c
 false_same id (check.Success t) (Success u) h = refl
 false_same id (check.Irrelevant t) (Irrelevant u) h = refl
 false_same id (check.Fail fs) (Fail es) h = refl
@@ -93,8 +93,8 @@ module _ (schema : SchemaData) (n : ℕ) (t : TemplateData) where
   }
 
   module _ (every : Bool) (found : List LevelFault) (left rest : List EnvData) (env : EnvData) (is : left ≡ env ∷ rest) (so_far : IsTypedSoFar every found left)
-      (r : PolicyCheck) (tells : Tells t.id (check_at env) r) where
-    pub gone_on : errors_in r ≡ [] → (every2 : Bool) → every2 ≡ (is_false r && every) → (found2 : List LevelFault) → found2 ≡ fold (with_new fault_cmp) found (faults_told n env r) →
+      (r : PolicyCheck) (tells : Reports t.id (check_at env) r) where
+    pub gone_on : errors_in r ≡ [] → (every2 : Bool) → every2 ≡ (is_false r && every) → (found2 : List LevelFault) → found2 ≡ fold (with_new fault_cmp) found (faults_reported n env r) →
         IsTypedSoFar every2 found2 rest
     gone_on none every2 both found2 more = record {
       errors = ap (λ es. es ++ errors_at rest) (sym none ∙ errors_same t.id (check_at env) r tells) ∙ ap errors_at (sym is) ∙ so_far.errors;
@@ -104,9 +104,9 @@ module _ (schema : SchemaData) (n : ℕ) (t : TemplateData) where
           ∙ ap (λ envs. every && list_all is_irrelevant (map check_at envs)) (sym is) ∙ so_far.impossible;
       faults =
           ap (λ fs. fold (with_new fault_cmp) fs (flat_map (faults_in n) (conditions_at rest))) more
-          ∙ sym (fold-append (with_new fault_cmp) found (faults_told n env r) (flat_map (faults_in n) (conditions_at rest)))
+          ∙ sym (fold-append (with_new fault_cmp) found (faults_reported n env r) (flat_map (faults_in n) (conditions_at rest)))
           ∙ ap (fold (with_new fault_cmp) found)
-          (ap (λ o. option_map_or (faults_in n) o [] ++ flat_map (faults_in n) (conditions_at rest)) (tells_same t.id env (check_at env) r tells)
+          (ap (λ o. option_map_or (faults_in n) o [] ++ flat_map (faults_in n) (conditions_at rest)) (says_same t.id env (check_at env) r tells)
           ∙ faults_more n (condition_at schema (condition_of t) env) (conditions_at rest))
           ∙ ap (λ envs. fold (with_new fault_cmp) found (flat_map (faults_in n) (conditions_at envs))) (sym is) ∙ so_far.faults;
     }

@@ -72,11 +72,11 @@ module _ (schema : SchemaData) where
       (all_both IsPolicy (PassesIn schema s.policies (unlinked_envs schema)) (λ p. has_scope_slot (written_of p) ≡ false → PassesUnlinked (written_of p))
       (λ p policy h no. subst (λ e. list_all passes (map (λ env. checked schema env e) (unlinked_envs schema)) ≡ true) policy.condition h) s.policies set.policies (each_passes schema s.policies (unlinked_envs schema) left)))
 
-  none_told : (t : TemplateData) (c : Check) → passes c ≡ true → errors_of t.id c ≡ []
-  none_told t (Success u) h = refl
-  none_told t (Irrelevant u) h = refl
-  none_told t (Fail fs) h = absurd (cc h)
-  none_told t TooDeep h = absurd (cc h)
+  none_reported : (t : TemplateData) (c : Check) → passes c ≡ true → errors_of t.id c ≡ []
+  none_reported t (Success u) h = refl
+  none_reported t (Irrelevant u) h = refl
+  none_reported t (Fail fs) h = absurd (cc h)
+  none_reported t TooDeep h = absurd (cc h)
 
   -- typing finds nothing where it accepts
   nothing_typed : (t : TemplateData) → is_accepted schema t ≡ true → typing_errors schema t ≡ []
@@ -84,7 +84,7 @@ module _ (schema : SchemaData) where
       let k = and_parts_of (not (is_too_deep schema t)) (list_all passes (checks_of schema t)) h in
       ap (all_added same_error [])
       (ap (λ b. if b then too_deep t.id ∷ [] else flat_map (errors_of t.id) (checks_of schema t)) (false_of_not (is_too_deep schema t) k.0)
-      ∙ each_none (errors_of t.id) (checks_of schema t) (all_more (λ c. passes c ≡ true) (λ c. errors_of t.id c ≡ []) (none_told t) (checks_of schema t) (all_pass passes (checks_of schema t) k.1)))
+      ∙ each_none (errors_of t.id) (checks_of schema t) (all_more (λ c. passes c ≡ true) (λ c. errors_of t.id c ≡ []) (none_reported t) (checks_of schema t) (all_pass passes (checks_of schema t) k.1)))
 
   ready_accepted : StaticsAreUnlinked → (t : TemplateData) → (has_scope_slot t ≡ false → PassesUnlinked t) → is_ready schema t ≡ true → is_accepted schema t ≡ true
   ready_accepted unlinked t passing h = by (has_scope_slot t) refl h

@@ -22,13 +22,13 @@ same_option None = refl
 same_option (Some a) = refl
 
 module _ {X D : Type 0} (p : D → Bool) (f : X → D) where
-  find_front : (b : Bool) (x : X) (xs : List X) → p (f x) ≡ b → find p (map f xs) ≡ option_map f (find (λ y. p (f y)) xs) → find p (map f (x ∷ xs)) ≡ option_map f (find (λ y. p (f y)) (x ∷ xs))
-  find_front true x xs h i = rw h refl
-  find_front false x xs h i = rw h i
+  find_prefix : (b : Bool) (x : X) (xs : List X) → p (f x) ≡ b → find p (map f xs) ≡ option_map f (find (λ y. p (f y)) xs) → find p (map f (x ∷ xs)) ≡ option_map f (find (λ y. p (f y)) (x ∷ xs))
+  find_prefix true x xs h i = rw h refl
+  find_prefix false x xs h i = rw h i
 
   find_mapped : (xs : List X) → find p (map f xs) ≡ option_map f (find (λ y. p (f y)) xs)
   find_mapped [] = refl
-  find_mapped (x ∷ xs) = find_front (p (f x)) x xs refl (find_mapped xs)
+  find_mapped (x ∷ xs) = find_prefix (p (f x)) x xs refl (find_mapped xs)
 
 -- the description of what is declared
 pub type_found : (s : SchemaData) (name : List ℕ) → type_described (described_types s) name ≡ option_map (described_type s) (type_at s name)
@@ -42,13 +42,13 @@ some_if : {A : Type 0} (f : A → Bool) (r : Option A) → option_map_or f r fal
 some_if f None h = absurd (false≢true h)
 some_if f (Some a) h = refl
 
-named_front : (b : Bool) (q : EntityUID) (x : ActionData) (xs : List ActionData) → is_eq (uid_cmp q x.name) ≡ b → is_some (find (λ (a : ActionData). is_eq (uid_cmp q a.name)) xs) ≡ has uid_cmp (map (λ (a : ActionData). a.name) xs) q → is_some (find (λ (a : ActionData). is_eq (uid_cmp q a.name)) (x ∷ xs)) ≡ has uid_cmp (map (λ (a : ActionData). a.name) (x ∷ xs)) q
-named_front true q x xs h i = rw h refl
-named_front false q x xs h i = rw h i
+named_prefix : (b : Bool) (q : EntityUID) (x : ActionData) (xs : List ActionData) → is_eq (uid_cmp q x.name) ≡ b → is_some (find (λ (a : ActionData). is_eq (uid_cmp q a.name)) xs) ≡ has uid_cmp (map (λ (a : ActionData). a.name) xs) q → is_some (find (λ (a : ActionData). is_eq (uid_cmp q a.name)) (x ∷ xs)) ≡ has uid_cmp (map (λ (a : ActionData). a.name) (x ∷ xs)) q
+named_prefix true q x xs h i = rw h refl
+named_prefix false q x xs h i = rw h i
 
 named : (q : EntityUID) (xs : List ActionData) → is_some (find (λ (a : ActionData). is_eq (uid_cmp q a.name)) xs) ≡ has uid_cmp (map (λ (a : ActionData). a.name) xs) q
 named q [] = refl
-named q (x ∷ xs) = named_front (is_eq (uid_cmp q x.name)) q x xs refl (named q xs)
+named q (x ∷ xs) = named_prefix (is_eq (uid_cmp q x.name)) q x xs refl (named q xs)
 
 below_is : (s : SchemaData) (uid above : EntityUID) → (action_below s uid above ≡ true) ↔ HasActionDescendant s above uid
 below_is s uid above = elim (action_at s above) as (λ r. (option_map_or (λ (a : ActionData). has uid_cmp a.descendants uid) r false ≡ true) ↔ IsSomeAnd r (λ a. Contains a.descendants uid)) [

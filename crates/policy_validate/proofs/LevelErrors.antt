@@ -19,12 +19,12 @@ use Rattle.typecheck_rules.specs.Check.{Check, check_of, check_by, checked, cond
 use Rattle.typecheck_rules.specs.Check as check
 use Rattle.typecheck_rules.specs.Walked.{findings_of}
 use Rattle.link_spec.specs.Accepted.{IsTyped, IsTypedIn, IsAcceptedTemplate}
-use Rattle.link_spec.specs.Laws.{RefusalsAreTold}
+use Rattle.link_spec.specs.Laws.{RefusalsAreReported}
 use Rattle.link_spec.specs.Linked.{linked_envs}
 use Rattle.level_validate.specs.Levels.{passes}
 use Rattle.level_validate.specs.Policies as level
 use Rattle.level_validate.specs.Policies.{PassesAt}
-use Rattle.policy_typecheck.specs.Answer.{Tells}
+use Rattle.policy_typecheck.specs.Answer.{Reports}
 use Rattle.policy_typecheck.specs.declared.PolicyCheck.{PolicyCheck}
 use Rattle.policy_typecheck.specs.declared.PolicyCheck.TheVariants.{Success, Irrelevant, Fail}
 use Rattle.level_validate.specs.Errors.{Condition, PassesIn, LevelErrorsAreExact}
@@ -32,17 +32,17 @@ use Rattle.policy_validate.specs.Accepted.{errors_of_written, errors_of_link}
 use Rattle.policy_validate.specs.Checks.{condition_in}
 use Rattle.policy_validate.specs.Laws.{NoErrorsWhereAccepted}
 use Rattle.policy_validate.specs.Levels.{or_else, condition_at, conditions_of, level_errors_of, errors_at_level, level_findings_of, IsAcceptedAt, LevelErrorsOfAreExact, NoErrorsWhereAcceptedAt}
-use Rattle.policy_validate.specs.Told.{told_by}
+use Rattle.policy_validate.specs.Reported.{reported_by}
 use Rattle.policy_validate.proofs.Empty.{parts_empty, empty_parts, all_more, all_both, none_in_each, each_none}
 use Rattle.policy_validate.proofs.NoErrors.{template_accepted}
 
--- what is told of checks is what the definitions say of their environments
-pub tells_same : (id : List ℕ) (env : EnvData) (c : Check) (p : PolicyCheck) → Tells id c p → told_by env p ≡ option_map {U = Condition} (λ t. (action_in env, t)) (condition_in c)
-tells_same id env (check.Success t) (Success u) h = ap (λ v. Some (action_in env, v)) h
-tells_same id env (check.Irrelevant t) (Irrelevant u) h = ap (λ v. Some (action_in env, v)) h
-tells_same id env (check.Fail fs) (Fail es) h = refl
-tells_same id env check.TooDeep (Fail es) h = refl
-tells_same id env c p h = absurd h
+-- what is reported of checks is what the definitions say of their environments
+pub says_same : (id : List ℕ) (env : EnvData) (c : Check) (p : PolicyCheck) → Reports id c p → reported_by env p ≡ option_map {U = Condition} (λ t. (action_in env, t)) (condition_in c)
+says_same id env (check.Success t) (Success u) h = ap (λ v. Some (action_in env, v)) h
+says_same id env (check.Irrelevant t) (Irrelevant u) h = ap (λ v. Some (action_in env, v)) h
+says_same id env (check.Fail fs) (Fail es) h = refl
+says_same id env check.TooDeep (Fail es) h = refl
+says_same id env c p h = absurd h
 
 -- a typed condition is that of its typing
 tree_of : (u : Ty) (t : Typed) (fs : List Finding) → is_boolean u ≡ true → condition_in (check_of u t fs) ≡ Some t
@@ -84,7 +84,7 @@ module _ (exact : CheckIsExact) (schema : SchemaData) (n : ℕ) (x : Plain) (fla
   passes_each (env ∷ envs) typed h =
       passes_first env (filter_map (condition_at schema x) envs) (types schema env [] x) (condition_at schema x env) (condition_is env typed.0) typed.0 (h.0, passes_each envs typed.1 h.1)
 
-pub level_errors_exact : CheckIsExact → RefusalsAreTold → LevelErrorsAreExact → LevelErrorsOfAreExact
+pub level_errors_exact : CheckIsExact → RefusalsAreReported → LevelErrorsAreExact → LevelErrorsOfAreExact
 level_errors_exact exact told levels schema n t none =
     let accepted : IsAcceptedTemplate schema t = template_accepted schema exact told t none in
     let flat : nat_lt 200 (depth_of (condition_of t)) ≡ false = le-ltb 200 (depth_of (condition_of t)) accepted.depth in

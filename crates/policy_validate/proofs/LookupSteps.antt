@@ -8,12 +8,12 @@ use Rattle.schema_types.specs.SchemaView.{schema_attrs_of}
 use Rattle.policy_validate.specs.Descriptions.{attr_type_at}
 use Rattle.schema_types.specs.declared.schema_type.SchemaAttribute.{SchemaAttribute}
 
-at_front : (b : Bool) (e : List ℕ × SchemaAttribute) (es : List (List ℕ × SchemaAttribute)) (k : List ℕ) → is_at (text_cmp k) e.0 ≡ b →
+at_prefix : (b : Bool) (e : List ℕ × SchemaAttribute) (es : List (List ℕ × SchemaAttribute)) (k : List ℕ) → is_at (text_cmp k) e.0 ≡ b →
     option_map (λ a. a.attr_type) (lookup (is_at (text_cmp k)) es) ≡ attr_type_at (schema_attrs_of es) k →
     option_map (λ a. a.attr_type) (lookup (is_at (text_cmp k)) (e ∷ es)) ≡ attr_type_at (schema_attrs_of (e ∷ es)) k
-at_front true e es k h p = simp h
-at_front false e es k h p = simp h p
+at_prefix true e es k h p = simp h
+at_prefix false e es k h p = simp h p
 
 pub type_of_lookup : (es : List (List ℕ × SchemaAttribute)) (k : List ℕ) → option_map (λ a. a.attr_type) (lookup (is_at (text_cmp k)) es) ≡ attr_type_at (schema_attrs_of es) k
 type_of_lookup [] k = refl
-type_of_lookup (e ∷ es) k = at_front (is_at (text_cmp k) e.0) e es k refl (type_of_lookup es k)
+type_of_lookup (e ∷ es) k = at_prefix (is_at (text_cmp k) e.0) e es k refl (type_of_lookup es k)

@@ -14,7 +14,7 @@ use Rattle.policy_scope.specs.Names.{distinct, entity_type_cmp, entity_type_find
 use Rattle.policy_scope.specs.Scope.{application_finding, application_findings, is_applicable}
 use Rattle.typecheck_rules.specs.Check.{CheckIsExact}
 use Rattle.link_spec.specs.Accepted.{IsAcceptedTemplate, HasKnownType}
-use Rattle.link_spec.specs.Laws.{RefusalsAreTold}
+use Rattle.link_spec.specs.Laws.{RefusalsAreReported}
 use Rattle.policy_validate.specs.Accepted.{typing_errors, errors_of_written, errors_of_link, findings_of, KeepsLinkRules, IsAccepted}
 use Rattle.policy_validate.specs.Laws.{NoErrorsWhereAccepted}
 use Rattle.policy_validate.proofs.Empty.{parts_empty, empty_parts, none_grown, none_mapped, none_kept, kept_none, all_more, none_in_each, each_none}
@@ -34,7 +34,7 @@ module _ (schema : SchemaData) where
   none_applied t h = ap (λ b. if b then [] else application_finding schema t.id t.principal t.action t.resource ∷ []) h
 
   -- what is written
-  module _ (exact : CheckIsExact) (told : RefusalsAreTold) where
+  module _ (exact : CheckIsExact) (told : RefusalsAreReported) where
     pub template_accepted : (t : TemplateData) → errors_of_written schema t ≡ [] → IsAcceptedTemplate schema t
     template_accepted t h =
         let types = parts_empty (map UnrecognizedEntityType (entity_type_findings schema t.id (condition_of t))) _ h in
@@ -101,7 +101,7 @@ module _ (schema : SchemaData) where
   no_link_errors : (p : PolicyData) → KeepsLinkRules schema p → errors_of_link schema p ≡ []
   no_link_errors p k = empty_parts _ _ (ap (map UnrecognizedEntityType) (known_slots p k.slots)) (ap (map InvalidActionApplication) (none_applied (written_of p) k.scope))
 
-pub no_errors : CheckIsExact → RefusalsAreTold → NoErrorsWhereAccepted
+pub no_errors : CheckIsExact → RefusalsAreReported → NoErrorsWhereAccepted
 no_errors exact told schema s = (accepted, none)
   where
     accepted : (findings_of schema s).errors ≡ [] → IsAccepted schema s

@@ -13,7 +13,7 @@ use Rattle.typing_spec.specs.Operands.{is_boolean}
 use Rattle.typing_spec.specs.Typing.{Typed, Typing, types}
 use Rattle.policy_set.specs.Data.{TemplateData}
 use Rattle.policy_set.specs.Condition.{condition_of}
-use Rattle.typecheck_rules.specs.Check.{Check, check_of, check_by, checked, condition_walked, TooDeep, CheckIsExact, TellsWhy}
+use Rattle.typecheck_rules.specs.Check.{Check, check_of, check_by, checked, condition_walked, TooDeep, CheckIsExact, SaysWhy}
 use Rattle.typecheck_rules.specs.Walked.{findings_of}
 use Rattle.link_spec.specs.Accepted.{IsTyped, IsTypedIn}
 use Rattle.link_spec.specs.Linked.{linked_envs}
@@ -24,7 +24,7 @@ use Rattle.policy_validate.proofs.Empty.{all_both, all_more, none_grown, none_in
 use Rattle.plain_lemmas.proofs.Lists.{all_map, all_of_map}
 
 module _ (id : List ℕ) where
-  boolean_of : (u : Ty) (t : Typed) (fs : List Finding) → TellsWhy (check_of u t fs) → errors_of id (check_of u t fs) ≡ [] → is_boolean u ≡ true
+  boolean_of : (u : Ty) (t : Typed) (fs : List Finding) → SaysWhy (check_of u t fs) → errors_of id (check_of u t fs) ≡ [] → is_boolean u ≡ true
   boolean_of true_type t fs tells none = refl
   boolean_of false_type t fs tells none = refl
   boolean_of (primitive BoolType) t fs tells none = refl
@@ -37,7 +37,7 @@ module _ (id : List ℕ) where
   of_boolean (primitive BoolType) t fs h = refl
   of_boolean u t fs h = absurd (cc h)
 
-  typed_of : (o : Option Typing) (fs : List Finding) → TellsWhy (check_by o fs) → errors_of id (check_by o fs) ≡ [] → IsSomeAnd o (λ x. IsTrue (is_boolean x.type))
+  typed_of : (o : Option Typing) (fs : List Finding) → SaysWhy (check_by o fs) → errors_of id (check_by o fs) ≡ [] → IsSomeAnd o (λ x. IsTrue (is_boolean x.type))
   typed_of None [] tells none = absurd tells
   typed_of None (f ∷ fs) tells none = absurd (cc none)
   typed_of (Some x) fs tells none = boolean_of x.type x.tree fs tells none
@@ -50,10 +50,10 @@ module _ (id : List ℕ) where
     check_is : (env : EnvData) → checked schema env e ≡ check_by (types schema env [] e) (findings_of (condition_walked schema env e))
     check_is env = exact schema env e ∙ ap (λ b. if b then TooDeep else check_by (types schema env [] e) (findings_of (condition_walked schema env e))) flat
 
-    pub typed_in : (env : EnvData) → TellsWhy (checked schema env e) → errors_of id (checked schema env e) ≡ [] → IsTyped schema e env
+    pub typed_in : (env : EnvData) → SaysWhy (checked schema env e) → errors_of id (checked schema env e) ≡ [] → IsTyped schema e env
     typed_in env tells none =
         typed_of (types schema env [] e) (findings_of (condition_walked schema env e))
-        (subst TellsWhy (check_is env) tells) (subst (λ c. errors_of id c ≡ []) (check_is env) none)
+        (subst SaysWhy (check_is env) tells) (subst (λ c. errors_of id c ≡ []) (check_is env) none)
 
     pub in_typed : (env : EnvData) → IsTyped schema e env → errors_of id (checked schema env e) ≡ []
     in_typed env h = subst (λ c. errors_of id c ≡ []) (sym (check_is env)) (of_typed (types schema env [] e) (findings_of (condition_walked schema env e)) h)
@@ -65,14 +65,14 @@ module _ (exact : CheckIsExact) (schema : SchemaData) (t : TemplateData) where
   abbrev check_at : EnvData → Check
   check_at env = checked schema env condition
 
-  pub is_typed : AllByRecursion (λ env. TellsWhy (check_at env)) (linked_envs schema t) → all_added same_error [] (refusals schema t) ≡ [] → (depth_of condition ≤ 200) × IsTypedIn schema condition (linked_envs schema t)
+  pub is_typed : AllByRecursion (λ env. SaysWhy (check_at env)) (linked_envs schema t) → all_added same_error [] (refusals schema t) ≡ [] → (depth_of condition ≤ 200) × IsTypedIn schema condition (linked_envs schema t)
   is_typed told none = by (nat_lt 200 (depth_of condition)) refl (none_grown _ (λ x. refl) (refusals schema t) none)
     where
       by : (b : Bool) → nat_lt 200 (depth_of condition) ≡ b → (if b then too_deep t.id ∷ [] else flat_map (errors_of t.id) (map check_at (linked_envs schema t))) ≡ [] → (depth_of condition ≤ 200) × IsTypedIn schema condition (linked_envs schema t)
       by true deep h = absurd (cc h)
       by false flat h = (
         ltb-false 200 (depth_of condition) flat,
-        all_both (λ env. TellsWhy (check_at env)) (λ env. errors_of t.id (check_at env) ≡ []) (IsTyped schema condition) (λ env. typed_in t.id exact schema condition flat env) (linked_envs schema t) told
+        all_both (λ env. SaysWhy (check_at env)) (λ env. errors_of t.id (check_at env) ≡ []) (IsTyped schema condition) (λ env. typed_in t.id exact schema condition flat env) (linked_envs schema t) told
             (all_of_map check_at (λ c. errors_of t.id c ≡ []) (linked_envs schema t) (none_in_each (errors_of t.id) (map check_at (linked_envs schema t)) h)),
       )
 

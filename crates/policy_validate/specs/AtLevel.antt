@@ -17,7 +17,7 @@ use Rattle.policy_typecheck.specs.Policies.{is_impossible}
 use Rattle.policy_typecheck.specs.declared.PolicyCheck.{PolicyCheck}
 use Rattle.policy_validate.specs.Accepted.{typing_errors}
 use Rattle.policy_validate.specs.Levels.{conditions_of}
-use Rattle.policy_validate.specs.Told.{told_by}
+use Rattle.policy_validate.specs.Reported.{reported_by}
 use Rattle.policy_validate.specs.declared.levels.TypedAt.{TypedAt}
 
 abbrev pub has_any : {X : Type 0} → List X → Bool
@@ -25,8 +25,8 @@ has_any [] = false
 has_any (x ∷ xs) = true
 
 -- what is found in what a check leaves
-abbrev pub faults_told : ℕ → EnvData → PolicyCheck → List LevelFault
-faults_told n env r = option_map_or (faults_in n) (told_by env r) []
+abbrev pub faults_reported : ℕ → EnvData → PolicyCheck → List LevelFault
+faults_reported n env r = option_map_or (faults_in n) (reported_by env r) []
 
 module _ (schema : SchemaData) where
   -- what is found of names and of the scope

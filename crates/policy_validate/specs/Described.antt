@@ -1,4 +1,4 @@
--- What a schema tells of its entity types, actions and contexts.
+-- What a schema says of its entity types, actions and contexts.
 use Rattle.std.specs.Prelude.{ℕ, List, Option, Some, None, map, refl}
 use Rattle.std.specs.List.{filter}
 use Rattle.std.specs.Coded.{Coded, coded×, coded_ℕ, coded_list, coded_option, code_by}
@@ -49,7 +49,7 @@ module _ (s : SchemaData) where
   abbrev pub described_actions : List ActionDescription
   described_actions = map described_action s.action_ids
 
--- what the entity of an action tells of it
+-- what the entity of an action says of it
 abbrev pub action_of : StoredEntity → ActionDescription
 action_of e = record { uid = e.uid; ancestors = e.ancestors }
 

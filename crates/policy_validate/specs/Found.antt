@@ -11,10 +11,10 @@ use Rattle.policy_typecheck.specs.declared.PolicyCheck.TheVariants.{Success, Irr
 pub use Rattle.policy_validate.specs.Checks.{condition_in}
 
 -- the typed condition of a check in code
-abbrev pub condition_told : PolicyCheck → Option Typed
-condition_told (Success t) = Some t
-condition_told (Irrelevant t) = Some t
-condition_told (Fail es) = None
+abbrev pub condition_reported : PolicyCheck → Option Typed
+condition_reported (Success t) = Some t
+condition_reported (Irrelevant t) = Some t
+condition_reported (Fail es) = None
 
 -- of all policies
 abbrev pub found_conditions : SchemaData → EnvData → List PolicyData → List Typed

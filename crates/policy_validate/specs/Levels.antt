@@ -18,7 +18,7 @@ use Rattle.typecheck_rules.specs.Check.{checked}
 use Rattle.link_spec.specs.Linked.{linked_envs}
 use Rattle.level_validate.specs.Cut.{cut}
 use Rattle.level_validate.specs.Policies.{PassesAt}
-use Rattle.level_validate.specs.Errors.{Condition, dereferences_in, level_errors_in, IsToldOf}
+use Rattle.level_validate.specs.Errors.{Condition, dereferences_in, level_errors_in, IsReportedOf}
 use Rattle.policy_validate.specs.Accepted.{errors_of_written, errors_of_link, warnings_of, IsAccepted}
 use Rattle.policy_validate.specs.Checks.{condition_in}
 
@@ -66,12 +66,12 @@ module _ (schema : SchemaData) where
         AllByRecursion (λ p. eval p.condition q (cut n q whole) ≡ eval p.condition q whole) s.policies
 
 -- without other errors there is none on levels exactly where the template, or the static policy, passes in
--- each of its environments; each tells of a dereference in its typed condition
+-- each of its environments; each says of a dereference in its typed condition
 abbrev pub LevelErrorsOfAreExact : Type 0
 LevelErrorsOfAreExact =
     (schema : SchemaData) (n : ℕ) (t : TemplateData) → errors_of_written schema t ≡ [] →
     ((level_errors_of schema n t ≡ []) ↔ PassesAt schema n t)
-    × AllByRecursion (IsToldOf t.id n (flat_map dereferences_in (conditions_of schema t)))
+    × AllByRecursion (IsReportedOf t.id n (flat_map dereferences_in (conditions_of schema t)))
     (level_errors_of schema n t)
 
 -- no error is found exactly where the set is accepted at the level

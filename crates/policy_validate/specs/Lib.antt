@@ -3,7 +3,7 @@ pub mod AtLevel
 pub mod Checks
 pub mod Laws
 pub mod Levels
-pub mod Told
+pub mod Reported
 pub mod Typed
 pub mod Found
 pub mod ConditionLaws

@@ -1,4 +1,4 @@
-//! What a schema tells of the contexts of an action.
+//! What a schema says of the contexts of an action.
 
 ghost use Rattle.std.specs.Prelude.{◌≡◌, IfOk};
 ghost use Rattle.std.specs.Option.{option_map};
@@ -12,7 +12,7 @@ use schema_core::{Attributes, SchemaType, ValidatorSchema};
 use std::alloc::{AllocError, Global};
 use std::marker::Model;
 
-/// What a schema tells of the contexts of an action: their attributes, which are the schema's own. They have
+/// What a schema says of the contexts of an action: their attributes, which are the schema's own. They have
 /// no others.
 #[derive(Debug, Drop)]
 pub struct ContextSchema<'a> {
@@ -77,7 +77,7 @@ impl<'a> crate::traits::ContextSchema for ContextSchema<'a> {
     }
 }
 
-/// What the schema tells of the contexts of the action; none exactly where the action is not declared.
+/// What the schema says of the contexts of the action; none exactly where the action is not declared.
 pub fn context_schema_for_action<'a>(
     schema: &'a ValidatorSchema,
     action: &EntityUID,

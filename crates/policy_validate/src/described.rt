@@ -1,4 +1,4 @@
-//! What a schema tells of an entity type.
+//! What a schema says of an entity type.
 
 ghost use Rattle.std.specs.Prelude.{◌≡◌, ℕ, List, IfOk, IfSome, Some};
 ghost use Rattle.std.specs.Option.{option_copied, option_map};
@@ -17,7 +17,7 @@ use std::alloc::{AllocError, Global};
 use std::collections::BTreeSet;
 use std::marker::Model;
 
-/// What a schema tells of an entity type.
+/// What a schema says of an entity type.
 #[derive(Debug, Drop)]
 pub struct EntityTypeDescription {
     described: DescribedType,
@@ -42,7 +42,7 @@ impl Model for EntityTypeDescription {
 }
 
 impl EntityTypeDescription {
-    /// What the schema tells of the entity type; none exactly where the type is not declared.
+    /// What the schema says of the entity type; none exactly where the type is not declared.
     pub fn new(
         alloc: Global,
         schema: &ValidatorSchema,

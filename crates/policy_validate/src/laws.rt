@@ -6,7 +6,7 @@ ghost use Rattle.policy_validate.specs.Levels.{LevelErrorsOfAreExact, NoErrorsWh
 
 use level_validate::laws::level_errors_are_exact;
 use level_validate::{link_levels_are_sound, static_levels_are_sound};
-use link_spec::laws::{links_are_typed, refusals_are_told, statics_are_typed, typed_are_sound};
+use link_spec::laws::{links_are_typed, refusals_are_reported, statics_are_typed, typed_are_sound};
 use typecheck_rules::laws::check_is_exact;
 
 /// No error is found exactly where the set is accepted.
@@ -14,7 +14,7 @@ pub fn no_errors_where_accepted()
     ensures { NoErrorsWhereAccepted }
 {
     check_is_exact();
-    refusals_are_told();
+    refusals_are_reported();
 }
 
 /// An entry of which no error is found is accepted by itself.
@@ -22,7 +22,7 @@ pub fn entries_are_accepted()
     ensures { EntriesAreAccepted }
 {
     check_is_exact();
-    refusals_are_told();
+    refusals_are_reported();
 }
 
 /// A set is accepted with one more entry that is accepted by itself, and without any of its entries.
@@ -54,12 +54,12 @@ pub fn accepted_are_sound()
 }
 
 /// Where there are no other errors, there is none on levels exactly where a template or a static policy
-/// passes in each of its environments; each tells of a dereference.
+/// passes in each of its environments; each says of a dereference.
 pub fn level_errors_of_are_exact()
     ensures { LevelErrorsOfAreExact }
 {
     check_is_exact();
-    refusals_are_told();
+    refusals_are_reported();
     level_errors_are_exact();
 }
 

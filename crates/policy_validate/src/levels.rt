@@ -11,7 +11,7 @@ ghost use Rattle.level_validate.specs.Faults.{fault_cmp};
 ghost use Rattle.policy_typecheck.specs.Checks.{errors_in, is_false};
 ghost use Rattle.policy_typecheck.specs.Policies.{impossible};
 ghost use Rattle.policy_validate.specs.Accepted.{typing_errors, warnings_of};
-ghost use Rattle.policy_validate.specs.AtLevel.{faults_told, has_any, IsTypedAtLevel};
+ghost use Rattle.policy_validate.specs.AtLevel.{faults_reported, has_any, IsTypedAtLevel};
 ghost use Rattle.policy_validate.specs.Levels.{or_else, level_errors_of, errors_at_level, level_findings_of, IsAcceptedAt, CutIsEnough};
 
 use crate::Validator;
@@ -265,7 +265,7 @@ fn with_check(
 ) -> Result<TypedAt, AllocError>
     ensures impossible { IfOk result (λ a. a.impossible ≡ (is_false check && typed.impossible)) }
     ensures faults { IfOk result (λ a. a.faults ≡
-        fold (with_new fault_cmp) typed.faults (faults_told level (env_data_of env.now) check)) }
+        fold (with_new fault_cmp) typed.faults (faults_reported level (env_data_of env.now) check)) }
 {
     let TypedAt { impossible, faults } = typed;
     match check {

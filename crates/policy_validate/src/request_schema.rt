@@ -17,7 +17,7 @@ pub trait RequestSchema {
 
     /// Whether the request conforms to the schema.
     ///
-    /// Errs with the first rule that is broken, in the order in which [`conformance::validate_request`] tells
+    /// Errs with the first rule that is broken, in the order in which [`conformance::validate_request`] says
     /// them. A request that conforms takes no memory.
     fn validate_request(
         &self,

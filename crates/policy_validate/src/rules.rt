@@ -80,7 +80,7 @@ fn is_ready(
     }
 }
 
-// Whether a template is accepted in its environments. What is found is told by whoever validates.
+// Whether a template is accepted in its environments. What is found is reported by whoever validates.
 fn is_typed(
     alloc: Global,
     typechecker: &Typechecker<'_, '_>,

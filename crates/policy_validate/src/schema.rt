@@ -13,7 +13,7 @@ use schema_core::ValidatorSchema;
 use std::alloc::{AllocError, Global};
 use std::marker::Model;
 
-/// A schema, as what tells of entity types and actions.
+/// A schema, as what says of entity types and actions.
 #[derive(Debug, Drop)]
 pub struct CoreSchema<'a> {
     schema: &'a ValidatorSchema,
@@ -30,7 +30,7 @@ impl<'a> Model for CoreSchema<'a> {
 }
 
 impl<'a> CoreSchema<'a> {
-    /// The schema as what tells of its entity types and actions.
+    /// The schema as what says of its entity types and actions.
     pub fn new(schema: &'a ValidatorSchema) -> CoreSchema<'a>
         ensures { result ≡ schema.now }
     {

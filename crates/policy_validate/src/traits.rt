@@ -1,4 +1,4 @@
-//! What a schema tells of entity types, actions and contexts.
+//! What a schema says of entity types, actions and contexts.
 
 ghost use Rattle.std.specs.Prelude.{◌≡◌, List, Option, None, Some, IfOk, MatchOption, false, map};
 ghost use Rattle.std.specs.Option.{option_map, option_copied};

@@ -12,7 +12,7 @@ mod Search
 mod Seen
 mod Subset
 mod Turns
-pub mod NameFront
+pub mod NamePrefix
 pub mod HashSteps
 pub mod MapSteps
 mod Sorted

@@ -85,4 +85,3 @@ module _ {K : Type 0} (cmp : K → K → Ordering) (total : IsTotalOrder cmp) (e
 
       kept : (q : K) → Contains ys q → Contains (dedup E ys) q
       kept q there = subst (λ (F : K → K → Bool). Contains (dedup F ys) q) (sym is_same) (Contains-dedup (eq_by_cmp_equiv total) (λ x y t. exact x y ((Equal-is (cmp x y)).0 t)) ys q there)
-

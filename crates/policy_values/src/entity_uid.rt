@@ -83,7 +83,7 @@ impl Clone for EntityType {
     }
 }
 
-/// What tells an entity from the others of its type: any text.
+/// What says an entity from the others of its type: any text.
 #[derive(Debug, PartialEq, Eq, PartialOrd, Ord, Hash)]
 pub struct Eid {
     text: Text,

@@ -1,7 +1,7 @@
 //! The grammar of names.
 
 ghost use Rattle.std.specs.Prelude.{◌≡◌, ◌≢◌, ◌≤◌, ◌<◌, ℕ, ◌↔◌, IsTrue, length, slice_index, EachIndex, List, ◌++◌, codes, MatchOption};
-ghost use Rattle.policy_values.specs.Name.{IsHead, IsTail, IsComponent, IsFront, IsName};
+ghost use Rattle.policy_values.specs.Name.{IsHead, IsTail, IsComponent, IsPrefix, IsName};
 
 /// Whether the bytes are a name.
 pub fn is_name(bytes: &[u8]) -> bool
@@ -25,7 +25,7 @@ pub fn is_name(bytes: &[u8]) -> bool
 
 // The bytes of words in front, and the others.
 fn split_word(bytes: &[u8]) -> (&[u8], &[u8])
-    ensures { IsFront bytes.now result.0.now result.1.now }
+    ensures { IsPrefix bytes.now result.0.now result.1.now }
 {
     bytes.split_at(word_len(bytes))
 }

@@ -10,7 +10,7 @@ use Rattle.policy_values.specs.Value.{Val}
 use Rattle.entity_loading.specs.declared.error.EntitySliceError.{EntitySliceError}
 use Rattle.entity_loading.specs.declared.error.EntitySliceError.TheVariants as error
 use Rattle.entity_manifest.specs.Rules.{KeepRules}
-use Rattle.entity_manifest.specs.Loaded.{LoadedIsEnough, RefusalsAreFaults, AreDecidedAlike, IsTold}
+use Rattle.entity_manifest.specs.Loaded.{LoadedIsEnough, RefusalsAreFaults, AreDecidedAlike, IsReported}
 use Rattle.entity_manifest.proofs.ByManifest.{Loads, promised}
 use Rattle.entity_manifest.proofs.OfStore.{memory_alone}
 use Rattle.principal_listing.specs.Allowed.{passed_over}
@@ -20,7 +20,7 @@ use Rattle.principal_listing.specs.declared.candidates.Listing.{Listing}
 module _ (covered : LoadedIsEnough) (faults : RefusalsAreFaults) (sticks : Table → Val → Type 0) (l : Listing) (q : Request) (ready : IsListingReady l (passed_over q))
     (rules : KeepRules l.schema.now l.policies.now q l.entities.now) (old new : EntitySlicer) (of : old.entities.now ≡ l.entities.now)
     (result : Result Store EntitySliceError) (loads : Loads l.manifest.now q (slicer_state old) (slicer_state new) result sticks) where
-  told : IsTold (slicer_state old) l.entities.now
+  told : IsReported (slicer_state old) l.entities.now
   told = record { told = ap Some of; order = ready.store }
 
   pub decided_alike : IfOk result (λ s. AreDecidedAlike l.policies.now.policies q s l.entities.now)

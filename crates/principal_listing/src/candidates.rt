@@ -15,10 +15,10 @@ ghost use Rattle.principal_listing.specs.Ready.{IsListingReady, takes, is_candid
 use crate::laws::candidates_keep_rules;
 use crate::scopes::some_lets_in;
 use entity_loader::EntitySlicer;
+use entity_loading::{EntitySliceError, Steps, load_entities};
 use entity_manifest::EntityManifest;
 use entity_manifest::loading_laws::{loaded_is_enough, refusals_are_faults};
 use entity_store::{Entities, Entity, Request};
-use entity_loading::{EntitySliceError, Steps, load_entities};
 use policy_set::{Decision, PolicySet, decide};
 use policy_values::{EntityType, EntityUID};
 use schema_core::{ValidatorActionId, ValidatorSchema};

@@ -17,7 +17,7 @@ use Rattle.policy_core.specs.declared.outcome.EvalError.{EvalError}
 use Rattle.policy_core.specs.declared.outcome.Outcome.{Outcome}
 use Rattle.policy_core.specs.declared.outcome.Outcome.TheVariants.{Value, Error}
 use Rattle.policy_core.specs.Calls.{call_outcome}
-use Rattle.policy_core.specs.Eval.{literal_value, truth_of, truth_outcome, choose, in_front, set_outcome, record_outcome, eval, eval_all, eval_named}
+use Rattle.policy_core.specs.Eval.{literal_value, truth_of, truth_outcome, choose, in_prefix, set_outcome, record_outcome, eval, eval_all, eval_named}
 use Rattle.policy_expressions.specs.Functions.{function_of}
 use Rattle.policy_core.specs.Operators.{unary_value, binary_value, contains_value, contains_all_value, contains_any_value, like_value, is_value}
 use Rattle.policy_expressions.specs.Tree.{Tree, lit, var, slot, ite, conj, disj, unary, binary, attr, has, like, is_type, call, set as set_tree, rec as rec_tree, Trees, no_trees, tree, Named, no_named, named}
@@ -82,7 +82,7 @@ each_weaker R S [] (w ∷ ws) f h = absurd h
 each_weaker R S (v ∷ vs) [] f h = absurd h
 each_weaker R S (v ∷ vs) (w ∷ ws) f h = (f v w h.0, each_weaker R S vs ws f h.1)
 
-one_more : (a b : Shape) (c : Setting) (o p : Outcome) (r s : Result (List Val) EvalError) → Agree a c o p → AgreeAll b c r s → AgreeAll (one_of a b) c (in_front (λ v. v) o r) (in_front (λ v. v) p s)
+one_more : (a b : Shape) (c : Setting) (o p : Outcome) (r s : Result (List Val) EvalError) → Agree a c o p → AgreeAll b c r s → AgreeAll (one_of a b) c (in_prefix (λ v. v) o r) (in_prefix (λ v. v) p s)
 one_more a b c (Value v) (Value w) (Ok vs) (Ok ws) h k = (inl h, each_weaker (Rel b c) (Rel (one_of a b) c) vs ws (λ x y r. inr r) k)
 one_more a b c (Value v) (Value w) (Ok vs) (Err e) h k = absurd k
 one_more a b c (Value v) (Value w) (Err e) (Ok ws) h k = absurd k
@@ -91,7 +91,7 @@ one_more a b c (Value v) (Error e) r s h k = absurd h
 one_more a b c (Error e) (Value w) r s h k = absurd h
 one_more a b c (Error e) (Error f) r s h k = h
 
-one_more_field : (n : List ℕ) (a : Shape) (fs : FieldShapes) (c : Setting) (o p : Outcome) (r s : Result (List (List ℕ × Val)) EvalError) → Agree a c o p → AgreeNamed fs c r s → AgreeNamed (field_shape n a fs) c (in_front (λ v. (n, v)) o r) (in_front (λ v. (n, v)) p s)
+one_more_field : (n : List ℕ) (a : Shape) (fs : FieldShapes) (c : Setting) (o p : Outcome) (r s : Result (List (List ℕ × Val)) EvalError) → Agree a c o p → AgreeNamed fs c r s → AgreeNamed (field_shape n a fs) c (in_prefix (λ v. (n, v)) o r) (in_prefix (λ v. (n, v)) p s)
 one_more_field n a fs c (Value v) (Value w) (Ok vs) (Ok ws) h k = (v, w, fields_of vs, fields_of ws, refl, refl, (h, k))
 one_more_field n a fs c (Value v) (Value w) (Ok vs) (Err e) h k = absurd k
 one_more_field n a fs c (Value v) (Value w) (Err e) (Ok ws) h k = absurd k

@@ -22,7 +22,7 @@ use Rattle.plain_lemmas.proofs.Options.{none_of_no_some}
 
 -- of keys that ascend none stands twice
 pub once_from_ascending : {K : Type 0} {cmp : K → K → Ordering} → IsTotalOrder cmp → (ks : List K) → IsStrictlySortedBy cmp ks → (k : K) → IsRepeated ks k → ⊥
-once_from_ascending {cmp = cmp} o ks sorted k (i, at_i, (j, in_front, at_j)) =
+once_from_ascending {cmp = cmp} o ks sorted k (i, at_i, (j, in_prefix, at_j)) =
     let lt : i < length ks = slice_get_within ks i k at_i in
     let below : j < i = omega (arith, length-take-le i ks (omega arith)) in
     let first : get_or ks j k ≡ k = sym (get_or-take i ks j k below) ∙ at_j in

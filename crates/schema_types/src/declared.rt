@@ -1,4 +1,4 @@
-//! What a schema tells of the attributes of entities.
+//! What a schema says of the attributes of entities.
 
 ghost use Rattle.std.specs.Prelude.{◌≡◌, List, ℕ, Option, option_copied};
 ghost use Rattle.schema_types.specs.Ty.{Attrs};

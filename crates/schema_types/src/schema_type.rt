@@ -1,4 +1,4 @@
-//! The types that a value may be told to have: what a schema says of attributes, contexts and tags.
+//! The types that a value may be reported to have: what a schema says of attributes, contexts and tags.
 
 ghost use Rattle.std.specs.Prelude.{◌≡◌, ◌++◌, ◌∷◌, [], IfOk, OnOk, MatchResult, Ok, Some, None, option_map, option_copied};
 ghost use Rattle.schema_types.specs.declared.kinds.Primitive.TheVariants.{Bool, Long, String};
@@ -13,7 +13,7 @@ use std::alloc::{AllocError, Global};
 use std::collections::BTreeMap;
 use std::marker::Model;
 
-/// A type that a value may be told to have.
+/// A type that a value may be reported to have.
 #[derive(Debug)]
 #[cycle(schema_type)]
 pub struct SchemaType {
@@ -243,7 +243,7 @@ fn schema_attributes(alloc: Global, a: &Attributes) -> Result<Option<SchemaAttri
 }
 
 #[cycle(plain)]
-#[tactic(auto, using(crate::proofs::PlainSteps::in_front_all))]
+#[tactic(auto, using(crate::proofs::PlainSteps::in_prefix_all))]
 fn schema_entries(
     alloc: Global,
     entries: &BTreeMap<Text, AttributeType>,

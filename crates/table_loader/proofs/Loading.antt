@@ -1,4 +1,4 @@
--- What a loader over rows answers is honest, where the rows tell a store in order.
+-- What a loader over rows answers is honest, where the rows say a store in order.
 use Rattle.std.proofs.Common.{◌≡◌, ℕ, true, false, List, [], ◌∷◌, ◌++◌, Option, Some, None, refl, sym, ap, ◌∙◌, subst, arith, Contains, inl, inr}
 use Rattle.std.specs.Prelude.{if◌then◌else◌, IfOk, Result, Ok}
 use Rattle.std.specs.BTreeMap.{is_at}
@@ -28,7 +28,7 @@ use Rattle.table_loader.proofs.Entries.{keys_ascend, ordered_keys}
 use Rattle.table_loader.proofs.FromRows.{given}
 use Rattle.table_loader.proofs.Ordered.{told}
 use Rattle.table_loader.specs.Asking.{AreFound}
-use Rattle.table_loader.specs.State.{store_in_order, store_told, loader_state}
+use Rattle.table_loader.specs.State.{store_in_order, store_known, loader_state}
 
 -- a clause on what was read, at what it was
 pub at_ok : {X E : Type 0} (P : X → Type 0) (read : Result X E) (x : X) → read ≡ Ok x → IfOk read P → P x
@@ -97,9 +97,9 @@ honest_list t r ys f = record { enough = f.enough; given = f.given; exactly = λ
 pub continues : (a b : RowsState) (m n k l : ℕ) → RowsContinue a b → Continues (loader_state a m k) (loader_state b n l)
 continues a b m n k l on = record { told = stays; exact = refl; faults = on.faults; strays = omega arith; honest = λ s h. refl }
   where
-    stays : (s : Store) → store_told a ≡ Some s → store_told b ≡ Some s
+    stays : (s : Store) → store_known a ≡ Some s → store_known b ≡ Some s
     stays s h =
         let steady = (told a s h).steady in
-        let same : store_told b ≡ store_told a =
+        let same : store_known b ≡ store_known a =
         λ i. if on.steady i then option_and_then store_in_order (on.stays steady i) else None in
         same ∙ h

@@ -14,8 +14,8 @@ use Rattle.entity_store.specs.Store.{StoredEntity, Store, is_named}
 use Rattle.table_loader.specs.Order.{IsBelowAll, IsOrdered, AreOrdered, IsEntityOrdered}
 use Rattle.table_loader.specs.RowsState.{RowsState}
 use Rattle.table_loader.specs.Tables.{Tables, store_of, tables_of}
-use Rattle.table_loader.specs.Laws.{IsStoreOrdered, ToldStoresAreOrdered}
-use Rattle.table_loader.specs.State.{is_below_all, is_ordered, are_ordered, do_ids_ascend, is_entity_ordered, is_store_ordered, store_in_order, store_told}
+use Rattle.table_loader.specs.Laws.{IsStoreOrdered, KnownStoresAreOrdered}
+use Rattle.table_loader.specs.State.{is_below_all, is_ordered, are_ordered, do_ids_ascend, is_entity_ordered, is_store_ordered, store_in_order, store_known}
 
 less_of : (o : Ordering) → is_lt o ≡ true → o ≡ Less
 less_of Less h = refl
@@ -130,33 +130,33 @@ entity_is e h = both (all_ordered_is e.attrs h.attrs) (both (all_ordered_is e.ta
 store_is : (s : Store) → IsStrictlySortedBy uid_cmp (map (λ e. e.uid) s) → AllByRecursion IsEntityOrdered s → is_store_ordered s ≡ true
 store_is s h k = both (ids_are (map (λ e. e.uid) s) h) (all_is is_entity_ordered IsEntityOrdered entity_is s k)
 
--- the rows of a store in order tell it
-pub rows_tell : (s : Store) → store_of (tables_of s) ≡ s → IsStrictlySortedBy uid_cmp (map (λ e. e.uid) s) → AllByRecursion IsEntityOrdered s → store_in_order (tables_of s) ≡ Some s
-rows_tell s is h k = ap (λ w. cond (is_store_ordered w) (Some w) None) is ∙ ap (λ b. cond b (Some s) None) (store_is s h k)
+-- the rows of a store in order say it
+pub rows_say : (s : Store) → store_of (tables_of s) ≡ s → IsStrictlySortedBy uid_cmp (map (λ e. e.uid) s) → AllByRecursion IsEntityOrdered s → store_in_order (tables_of s) ≡ Some s
+rows_say s is h k = ap (λ w. cond (is_store_ordered w) (Some w) None) is ∙ ap (λ b. cond b (Some s) None) (store_is s h k)
 
--- ---- what is told
+-- ---- what is known
 
--- steady rows tell tables, whose store is this one, in order
-pub record IsTold (r : RowsState) (s : Store) : Type 0 where
+-- steady rows say tables, whose store is this one, in order
+pub record IsReported (r : RowsState) (s : Store) : Type 0 where
   pub steady : r.steady ≡ true
   pub tables : Tables
   pub told : r.told ≡ Some tables
   pub is : store_of tables ≡ s
   pub ordered : IsStoreOrdered s
 
-pub told : (r : RowsState) (s : Store) → store_told r ≡ Some s → IsTold r s
+pub told : (r : RowsState) (s : Store) → store_known r ≡ Some s → IsReported r s
 told r s h = by r.steady refl r.told refl h
   where
-    in_order : (b : Bool) (t : Tables) → r.steady ≡ true → r.told ≡ Some t → is_store_ordered (store_of t) ≡ b → cond b (Some (store_of t)) None ≡ Some s → IsTold r s
+    in_order : (b : Bool) (t : Tables) → r.steady ≡ true → r.told ≡ Some t → is_store_ordered (store_of t) ≡ b → cond b (Some (store_of t)) None ≡ Some s → IsReported r s
     in_order true t steady is ordered k =
         let same : store_of t ≡ s = cc in
         record { steady = steady; tables = t; told = is; is = same; ordered = store_ordered s (subst (λ w. is_store_ordered w ≡ true) same ordered) }
     in_order false t steady is ordered k = absurd (cc)
 
-    by : (b : Bool) → r.steady ≡ b → (o : Option Tables) → r.told ≡ o → cond b (option_and_then store_in_order o) None ≡ Some s → IsTold r s
+    by : (b : Bool) → r.steady ≡ b → (o : Option Tables) → r.told ≡ o → cond b (option_and_then store_in_order o) None ≡ Some s → IsReported r s
     by true steady (Some t) is k = in_order (is_store_ordered (store_of t)) t steady is refl k
     by true steady None is k = absurd (cc)
     by false steady o is k = absurd (cc)
 
-pub told_ordered : ToldStoresAreOrdered
-told_ordered r s h = (told r s h).ordered
+pub known_ordered : KnownStoresAreOrdered
+known_ordered r s h = (told r s h).ordered

@@ -1,4 +1,4 @@
--- What rows of a store in memory tell, and which of their calls fail.
+-- What rows of a store in memory say, and which of their calls fail.
 use Rattle.std.specs.Prelude.{◌≡◌, ◌↔◌, ◌+◌, ◌-◌, ◌^◌, Bool, true, Some, IsTrue, Contains, min}
 use Rattle.table_loader.specs.Tables.{tables_of}
 use Rattle.table_loader.specs.RowsState.{RowsState}

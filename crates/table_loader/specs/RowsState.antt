@@ -10,14 +10,14 @@ use Rattle.table_loader.specs.declared.rows.RowsError.{RowsError}
 use Rattle.table_loader.specs.declared.rows.RowsError.TheVariants.{Failed}
 
 pub record RowsState : Type 0 where
-  -- the tables, where they are told
+  -- the tables, where they are known
   pub told : Option Tables
-  -- whether tables that are told stay told, and failed calls alone are counted
+  -- whether tables that are known stay known, and failed calls alone are counted
   pub steady : Bool
   -- how often a call has failed
   pub faults : ℕ
 
--- over a call: tables that are told after it were told before it, and are the same; the count does not fall
+-- over a call: tables that are known after it were known before it, and are the same; the count does not fall
 pub record RowsContinue (old new : RowsState) : Type 0 where
   pub told : (t : Tables) → new.told ≡ Some t → old.told ≡ Some t
   pub steady : new.steady ≡ old.steady

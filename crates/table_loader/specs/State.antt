@@ -1,4 +1,4 @@
--- What contracts see of a loader over rows: the store of the tables that steady rows tell, where it is
+-- What contracts see of a loader over rows: the store of the tables that steady rows say, where it is
 -- in order.
 use Rattle.std.specs.Prelude.{ℕ, Bool, true, false, ◌&&◌, List, [], ◌∷◌, map, Option, Some, None, if◌then◌else◌}
 use Rattle.std.specs.List.{list_all}
@@ -44,15 +44,15 @@ is_store_ordered s = do_ids_ascend (map (λ e. e.uid) s) && list_all is_entity_o
 abbrev pub store_in_order : Tables → Option Store
 store_in_order t = if is_store_ordered (store_of t) then Some (store_of t) else None
 
--- the store that is told: of steady rows, where they tell tables
-abbrev pub store_told : RowsState → Option Store
-store_told r = if r.steady then option_and_then store_in_order r.told else None
+-- the store that is known: of steady rows, where they say tables
+abbrev pub store_known : RowsState → Option Store
+store_known r = if r.steady then option_and_then store_in_order r.told else None
 
 -- a loader over rows that was asked so often for entities, and for ancestors: it may answer more than what is
 -- asked, and never strays
 abbrev pub loader_state : RowsState → ℕ → ℕ → LoaderState
 loader_state r asked listed = record {
-  store = store_told r;
+  store = store_known r;
   exact = false;
   faults = r.faults;
   strays = 0;

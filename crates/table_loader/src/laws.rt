@@ -2,7 +2,7 @@
 
 ghost use Rattle.table_loader.specs.Answers.{RowAnswersAreHonest};
 ghost use Rattle.table_loader.specs.FromRows.{EntitiesFromRowsAreHonest};
-ghost use Rattle.table_loader.specs.Laws.{ToldStoresAreOrdered};
+ghost use Rattle.table_loader.specs.Laws.{KnownStoresAreOrdered};
 
 /// The attributes with which a trie goes on, whole, and all tags where it goes on with any tag, are
 /// an honest answer.
@@ -15,7 +15,7 @@ pub fn entities_from_rows_are_honest()
     ensures { EntitiesFromRowsAreHonest }
 {}
 
-/// A store that a loader over rows tells is in order: ids ascend, and keys and ancestors in each entity.
-pub fn told_stores_are_ordered()
-    ensures { ToldStoresAreOrdered }
+/// A store that a loader over rows says is in order: ids ascend, and keys and ancestors in each entity.
+pub fn known_stores_are_ordered()
+    ensures { KnownStoresAreOrdered }
 {}

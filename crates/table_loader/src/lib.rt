@@ -23,4 +23,4 @@ pub use order::{
 };
 pub use rows::{Rows, RowsError};
 pub use store::StoreRows;
-pub use stored::store_rows_tell;
+pub use stored::store_rows_say;

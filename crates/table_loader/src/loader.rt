@@ -12,8 +12,8 @@ use std::alloc::Global;
 /// A loader over rows: of an entity it gives each attribute with which the trie goes on, whole, and
 /// all tags, whole, where the trie goes on with any tag.
 ///
-/// Its count of faults is the rows' count, and it never strays. It tells the store of the tables that
-/// its rows tell, where these are steady and the store is in order.
+/// Its count of faults is the rows' count, and it never strays. It says the store of the tables that
+/// its rows say, where these are steady and the store is in order.
 #[derive(Drop)]
 pub struct RowLoader<R> {
     /// The rows.

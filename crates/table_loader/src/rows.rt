@@ -20,11 +20,11 @@ pub enum RowsError {
 /// Tables of entities: a row for each entity, for each of its attributes and tags, and for each of its
 /// ancestors.
 ///
-/// Where rows tell their tables after a call, they told the same ones before it, and the answer is
-/// what the store of these tables has. Steady rows tell after a call what they told before it. A call
+/// Where rows say their tables after a call, they known the same ones before it, and the answer is
+/// what the store of these tables has. Steady rows say after a call what they known before it. A call
 /// that fails is counted; of steady rows no other call is.
 pub trait Rows {
-    // The tables, where they are told, and a count of faults.
+    // The tables, where they are known, and a count of faults.
     ghost state: { Self → RowsState };
 
     /// Whether there is a row for the entity.

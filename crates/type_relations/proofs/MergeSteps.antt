@@ -12,7 +12,7 @@ use Rattle.type_relations.specs.Join.{keep, join, shared}
 use Rattle.policy_values.specs.Maps.{IsNext}
 use Rattle.schema_types.specs.TyView.{attrs_of}
 use Rattle.type_relations.specs.JoinSteps.{kept_entry}
-use Rattle.type_relations.proofs.JoinSteps.{in_front, in_front_all, in_front_one}
+use Rattle.type_relations.proofs.JoinSteps.{in_prefix, in_prefix_all, in_prefix_one}
 use Rattle.policy_values.proofs.MapSteps.{next-seam, keys_of-append}
 use Rattle.schema_types.specs.Ty.{Ty, Attrs, size_of_attrs}
 use Rattle.schema_types.specs.declared.kinds.LubHelp.{LubHelp}
@@ -38,14 +38,14 @@ sorted_kept made done k q (Ok t) rest e h =
 sorted_kept made done k q (Err x) rest e h =
     subst (IsStrictlySortedBy text_cmp) (sym (ap (λ es. keys_of es ++ keys_of rest) e ∙ ap (λ es. keys_of es ++ keys_of rest) (append-nil done))) (sorted_less (keys_of done) k (keys_of rest) h)
 
-pub in_front_kept : (done : Entries) (k : List ℕ) (q : Bool) (r : Result Ty LubHelp) (zs : Attrs) → in_front (done ++ kept_entry k q r) zs ≡ in_front done (keep k q r zs)
-in_front_kept done k q (Ok t) zs = in_front_one done (k, record { attr_type = t; is_required = q }) zs
-in_front_kept done k q (Err h) zs = ap (λ es. in_front es zs) (append-nil done)
+pub in_prefix_kept : (done : Entries) (k : List ℕ) (q : Bool) (r : Result Ty LubHelp) (zs : Attrs) → in_prefix (done ++ kept_entry k q r) zs ≡ in_prefix done (keep k q r zs)
+in_prefix_kept done k q (Ok t) zs = in_prefix_one done (k, record { attr_type = t; is_required = q }) zs
+in_prefix_kept done k q (Err h) zs = ap (λ es. in_prefix es zs) (append-nil done)
 
 -- all is the join of what is done and of what is still to come; the keys ascend; what is to come of the first is no deeper than the whole
 abbrev pub IsMerge : Attrs → Attrs → Entries → Entries → Entries → Type 0
 IsMerge all xs done ls rs = record {
-  left : in_front done (shared (attrs_of ls) (attrs_of rs)) ≡ all;
+  left : in_prefix done (shared (attrs_of ls) (attrs_of rs)) ≡ all;
   keys : IsStrictlySortedBy text_cmp (keys_of done ++ keys_of ls);
   size : size_of_attrs (attrs_of ls) ≤ size_of_attrs xs;
 }
@@ -61,29 +61,29 @@ module _ (all xs : Attrs) (done ls rs left right : Entries) (k l : List ℕ) (x 
   merge_size = omega (arith, inv.size, ap (λ es. size_of_attrs (attrs_of es)) p)
 
   module _ (q : rs ≡ (l, y) ∷ right) where
-    joined : in_front done (shared (attrs_of ((k, x) ∷ left)) (attrs_of ((l, y) ∷ right))) ≡ all
-    joined = (λ i. in_front done (shared (attrs_of (sym p i)) (attrs_of (sym q i)))) ∙ inv.left
+    joined : in_prefix done (shared (attrs_of ((k, x) ∷ left)) (attrs_of ((l, y) ∷ right))) ≡ all
+    joined = (λ i. in_prefix done (shared (attrs_of (sym p i)) (attrs_of (sym q i)))) ∙ inv.left
 
     abbrev by_order : Ordering → Attrs
-    by_order o = in_front done (match_ordering o (shared (attrs_of left) (attrs_of ((l, y) ∷ right))) (keep k (x.is_required && y.is_required) (join Permissive x.attr_type y.attr_type) (shared (attrs_of left) (attrs_of right))) (shared (attrs_of ((k, x) ∷ left)) (attrs_of right)))
+    by_order o = in_prefix done (match_ordering o (shared (attrs_of left) (attrs_of ((l, y) ∷ right))) (keep k (x.is_required && y.is_required) (join Permissive x.attr_type y.attr_type) (shared (attrs_of left) (attrs_of right))) (shared (attrs_of ((k, x) ∷ left)) (attrs_of right)))
 
     pub merge_less : (next : Entries) → text_cmp k l ≡ Less → next ≡ left → IsMerge all xs done next rs
     merge_less next e n = record {
-      left = (λ i. in_front done (shared (attrs_of (n i)) (attrs_of (q i)))) ∙ sym (ap by_order e) ∙ joined;
+      left = (λ i. in_prefix done (shared (attrs_of (n i)) (attrs_of (q i)))) ∙ sym (ap by_order e) ∙ joined;
       keys = subst (λ es. IsStrictlySortedBy text_cmp (keys_of done ++ keys_of es)) (sym n) (sorted_less (keys_of done) k (keys_of left) sorted);
       size = omega (arith, merge_size, ap (λ es. size_of_attrs (attrs_of es)) n);
     }
 
     pub merge_both : (made next others : Entries) → text_cmp k l ≡ Equal → made ≡ done ++ kept_entry k (x.is_required && y.is_required) (join Permissive x.attr_type y.attr_type) → next ≡ left → others ≡ right → IsMerge all xs made next others
     merge_both made next others e m n o = record {
-      left = (λ i. in_front (m i) (shared (attrs_of (n i)) (attrs_of (o i))))
-          ∙ in_front_kept done k (x.is_required && y.is_required) (join Permissive x.attr_type y.attr_type) (shared (attrs_of left) (attrs_of right)) ∙ sym (ap by_order e) ∙ joined;
+      left = (λ i. in_prefix (m i) (shared (attrs_of (n i)) (attrs_of (o i))))
+          ∙ in_prefix_kept done k (x.is_required && y.is_required) (join Permissive x.attr_type y.attr_type) (shared (attrs_of left) (attrs_of right)) ∙ sym (ap by_order e) ∙ joined;
       keys = subst (λ es. IsStrictlySortedBy text_cmp (keys_of made ++ keys_of es)) (sym n) (sorted_kept made done k (x.is_required && y.is_required) (join Permissive x.attr_type y.attr_type) left m sorted);
       size = omega (arith, merge_size, ap (λ es. size_of_attrs (attrs_of es)) n);
     }
 
 pub merge_over_left : (all xs : Attrs) (done ls rs : Entries) → IsMerge all xs done ls rs → ls ≡ [] → attrs_of done ≡ all
-merge_over_left all xs done ls rs inv p = sym (in_front_all done) ∙ (λ i. in_front done (shared (attrs_of (sym p i)) (attrs_of rs))) ∙ inv.left
+merge_over_left all xs done ls rs inv p = sym (in_prefix_all done) ∙ (λ i. in_prefix done (shared (attrs_of (sym p i)) (attrs_of rs))) ∙ inv.left
 
 pub merge_over_right : (all xs : Attrs) (done ls rs left : Entries) (k : List ℕ) (x : AttributeType) → IsMerge all xs done ls rs → ls ≡ (k, x) ∷ left → rs ≡ [] → attrs_of done ≡ all
-merge_over_right all xs done ls rs left k x inv p q = sym (in_front_all done) ∙ (λ i. in_front done (shared (attrs_of (sym p i)) (attrs_of (sym q i)))) ∙ inv.left
+merge_over_right all xs done ls rs left k x inv p q = sym (in_prefix_all done) ∙ (λ i. in_prefix done (shared (attrs_of (sym p i)) (attrs_of (sym q i)))) ∙ inv.left

@@ -141,7 +141,7 @@ abbrev mutual
   join m (extension k) (extension n) = cond (text_eq k n) (Ok (extension k)) (Err Other)
   join m t u = Err (apart t u)
 
-  -- the strict join of attributes with the same keys: the first key whose types or marks don't join tells why
+  -- the strict join of attributes with the same keys: the first key whose types or marks don't join says why
   -- there is none
   pub join_attrs : Attrs → Attrs → Result Attrs LubHelp
   join_attrs (attr k t q xs) (attr l u r ys) = join_first k q r (join Strict t u) (join_attrs xs ys)

@@ -295,7 +295,7 @@ fn join_attributes(
 }
 
 #[cycle(join)]
-#[tactic(auto, using(crate::proofs::JoinSteps::in_front_all, crate::proofs::JoinSteps::in_front_step))]
+#[tactic(auto, using(crate::proofs::JoinSteps::in_prefix_all, crate::proofs::JoinSteps::in_prefix_step))]
 fn join_entries(
     alloc: Global,
     a: &BTreeMap<Text, AttributeType>,

@@ -20,7 +20,7 @@ use Rattle.findings.specs.Finding.{Finding}
 use Rattle.typecheck_rules.specs.Own.{if_none}
 use Rattle.typecheck_rules.specs.Walked.{Walked, Success, Fail, ended, lends, both, one}
 use Rattle.typecheck_rules.specs.Operators as definition
-use Rattle.typecheck_operators.specs.Told.{Operand, lent, mark}
+use Rattle.typecheck_operators.specs.Reported.{Operand, lent, mark}
 use Rattle.typecheck_operators.specs.declared.attr.Access.{Access}
 use Rattle.typecheck_operators.specs.declared.binary.Operator.{Operator}
 
@@ -35,7 +35,7 @@ one_of rule failed own a = ended a.ok (option_and_then rule (lent a)) failed (a.
 
 abbrev pub unary_of : UnaryOp → Mark (Unit {0}) → Operand → Walked
 unary_of o m a =
-    one_of (definition.unary_typing o m) (unary o a.tree (lends (Some (definition.unary_lent o)) m)) [] a
+    one_of (definition.unary_typing o m) (unary o a.tree (lends (Some (definition.unary_given o)) m)) [] a
 
 abbrev pub like_of : List PatternElem → Mark (Unit {0}) → Operand → Walked
 like_of p m a = one_of (definition.like_typing p m) (like a.tree p (lends (Some bool_type) m)) [] a
@@ -67,12 +67,12 @@ abbrev pub attr_found : Access → Typing → List Finding
 attr_found o a =
     definition.attr_found o.schema.now (env_data_of o.env.now) (is_known o) o.name.now (mark o.loc) a
 
-abbrev pub attr_lent : Access → Option Ty → Option Ty
-attr_lent o t = option_and_then (definition.attr_lent o.schema.now (env_data_of o.env.now) o.name.now) t
+abbrev pub attr_given : Access → Option Ty → Option Ty
+attr_given o t = option_and_then (definition.attr_given o.schema.now (env_data_of o.env.now) o.name.now) t
 
 abbrev pub attr_of : Access → Operand → Walked
 attr_of o a =
-    one_of (attr_typing o) (attr a.tree o.name.now (lends (attr_lent o a.of) (mark o.loc)))
+    one_of (attr_typing o) (attr a.tree o.name.now (lends (attr_given o a.of) (mark o.loc)))
     (option_map_or (attr_found o) (lent a) []) a
 
 -- of an attribute that is declared: its type, where it is safe to read, else that it may be absent
@@ -110,11 +110,11 @@ binary_typing o a b =
 
 abbrev pub binary_type : Operator → Option Ty → Option Ty → Option Ty
 binary_type o t u =
-    definition.binary_type_lent o.schema.now (env_data_of o.env.now) o.op o.known o.left.now o.right.now t u
+    definition.binary_type_given o.schema.now (env_data_of o.env.now) o.op o.known o.left.now o.right.now t u
 
-abbrev pub binary_lent : Operator → Option Ty → Option Ty
-binary_lent o t =
-    definition.binary_lent o.schema.now (env_data_of o.env.now) o.op o.left.now o.right.now t
+abbrev pub binary_given : Operator → Option Ty → Option Ty
+binary_given o t =
+    definition.binary_given o.schema.now (env_data_of o.env.now) o.op o.left.now o.right.now t
 
 abbrev pub binary_own : Operator → Option Ty → Option Ty → List Finding
 binary_own o t u =
@@ -127,13 +127,13 @@ binary_tree o x y t = binary o.op x y (lends t (mark o.loc))
 abbrev pub binary_of : Operator → Operand → Operand → Walked
 binary_of o a b =
     ended (a.ok && b.ok) (both (binary_typing o) (lent a) (lent b))
-    (binary_tree o a.tree b.tree (binary_lent o a.of)) (a.found ++ (b.found ++ binary_own o a.of b.of))
+    (binary_tree o a.tree b.tree (binary_given o a.of)) (a.found ++ (b.found ++ binary_own o a.of b.of))
 
 -- with a type of its own, over the expressions of its operands
 abbrev pub binary_own_typing : Operator → Ty → Typed → Typed → Typing
 binary_own_typing o t x y = typing t (binary_caps o.op o.left.now o.right.now) (binary_tree o x y (Some t))
 
--- where it has no typing, by what it lends
+-- where it has no typing, by what it gives
 abbrev pub binary_failed : Operator → Option Ty → Operand → Operand → List Finding → Walked
 binary_failed o t a b fs = Fail (binary_tree o a.tree b.tree t) (a.found ++ (b.found ++ fs))
 
@@ -141,4 +141,4 @@ binary_failed o t a b fs = Fail (binary_tree o a.tree b.tree t) (a.found ++ (b.f
 abbrev pub binary_by : Operator → Option Ty → Operand → Operand → List Finding → Walked
 binary_by o own a b fs =
     ended (a.ok && b.ok) (option_map (λ t. binary_own_typing o t a.tree b.tree) own)
-    (binary_tree o a.tree b.tree (binary_lent o a.of)) (a.found ++ (b.found ++ fs))
+    (binary_tree o a.tree b.tree (binary_given o a.of)) (a.found ++ (b.found ++ fs))

@@ -1,4 +1,4 @@
--- Operators of several operands, by what their operands lend, one part after another.
+-- Operators of several operands, by what their operands give, one part after another.
 use Rattle.std.specs.Prelude.{ℕ, Bool, List, [], ◌∷◌, ◌++◌, Option, Some, None, map, option_map}
 use Rattle.std.specs.Option.{option_and_then, option_map_or}
 use Rattle.schema_types.specs.declared.kinds.OpenTag.TheVariants.{ClosedAttributes}
@@ -14,16 +14,16 @@ use Rattle.typecheck_rules.specs.Expected.{an_argument}
 use Rattle.findings.specs.Finding.{Finding}
 use Rattle.typecheck_rules.specs.Own.{set_found}
 use Rattle.typecheck_rules.specs.Walked.{Walked, ended, expect, lends, all_some, tree_of}
-use Rattle.typecheck_rules.specs.Operators.{Fields, place, type_lent}
+use Rattle.typecheck_rules.specs.Operators.{Fields, place, type_given}
 
--- the types that operands lend, where each lends one
-abbrev pub types_lent : List Walked → Option (List Ty)
-types_lent ws = all_some (map type_lent ws)
+-- the types that operands give, where each gives one
+abbrev pub types_given : List Walked → Option (List Ty)
+types_given ws = all_some (map type_given ws)
 
-abbrev pub fields_lent : Fields → Option (List (List ℕ × Ty))
-fields_lent [] = Some []
-fields_lent (e ∷ es) =
-    option_and_then (λ t. option_map (λ ts. (e.0, t) ∷ ts) (fields_lent es)) (type_lent e.1)
+abbrev pub fields_given : Fields → Option (List (List ℕ × Ty))
+fields_given [] = Some []
+fields_given (e ∷ es) =
+    option_and_then (λ t. option_map (λ ts. (e.0, t) ∷ ts) (fields_given es)) (type_given e.1)
 
 -- the expressions of fields
 abbrev pub trees_in_fields : Fields → List (List ℕ × Typed)

@@ -5,10 +5,10 @@ ghost use Rattle.policy_expressions.specs.Tree.{attr};
 ghost use Rattle.typecheck_rules.specs.Walked.{Fail, lends};
 ghost use Rattle.typecheck_rules.specs.Found.{findings_from};
 ghost use Rattle.typecheck_operators.specs.Operands as definition;
-ghost use Rattle.typecheck_operators.specs.Told.{mark, operand_of, walked_of};
+ghost use Rattle.typecheck_operators.specs.Reported.{mark, operand_of, walked_of};
 
 use crate::known::knows_attribute;
-use crate::told::{Part, Told, Typing, ended_typed, expect, failed, parted};
+use crate::told::{Part, Reported, Typing, ended_typed, expect, failed, parted};
 use policy_expressions::{BuildError, Expr, Loc};
 use policy_values::Text;
 use schema_core::{RequestEnv, ValidatorSchema};
@@ -35,12 +35,12 @@ pub struct Access<'b, 'a> {
 }
 
 /// `.`, by what its operand comes to.
-pub fn attr_told<'a>(
+pub fn attr_reported<'a>(
     alloc: Global,
     o: &Access<'_, '_>,
     place: Option<Loc>,
-    v: Told<'a>,
-) -> Result<Told<'a>, BuildError>
+    v: Reported<'a>,
+) -> Result<Reported<'a>, BuildError>
     ensures { IfOk result (λ r. walked_of r ≡
         definition.attr_walked o.now place (walked_of v.entry)) }
 {
@@ -48,14 +48,22 @@ pub fn attr_told<'a>(
     attr_fitting(alloc, o, v)
 }
 
-fn attr_fitting<'a>(alloc: Global, o: &Access<'_, '_>, v: Told<'a>) -> Result<Told<'a>, BuildError>
+fn attr_fitting<'a>(
+    alloc: Global,
+    o: &Access<'_, '_>,
+    v: Reported<'a>,
+) -> Result<Reported<'a>, BuildError>
     ensures { IfOk result (λ r. walked_of r ≡ definition.attr_fitting o.now (walked_of v.entry)) }
 {
     let v = parted(alloc, v)?;
     attr_ended(alloc, o, v)
 }
 
-fn attr_ended<'a>(alloc: Global, o: &Access<'_, '_>, v: Part<'a>) -> Result<Told<'a>, BuildError>
+fn attr_ended<'a>(
+    alloc: Global,
+    o: &Access<'_, '_>,
+    v: Part<'a>,
+) -> Result<Reported<'a>, BuildError>
     ensures { IfOk result (λ r. walked_of r ≡ definition.attr_of o.now (operand_of v.entry)) }
 {
     let Part {
@@ -96,7 +104,7 @@ fn declared_ended<'a>(
     a: AttributeType,
     tree: Expr<Option<Type>>,
     found: Vec<Finding>,
-) -> Result<Told<'a>, BuildError>
+) -> Result<Reported<'a>, BuildError>
     ensures { IfOk result (λ r. walked_of r ≡
         definition.declared_of o.now a ok tree (findings_from found.items)) }
 {
@@ -106,7 +114,7 @@ fn declared_ended<'a>(
     } = a;
     if or_drop!(is_safe(o, is_required), attr_type, tree, found) {
         let note = or_drop!(attr_type.try_clone(alloc), attr_type, tree, found);
-        let tree = or_drop!(attr_lending(alloc, o, tree, Some(note)), attr_type, found);
+        let tree = or_drop!(attr_giving(alloc, o, tree, Some(note)), attr_type, found);
         let caps = CapabilitySet::new(alloc);
         let of = attr_type;
         Ok(ended_typed(alloc, ok, Typing { of, caps, tree }, found)?)
@@ -140,15 +148,15 @@ fn attr_failed<'a>(
     note: Option<Type>,
     tree: Expr<Option<Type>>,
     found: Vec<Finding>,
-) -> Result<Told<'a>, BuildError>
+) -> Result<Reported<'a>, BuildError>
     ensures { IfOk result (λ r. walked_of r ≡
         Fail (attr tree o.now.name.now (lends note (mark o.now.loc))) (findings_from found.items)) }
 {
-    let tree = or_drop!(attr_lending(alloc, o, tree, note), found);
+    let tree = or_drop!(attr_giving(alloc, o, tree, note), found);
     Ok(failed(alloc, tree, found)?)
 }
 
-fn attr_lending(
+fn attr_giving(
     alloc: Global,
     o: &Access<'_, '_>,
     tree: Expr<Option<Type>>,

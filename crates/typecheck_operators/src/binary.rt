@@ -5,14 +5,14 @@ ghost use Rattle.typing_spec.specs.Typing as typing;
 ghost use Rattle.typecheck_rules.specs.Walked as walked;
 ghost use Rattle.typecheck_rules.specs.Found.{findings_from};
 ghost use Rattle.typecheck_operators.specs.Operands as definition;
-ghost use Rattle.typecheck_operators.specs.Told.{operand_of, walked_of};
+ghost use Rattle.typecheck_operators.specs.Reported.{operand_of, walked_of};
 
-use crate::told::{Part, Told, Typing, expect_if, failed, parted, rest_of, typed};
+use crate::told::{Part, Reported, Typing, expect_if, failed, parted, rest_of, typed};
 use policy_expressions::{BinaryOp, BuildError, Expr, Loc};
 use schema_core::{RequestEnv, ValidatorSchema};
 use schema_types::Type;
 use std::alloc::{AllocError, Global};
-use typecheck_rules::{Finding, binary_lent, binary_own, binary_type, joined, left_of, right_of};
+use typecheck_rules::{Finding, binary_given, binary_own, binary_type, joined, left_of, right_of};
 use typing_spec::{Capability, CapabilitySet};
 
 /// An operator of two operands, where it stands in a policy.
@@ -35,12 +35,12 @@ pub struct Operator<'b, 'a> {
 }
 
 /// An operator of two operands, by what these come to.
-pub fn binary_told<'a>(
+pub fn binary_reported<'a>(
     alloc: Global,
     o: &Operator<'_, 'a>,
-    v: Told<'a>,
-    w: Told<'a>,
-) -> Result<Told<'a>, BuildError>
+    v: Reported<'a>,
+    w: Reported<'a>,
+) -> Result<Reported<'a>, BuildError>
     ensures { IfOk result (λ r. walked_of r ≡
         definition.binary_walked o.now (walked_of v.entry) (walked_of w.entry)) }
 {
@@ -52,9 +52,9 @@ pub fn binary_told<'a>(
 fn binary_fitting<'a>(
     alloc: Global,
     o: &Operator<'_, 'a>,
-    v: Told<'a>,
-    w: Told<'a>,
-) -> Result<Told<'a>, BuildError>
+    v: Reported<'a>,
+    w: Reported<'a>,
+) -> Result<Reported<'a>, BuildError>
     ensures { IfOk result (λ r. walked_of r ≡
         definition.binary_fitting o.now (walked_of v.entry) (walked_of w.entry)) }
 {
@@ -69,7 +69,7 @@ fn binary_ended<'a>(
     o: &Operator<'_, 'a>,
     v: Part<'a>,
     w: Part<'a>,
-) -> Result<Told<'a>, BuildError>
+) -> Result<Reported<'a>, BuildError>
     ensures { IfOk result (λ r. walked_of r ≡
         definition.binary_of o.now (operand_of v.entry) (operand_of w.entry)) }
 {
@@ -91,7 +91,7 @@ fn own_found<'a>(
     )
 }
 
-// The type by the rule, of the types that are lent.
+// The type by the rule, of the types that are given.
 fn own_type<'a>(
     alloc: Global,
     o: &Operator<'_, 'a>,
@@ -116,7 +116,7 @@ fn binary_by<'a>(
     v: Part<'a>,
     w: Part<'a>,
     found: Vec<Finding>,
-) -> Result<Told<'a>, BuildError>
+) -> Result<Reported<'a>, BuildError>
     ensures { IfOk result (λ r. walked_of r ≡
         definition.binary_by o.now own (operand_of v.entry) (operand_of w.entry)
         (findings_from found.items)) }
@@ -131,7 +131,7 @@ fn binary_by<'a>(
             }
         }
         None => {
-            let lent = binary_lent(o.schema, o.env, o.op, o.left, o.right, &v.of);
+            let lent = binary_given(o.schema, o.env, o.op, o.left, o.right, &v.of);
             binary_failure(alloc, o, lent, v, w, found)
         }
     }
@@ -143,7 +143,7 @@ fn binary_success<'a>(
     own: Type,
     v: Part<'a>,
     w: Part<'a>,
-) -> Result<Told<'a>, BuildError>
+) -> Result<Reported<'a>, BuildError>
     ensures { IfOk result (λ r. walked_of r ≡
         walked.Success (definition.binary_own_typing o.now own v.entry.tree w.entry.tree)) }
 {
@@ -177,7 +177,7 @@ fn binary_failure<'a>(
     v: Part<'a>,
     w: Part<'a>,
     own: Vec<Finding>,
-) -> Result<Told<'a>, BuildError>
+) -> Result<Reported<'a>, BuildError>
     ensures { IfOk result (λ r. walked_of r ≡
         definition.binary_failed o.now lent (operand_of v.entry) (operand_of w.entry)
         (findings_from own.items)) }

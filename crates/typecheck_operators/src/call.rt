@@ -11,10 +11,10 @@ ghost use Rattle.typecheck_rules.specs.Walked.{lends, one};
 ghost use Rattle.typecheck_rules.specs.Operators as definition;
 ghost use Rattle.typecheck_rules.specs.Found.{findings_from};
 ghost use Rattle.typecheck_operators.specs.Parts.{argument_walked, call_by_type};
-ghost use Rattle.typecheck_operators.specs.Told.{mark, walked_of, all_of};
+ghost use Rattle.typecheck_operators.specs.Reported.{mark, walked_of, all_of};
 
-use crate::parts::{Rest, are_typed, rest_of_all, types_lent};
-use crate::told::{Told, Typing, ended_typed, expect, failed};
+use crate::parts::{Rest, are_typed, rest_of_all, types_given};
+use crate::told::{Reported, Typing, ended_typed, expect, failed};
 use policy_expressions::{BuildError, Expr, Loc};
 use policy_values::Name;
 use schema_types::Type;
@@ -26,7 +26,11 @@ use typecheck_rules::{
 use typing_spec::CapabilitySet;
 
 /// A call of an undefined function, whose arguments are not looked at. Errs where memory runs out.
-pub fn undefined_told<'a>(alloc: Global, f: &Name, loc: Option<Loc>) -> Result<Told<'a>, BuildError>
+pub fn undefined_reported<'a>(
+    alloc: Global,
+    f: &Name,
+    loc: Option<Loc>,
+) -> Result<Reported<'a>, BuildError>
     ensures { IfOk result (λ r. walked_of r ≡
         walked.Fail (call f.now no_trees (lends None (mark loc)))
         (one (finding.UndefinedFunction f.now) loc)) }
@@ -38,31 +42,31 @@ pub fn undefined_told<'a>(alloc: Global, f: &Name, loc: Option<Loc>) -> Result<T
 
 /// A call, by what its arguments come to. Errs where memory runs out, or the expression would be
 /// nested too deep.
-pub fn call_told<'a>(
+pub fn call_reported<'a>(
     alloc: Global,
     f: &Name,
     g: CalledFunction<'_>,
     xs: &Vec<Expr<()>>,
     loc: Option<Loc>,
-    ws: Vec<Told<'a>>,
-) -> Result<Told<'a>, BuildError>
+    ws: Vec<Reported<'a>>,
+) -> Result<Reported<'a>, BuildError>
     ensures { IfOk result (λ r. walked_of r ≡
         definition.call_walked f.now (Some g.entry.function) (trees_of xs.now.items) (mark loc)
         (all_of ws.entry.items)) }
 {
     let own = call_found(alloc, g, xs.as_slice(), loc)?;
-    let ws = arguments_told(alloc, &own, argument_types(g), xs, ws)?;
+    let ws = arguments_reported(alloc, &own, argument_types(g), xs, ws)?;
     call_fitting(alloc, f, g, xs, loc, own, ws)
 }
 
 // Only where the call has no finding of its own have the arguments to fit.
-fn arguments_told<'a>(
+fn arguments_reported<'a>(
     alloc: Global,
     own: &Vec<Finding>,
     types: &[Type],
     xs: &Vec<Expr<()>>,
-    ws: Vec<Told<'a>>,
-) -> Result<Vec<Told<'a>>, AllocError>
+    ws: Vec<Reported<'a>>,
+) -> Result<Vec<Reported<'a>>, AllocError>
     ensures { IfOk result (λ r. all_of r.items ≡
         definition.arguments_walked (findings_from own.now.items) types.now (trees_of xs.now.items)
         (all_of ws.entry.items)) }
@@ -78,15 +82,15 @@ fn arguments_fitting<'a>(
     alloc: Global,
     types: &[Type],
     xs: &Vec<Expr<()>>,
-    ws: Vec<Told<'a>>,
-) -> Result<Vec<Told<'a>>, AllocError>
+    ws: Vec<Reported<'a>>,
+) -> Result<Vec<Reported<'a>>, AllocError>
     ensures { IfOk result (λ r. all_of r.items ≡
         definition.arguments_fitting types.now (trees_of xs.now.items) (all_of ws.entry.items)) }
 {
     let mut fitted = Vec::new(alloc);
     for w in ws {
         let i = fitted.len();
-        let w = argument_told(alloc, type_at(types, i), argument_at(xs, i), w)?;
+        let w = argument_reported(alloc, type_at(types, i), argument_at(xs, i), w)?;
         fitted.push(w)?;
     }
     Ok(fitted)
@@ -104,12 +108,12 @@ fn argument_at(xs: &Vec<Expr<()>>, i: usize) -> Option<&Expr<()>>
     xs.as_slice().get(i)
 }
 
-fn argument_told<'a>(
+fn argument_reported<'a>(
     alloc: Global,
     t: Option<&Type>,
     x: Option<&Expr<()>>,
-    w: Told<'a>,
-) -> Result<Told<'a>, AllocError>
+    w: Reported<'a>,
+) -> Result<Reported<'a>, AllocError>
     ensures { IfOk result (λ r. walked_of r ≡
         argument_walked (option_copied t.entry) (option_copied x.entry) (walked_of w.entry)) }
 {
@@ -130,14 +134,14 @@ fn call_fitting<'a>(
     xs: &Vec<Expr<()>>,
     loc: Option<Loc>,
     own: Vec<Finding>,
-    ws: Vec<Told<'a>>,
-) -> Result<Told<'a>, BuildError>
+    ws: Vec<Reported<'a>>,
+) -> Result<Reported<'a>, BuildError>
     ensures { IfOk result (λ r. walked_of r ≡
         definition.call_fitting f.now g.entry.function (trees_of xs.now.items) (mark loc)
         (findings_from own.items) (all_of ws.entry.items)) }
 {
     let ok = are_typed(&ws);
-    let types = types_lent(alloc, &ws)?;
+    let types = types_given(alloc, &ws)?;
     let rest = rest_of_all(alloc, ws)?;
     let found = joined(own, rest.found)?;
     let of = call_own(alloc, g, xs, types)?;
@@ -153,7 +157,7 @@ fn call_ended<'a>(
     ok: bool,
     of: Option<Type>,
     rest: Rest,
-) -> Result<Told<'a>, BuildError>
+) -> Result<Reported<'a>, BuildError>
     ensures { IfOk result (λ r. walked_of r ≡
         call_by_type f.now g.entry.function (mark loc) ok of (trees_of rest.trees.items)
         (findings_from rest.found.items)) }
@@ -176,7 +180,7 @@ fn call_ended<'a>(
     }
 }
 
-// The type of the call, where the arguments lend types.
+// The type of the call, where the arguments give types.
 fn call_own(
     alloc: Global,
     g: CalledFunction<'_>,

@@ -8,9 +8,9 @@ ghost use Rattle.typecheck_rules.specs.Walked.{lends};
 ghost use Rattle.typecheck_rules.specs.Operators as definition;
 ghost use Rattle.typecheck_rules.specs.Found.{findings_from};
 ghost use Rattle.typecheck_operators.specs.Operands.{ended_as, has_of};
-ghost use Rattle.typecheck_operators.specs.Told.{mark, operand_of, walked_of};
+ghost use Rattle.typecheck_operators.specs.Reported.{mark, operand_of, walked_of};
 
-use crate::told::{Part, Told, Typing, ended_typed, expect, failed, parted};
+use crate::told::{Part, Reported, Typing, ended_typed, expect, failed, parted};
 use policy_expressions::{BuildError, Expr, Loc};
 use policy_values::Text;
 use schema_core::ValidatorSchema;
@@ -21,15 +21,15 @@ use typing_spec::{Capability, CapabilitySet};
 
 /// `has`, by what its operand comes to, and whether the attribute is known to be there. Errs where
 /// memory runs out, or the expression would be nested too deep.
-pub fn has_told<'a>(
+pub fn has_reported<'a>(
     alloc: Global,
     schema: &ValidatorSchema,
     known: bool,
     x: &'a Expr<()>,
     n: &Text,
     loc: Option<Loc>,
-    v: Told<'a>,
-) -> Result<Told<'a>, BuildError>
+    v: Reported<'a>,
+) -> Result<Reported<'a>, BuildError>
     ensures { IfOk result (λ r. walked_of r ≡
         definition.has_walked schema.now known x.now n.now (mark loc) (walked_of v.entry)) }
 {
@@ -44,8 +44,8 @@ fn has_fitting<'a>(
     x: &'a Expr<()>,
     n: &Text,
     loc: Option<Loc>,
-    v: Told<'a>,
-) -> Result<Told<'a>, BuildError>
+    v: Reported<'a>,
+) -> Result<Reported<'a>, BuildError>
     ensures { IfOk result (λ r. walked_of r ≡
         definition.has_fitting schema.now known x.now n.now (mark loc) (walked_of v.entry)) }
 {
@@ -61,7 +61,7 @@ fn has_ended<'a>(
     n: &Text,
     loc: Option<Loc>,
     v: Part<'a>,
-) -> Result<Told<'a>, BuildError>
+) -> Result<Reported<'a>, BuildError>
     ensures { IfOk result (λ r. walked_of r ≡
         has_of schema.now known x.now n.now (mark loc) (operand_of v.entry)) }
 {
@@ -86,13 +86,13 @@ fn has_ended<'a>(
                     has_typed(alloc, n, loc, ok, Typing { of, caps, tree }, found)
                 }
                 None => {
-                    let tree = or_drop!(has_lending(alloc, tree, n, loc), found);
+                    let tree = or_drop!(has_giving(alloc, tree, n, loc), found);
                     Ok(failed(alloc, tree, found)?)
                 }
             }
         }
         None => {
-            let tree = or_drop!(has_lending(alloc, tree, n, loc), found);
+            let tree = or_drop!(has_giving(alloc, tree, n, loc), found);
             Ok(failed(alloc, tree, found)?)
         }
     }
@@ -105,7 +105,7 @@ fn has_typed<'a>(
     ok: bool,
     a: Typing<'a>,
     found: Vec<Finding>,
-) -> Result<Told<'a>, BuildError>
+) -> Result<Reported<'a>, BuildError>
     ensures { IfOk result (λ r. walked_of r ≡
         ended_as ok a.entry.of a.entry.caps (has a.entry.tree n.now) (mark loc)
         (findings_from found.items)) }
@@ -122,7 +122,7 @@ fn has_typed<'a>(
     Ok(ended_typed(alloc, ok, Typing { of, caps, tree }, found)?)
 }
 
-fn has_lending(
+fn has_giving(
     alloc: Global,
     tree: Expr<Option<Type>>,
     n: &Text,

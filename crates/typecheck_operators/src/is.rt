@@ -6,9 +6,9 @@ ghost use Rattle.typing_spec.specs.Signatures.{bool_type};
 ghost use Rattle.typecheck_rules.specs.Walked.{lends};
 ghost use Rattle.typecheck_rules.specs.Operators as definition;
 ghost use Rattle.typecheck_operators.specs.Operands.{is_of};
-ghost use Rattle.typecheck_operators.specs.Told.{mark, operand_of, walked_of};
+ghost use Rattle.typecheck_operators.specs.Reported.{mark, operand_of, walked_of};
 
-use crate::told::{Part, Told, Typing, ended_typed, expect, failed, parted};
+use crate::told::{Part, Reported, Typing, ended_typed, expect, failed, parted};
 use policy_expressions::{BuildError, Expr, Loc};
 use policy_values::EntityType;
 use schema_types::Type;
@@ -18,13 +18,13 @@ use typing_spec::CapabilitySet;
 
 /// `is`, by what its operand comes to. Errs where memory runs out, or the expression would be
 /// nested too deep.
-pub fn is_told<'a>(
+pub fn is_reported<'a>(
     alloc: Global,
     name: &EntityType,
     loc: Option<Loc>,
     place: Option<Loc>,
-    v: Told<'a>,
-) -> Result<Told<'a>, BuildError>
+    v: Reported<'a>,
+) -> Result<Reported<'a>, BuildError>
     ensures { IfOk result (λ r. walked_of r ≡
         definition.is_walked name.now (mark loc) place (walked_of v.entry)) }
 {
@@ -36,8 +36,8 @@ fn is_fitting<'a>(
     alloc: Global,
     name: &EntityType,
     loc: Option<Loc>,
-    v: Told<'a>,
-) -> Result<Told<'a>, BuildError>
+    v: Reported<'a>,
+) -> Result<Reported<'a>, BuildError>
     ensures { IfOk result (λ r. walked_of r ≡
         definition.is_fitting name.now (mark loc) (walked_of v.entry)) }
 {
@@ -50,7 +50,7 @@ fn is_ended<'a>(
     name: &EntityType,
     loc: Option<Loc>,
     v: Part<'a>,
-) -> Result<Told<'a>, BuildError>
+) -> Result<Reported<'a>, BuildError>
     ensures { IfOk result (λ r. walked_of r ≡ is_of name.now (mark loc) (operand_of v.entry)) }
 {
     let Part {
@@ -74,19 +74,19 @@ fn is_ended<'a>(
                     Ok(ended_typed(alloc, ok, Typing { of, caps, tree }, found)?)
                 }
                 None => {
-                    let tree = or_drop!(is_lending(alloc, tree, name, loc), found);
+                    let tree = or_drop!(is_giving(alloc, tree, name, loc), found);
                     Ok(failed(alloc, tree, found)?)
                 }
             }
         }
         None => {
-            let tree = or_drop!(is_lending(alloc, tree, name, loc), found);
+            let tree = or_drop!(is_giving(alloc, tree, name, loc), found);
             Ok(failed(alloc, tree, found)?)
         }
     }
 }
 
-fn is_lending(
+fn is_giving(
     alloc: Global,
     tree: Expr<Option<Type>>,
     name: &EntityType,

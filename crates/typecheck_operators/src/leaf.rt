@@ -5,9 +5,9 @@ ghost use Rattle.schema_core.specs.RequestEnvs.{env_data_of};
 ghost use Rattle.policy_expressions.specs.Tree.{lit, var, slot};
 ghost use Rattle.typing_spec.specs.Environment as environment;
 ghost use Rattle.typecheck_rules.specs.Operators.{leaf_walked};
-ghost use Rattle.typecheck_operators.specs.Told.{mark, walked_of};
+ghost use Rattle.typecheck_operators.specs.Reported.{mark, walked_of};
 
-use crate::told::{Told, Typing, failed, typed};
+use crate::told::{Reported, Typing, failed, typed};
 use policy_expressions::{BuildError, Expr, Literal, Loc, SlotId, Var};
 use schema_core::{RequestEnv, ValidatorSchema};
 use schema_types::Type;
@@ -16,12 +16,12 @@ use typecheck_rules::{literal_type, slot_type, variable_type};
 use typing_spec::CapabilitySet;
 
 /// A literal: its own type, where it has one.
-pub fn literal_told<'a>(
+pub fn literal_reported<'a>(
     alloc: Global,
     schema: &ValidatorSchema,
     l: &Literal,
     loc: Option<Loc>,
-) -> Result<Told<'a>, BuildError>
+) -> Result<Reported<'a>, BuildError>
     ensures { IfOk result (λ r. walked_of r ≡
         leaf_walked (lit l.now) (mark loc) (environment.type_of_literal schema.now l.now)) }
 {
@@ -41,13 +41,13 @@ pub fn literal_told<'a>(
 }
 
 /// A variable: the type that the environment gives it, where it gives one.
-pub fn variable_told<'a>(
+pub fn variable_reported<'a>(
     alloc: Global,
     schema: &ValidatorSchema,
     env: &RequestEnv<'_>,
     v: Var,
     loc: Option<Loc>,
-) -> Result<Told<'a>, BuildError>
+) -> Result<Reported<'a>, BuildError>
     ensures { IfOk result (λ r. walked_of r ≡
         leaf_walked (var v) (mark loc) (environment.type_of_variable schema.now
         (env_data_of env.now) v)) }
@@ -67,12 +67,12 @@ pub fn variable_told<'a>(
 }
 
 /// A slot: the type that the environment gives what stands for it.
-pub fn slot_told<'a>(
+pub fn slot_reported<'a>(
     alloc: Global,
     env: &RequestEnv<'_>,
     id: SlotId,
     loc: Option<Loc>,
-) -> Result<Told<'a>, BuildError>
+) -> Result<Reported<'a>, BuildError>
     ensures { IfOk result (λ r. walked_of r ≡
         leaf_walked (slot id) (mark loc) (Some (environment.type_of_slot (env_data_of env.now)
         id))) }

@@ -31,18 +31,18 @@ mod set;
 mod told;
 mod unary;
 
-pub use attr::{Access, attr_told};
-pub use binary::{Operator, binary_told};
-pub use call::{call_told, undefined_told};
-pub use has::has_told;
-pub use is::is_told;
+pub use attr::{Access, attr_reported};
+pub use binary::{Operator, binary_reported};
+pub use call::{call_reported, undefined_reported};
+pub use has::has_reported;
+pub use is::is_reported;
 pub use known::knows_attribute;
-pub use leaf::{literal_told, slot_told, variable_told};
-pub use like::like_told;
-pub use record::record_told;
-pub use set::set_told;
+pub use leaf::{literal_reported, slot_reported, variable_reported};
+pub use like::like_reported;
+pub use record::record_reported;
+pub use set::set_reported;
 pub use told::{
-    Failure, Part, Told, Typing, ended_typed, expect, failed, into_tree, parted, rest_of, skipped,
-    typed, unreached,
+    Failure, Part, Reported, Typing, ended_typed, expect, failed, into_tree, parted, rest_of,
+    skipped, typed, unreached,
 };
-pub use unary::unary_told;
+pub use unary::unary_reported;

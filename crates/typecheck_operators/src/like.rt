@@ -6,9 +6,9 @@ ghost use Rattle.typing_spec.specs.Signatures.{bool_type};
 ghost use Rattle.typecheck_rules.specs.Walked.{lends};
 ghost use Rattle.typecheck_rules.specs.Operators as definition;
 ghost use Rattle.typecheck_operators.specs.Operands.{like_of};
-ghost use Rattle.typecheck_operators.specs.Told.{mark, operand_of, walked_of};
+ghost use Rattle.typecheck_operators.specs.Reported.{mark, operand_of, walked_of};
 
-use crate::told::{Part, Told, Typing, ended_typed, expect, failed, parted};
+use crate::told::{Part, Reported, Typing, ended_typed, expect, failed, parted};
 use policy_expressions::{BuildError, Expr, Loc, Pattern};
 use schema_types::Type;
 use std::alloc::Global;
@@ -17,13 +17,13 @@ use typing_spec::CapabilitySet;
 
 /// `like`, by what its operand comes to. Errs where memory runs out, or the expression would be
 /// nested too deep.
-pub fn like_told<'a>(
+pub fn like_reported<'a>(
     alloc: Global,
     pattern: &Pattern,
     loc: Option<Loc>,
     place: Option<Loc>,
-    v: Told<'a>,
-) -> Result<Told<'a>, BuildError>
+    v: Reported<'a>,
+) -> Result<Reported<'a>, BuildError>
     ensures { IfOk result (λ r. walked_of r ≡
         definition.like_walked pattern.now (mark loc) place (walked_of v.entry)) }
 {
@@ -35,8 +35,8 @@ fn like_fitting<'a>(
     alloc: Global,
     pattern: &Pattern,
     loc: Option<Loc>,
-    v: Told<'a>,
-) -> Result<Told<'a>, BuildError>
+    v: Reported<'a>,
+) -> Result<Reported<'a>, BuildError>
     ensures { IfOk result (λ r. walked_of r ≡
         definition.like_fitting pattern.now (mark loc) (walked_of v.entry)) }
 {
@@ -49,7 +49,7 @@ fn like_ended<'a>(
     pattern: &Pattern,
     loc: Option<Loc>,
     v: Part<'a>,
-) -> Result<Told<'a>, BuildError>
+) -> Result<Reported<'a>, BuildError>
     ensures { IfOk result (λ r. walked_of r ≡ like_of pattern.now (mark loc) (operand_of v.entry)) }
 {
     let Part {
@@ -77,19 +77,19 @@ fn like_ended<'a>(
                     Ok(ended_typed(alloc, ok, Typing { of, caps, tree }, found)?)
                 }
                 None => {
-                    let tree = or_drop!(like_lending(alloc, tree, pattern, loc), found);
+                    let tree = or_drop!(like_giving(alloc, tree, pattern, loc), found);
                     Ok(failed(alloc, tree, found)?)
                 }
             }
         }
         None => {
-            let tree = or_drop!(like_lending(alloc, tree, pattern, loc), found);
+            let tree = or_drop!(like_giving(alloc, tree, pattern, loc), found);
             Ok(failed(alloc, tree, found)?)
         }
     }
 }
 
-fn like_lending(
+fn like_giving(
     alloc: Global,
     tree: Expr<Option<Type>>,
     pattern: &Pattern,

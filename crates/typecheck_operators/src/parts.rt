@@ -5,32 +5,32 @@ ghost use Rattle.std.specs.List.{list_all};
 ghost use Rattle.typecheck_rules.specs.Walked.{has_typing, tree_of, findings_of, findings_of_all};
 ghost use Rattle.typecheck_rules.specs.Operators as definition;
 ghost use Rattle.typecheck_rules.specs.Found.{findings_from};
-ghost use Rattle.typecheck_operators.specs.Parts.{types_lent};
-ghost use Rattle.typecheck_operators.specs.Told.{walked_of, all_of};
+ghost use Rattle.typecheck_operators.specs.Parts.{types_given};
+ghost use Rattle.typecheck_operators.specs.Reported.{walked_of, all_of};
 
-use crate::told::{Failure, Told, into_tree};
+use crate::told::{Failure, Reported, into_tree};
 use policy_expressions::Expr;
 use schema_types::Type;
 use std::alloc::{AllocError, Global};
 use typecheck_rules::Finding;
 
 // Whether there is a typing.
-pub(crate) fn is_typed(w: &Told<'_>) -> bool
+pub(crate) fn is_typed(w: &Reported<'_>) -> bool
     ensures { result ≡ has_typing (walked_of w.now) }
 {
     match w {
-        Told::Success(_) => true,
-        Told::Fail(_) => false,
+        Reported::Success(_) => true,
+        Reported::Fail(_) => false,
     }
 }
 
-// The type that an operand lends.
-pub(crate) fn type_lent(alloc: Global, w: &Told<'_>) -> Result<Option<Type>, AllocError>
-    ensures { IfOk result (λ o. o ≡ definition.type_lent (walked_of w.now)) }
+// The type that an operand gives.
+pub(crate) fn type_given(alloc: Global, w: &Reported<'_>) -> Result<Option<Type>, AllocError>
+    ensures { IfOk result (λ o. o ≡ definition.type_given (walked_of w.now)) }
 {
     match w {
-        Told::Success(a) => Ok(Some(a.of.try_clone(alloc)?)),
-        Told::Fail(failure) => match failure.tree.data() {
+        Reported::Success(a) => Ok(Some(a.of.try_clone(alloc)?)),
+        Reported::Fail(failure) => match failure.tree.data() {
             Some(t) => Ok(Some(t.try_clone(alloc)?)),
             None => Ok(None),
         },
@@ -38,16 +38,16 @@ pub(crate) fn type_lent(alloc: Global, w: &Told<'_>) -> Result<Option<Type>, All
 }
 
 // The expression, and what is found.
-pub(crate) fn told_rest(alloc: Global, w: Told<'_>) -> (Expr<Option<Type>>, Vec<Finding>)
+pub(crate) fn reported_rest(alloc: Global, w: Reported<'_>) -> (Expr<Option<Type>>, Vec<Finding>)
     ensures tree { result.0 ≡ tree_of (walked_of w.entry) }
     ensures found { findings_from result.1.items ≡ findings_of (walked_of w.entry) }
 {
     match w {
-        Told::Success(a) => {
+        Reported::Success(a) => {
             let tree = into_tree(Box::into_inner(a));
             (tree, Vec::new(alloc))
         }
-        Told::Fail(failure) => {
+        Reported::Fail(failure) => {
             let Failure { tree, found } = Box::into_inner(failure);
             (tree, found)
         }
@@ -64,7 +64,7 @@ pub(crate) fn add_found(found: &mut Vec<Finding>, mut more: Vec<Finding>) -> Res
 }
 
 // Whether all have a typing.
-pub(crate) fn are_typed(ws: &Vec<Told<'_>>) -> bool
+pub(crate) fn are_typed(ws: &Vec<Reported<'_>>) -> bool
     ensures { result ≡ list_all has_typing (all_of ws.now.items) }
 {
     for w in ws {
@@ -75,13 +75,16 @@ pub(crate) fn are_typed(ws: &Vec<Told<'_>>) -> bool
     true
 }
 
-// The types that operands lend, where each lends one.
-pub(crate) fn types_lent(alloc: Global, ws: &Vec<Told<'_>>) -> Result<Option<Vec<Type>>, AllocError>
-    ensures { IfOk result (λ o. option_map (λ v. v.items) o ≡ types_lent (all_of ws.now.items)) }
+// The types that operands give, where each gives one.
+pub(crate) fn types_given(
+    alloc: Global,
+    ws: &Vec<Reported<'_>>,
+) -> Result<Option<Vec<Type>>, AllocError>
+    ensures { IfOk result (λ o. option_map (λ v. v.items) o ≡ types_given (all_of ws.now.items)) }
 {
     let mut types = Vec::new(alloc);
     for w in ws {
-        match type_lent(alloc, w)? {
+        match type_given(alloc, w)? {
             Some(t) => types.push(t)?,
             None => return Ok(None),
         }
@@ -96,7 +99,7 @@ pub(crate) struct Rest {
     pub(crate) found: Vec<Finding>,
 }
 
-pub(crate) fn rest_of_all(alloc: Global, ws: Vec<Told<'_>>) -> Result<Rest, AllocError>
+pub(crate) fn rest_of_all(alloc: Global, ws: Vec<Reported<'_>>) -> Result<Rest, AllocError>
     ensures trees { IfOk result (λ r. r.trees.items ≡ map tree_of (all_of ws.entry.items)) }
     ensures found { IfOk result (λ r. findings_from r.found.items ≡
         findings_of_all (all_of ws.entry.items)) }
@@ -104,7 +107,7 @@ pub(crate) fn rest_of_all(alloc: Global, ws: Vec<Told<'_>>) -> Result<Rest, Allo
     let mut trees = Vec::new(alloc);
     let mut found = Vec::new(alloc);
     for w in ws {
-        let (tree, more) = told_rest(alloc, w);
+        let (tree, more) = reported_rest(alloc, w);
         trees.push(tree)?;
         add_found(&mut found, more)?;
     }

@@ -5,10 +5,10 @@ ghost use Rattle.policy_expressions.specs.Tree.{trees_of};
 ghost use Rattle.typecheck_rules.specs.Operators as definition;
 ghost use Rattle.typecheck_rules.specs.Found.{findings_from};
 ghost use Rattle.typecheck_operators.specs.Parts.{set_by_type, set_in_parts};
-ghost use Rattle.typecheck_operators.specs.Told.{mark, walked_of, all_of};
+ghost use Rattle.typecheck_operators.specs.Reported.{mark, walked_of, all_of};
 
-use crate::parts::{are_typed, rest_of_all, types_lent};
-use crate::told::{Told, Typing, ended_typed, failed};
+use crate::parts::{are_typed, rest_of_all, types_given};
+use crate::told::{Reported, Typing, ended_typed, failed};
 use policy_expressions::{BuildError, Expr, Loc};
 use schema_types::Type;
 use std::alloc::Global;
@@ -18,16 +18,16 @@ use typing_spec::CapabilitySet;
 /// A set literal, by what its elements come to. Errs where memory runs out, or the expression would
 /// be nested too deep.
 #[tactic(auto, using(crate::proofs::PartLaws::set_by_parts))]
-pub fn set_told<'a>(
+pub fn set_reported<'a>(
     alloc: Global,
     loc: Option<Loc>,
-    ws: Vec<Told<'a>>,
-) -> Result<Told<'a>, BuildError>
+    ws: Vec<Reported<'a>>,
+) -> Result<Reported<'a>, BuildError>
     ensures { IfOk result (λ r. walked_of r ≡
         definition.set_walked (mark loc) (all_of ws.entry.items)) }
 {
     let ok = are_typed(&ws);
-    let types = types_lent(alloc, &ws)?;
+    let types = types_given(alloc, &ws)?;
     let rest = rest_of_all(alloc, ws)?;
     set_ended(alloc, loc, ok, types, rest.trees, rest.found)
 }
@@ -39,7 +39,7 @@ fn set_ended<'a>(
     types: Option<Vec<Type>>,
     trees: Vec<Expr<Option<Type>>>,
     found: Vec<Finding>,
-) -> Result<Told<'a>, BuildError>
+) -> Result<Reported<'a>, BuildError>
     ensures { IfOk result (λ r. walked_of r ≡
         set_in_parts (mark loc) ok (option_map (λ v. v.items) types) (trees_of trees.items)
         (findings_from found.items)) }
@@ -66,7 +66,7 @@ fn set_typed<'a>(
     of: Option<Type>,
     trees: Vec<Expr<Option<Type>>>,
     found: Vec<Finding>,
-) -> Result<Told<'a>, BuildError>
+) -> Result<Reported<'a>, BuildError>
     ensures { IfOk result (λ r. walked_of r ≡
         set_by_type (mark loc) ok of (trees_of trees.items) (findings_from found.items)) }
 {

@@ -4,11 +4,11 @@ ghost use Rattle.std.specs.Prelude.{◌≡◌, IfOk, cond, option_map};
 ghost use Rattle.policy_expressions.specs.Tree.{mark_of};
 ghost use Rattle.typing_spec.specs.Typing as typing;
 ghost use Rattle.typecheck_rules.specs.Walked as definition;
-ghost use Rattle.typecheck_rules.specs.Walked.{has_typing, lent_by, tree_of, findings_of, Success};
+ghost use Rattle.typecheck_rules.specs.Walked.{has_typing, given_by, tree_of, findings_of, Success};
 ghost use Rattle.typecheck_rules.specs.Operators as operator;
-ghost use Rattle.typecheck_rules.specs.Operators.{type_lent};
+ghost use Rattle.typecheck_rules.specs.Operators.{type_given};
 ghost use Rattle.typecheck_rules.specs.Found.{expected_of, findings_from};
-ghost use Rattle.typecheck_operators.specs.Told.{typing_from, walked_of, lent_as};
+ghost use Rattle.typecheck_operators.specs.Reported.{typing_from, walked_of, given_as};
 
 use policy_expressions::{Expr, Literal, Loc};
 use schema_types::Type;
@@ -31,7 +31,7 @@ pub struct Typing<'a> {
 /// An expression that has no typing.
 #[derive(Drop)]
 pub struct Failure {
-    /// The expression with the types that are known, of which its own is lent to the operator
+    /// The expression with the types that are known, of which its own is given to the operator
     /// above.
     pub tree: Expr<Option<Type>>,
     /// What is found.
@@ -40,7 +40,7 @@ pub struct Failure {
 
 /// What the walk through an expression comes to. It is small, since each operator hands it on.
 #[derive(Drop)]
-pub enum Told<'a> {
+pub enum Reported<'a> {
     /// The typing.
     Success(Box<Typing<'a>>),
     /// There is none.
@@ -48,11 +48,11 @@ pub enum Told<'a> {
 }
 
 /// The answer that is a typing.
-pub fn typed<'a>(alloc: Global, a: Typing<'a>) -> Result<Told<'a>, AllocError>
+pub fn typed<'a>(alloc: Global, a: Typing<'a>) -> Result<Reported<'a>, AllocError>
     ensures { IfOk result (λ r. walked_of r ≡ Success (typing_from a.entry)) }
 {
     let a = Box::new(alloc, a)?;
-    Ok(Told::Success(a))
+    Ok(Reported::Success(a))
 }
 
 /// The answer where there is no typing: the expression, and what is found.
@@ -60,11 +60,11 @@ pub fn failed<'a>(
     alloc: Global,
     tree: Expr<Option<Type>>,
     found: Vec<Finding>,
-) -> Result<Told<'a>, AllocError>
+) -> Result<Reported<'a>, AllocError>
     ensures { IfOk result (λ r. walked_of r ≡ definition.Fail tree (findings_from found.items)) }
 {
     let failure = Box::new(alloc, Failure { tree, found })?;
-    Ok(Told::Fail(failure))
+    Ok(Reported::Fail(failure))
 }
 
 /// An operand taken apart.
@@ -72,7 +72,7 @@ pub fn failed<'a>(
 pub struct Part<'a> {
     /// Whether there is a typing.
     pub ok: bool,
-    /// The type that is lent.
+    /// The type that is given.
     pub of: Option<Type>,
     /// What is known.
     pub caps: CapabilitySet<'a>,
@@ -83,16 +83,16 @@ pub struct Part<'a> {
 }
 
 /// Takes an operand apart.
-pub fn parted<'a>(alloc: Global, v: Told<'a>) -> Result<Part<'a>, AllocError>
+pub fn parted<'a>(alloc: Global, v: Reported<'a>) -> Result<Part<'a>, AllocError>
     ensures ok { IfOk result (λ p. p.ok ≡ has_typing (walked_of v.entry)) }
-    ensures lent { IfOk result (λ p. lent_as p.of p.caps p.tree ≡ lent_by (walked_of v.entry)) }
-    ensures of { IfOk result (λ p. p.of ≡ type_lent (walked_of v.entry)) }
+    ensures lent { IfOk result (λ p. given_as p.of p.caps p.tree ≡ given_by (walked_of v.entry)) }
+    ensures of { IfOk result (λ p. p.of ≡ type_given (walked_of v.entry)) }
     ensures tree { IfOk result (λ p. p.tree ≡ tree_of (walked_of v.entry)) }
     ensures found { IfOk result (λ p. findings_from p.found.items ≡
         findings_of (walked_of v.entry)) }
 {
     match v {
-        Told::Success(a) => {
+        Reported::Success(a) => {
             let Typing { of, caps, tree } = Box::into_inner(a);
             Ok(Part {
                 ok: true,
@@ -102,7 +102,7 @@ pub fn parted<'a>(alloc: Global, v: Told<'a>) -> Result<Part<'a>, AllocError>
                 found: Vec::new(alloc),
             })
         }
-        Told::Fail(failure) => {
+        Reported::Fail(failure) => {
             let Failure { tree, found } = Box::into_inner(failure);
             let Ok(of) = lent(alloc, &tree) else {
                 drop(tree);
@@ -138,7 +138,7 @@ pub fn rest_of(v: Part<'_>) -> (Expr<Option<Type>>, Vec<Finding>)
     (tree, found)
 }
 
-// The type that an expression lends.
+// The type that an expression gives.
 fn lent(alloc: Global, tree: &Expr<Option<Type>>) -> Result<Option<Type>, AllocError>
     ensures { IfOk result (λ o. o ≡ (mark_of tree.now).note) }
 {
@@ -148,13 +148,13 @@ fn lent(alloc: Global, tree: &Expr<Option<Type>>) -> Result<Option<Type>, AllocE
     }
 }
 
-/// The end of an operator that has a typing of its own over what its operands lend.
+/// The end of an operator that has a typing of its own over what its operands give.
 pub fn ended_typed<'a>(
     alloc: Global,
     ok: bool,
     a: Typing<'a>,
     found: Vec<Finding>,
-) -> Result<Told<'a>, AllocError>
+) -> Result<Reported<'a>, AllocError>
     ensures { IfOk result (λ r. walked_of r ≡ cond ok (Success (typing_from a.entry))
         (definition.Fail a.entry.tree (findings_from found.items))) }
 {
@@ -192,7 +192,7 @@ pub fn unreached() -> Expr<Option<Type>>
 }
 
 /// What stands in the place of an operand that is not reached.
-pub fn skipped<'a>(alloc: Global) -> Result<Told<'a>, AllocError>
+pub fn skipped<'a>(alloc: Global) -> Result<Reported<'a>, AllocError>
     ensures { IfOk result (λ r. walked_of r ≡ operator.skipped) }
 {
     let a = Typing {
@@ -208,20 +208,20 @@ pub fn expect<'a>(
     alloc: Global,
     x: Expected<'_>,
     loc: Option<Loc>,
-    v: Told<'a>,
-) -> Result<Told<'a>, AllocError>
+    v: Reported<'a>,
+) -> Result<Reported<'a>, AllocError>
     ensures { IfOk result (λ r. walked_of r ≡
         definition.expect (expected_of x.entry) loc (walked_of v.entry)) }
 {
     match v {
-        Told::Success(a) => {
+        Reported::Success(a) => {
             if fits(x, &a.of) {
-                Ok(Told::Success(a))
+                Ok(Reported::Success(a))
             } else {
                 misfit(alloc, x, loc, Box::into_inner(a))
             }
         }
-        Told::Fail(failure) => expect_lent(alloc, x, loc, failure),
+        Reported::Fail(failure) => expect_given(alloc, x, loc, failure),
     }
 }
 
@@ -231,7 +231,7 @@ fn misfit<'a>(
     x: Expected<'_>,
     loc: Option<Loc>,
     a: Typing<'a>,
-) -> Result<Told<'a>, AllocError>
+) -> Result<Reported<'a>, AllocError>
     ensures { IfOk result (λ r. walked_of r ≡ definition.Fail (definition.untyped a.entry.tree)
         (definition.unexpected (expected_of x.entry) loc a.entry.of)) }
 {
@@ -245,8 +245,8 @@ pub(crate) fn expect_if<'a>(
     alloc: Global,
     x: Option<Expected<'_>>,
     loc: Option<Loc>,
-    v: Told<'a>,
-) -> Result<Told<'a>, AllocError>
+    v: Reported<'a>,
+) -> Result<Reported<'a>, AllocError>
     ensures { IfOk result (λ r. walked_of r ≡
         definition.expect_if (option_map expected_of x.entry) loc (walked_of v.entry)) }
 {
@@ -257,21 +257,21 @@ pub(crate) fn expect_if<'a>(
 }
 
 // An operand that failed, and has to fit.
-fn expect_lent<'a>(
+fn expect_given<'a>(
     alloc: Global,
     x: Expected<'_>,
     loc: Option<Loc>,
     failure: Box<Failure>,
-) -> Result<Told<'a>, AllocError>
+) -> Result<Reported<'a>, AllocError>
     ensures { IfOk result (λ r. walked_of r ≡
-        definition.expect_lent (expected_of x.entry) loc (mark_of failure.value.tree).note
+        definition.expect_given (expected_of x.entry) loc (mark_of failure.value.tree).note
         failure.value.tree (findings_from failure.value.found.items)) }
 {
     match failure.tree.data() {
-        None => Ok(Told::Fail(failure)),
+        None => Ok(Reported::Fail(failure)),
         Some(t) => {
             if fits(x, t) {
-                Ok(Told::Fail(failure))
+                Ok(Reported::Fail(failure))
             } else {
                 let more = or_drop!(unexpected(alloc, x, loc, t), failure);
                 let Failure { tree, found } = Box::into_inner(failure);

@@ -1,19 +1,19 @@
 //! Operators of one operand.
 
 ghost use Rattle.std.specs.Prelude.{◌≡◌, IfOk};
-ghost use Rattle.typecheck_rules.specs.Operators.{unary_lent, unary_fitting, unary_walked};
+ghost use Rattle.typecheck_rules.specs.Operators.{unary_given, unary_fitting, unary_walked};
 ghost use Rattle.typecheck_operators.specs.Operands.{unary_of};
-ghost use Rattle.typecheck_operators.specs.Told.{mark, operand_of, walked_of};
+ghost use Rattle.typecheck_operators.specs.Reported.{mark, operand_of, walked_of};
 
-use crate::told::{Part, Told, Typing, ended_typed, expect, failed, parted};
+use crate::told::{Part, Reported, Typing, ended_typed, expect, failed, parted};
 use policy_expressions::{BuildError, Expr, Loc, UnaryOp};
 use schema_types::Type;
 use std::alloc::Global;
 use typecheck_rules::{of_unary, unary_type};
 use typing_spec::CapabilitySet;
 
-fn unary_lent(op: UnaryOp) -> Type
-    ensures { result ≡ unary_lent op }
+fn unary_given(op: UnaryOp) -> Type
+    ensures { result ≡ unary_given op }
 {
     match op {
         UnaryOp::Not | UnaryOp::IsEmpty => Type::primitive_boolean(),
@@ -22,13 +22,13 @@ fn unary_lent(op: UnaryOp) -> Type
 }
 
 /// An operator of one operand, by what this comes to.
-pub fn unary_told<'a>(
+pub fn unary_reported<'a>(
     alloc: Global,
     op: UnaryOp,
     loc: Option<Loc>,
     place: Option<Loc>,
-    v: Told<'a>,
-) -> Result<Told<'a>, BuildError>
+    v: Reported<'a>,
+) -> Result<Reported<'a>, BuildError>
     ensures { IfOk result (λ r. walked_of r ≡
         unary_walked op (mark loc) place (walked_of v.entry)) }
 {
@@ -40,8 +40,8 @@ fn unary_fitting<'a>(
     alloc: Global,
     op: UnaryOp,
     loc: Option<Loc>,
-    v: Told<'a>,
-) -> Result<Told<'a>, BuildError>
+    v: Reported<'a>,
+) -> Result<Reported<'a>, BuildError>
     ensures { IfOk result (λ r. walked_of r ≡ unary_fitting op (mark loc) (walked_of v.entry)) }
 {
     let v = parted(alloc, v)?;
@@ -53,7 +53,7 @@ fn unary_ended<'a>(
     op: UnaryOp,
     loc: Option<Loc>,
     v: Part<'a>,
-) -> Result<Told<'a>, BuildError>
+) -> Result<Reported<'a>, BuildError>
     ensures { IfOk result (λ r. walked_of r ≡ unary_of op (mark loc) (operand_of v.entry)) }
 {
     let Part {
@@ -81,7 +81,7 @@ fn unary_ended<'a>(
                 }
                 None => {
                     let tree = or_drop!(
-                        Expr::unary_app(alloc, op, tree, Some(unary_lent(op)), loc),
+                        Expr::unary_app(alloc, op, tree, Some(unary_given(op)), loc),
                         found
                     );
                     Ok(failed(alloc, tree, found)?)
@@ -90,7 +90,7 @@ fn unary_ended<'a>(
         }
         None => {
             let tree = or_drop!(
-                Expr::unary_app(alloc, op, tree, Some(unary_lent(op)), loc),
+                Expr::unary_app(alloc, op, tree, Some(unary_given(op)), loc),
                 found
             );
             Ok(failed(alloc, tree, found)?)

@@ -9,7 +9,7 @@ use Rattle.typing_spec.specs.Capability.{Capability}
 use Rattle.typing_spec.specs.Typing.{Typed, if_typing}
 use Rattle.findings.specs.Finding.{Finding}
 use Rattle.typecheck_rules.specs.Expected.{a_boolean}
-use Rattle.typecheck_rules.specs.Walked.{Walked, Success, Fail, typing_of, has_typing, lent_by, expect, ended}
+use Rattle.typecheck_rules.specs.Walked.{Walked, Success, Fail, typing_of, has_typing, given_by, expect, ended}
 use Rattle.typecheck_rules.specs.Operators.{unless_false, unless_true, if_walked}
 use Rattle.typecheck_rules.proofs.Steps.{ended_typing, expect_exact}
 use Rattle.typecheck_rules.proofs.Sides.{no_end, if_other}
@@ -17,15 +17,15 @@ use Rattle.typecheck_rules.proofs.Sides.{no_end, if_other}
 module _ (m : Mark (Unit {0})) where
   -- the branches of a test that has a typing
   branches : (t : Ty) (cs : List Capability) (x : Typed) (v w : Walked) (failed : Typed) (fs : List Finding) →
-      typing_of (ended (has_typing (unless_false t v) && has_typing (unless_true t w)) (if_typing t cs x m (lent_by (unless_false t v)) (lent_by (unless_true t w))) failed fs) ≡
+      typing_of (ended (has_typing (unless_false t v) && has_typing (unless_true t w)) (if_typing t cs x m (given_by (unless_false t v)) (given_by (unless_true t w))) failed fs) ≡
       if_typing t cs x m (typing_of v) (typing_of w)
   branches true_type cs x (Success a) w failed fs = refl
-  branches true_type cs x (Fail t gs) w failed fs = ended_typing false (if_typing true_type cs x m (lent_by (Fail t gs)) None) failed fs
+  branches true_type cs x (Fail t gs) w failed fs = ended_typing false (if_typing true_type cs x m (given_by (Fail t gs)) None) failed fs
   branches false_type cs x v (Success b) failed fs = refl
-  branches false_type cs x v (Fail u hs) failed fs = ended_typing false (if_typing false_type cs x m None (lent_by (Fail u hs))) failed fs
+  branches false_type cs x v (Fail u hs) failed fs = ended_typing false (if_typing false_type cs x m None (given_by (Fail u hs))) failed fs
   branches (primitive BoolType) cs x (Success a) (Success b) failed fs = ended_typing true (if_typing (primitive BoolType) cs x m (Some a) (Some b)) failed fs
-  branches (primitive BoolType) cs x (Success a) (Fail u hs) failed fs = ended_typing false (if_typing (primitive BoolType) cs x m (Some a) (lent_by (Fail u hs))) failed fs
-  branches (primitive BoolType) cs x (Fail t gs) w failed fs = ended_typing false (if_typing (primitive BoolType) cs x m (lent_by (Fail t gs)) (lent_by w)) failed fs
+  branches (primitive BoolType) cs x (Success a) (Fail u hs) failed fs = ended_typing false (if_typing (primitive BoolType) cs x m (Some a) (given_by (Fail u hs))) failed fs
+  branches (primitive BoolType) cs x (Fail t gs) w failed fs = ended_typing false (if_typing (primitive BoolType) cs x m (given_by (Fail t gs)) (given_by w)) failed fs
   branches (primitive Long) cs x v w failed fs = no_end (has_typing v && has_typing w) failed fs
   branches (primitive String) cs x v w failed fs = no_end (has_typing v && has_typing w) failed fs
   branches _ cs x v w failed fs = no_end (has_typing v && has_typing w) failed fs

@@ -68,9 +68,9 @@ read_if_silent : (b : Bool) (m : List ℕ) → b ≡ is_none (if b then None els
 read_if_silent true m = refl
 read_if_silent false m = refl
 
-text_told : (check : ArgumentCheck) (l : Option Loc) (o : Option (List ℕ)) → if_not (option_map_or (is_readable (constructor_of check)) o true) (text_found (constructor_of check) l o) ≡ said l (option_and_then (unreadable check) o)
-text_told check l None = refl
-text_told check l (Some t) =
+text_reported : (check : ArgumentCheck) (l : Option Loc) (o : Option (List ℕ)) → if_not (option_map_or (is_readable (constructor_of check)) o true) (text_found (constructor_of check) l o) ≡ said l (option_and_then (unreadable check) o)
+text_reported check l None = refl
+text_reported check l (Some t) =
     ap (λ c. if_not (is_readable (constructor_of check) t) (one (FunctionArgumentValidation (option_map_or (λ k. message k t) c [])) l)) (check_of_constructor check)
     ∙ read_or_said l (is_readable (constructor_of check) t) (message check t)
 
@@ -99,5 +99,5 @@ module _ {A : Type 0} (xs : Trees A) where
   text_found_if_refused g l = by (reads g)
     where
       by : Reads g → if_not (has_readable g xs) (text_found g l (only_text xs)) ≡ said l (refusal (check_of g) xs)
-      by (inl (check, e)) = subst (λ f. if_not (has_readable f xs) (text_found f l (only_text xs)) ≡ said l (refusal (check_of f) xs)) (sym e) (text_told check l (only_text xs) ∙ ap (said l) (sym (refused_by_check check)))
+      by (inl (check, e)) = subst (λ f. if_not (has_readable f xs) (text_found f l (only_text xs)) ≡ said l (refusal (check_of f) xs)) (sym e) (text_reported check l (only_text xs) ∙ ap (said l) (sym (refused_by_check check)))
       by (inr (e, h)) = ap (λ b. if_not b (text_found g l (only_text xs))) (always_read g h (only_text xs)) ∙ ap (λ c. said l (refusal c xs)) (sym e)

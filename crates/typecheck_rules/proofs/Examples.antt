@@ -77,18 +77,18 @@ module _ (schema : SchemaData) (env : EnvData) where
       found_at 1 (UnexpectedType (long_type ∷ []) string_type (Some ConcatenationNotSupported)) ∷ found_at 2 EmptySetForbidden ∷ []
   operands_in_turn = refl
 
-  -- if ((1 < 'a') && false) then 1 else 'a': a test that lends False asks for no join; one that lends Bool does
-  lent_false : findings_of (walked schema env [] (ite (conj (binary Less (one 1) (text 2) (mark 3)) (untruth 4) (mark 5)) (one 6) (text 7) (mark 8))) ≡ found_at 2 (UnexpectedType (long_type ∷ []) string_type None) ∷ []
-  lent_false = refl
+  -- if ((1 < 'a') && false) then 1 else 'a': a test that gives False asks for no join; one that gives Bool does
+  given_false : findings_of (walked schema env [] (ite (conj (binary Less (one 1) (text 2) (mark 3)) (untruth 4) (mark 5)) (one 6) (text 7) (mark 8))) ≡ found_at 2 (UnexpectedType (long_type ∷ []) string_type None) ∷ []
+  given_false = refl
 
-  lent_bool : findings_of (walked schema env [] (ite (binary Less (one 1) (text 2) (mark 3)) (one 4) (text 5) (mark 6))) ≡
+  given_bool : findings_of (walked schema env [] (ite (binary Less (one 1) (text 2) (mark 3)) (one 4) (text 5) (mark 6))) ≡
       found_at 2 (UnexpectedType (long_type ∷ []) string_type None) ∷ found_at 6 (IncompatibleTypes (long_type ∷ string_type ∷ []) hint.None Conditional) ∷ []
-  lent_bool = refl
+  given_bool = refl
 
-  -- a negation turns what its operand lends: !((1 < 'a') && false) + 1
-  lent_true : findings_of (walked schema env [] (binary Add (unary Not (conj (binary Less (one 1) (text 2) (mark 3)) (untruth 4) (mark 5)) (mark 6)) (one 7) (mark 8))) ≡
+  -- a negation turns what its operand gives: !((1 < 'a') && false) + 1
+  given_true : findings_of (walked schema env [] (binary Add (unary Not (conj (binary Less (one 1) (text 2) (mark 3)) (untruth 4) (mark 5)) (mark 6)) (one 7) (mark 8))) ≡
       found_at 2 (UnexpectedType (long_type ∷ []) string_type None) ∷ found_at 6 (UnexpectedType (long_type ∷ []) true_type None) ∷ []
-  lent_true = refl
+  given_true = refl
 
   -- decimal('a', 'a') == decimal('a', 'a')
   two_arguments : findings_of (walked schema env [] (call (codes "decimal") (tree (text 1) (tree (text 2) no_trees)) (mark 3))) ≡ found_at 3 (WrongNumberArguments 1 2) ∷ []
@@ -122,7 +122,7 @@ optional_help = refl
 tag_help : help (codes "p0") (UnsafeTagAccess None (codes "\"t\"")) ≡ Some (codes "try testing for the tag's presence with `.hasTag(\"t\") && ..`")
 tag_help = refl
 
--- how accesses are told: context.foo.bar, an entity's .foo.bar, another expression's .foo.bar
+-- how accesses are reported: context.foo.bar, an entity's .foo.bar, another expression's .foo.bar
 abbrev untyped : Mark (Option Ty)
 untyped = record { note = None; loc = None }
 

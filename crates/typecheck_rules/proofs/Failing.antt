@@ -26,9 +26,9 @@ use Rattle.findings.specs.Finding.{Finding}
 use Rattle.findings.specs.Access.{attribute_access}
 use Rattle.typing_spec.specs.Operands.{is_boolean}
 use Rattle.typecheck_rules.specs.Expected.{a_boolean, a_string, an_entity, an_owner, no_help, like_help, test_help, contents_help, of_unary, left_of, right_of}
-use Rattle.typecheck_rules.specs.Walked.{Walked, Success, Fail, tree_of, lends, trees_walked, has_typing, lent_by, lent_by_all, expect, expect_if, ended, findings_of_all}
+use Rattle.typecheck_rules.specs.Walked.{Walked, Success, Fail, tree_of, lends, trees_walked, has_typing, given_by, given_by_all, expect, expect_if, ended, findings_of_all}
 use Rattle.typecheck_rules.specs.Own.{incompatible, set_found}
-use Rattle.typecheck_rules.specs.Operators.{place, unless_false, unless_true, unary_fitting, unary_walked, like_fitting, like_walked, is_fitting, is_walked, has_fitting, has_walked, attr_found, attr_fitting, attr_walked, binary_fitting, binary_walked, and_sides, and_walked, or_sides, or_walked, if_parts, if_walked, set_typing, set_walked, Fields, parts_of, lent_fields, record_typing, record_walked}
+use Rattle.typecheck_rules.specs.Operators.{place, unless_false, unless_true, unary_fitting, unary_walked, like_fitting, like_walked, is_fitting, is_walked, has_fitting, has_walked, attr_found, attr_fitting, attr_walked, binary_fitting, binary_walked, and_sides, and_walked, or_sides, or_walked, if_parts, if_walked, set_typing, set_walked, Fields, parts_of, given_fields, record_typing, record_walked}
 use Rattle.typecheck_rules.proofs.Lists.{AllTyped, SomeFails, typed_or_not}
 use Rattle.typecheck_rules.proofs.Found.{NonEmpty, front, HasFinding, Holds, Found, found_mapped, ended_full, ended_found, Fitted, fitted, fitted_if, unary_gives, like_gives, is_gives, has_gives, attr_gives, binary_gives, is_reached, is_besides, and_gives, or_gives, joined}
 
@@ -37,30 +37,30 @@ unary_fits : (o : UnaryOp) (m : Mark (Unit {0})) (v : Walked) → Fitted (Some (
 unary_fits o m (Success a) h = ended_found _ _ [] (found_mapped _ (rule.unary_type o a.type) [] (unary_gives o a.type [] h))
 unary_fits o m (Fail t fs) h = ended_full false _ _ (fs ++ []) (front fs [] h)
 
-pub unary_told : (o : UnaryOp) (m : Mark (Unit {0})) (l : Option Loc) (v : Walked) → HasFinding v → HasFinding (unary_walked o m l v)
-unary_told o m l v h = unary_fits o m (expect (of_unary o) l v) (fitted (of_unary o) l v h)
+pub unary_reported : (o : UnaryOp) (m : Mark (Unit {0})) (l : Option Loc) (v : Walked) → HasFinding v → HasFinding (unary_walked o m l v)
+unary_reported o m l v h = unary_fits o m (expect (of_unary o) l v) (fitted (of_unary o) l v h)
 
 like_fits : (p : List PatternElem) (m : Mark (Unit {0})) (v : Walked) → Fitted (Some (a_string like_help)) v → HasFinding (like_fitting p m v)
 like_fits p m (Success a) h = ended_found _ _ [] (found_mapped _ (rule.like_type a.type) [] (like_gives a.type [] h))
 like_fits p m (Fail t fs) h = ended_full false _ _ (fs ++ []) (front fs [] h)
 
-pub like_told : (p : List PatternElem) (m : Mark (Unit {0})) (l : Option Loc) (v : Walked) → HasFinding v → HasFinding (like_walked p m l v)
-like_told p m l v h = like_fits p m (expect (a_string like_help) l v) (fitted (a_string like_help) l v h)
+pub like_reported : (p : List PatternElem) (m : Mark (Unit {0})) (l : Option Loc) (v : Walked) → HasFinding v → HasFinding (like_walked p m l v)
+like_reported p m l v h = like_fits p m (expect (a_string like_help) l v) (fitted (a_string like_help) l v h)
 
 is_fits : (n : List ℕ) (m : Mark (Unit {0})) (v : Walked) → Fitted (Some (an_entity test_help)) v → HasFinding (is_fitting n m v)
 is_fits n m (Success a) h = ended_found _ _ [] (found_mapped _ (rule.is_type a.type n) [] (is_gives n a.type [] h))
 is_fits n m (Fail t fs) h = ended_full false _ _ (fs ++ []) (front fs [] h)
 
-pub is_told : (n : List ℕ) (m : Mark (Unit {0})) (l : Option Loc) (v : Walked) → HasFinding v → HasFinding (is_walked n m l v)
-is_told n m l v h = is_fits n m (expect (an_entity test_help) l v) (fitted (an_entity test_help) l v h)
+pub is_reported : (n : List ℕ) (m : Mark (Unit {0})) (l : Option Loc) (v : Walked) → HasFinding v → HasFinding (is_walked n m l v)
+is_reported n m l v h = is_fits n m (expect (an_entity test_help) l v) (fitted (an_entity test_help) l v h)
 
 module _ (schema : SchemaData) where
   has_fits : (known : Bool) (x : Plain) (n : List ℕ) (m : Mark (Unit {0})) (v : Walked) → Fitted (Some (an_owner contents_help)) v → HasFinding (has_fitting schema known x n m v)
   has_fits known x n m (Success a) h = ended_found _ _ [] (found_mapped _ (rule.has_type schema known a.type n) [] (has_gives schema known n a.type [] h))
   has_fits known x n m (Fail t fs) h = ended_full false _ _ (fs ++ []) (front fs [] h)
 
-  pub has_told : (known : Bool) (x : Plain) (n : List ℕ) (m : Mark (Unit {0})) (v : Walked) → HasFinding v → HasFinding (has_walked schema known x n m v)
-  has_told known x n m v h = has_fits known x n m (expect (an_owner contents_help) (place x) v) (fitted (an_owner contents_help) (place x) v h)
+  pub has_reported : (known : Bool) (x : Plain) (n : List ℕ) (m : Mark (Unit {0})) (v : Walked) → HasFinding v → HasFinding (has_walked schema known x n m v)
+  has_reported known x n m v h = has_fits known x n m (expect (an_owner contents_help) (place x) v) (fitted (an_owner contents_help) (place x) v h)
 
   module _ (env : EnvData) where
     attr_fits : (known : Bool) (n : List ℕ) (m : Mark (Unit {0})) (v : Walked) → Fitted (Some (an_owner no_help)) v → HasFinding (attr_fitting schema env known n m v)
@@ -69,8 +69,8 @@ module _ (schema : SchemaData) where
         (found_mapped _ (rule.attr_type schema known a.type n) (attr_found schema env known n m a) (attr_gives schema known n m.loc (attribute_access env a.tree n) a.type (attribute_of schema a.type n)))
     attr_fits known n m (Fail t fs) h = ended_full false _ _ _ (front fs _ h)
 
-    pub attr_told : (known : Bool) (n : List ℕ) (m : Mark (Unit {0})) (l : Option Loc) (v : Walked) → HasFinding v → HasFinding (attr_walked schema env known n m l v)
-    attr_told known n m l v h = attr_fits known n m (expect (an_owner no_help) l v) (fitted (an_owner no_help) l v h)
+    pub attr_reported : (known : Bool) (n : List ℕ) (m : Mark (Unit {0})) (l : Option Loc) (v : Walked) → HasFinding v → HasFinding (attr_walked schema env known n m l v)
+    attr_reported known n m l v h = attr_fits known n m (expect (an_owner no_help) l v) (fitted (an_owner no_help) l v h)
 
     -- of two
     binary_fits : (o : BinaryOp) (known : Bool) (x y : Plain) (m : Mark (Unit {0})) (v w : Walked) → Fitted (left_of o) v → Fitted (right_of o) w → HasFinding (binary_fitting schema env o known x y m v w)
@@ -79,8 +79,8 @@ module _ (schema : SchemaData) where
     binary_fits o known x y m (Success a) (Fail u gs) h k = ended_full false _ _ _ (front gs _ k)
     binary_fits o known x y m (Fail t fs) w h k = ended_full false _ _ _ (front fs _ h)
 
-    pub binary_told : (o : BinaryOp) (known : Bool) (x y : Plain) (m : Mark (Unit {0})) (v w : Walked) → HasFinding v → HasFinding w → HasFinding (binary_walked schema env o known x y m v w)
-    binary_told o known x y m v w h k = binary_fits o known x y m (expect_if (left_of o) (place x) v) (expect_if (right_of o) (place y) w) (fitted_if (left_of o) (place x) v h) (fitted_if (right_of o) (place y) w k)
+    pub binary_reported : (o : BinaryOp) (known : Bool) (x y : Plain) (m : Mark (Unit {0})) (v w : Walked) → HasFinding v → HasFinding w → HasFinding (binary_walked schema env o known x y m v w)
+    binary_reported o known x y m v w h k = binary_fits o known x y m (expect_if (left_of o) (place x) v) (expect_if (right_of o) (place y) w) (fitted_if (left_of o) (place x) v h) (fitted_if (right_of o) (place y) w k)
 
 -- `&&`
 and_right_fits : (m : Mark (Unit {0})) (t : Ty) (cs : List Capability) (x : Typed) (w : Walked) → Holds (is_reached t) → Fitted (Some a_boolean) w → HasFinding (and_sides m (Success (typing t cs x)) w)
@@ -106,9 +106,9 @@ and_left_fits : (m : Mark (Unit {0})) (r : Option Loc) (v : Walked) (after : Lis
 and_left_fits m r (Success a) after before h k = and_fits m r a.type a.caps a.tree (after a.caps) h (k a.caps)
 and_left_fits m r (Fail t fs) after before h k = ended_full false _ _ _ (front fs _ h)
 
-pub and_is_told : (m : Mark (Unit {0})) (l r : Option Loc) (v : Walked) (after : List Capability → Walked) (before : Walked) → HasFinding v → ((ds : List Capability) → HasFinding (after ds)) →
+pub and_is_reported : (m : Mark (Unit {0})) (l r : Option Loc) (v : Walked) (after : List Capability → Walked) (before : Walked) → HasFinding v → ((ds : List Capability) → HasFinding (after ds)) →
     HasFinding (and_walked m r (expect a_boolean l v) after before)
-and_is_told m l r v after before h k = and_left_fits m r (expect a_boolean l v) after before (fitted a_boolean l v h) k
+and_is_reported m l r v after before h k = and_left_fits m r (expect a_boolean l v) after before (fitted a_boolean l v h) k
 
 -- `||`
 or_right_fits : (m : Mark (Unit {0})) (t : Ty) (cs : List Capability) (x : Typed) (w : Walked) → Holds (is_besides t) → Fitted (Some a_boolean) w → HasFinding (or_sides m (Success (typing t cs x)) w)
@@ -133,8 +133,8 @@ or_left_fits : (m : Mark (Unit {0})) (r : Option Loc) (v w : Walked) → Fitted 
 or_left_fits m r (Success a) w h k = or_fits m r a.type a.caps a.tree w h k
 or_left_fits m r (Fail t fs) w h k = ended_full false _ _ _ (front fs _ h)
 
-pub or_is_told : (m : Mark (Unit {0})) (l r : Option Loc) (v w : Walked) → HasFinding v → HasFinding w → HasFinding (or_walked m r (expect a_boolean l v) w)
-or_is_told m l r v w h k = or_left_fits m r (expect a_boolean l v) w (fitted a_boolean l v h) k
+pub or_is_reported : (m : Mark (Unit {0})) (l r : Option Loc) (v w : Walked) → HasFinding v → HasFinding w → HasFinding (or_walked m r (expect a_boolean l v) w)
+or_is_reported m l r v w h k = or_left_fits m r (expect a_boolean l v) w (fitted a_boolean l v h) k
 
 -- `if`
 join_fits : (m : Mark (Unit {0})) (cs : List Capability) (x : Typed) (a b : Typing) (j : Result Ty LubHelp) (make : Ty → Typing) (failed : Typed) →
@@ -160,9 +160,9 @@ if_test_fits : (m : Mark (Unit {0})) (u : Walked) (after : List Capability → W
 if_test_fits m (Success a) after before w h k i = if_fits m a.type a.caps a.tree (after a.caps) w h (k a.caps) i
 if_test_fits m (Fail t fs) after before w h k i = ended_full false _ _ _ (front fs _ h)
 
-pub if_is_told : (m : Mark (Unit {0})) (l : Option Loc) (u : Walked) (after : List Capability → Walked) (before w : Walked) → HasFinding u → ((ds : List Capability) → HasFinding (after ds)) → HasFinding w →
+pub if_is_reported : (m : Mark (Unit {0})) (l : Option Loc) (u : Walked) (after : List Capability → Walked) (before w : Walked) → HasFinding u → ((ds : List Capability) → HasFinding (after ds)) → HasFinding w →
     HasFinding (if_walked m (expect a_boolean l u) after before w)
-if_is_told m l u after before w h k i = if_test_fits m (expect a_boolean l u) after before w (fitted a_boolean l u h) k i
+if_is_reported m l u after before w h k i = if_test_fits m (expect a_boolean l u) after before w (fitted a_boolean l u h) k i
 
 -- several operands
 abbrev pub HaveFindings : List Walked → Type 0
@@ -174,9 +174,9 @@ some_found [] h e = absurd (true≢false e)
 some_found (Success a ∷ ws) h e = some_found ws h.1 e
 some_found (Fail t fs ∷ ws) h e = front fs (findings_of_all ws) h.0
 
-pub all_lent : (ts : List Typing) → lent_by_all (map Success ts) ≡ Some ts
-all_lent [] = refl
-all_lent (a ∷ ts) = ap (option_map (λ xs. a ∷ xs)) (all_lent ts)
+pub all_given : (ts : List Typing) → given_by_all (map Success ts) ≡ Some ts
+all_given [] = refl
+all_given (a ∷ ts) = ap (option_map (λ xs. a ∷ xs)) (all_given ts)
 
 pub all_typed : (ts : List Typing) → list_all has_typing (map Success ts) ≡ true
 all_typed [] = refl
@@ -190,43 +190,43 @@ set_gives : (m : Mark (Unit {0})) (ts : List Ty) → Found (rule.set_type ts) (s
 set_gives m [] = tt
 set_gives m (t ∷ ts) = found_mapped _ (result_ok (join_all Strict (t ∷ ts))) _ (joined context.Set m.loc (t ∷ ts) (join_all Strict (t ∷ ts)))
 
-pub set_told : (m : Mark (Unit {0})) (ws : List Walked) → HaveFindings ws → HasFinding (set_walked m ws)
-set_told m ws h = by (typed_or_not ws)
+pub set_reported : (m : Mark (Unit {0})) (ws : List Walked) → HaveFindings ws → HasFinding (set_walked m ws)
+set_reported m ws h = by (typed_or_not ws)
   where
     typed : (ts : List Typing) (failed : Typed) → HasFinding (ended true (set_typing m ts) failed ([] ++ set_found m.loc (types_in ts)))
     typed ts failed = ended_found _ failed (set_found m.loc (types_in ts)) (found_mapped _ (rule.set_type (types_in ts)) (set_found m.loc (types_in ts)) (set_gives m (types_in ts)))
 
-    all : (ts : List Typing) (failed : Typed) → HasFinding (ended (list_all has_typing (map Success ts)) (option_and_then (set_typing m) (lent_by_all (map Success ts))) failed
-        (findings_of_all (map Success ts) ++ option_map_or (λ ys. set_found m.loc (types_in ys)) (lent_by_all (map Success ts)) []))
+    all : (ts : List Typing) (failed : Typed) → HasFinding (ended (list_all has_typing (map Success ts)) (option_and_then (set_typing m) (given_by_all (map Success ts))) failed
+        (findings_of_all (map Success ts) ++ option_map_or (λ ys. set_found m.loc (types_in ys)) (given_by_all (map Success ts)) []))
     all ts failed =
-        subst (λ b. HasFinding (ended b (option_and_then (set_typing m) (lent_by_all (map Success ts))) failed (findings_of_all (map Success ts) ++ option_map_or (λ ys. set_found m.loc (types_in ys)) (lent_by_all (map Success ts)) []))) (sym (all_typed ts))
-        (subst (λ o. HasFinding (ended true (option_and_then (set_typing m) o) failed (findings_of_all (map Success ts) ++ option_map_or (λ ys. set_found m.loc (types_in ys)) o []))) (sym (all_lent ts))
+        subst (λ b. HasFinding (ended b (option_and_then (set_typing m) (given_by_all (map Success ts))) failed (findings_of_all (map Success ts) ++ option_map_or (λ ys. set_found m.loc (types_in ys)) (given_by_all (map Success ts)) []))) (sym (all_typed ts))
+        (subst (λ o. HasFinding (ended true (option_and_then (set_typing m) o) failed (findings_of_all (map Success ts) ++ option_map_or (λ ys. set_found m.loc (types_in ys)) o []))) (sym (all_given ts))
         (subst (λ fs. HasFinding (ended true (set_typing m ts) failed (fs ++ set_found m.loc (types_in ts)))) (sym (none_found ts)) (typed ts failed)))
 
     by : AllTyped ws ⊎ SomeFails ws → HasFinding (set_walked m ws)
     by (inl k) = subst (λ vs. HasFinding (set_walked m vs)) (sym k.1) (all k.0 (set (trees_walked (map Success k.0)) (lends None m)))
     by (inr k) = ended_full (list_all has_typing ws) _ _ _ (front (findings_of_all ws) _ (some_found ws h k.0))
 
-fields_lent : (es : Fields) → list_all has_typing (parts_of es) ≡ true → Found (lent_fields es) []
-fields_lent [] e = tt
-fields_lent (e ∷ es) t = by e.1 t (fields_lent es)
+fields_given : (es : Fields) → list_all has_typing (parts_of es) ≡ true → Found (given_fields es) []
+fields_given [] e = tt
+fields_given (e ∷ es) t = by e.1 t (fields_given es)
   where
     next : (a : Typing) (o : Option (List (List ℕ × Typing))) → Found o [] → Found (option_map (λ ys. (e.0, a) ∷ ys) o) []
     next a None h = h
     next a (Some ys) h = tt
 
-    by : (w : Walked) → (has_typing w && list_all has_typing (parts_of es)) ≡ true → (list_all has_typing (parts_of es) ≡ true → Found (lent_fields es) []) →
-        Found (option_and_then (λ a. option_map (λ ys. (e.0, a) ∷ ys) (lent_fields es)) (lent_by w)) []
-    by (Success a) d k = next a (lent_fields es) (k d)
+    by : (w : Walked) → (has_typing w && list_all has_typing (parts_of es)) ≡ true → (list_all has_typing (parts_of es) ≡ true → Found (given_fields es) []) →
+        Found (option_and_then (λ a. option_map (λ ys. (e.0, a) ∷ ys) (given_fields es)) (given_by w)) []
+    by (Success a) d k = next a (given_fields es) (k d)
     by (Fail t fs) d k = absurd (true≢false (sym d))
 
-pub record_told : (m : Mark (Unit {0})) (es : Fields) → HaveFindings (parts_of es) → HasFinding (record_walked m es)
-record_told m es h = by (list_all has_typing (parts_of es)) refl
+pub record_reported : (m : Mark (Unit {0})) (es : Fields) → HaveFindings (parts_of es) → HasFinding (record_walked m es)
+record_reported m es h = by (list_all has_typing (parts_of es)) refl
   where
     some : (o : Option (List (List ℕ × Typing))) (t : Typed) (fs : List Finding) → Found o [] → HasFinding (ended true (option_map (record_typing m) o) t fs)
     some None t fs k = absurd k
     some (Some ys) t fs k = tt
 
     by : (b : Bool) → list_all has_typing (parts_of es) ≡ b → HasFinding (record_walked m es)
-    by true e = subst (λ b. HasFinding (ended b (option_map (record_typing m) (lent_fields es)) (rec (named_of (map (λ e. (e.0, tree_of e.1)) es)) (lends None m)) (findings_of_all (parts_of es)))) (sym e) (some (lent_fields es) (rec (named_of (map (λ e. (e.0, tree_of e.1)) es)) (lends None m)) (findings_of_all (parts_of es)) (fields_lent es e))
+    by true e = subst (λ b. HasFinding (ended b (option_map (record_typing m) (given_fields es)) (rec (named_of (map (λ e. (e.0, tree_of e.1)) es)) (lends None m)) (findings_of_all (parts_of es)))) (sym e) (some (given_fields es) (rec (named_of (map (λ e. (e.0, tree_of e.1)) es)) (lends None m)) (findings_of_all (parts_of es)) (fields_given es e))
     by false e = ended_full (list_all has_typing (parts_of es)) _ _ (findings_of_all (parts_of es)) (some_found (parts_of es) h e)

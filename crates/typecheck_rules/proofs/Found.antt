@@ -1,4 +1,4 @@
--- What fails is told: how an operator that has no type comes to a finding.
+-- What fails is reported: how an operator that has no type comes to a finding.
 use Rattle.std.proofs.Common.{◌≡◌, sym, subst, ℕ, Bool, true, false, ◌&&◌, ◌||◌, List, [], ◌∷◌, ◌++◌, Option, Some, None, Result, Ok, Err, cond, option_map, refl, if◌then◌else◌}
 use Rattle.std.specs.Bool.{⊤}
 use Rattle.std.specs.Option.{option_and_then, option_map_or, is_some}
@@ -29,7 +29,7 @@ use Rattle.findings.specs.declared.access.AttributeAccess.{AttributeAccess}
 use Rattle.findings.specs.Finding.{Finding}
 use Rattle.typing_spec.specs.Operands.{is_boolean, is_long}
 use Rattle.typecheck_rules.specs.Expected.{Expected, is_typed_set, has_attributes, of_unary, left_of, right_of}
-use Rattle.typecheck_rules.specs.Walked.{Walked, Success, Fail, untyped, unexpected, expect_lent, expect, expect_if, ended}
+use Rattle.typecheck_rules.specs.Walked.{Walked, Success, Fail, untyped, unexpected, expect_given, expect, expect_if, ended}
 use Rattle.typecheck_rules.specs.Own.{if_none, incompatible, is_comparable, wrong, order_wrong, contains_found, tag_found, binary_found, attribute_found}
 use Rattle.typecheck_rules.specs.Operators.{place}
 
@@ -96,15 +96,15 @@ fitted x l (Success a) h = by (x.fits a.type) refl
     by : (b : Bool) → x.fits a.type ≡ b → Fitted (Some x) (cond b (Success a) (Fail (untyped a.tree) (unexpected x l a.type)))
     by true e = subst Holds (sym e) tt
     by false e = tt
-fitted x l (Fail t fs) h = of_lent (mark_of t).note
+fitted x l (Fail t fs) h = of_given (mark_of t).note
   where
     fit : (u : Ty) (b : Bool) → Fitted (Some x) (cond b (Fail t fs) (Fail (untyped t) (fs ++ unexpected x l u)))
     fit u true = h
     fit u false = front fs (unexpected x l u) h
 
-    of_lent : (n : Option Ty) → Fitted (Some x) (expect_lent x l n t fs)
-    of_lent None = h
-    of_lent (Some u) = fit u (x.fits u)
+    of_given : (n : Option Ty) → Fitted (Some x) (expect_given x l n t fs)
+    of_given None = h
+    of_given (Some u) = fit u (x.fits u)
 
 pub fitted_if : (o : Option Expected) (l : Option Loc) (v : Walked) → HasFinding v → Fitted o (expect_if o l v)
 fitted_if None l (Success a) h = tt

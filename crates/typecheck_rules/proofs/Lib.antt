@@ -15,7 +15,7 @@ mod Parts
 mod Refusals
 mod Sides
 mod Steps
-mod Told
+mod Reported
 mod True
 mod Truths
 mod AttributeSteps

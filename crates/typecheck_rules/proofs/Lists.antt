@@ -9,12 +9,12 @@ use Rattle.typing_spec.specs.Signatures.{same_type, same_types, signature_of, ha
 use Rattle.typing_spec.specs.Typing.{Typed, Typing, typing, at, types_in, trees_in}
 use Rattle.findings.specs.Finding.{Finding}
 use Rattle.typecheck_rules.specs.Expected.{an_argument}
-use Rattle.typecheck_rules.specs.Walked.{Walked, Success, Fail, typing_of, findings_of, has_typing, lent_by, expect, ended, all_some, lent_by_all, findings_of_all, all_walked}
+use Rattle.typecheck_rules.specs.Walked.{Walked, Success, Fail, typing_of, findings_of, has_typing, given_by, expect, ended, all_some, given_by_all, findings_of_all, all_walked}
 use Rattle.typecheck_rules.specs.Own.{call_found}
-use Rattle.typecheck_rules.specs.Operators.{place, arguments_fitting, arguments_walked, call_typing, call_fitting, call_walked, Fields, parts_of, lent_fields}
+use Rattle.typecheck_rules.specs.Operators.{place, arguments_fitting, arguments_walked, call_typing, call_fitting, call_walked, Fields, parts_of, given_fields}
 use Rattle.typecheck_rules.specs.Faults.{at_typed, call_faults}
 use Rattle.typecheck_rules.proofs.Parts.{Sub, sub_self, sub_both}
-use Rattle.typecheck_rules.proofs.Steps.{ended_typing, ended_tells, IfFalse, if_false, expect_tells, expect_fails, expect_exact}
+use Rattle.typecheck_rules.proofs.Steps.{ended_typing, ended_says, IfFalse, if_false, expect_says, expect_fails, expect_exact}
 
 -- the typings of all, where each has one
 abbrev pub typings_of : List Walked → Option (List Typing)
@@ -32,30 +32,30 @@ cond_then : {A B : Type 0} (f : A → Option B) (b : Bool) (o : Option A) → co
 cond_then f true o = refl
 cond_then f false o = refl
 
-lent_typings : (ws : List Walked) → cond (list_all has_typing ws) (lent_by_all ws) None ≡ typings_of ws
-lent_typings [] = refl
-lent_typings (Success a ∷ ws) = cond_map (λ xs. a ∷ xs) (list_all has_typing ws) (lent_by_all ws) ∙ ap (option_map (λ xs. a ∷ xs)) (lent_typings ws)
-lent_typings (Fail t fs ∷ ws) = refl
+given_typings : (ws : List Walked) → cond (list_all has_typing ws) (given_by_all ws) None ≡ typings_of ws
+given_typings [] = refl
+given_typings (Success a ∷ ws) = cond_map (λ xs. a ∷ xs) (list_all has_typing ws) (given_by_all ws) ∙ ap (option_map (λ xs. a ∷ xs)) (given_typings ws)
+given_typings (Fail t fs ∷ ws) = refl
 
-lent_typings_of_fields : (es : Fields) → cond (list_all has_typing (parts_of es)) (lent_fields es) None ≡ typings_of_fields es
-lent_typings_of_fields [] = refl
-lent_typings_of_fields (e ∷ es) = by e.1 (lent_typings_of_fields es)
+given_typings_of_fields : (es : Fields) → cond (list_all has_typing (parts_of es)) (given_fields es) None ≡ typings_of_fields es
+given_typings_of_fields [] = refl
+given_typings_of_fields (e ∷ es) = by e.1 (given_typings_of_fields es)
   where
-    by : (w : Walked) → cond (list_all has_typing (parts_of es)) (lent_fields es) None ≡ typings_of_fields es → cond (has_typing w && list_all has_typing (parts_of es)) (option_and_then (λ a. option_map (λ ys. (e.0, a) ∷ ys) (lent_fields es)) (lent_by w)) None ≡
+    by : (w : Walked) → cond (list_all has_typing (parts_of es)) (given_fields es) None ≡ typings_of_fields es → cond (has_typing w && list_all has_typing (parts_of es)) (option_and_then (λ a. option_map (λ ys. (e.0, a) ∷ ys) (given_fields es)) (given_by w)) None ≡
         option_and_then (λ a. option_map (λ ys. (e.0, a) ∷ ys) (typings_of_fields es)) (typing_of w)
-    by (Success a) h = cond_map (λ ys. (e.0, a) ∷ ys) (list_all has_typing (parts_of es)) (lent_fields es) ∙ ap (option_map (λ ys. (e.0, a) ∷ ys)) h
+    by (Success a) h = cond_map (λ ys. (e.0, a) ∷ ys) (list_all has_typing (parts_of es)) (given_fields es) ∙ ap (option_map (λ ys. (e.0, a) ∷ ys)) h
     by (Fail t fs) h = refl
 
 pub all_exact : (rule : List Typing → Option Typing) (failed : Typed) (found : List Finding) (ws : List Walked) → typing_of (all_walked rule failed found ws) ≡ option_and_then rule (typings_of ws)
 all_exact rule failed found ws =
-    ended_typing (list_all has_typing ws) (option_and_then rule (lent_by_all ws)) failed found ∙
-    (cond_then rule (list_all has_typing ws) (lent_by_all ws) ∙ ap (option_and_then rule) (lent_typings ws))
+    ended_typing (list_all has_typing ws) (option_and_then rule (given_by_all ws)) failed found ∙
+    (cond_then rule (list_all has_typing ws) (given_by_all ws) ∙ ap (option_and_then rule) (given_typings ws))
 
 pub fields_exact : (make : List (List ℕ × Typing) → Typing) (failed : Typed) (found : List Finding) (es : Fields) →
-    typing_of (ended (list_all has_typing (parts_of es)) (option_map make (lent_fields es)) failed found) ≡ option_map make (typings_of_fields es)
+    typing_of (ended (list_all has_typing (parts_of es)) (option_map make (given_fields es)) failed found) ≡ option_map make (typings_of_fields es)
 fields_exact make failed found es =
-    ended_typing (list_all has_typing (parts_of es)) (option_map make (lent_fields es)) failed found ∙
-    (cond_map make (list_all has_typing (parts_of es)) (lent_fields es) ∙ ap (option_map make) (lent_typings_of_fields es))
+    ended_typing (list_all has_typing (parts_of es)) (option_map make (given_fields es)) failed found ∙
+    (cond_map make (list_all has_typing (parts_of es)) (given_fields es) ∙ ap (option_map make) (given_typings_of_fields es))
 
 -- either all have typings or not
 abbrev pub AllTyped : List Walked → Type 0
@@ -77,10 +77,10 @@ pub typings_of_typed : (ts : List Typing) → typings_of (map Success ts) ≡ So
 typings_of_typed [] = refl
 typings_of_typed (a ∷ ts) = ap (option_map (λ xs. a ∷ xs)) (typings_of_typed ts)
 
--- a step of several operands that tells what failed operands found tells all faults
-pub all_told : (s : List Walked → Walked) (ws : List Walked) (fs : List Finding) → (list_all has_typing ws ≡ false → Sub fs (findings_of (s ws))) →
+-- a step of several operands that says what failed operands found says all faults
+pub all_reported : (s : List Walked → Walked) (ws : List Walked) (fs : List Finding) → (list_all has_typing ws ≡ false → Sub fs (findings_of (s ws))) →
     Sub (at_typed (typings_of ws) fs (λ ts. findings_of (s (map Success ts)))) (findings_of (s ws))
-all_told s ws fs tells = by (typed_or_not ws)
+all_reported s ws fs tells = by (typed_or_not ws)
   where
     by : AllTyped ws ⊎ SomeFails ws → Sub (at_typed (typings_of ws) fs (λ ts. findings_of (s (map Success ts)))) (findings_of (s ws))
     by (inl h) =
@@ -88,8 +88,8 @@ all_told s ws fs tells = by (typed_or_not ws)
         (subst (λ o. Sub (at_typed o fs (λ ts. findings_of (s (map Success ts)))) (findings_of (s (map Success h.0)))) (sym (typings_of_typed h.0)) (sub_self (findings_of (s (map Success h.0)))))
     by (inr h) = subst (λ o. Sub (at_typed o fs (λ ts. findings_of (s (map Success ts)))) (findings_of (s ws))) (sym h.1) (tells h.0)
 
-pub all_tells : (rule : List Typing → Option Typing) (failed : Typed) (found fs : List Finding) (ws : List Walked) → list_all has_typing ws ≡ false → Sub fs found → Sub fs (findings_of (all_walked rule failed found ws))
-all_tells rule failed found fs ws e h = ended_tells (list_all has_typing ws) (option_and_then rule (lent_by_all ws)) failed found fs e h
+pub all_says : (rule : List Typing → Option Typing) (failed : Typed) (found fs : List Finding) (ws : List Walked) → list_all has_typing ws ≡ false → Sub fs found → Sub fs (findings_of (all_walked rule failed found ws))
+all_says rule failed found fs ws e h = ended_says (list_all has_typing ws) (option_and_then rule (given_by_all ws)) failed found fs e h
 
 -- arguments that have to be of their types
 then_map : {A B C : Type 0} (k : B → Option C) (f : A → B) (o : Option A) → option_and_then k (option_map f o) ≡ option_and_then (λ x. k (f x)) o
@@ -156,7 +156,7 @@ call_exact f (Some g) xs m ws = by (call_found g xs m.loc) (call_found g xs m.lo
     by [] fs = all_exact (call_typing f (Some g) xs m) _ _ (arguments_fitting (signature_of g).arguments xs ws) ∙ arguments_exact (signature_of g).arguments xs ws (call_typing f (Some g) xs m) (call_refuses f g xs m)
     by (e ∷ own) fs = all_exact (call_typing f (Some g) xs m) _ _ ws
 
--- arguments that failed stay so, and all is told
+-- arguments that failed stay so, and all is reported
 pub arguments_fail : (ts : List Ty) (xs : Trees (Mark (Unit {0}))) (ws : List Walked) → list_all has_typing ws ≡ false → list_all has_typing (arguments_fitting ts xs ws) ≡ false
 arguments_fail [] xs ws e = e
 arguments_fail (t ∷ ts) no_trees ws e = e
@@ -168,21 +168,21 @@ arguments_fail (t ∷ ts) (tree x xs) (Success a ∷ ws) e = ap (λ b. has_typin
     and_false false = refl
 arguments_fail (t ∷ ts) (tree x xs) (Fail u gs ∷ ws) e = ap (λ b. b && list_all has_typing (arguments_fitting ts xs ws)) (expect_fails (an_argument t) (place x) (Fail u gs) refl)
 
-pub arguments_tell : (ts : List Ty) (xs : Trees (Mark (Unit {0}))) (ws : List Walked) → Sub (findings_of_all ws) (findings_of_all (arguments_fitting ts xs ws))
-arguments_tell [] xs ws = sub_self (findings_of_all ws)
-arguments_tell (t ∷ ts) no_trees ws = sub_self (findings_of_all ws)
-arguments_tell (t ∷ ts) (tree x xs) [] = sub_self []
-arguments_tell (t ∷ ts) (tree x xs) (w ∷ ws) =
-    sub_both (findings_of w) (findings_of_all ws) (findings_of (expect (an_argument t) (place x) w)) (findings_of_all (arguments_fitting ts xs ws)) (expect_tells (an_argument t) (place x) w) (arguments_tell ts xs ws)
+pub arguments_say : (ts : List Ty) (xs : Trees (Mark (Unit {0}))) (ws : List Walked) → Sub (findings_of_all ws) (findings_of_all (arguments_fitting ts xs ws))
+arguments_say [] xs ws = sub_self (findings_of_all ws)
+arguments_say (t ∷ ts) no_trees ws = sub_self (findings_of_all ws)
+arguments_say (t ∷ ts) (tree x xs) [] = sub_self []
+arguments_say (t ∷ ts) (tree x xs) (w ∷ ws) =
+    sub_both (findings_of w) (findings_of_all ws) (findings_of (expect (an_argument t) (place x) w)) (findings_of_all (arguments_fitting ts xs ws)) (expect_says (an_argument t) (place x) w) (arguments_say ts xs ws)
 
-pub call_told : (f : List ℕ) (o : Option ExtensionFunction) (xs : Trees (Mark (Unit {0}))) (m : Mark (Unit {0})) (ws : List Walked) (fs : List Finding) → Sub fs (findings_of_all ws) →
+pub call_reported : (f : List ℕ) (o : Option ExtensionFunction) (xs : Trees (Mark (Unit {0}))) (m : Mark (Unit {0})) (ws : List Walked) (fs : List Finding) → Sub fs (findings_of_all ws) →
     Sub (call_faults f o xs m (typings_of ws) fs) (findings_of (call_walked f o xs m ws))
-call_told f None xs m ws fs h = sub_self (findings_of (call_walked f None xs m ws))
-call_told f (Some g) xs m ws fs h = all_told (call_walked f (Some g) xs m) ws (call_found g xs m.loc ++ fs) (by (call_found g xs m.loc) (call_found g xs m.loc))
+call_reported f None xs m ws fs h = sub_self (findings_of (call_walked f None xs m ws))
+call_reported f (Some g) xs m ws fs h = all_reported (call_walked f (Some g) xs m) ws (call_found g xs m.loc ++ fs) (by (call_found g xs m.loc) (call_found g xs m.loc))
   where
     by : (own all : List Finding) → list_all has_typing ws ≡ false → Sub (all ++ fs) (findings_of (call_fitting f g xs m all (arguments_walked own (signature_of g).arguments xs ws)))
     by [] all e =
-        all_tells (call_typing f (Some g) xs m) _ (all ++ findings_of_all (arguments_fitting (signature_of g).arguments xs ws)) (all ++ fs) (arguments_fitting (signature_of g).arguments xs ws)
+        all_says (call_typing f (Some g) xs m) _ (all ++ findings_of_all (arguments_fitting (signature_of g).arguments xs ws)) (all ++ fs) (arguments_fitting (signature_of g).arguments xs ws)
         (arguments_fail (signature_of g).arguments xs ws e)
-        (sub_both all fs all (findings_of_all (arguments_fitting (signature_of g).arguments xs ws)) (sub_self all) (λ f i. arguments_tell (signature_of g).arguments xs ws f (h f i)))
-    by (d ∷ own) all e = all_tells (call_typing f (Some g) xs m) _ (all ++ findings_of_all ws) (all ++ fs) ws e (sub_both all fs all (findings_of_all ws) (sub_self all) h)
+        (sub_both all fs all (findings_of_all (arguments_fitting (signature_of g).arguments xs ws)) (sub_self all) (λ f i. arguments_say (signature_of g).arguments xs ws f (h f i)))
+    by (d ∷ own) all e = all_says (call_typing f (Some g) xs m) _ (all ++ findings_of_all ws) (all ++ fs) ws e (sub_both all fs all (findings_of_all ws) (sub_self all) h)

@@ -1,4 +1,4 @@
--- `&&`, `||` and `if` agree with their rules, and tell what is found of the operands that are reached.
+-- `&&`, `||` and `if` agree with their rules, and say what is found of the operands that are reached.
 use Rattle.std.proofs.Common.{◌≡◌, ◌∙◌, ap, Bool, true, false, ◌&&◌, List, Option, Some, None, option_map, refl}
 use Rattle.std.specs.Option.{option_and_then}
 use Rattle.schema_types.specs.declared.kinds.Primitive.TheVariants.{Bool as BoolType, Long, String}
@@ -11,7 +11,7 @@ use Rattle.typing_spec.specs.Typing.{Typed, Typing, typing, at, and_caps, or_cap
 use Rattle.findings.specs.Finding.{Finding}
 use Rattle.typing_spec.specs.Operands.{is_boolean}
 use Rattle.typecheck_rules.specs.Expected.{a_boolean}
-use Rattle.typecheck_rules.specs.Walked.{Walked, Success, Fail, typing_of, has_typing, lent_by, expect, ended}
+use Rattle.typecheck_rules.specs.Walked.{Walked, Success, Fail, typing_of, has_typing, given_by, expect, ended}
 use Rattle.typecheck_rules.specs.Operators.{unless_false, unless_true, and_walked, or_walked}
 use Rattle.typecheck_rules.proofs.Steps.{ended_typing, IfFalse, expect_exact}
 use Rattle.typecheck_rules.proofs.Refusals.{and_refuses, or_refuses}
@@ -68,27 +68,27 @@ mapped_none f o false h = ap (option_map f) h
 module _ (m : Marked) (r : Option Loc) where
   -- the right side of a left one that has a typing
   and_reached : (t : Ty) (cs : List Capability) (x : Typed) (w : Walked) (failed : Typed) (fs : List Finding) →
-      typing_of (ended (has_typing (unless_false t (expect a_boolean r w))) (and_typing t cs x m (lent_by (unless_false t (expect a_boolean r w)))) failed fs) ≡ and_typing t cs x m (typing_of w)
+      typing_of (ended (has_typing (unless_false t (expect a_boolean r w))) (and_typing t cs x m (given_by (unless_false t (expect a_boolean r w)))) failed fs) ≡ and_typing t cs x m (typing_of w)
   and_reached false_type cs x w failed fs = refl
   and_reached true_type cs x w failed fs = by (expect a_boolean r w) ∙ expect_exact a_boolean r (and_rule true_type cs x m) (λ y. mapped_none (λ w. typing w (and_caps y.type cs y.caps) (conj x y.tree (at w m))) (rule.and_type true_type y.type) (is_boolean y.type) (and_refuses true_type y.type)) w
     where
-      by : (v : Walked) → typing_of (ended (has_typing v) (option_and_then (and_rule true_type cs x m) (lent_by v)) failed fs) ≡ option_and_then (and_rule true_type cs x m) (typing_of v)
+      by : (v : Walked) → typing_of (ended (has_typing v) (option_and_then (and_rule true_type cs x m) (given_by v)) failed fs) ≡ option_and_then (and_rule true_type cs x m) (typing_of v)
       by (Success b) = ended_typing true (and_rule true_type cs x m b) failed fs
-      by (Fail u gs) = ended_typing false (option_and_then (and_rule true_type cs x m) (lent_by (Fail u gs))) failed fs
+      by (Fail u gs) = ended_typing false (option_and_then (and_rule true_type cs x m) (given_by (Fail u gs))) failed fs
   and_reached t cs x w failed fs = by (expect a_boolean r w) ∙ expect_exact a_boolean r (and_rule t cs x m) (λ y. mapped_none (λ w. typing w (and_caps y.type cs y.caps) (conj x y.tree (at w m))) (rule.and_type t y.type) (is_boolean y.type) (and_refuses t y.type)) w
     where
-      by : (v : Walked) → typing_of (ended (has_typing v) (option_and_then (and_rule t cs x m) (lent_by v)) failed fs) ≡ option_and_then (and_rule t cs x m) (typing_of v)
+      by : (v : Walked) → typing_of (ended (has_typing v) (option_and_then (and_rule t cs x m) (given_by v)) failed fs) ≡ option_and_then (and_rule t cs x m) (typing_of v)
       by (Success b) = ended_typing true (and_rule t cs x m b) failed fs
-      by (Fail u gs) = ended_typing false (option_and_then (and_rule t cs x m) (lent_by (Fail u gs))) failed fs
+      by (Fail u gs) = ended_typing false (option_and_then (and_rule t cs x m) (given_by (Fail u gs))) failed fs
 
   or_reached : (t : Ty) (cs : List Capability) (x : Typed) (w : Walked) (failed : Typed) (fs : List Finding) →
-      typing_of (ended (has_typing (unless_true t (expect a_boolean r w))) (or_typing t cs x m (lent_by (unless_true t (expect a_boolean r w)))) failed fs) ≡ or_typing t cs x m (typing_of w)
+      typing_of (ended (has_typing (unless_true t (expect a_boolean r w))) (or_typing t cs x m (given_by (unless_true t (expect a_boolean r w)))) failed fs) ≡ or_typing t cs x m (typing_of w)
   or_reached true_type cs x w failed fs = refl
   or_reached t cs x w failed fs = by (expect a_boolean r w) ∙ expect_exact a_boolean r (or_rule t cs x m) (λ y. mapped_none (λ w. typing w (or_caps t y.type cs y.caps) (disj x y.tree (at w m))) (rule.or_type t y.type) (is_boolean y.type) (or_refuses t y.type)) w
     where
-      by : (v : Walked) → typing_of (ended (has_typing v) (option_and_then (or_rule t cs x m) (lent_by v)) failed fs) ≡ option_and_then (or_rule t cs x m) (typing_of v)
+      by : (v : Walked) → typing_of (ended (has_typing v) (option_and_then (or_rule t cs x m) (given_by v)) failed fs) ≡ option_and_then (or_rule t cs x m) (typing_of v)
       by (Success b) = ended_typing true (or_rule t cs x m b) failed fs
-      by (Fail u gs) = ended_typing false (option_and_then (or_rule t cs x m) (lent_by (Fail u gs))) failed fs
+      by (Fail u gs) = ended_typing false (option_and_then (or_rule t cs x m) (given_by (Fail u gs))) failed fs
 
   and_left : (v : Walked) (after : List Capability → Walked) (before : Walked) →
       typing_of (and_walked m r v after before) ≡ option_and_then (λ a. and_typing a.type a.caps a.tree m (typing_of (after a.caps))) (typing_of v)

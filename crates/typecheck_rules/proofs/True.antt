@@ -24,7 +24,7 @@ use Rattle.typecheck_rules.specs.Own.{of_both, incompatible, no_join, contains_f
 use Rattle.typecheck_rules.specs.Operators.{place}
 use Rattle.typing_spec.specs.Capability.{Capability, has_cap}
 use Rattle.typing_spec.specs.Typing.{attribute_known, tag_known}
-use Rattle.typecheck_rules.specs.Truth.{Part, NoneAbove, Lends, LendEach, IsToJoin, IsSo, IsTrueAt}
+use Rattle.typecheck_rules.specs.Truth.{Part, NoneAbove, Gives, GiveEach, IsToJoin, IsSo, IsTrueAt}
 use Rattle.typecheck_rules.proofs.Each.{Each, each_both, each_if_none, each_if_not}
 use Rattle.typecheck_rules.proofs.Below.{same_is, IsLeast, least_long, least_extension, not_below, unordered}
 
@@ -36,9 +36,9 @@ module _ (schema : SchemaData) (env : EnvData) (ps : List Part) (cs : List Capab
   abbrev pub At : Plain → Type 0
   At e = Contains ps (record { known = cs; is = e })
 
-  -- the types that a part may lend
-  abbrev pub MayLend : Plain → Option Ty → Type 0
-  MayLend e o = (t : Ty) → o ≡ Some t → Lends schema env cs e t
+  -- the types that a part may give
+  abbrev pub MayGive : Plain → Option Ty → Type 0
+  MayGive e o = (t : Ty) → o ≡ Some t → Gives schema env cs e t
 
   pub one_true : (k : Kind) (e : Plain) → At e → IsSo schema env cs e k → Each Q (record { kind = k; loc = place e } ∷ [])
   one_true k e at h = (record { part = record { known = cs; is = e }; among = at; at = refl; so = h }, tt)
@@ -55,12 +55,12 @@ module _ (schema : SchemaData) (env : EnvData) (ps : List Part) (cs : List Capab
   of_both_true found (Some t) None h = tt
   of_both_true found None u h = tt
 
-  contains_true : (x y : Plain) (m : Mark (Unit {0})) (t u : Ty) → At (binary ContainsOp x y m) → Lends schema env cs x t → Lends schema env cs y u → Each Q (contains_found m.loc t u)
+  contains_true : (x y : Plain) (m : Mark (Unit {0})) (t u : Ty) → At (binary ContainsOp x y m) → Gives schema env cs x t → Gives schema env cs y u → Each Q (contains_found m.loc t u)
   contains_true x y m (set_of t) u at lx ly = no_join_true context.Contains (binary ContainsOp x y m) t u at (lx, ly)
   contains_true x y m _ u at lx ly = tt
 
   -- `<` and `<=`
-  wrong_true : (ts : List Ty) (e : Plain) (t : Ty) → At e → Lends schema env cs e t → NoneAbove t ts → Each Q (wrong ts (place e) t)
+  wrong_true : (ts : List Ty) (e : Plain) (t : Ty) → At e → Gives schema env cs e t → NoneAbove t ts → Each Q (wrong ts (place e) t)
   wrong_true ts e t at lent h = one_true (UnexpectedType ts t None) e at (lent, h)
 
   either : (b c : Bool) → (b || c) ≡ false → (b ≡ false) × (c ≡ false)
@@ -94,7 +94,7 @@ module _ (schema : SchemaData) (env : EnvData) (ps : List Part) (cs : List Capab
       by true p = absurd (true≢false (sym k ∙ (ap is_comparable (sym (same_is t u p)) ∙ j)))
       by false p = p
 
-  order_true : (x y : Plain) (t u : Ty) → At x → At y → Lends schema env cs x t → Lends schema env cs y u → order_type t u ≡ None → Each Q (order_wrong (place x) (place y) t u)
+  order_true : (x y : Plain) (t u : Ty) → At x → At y → Gives schema env cs x t → Gives schema env cs y u → order_type t u ≡ None → Each Q (order_wrong (place x) (place y) t u)
   order_true x y t u at to lx ly none = by (same_type t long_type) refl (same_type u long_type) refl (is_comparable t) refl (is_comparable u) refl
     where
       by : (b : Bool) → same_type t long_type ≡ b → (c : Bool) → same_type u long_type ≡ c → (d : Bool) → is_comparable t ≡ d → (e : Bool) → is_comparable u ≡ e →
@@ -111,15 +111,15 @@ module _ (schema : SchemaData) (env : EnvData) (ps : List Part) (cs : List Capab
           (wrong_true (datetime_type ∷ duration_type ∷ long_type ∷ []) x t at lx (barred t h j)) (wrong_true (datetime_type ∷ duration_type ∷ long_type ∷ []) y u to ly (barred u i k))
 
   -- `getTag`
-  tag_true : (known : Bool) (x y : Plain) (m : Mark (Unit {0})) (t : Ty) → known ≡ has_cap cs (tag_known x y) → At (binary GetTag x y m) → Lends schema env cs x t → Each Q (tag_found schema known y m.loc t)
+  tag_true : (known : Bool) (x y : Plain) (m : Mark (Unit {0})) (t : Ty) → known ≡ has_cap cs (tag_known x y) → At (binary GetTag x y m) → Gives schema env cs x t → Each Q (tag_found schema known y m.loc t)
   tag_true false x y m t asked at lent = one_true _ (binary GetTag x y m) at (t, lent, refl, refl, sym asked)
   tag_true true x y m t asked at lent = each_if_none Q (tag_type schema t) _ (λ e. one_true _ (binary GetTag x y m) at (t, lent, refl, e))
 
-  tag_if : (known : Bool) (x y : Plain) (m : Mark (Unit {0})) (t : Option Ty) → known ≡ has_cap cs (tag_known x y) → At (binary GetTag x y m) → MayLend x t → Each Q (option_map_or (tag_found schema known y m.loc) t [])
+  tag_if : (known : Bool) (x y : Plain) (m : Mark (Unit {0})) (t : Option Ty) → known ≡ has_cap cs (tag_known x y) → At (binary GetTag x y m) → MayGive x t → Each Q (option_map_or (tag_found schema known y m.loc) t [])
   tag_if known x y m None asked at lent = tt
   tag_if known x y m (Some t) asked at lent = tag_true known x y m t asked at (lent t refl)
 
-  pub binary_true : (o : BinaryOp) (known : Bool) (x y : Plain) (m : Mark (Unit {0})) (type t u : Option Ty) → known ≡ has_cap cs (tag_known x y) → At x → At y → At (binary o x y m) → MayLend x t → MayLend y u →
+  pub binary_true : (o : BinaryOp) (known : Bool) (x y : Plain) (m : Mark (Unit {0})) (type t u : Option Ty) → known ≡ has_cap cs (tag_known x y) → At x → At y → At (binary o x y m) → MayGive x t → MayGive y u →
       Each Q (binary_found schema o known y type (place x) (place y) m.loc t u)
   binary_true Eq known x y m type t u asked at to here lx ly = of_both_true _ t u (λ a b p q. each_if_none Q type _ (λ e. no_join_true context.Equality (binary Eq x y m) a b here (lx a p, ly b q)))
   binary_true Less known x y m type t u asked at to here lx ly = of_both_true _ t u (λ a b p q. each_if_none Q (order_type a b) _ (λ e. order_true x y a b at to (lx a p) (ly b q) e))
@@ -150,7 +150,7 @@ module _ (schema : SchemaData) (env : EnvData) (ps : List Part) (cs : List Capab
       by true h false d = absurd (true≢false (ap is_some d))
       by false h b d = h
 
-  pub attribute_true : (access : AttributeAccess) (known : Bool) (x : Plain) (n : List ℕ) (m : Mark (Unit {0})) (t : Ty) → known ≡ has_cap cs (attribute_known x n) → At (attr x n m) → Lends schema env cs x t →
+  pub attribute_true : (access : AttributeAccess) (known : Bool) (x : Plain) (n : List ℕ) (m : Mark (Unit {0})) (t : Ty) → known ≡ has_cap cs (attribute_known x n) → At (attr x n m) → Gives schema env cs x t →
       Each Q (attribute_found schema access known n m.loc t (attribute_of schema t n))
   attribute_true access known x n m t asked at lent = by (attribute_of schema t n) refl
     where
@@ -158,7 +158,7 @@ module _ (schema : SchemaData) (env : EnvData) (ps : List Part) (cs : List Capab
       by None e = one_true _ (attr x n m) at (t, lent, e, refl)
       by (Some a) e = each_if_none Q (safe_type known a) _ (λ d. one_true _ (attr x n m) at (t, lent, subst (λ o. IsSomeAnd o (λ b. b.is_required ≡ false)) (sym e) (unsafe known a d), sym asked ∙ unknown known a d))
 
-  pub set_true : (xs : Trees (Mark (Unit {0}))) (m : Mark (Unit {0})) (ts : List Ty) → At (set xs m) → (ts ≡ [] → xs ≡ no_trees) → LendEach schema env cs xs ts → Each Q (set_found m.loc ts)
+  pub set_true : (xs : Trees (Mark (Unit {0}))) (m : Mark (Unit {0})) (ts : List Ty) → At (set xs m) → (ts ≡ [] → xs ≡ no_trees) → GiveEach schema env cs xs ts → Each Q (set_found m.loc ts)
   set_true xs m [] at k lent = one_true _ (set xs m) at (k refl)
   set_true xs m (t ∷ ts) at k lent = incompatible_true context.Set (set xs m) (t ∷ ts) (join_all Strict (t ∷ ts)) at lent (λ h e. e)
 

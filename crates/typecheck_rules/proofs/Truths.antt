@@ -21,15 +21,15 @@ use Rattle.findings.specs.declared.helps.LubContext.TheVariants as context
 use Rattle.findings.specs.Finding.{Finding, UnexpectedType, UndefinedFunction}
 use Rattle.findings.specs.Access.{attribute_access}
 use Rattle.typecheck_rules.specs.Expected.{Expected, a_boolean, a_string, an_entity, an_owner, an_argument, no_help, like_help, test_help, contents_help, of_unary, left_of, right_of}
-use Rattle.typecheck_rules.specs.Walked.{Walked, Success, Fail, findings_of, tree_of, has_typing, lent_by, lent_by_all, lends, trees_walked, both, expect, expect_if, one_walked, two_walked, all_walked, findings_of_all}
+use Rattle.typecheck_rules.specs.Walked.{Walked, Success, Fail, findings_of, tree_of, has_typing, given_by, given_by_all, lends, trees_walked, both, expect, expect_if, one_walked, two_walked, all_walked, findings_of_all}
 use Rattle.typecheck_rules.specs.Own.{no_join, set_found, call_found}
-use Rattle.typecheck_rules.specs.Operators.{place, type_lent, leaf_walked, unless_false, unless_true, reached_after, reached_besides, unary_lent, unary_typing, unary_fitting, like_typing, like_fitting, is_typing, is_fitting, has_typing_of, has_fitting, attr_typing, attr_lent, attr_found, attr_fitting, binary_lent, binary_typing, binary_type_lent, binary_own, binary_fitting, and_sides, or_sides, test_lent, branches_found, if_typing_of, if_parts, set_typing, set_walked, Fields, parts_of, lent_fields, record_typing, record_walked, arguments_fitting, arguments_walked, call_typing, call_fitting, call_walked}
+use Rattle.typecheck_rules.specs.Operators.{place, type_given, leaf_walked, unless_false, unless_true, reached_after, reached_besides, unary_given, unary_typing, unary_fitting, like_typing, like_fitting, is_typing, is_fitting, has_typing_of, has_fitting, attr_typing, attr_given, attr_found, attr_fitting, binary_given, binary_typing, binary_type_given, binary_own, binary_fitting, and_sides, or_sides, test_given, branches_found, if_typing_of, if_parts, set_typing, set_walked, Fields, parts_of, given_fields, record_typing, record_walked, arguments_fitting, arguments_walked, call_typing, call_fitting, call_walked}
 use Rattle.typecheck_rules.specs.Walk.{walked, walked_all, walked_named}
-use Rattle.typecheck_rules.specs.Truth.{Part, part, known_after, tested, parts, all_parts, named_parts, LendEach, IsTrueAt, FindingsAreTrue}
+use Rattle.typecheck_rules.specs.Truth.{Part, part, known_after, tested, parts, all_parts, named_parts, GiveEach, IsTrueAt, FindingsAreTrue}
 use Rattle.typecheck_rules.proofs.Steps.{IfFalse}
-use Rattle.typecheck_rules.proofs.Each.{Each, each_both, each_of, each_ended, each_expect, expect_lends, expect_if_lends}
+use Rattle.typecheck_rules.proofs.Each.{Each, each_both, each_of, each_ended, each_expect, expect_gives, expect_if_gives}
 use Rattle.typecheck_rules.proofs.Below.{Bars, BarsIf, IsLeast, boolean_bars, string_bars, entity_bars, owner_bars, argument_bars, arguments_least, unary_bars, left_bars, right_bars}
-use Rattle.typecheck_rules.proofs.True.{At, MayLend, one_true, no_join_true, of_both_true, binary_true, attribute_true, set_true, call_true}
+use Rattle.typecheck_rules.proofs.True.{At, MayGive, one_true, no_join_true, of_both_true, binary_true, attribute_true, set_true, call_true}
 
 -- parts
 behind : (e d : Part) (es : List Part) → Contains es d → Contains (e ∷ es) d
@@ -80,25 +80,25 @@ module _ (schema : SchemaData) (env : EnvData) where
     if_true true B k h = tt
     if_true false B k h = k h
 
-    barring : (x : Expected) (e : Plain) (v : Walked) → At schema env ps cs e → MayLend schema env ps cs e (type_lent v) → Bars x → (t : Ty) → type_lent v ≡ Some t →
+    barring : (x : Expected) (e : Plain) (v : Walked) → At schema env ps cs e → MayGive schema env ps cs e (type_given v) → Bars x → (t : Ty) → type_given v ≡ Some t →
         IfFalse (x.fits t) (IsTrueAt schema env ps (record { kind = UnexpectedType x.types t (x.help t); loc = place e }))
     barring x e v at lent bars t is = if_true (x.fits t) _ (λ h. record { part = record { known = cs; is = e }; among = at; at = refl; so = (lent t is, h) }) (bars t)
 
-    expect_true : (x : Expected) (e : Plain) (v : Walked) → At schema env ps cs e → MayLend schema env ps cs e (type_lent v) → Bars x → Each (IsTrueAt schema env ps) (findings_of v) →
+    expect_true : (x : Expected) (e : Plain) (v : Walked) → At schema env ps cs e → MayGive schema env ps cs e (type_given v) → Bars x → Each (IsTrueAt schema env ps) (findings_of v) →
         Each (IsTrueAt schema env ps) (findings_of (expect x (place e) v))
     expect_true x e v at lent bars h = each_expect (IsTrueAt schema env ps) x (place e) v (barring x e v at lent bars) h
 
-    expect_if_true : (o : Option Expected) (e : Plain) (v : Walked) → At schema env ps cs e → MayLend schema env ps cs e (type_lent v) → BarsIf o → Each (IsTrueAt schema env ps) (findings_of v) →
+    expect_if_true : (o : Option Expected) (e : Plain) (v : Walked) → At schema env ps cs e → MayGive schema env ps cs e (type_given v) → BarsIf o → Each (IsTrueAt schema env ps) (findings_of v) →
         Each (IsTrueAt schema env ps) (findings_of (expect_if o (place e) v))
     expect_if_true None e v at lent bars h = h
     expect_if_true (Some x) e v at lent bars h = expect_true x e v at lent bars h
 
-    attr_own : (known : Bool) (x : Plain) (n : List ℕ) (m : Mark (Unit {0})) (a : Option Typing) → known ≡ has_cap cs (attribute_known x n) → At schema env ps cs (attr x n m) → MayLend schema env ps cs x (option_map (λ b. b.type) a) →
+    attr_own : (known : Bool) (x : Plain) (n : List ℕ) (m : Mark (Unit {0})) (a : Option Typing) → known ≡ has_cap cs (attribute_known x n) → At schema env ps cs (attr x n m) → MayGive schema env ps cs x (option_map (λ b. b.type) a) →
         Each (IsTrueAt schema env ps) (option_map_or (attr_found schema env known n m) a [])
     attr_own known x n m None asked at lent = tt
     attr_own known x n m (Some a) asked at lent = attribute_true schema env ps cs (attribute_access env a.tree n) known x n m a.type asked at (lent a.type refl)
 
-    branches_true : (x y z : Plain) (m : Mark (Unit {0})) (s : Ty) (t u : Option Ty) → At schema env ps cs (ite x y z m) → (IsOpen s → MayLend schema env ps (known_after cs (tested schema env cs x)) y t) → (IsOpen s → MayLend schema env ps cs z u) →
+    branches_true : (x y z : Plain) (m : Mark (Unit {0})) (s : Ty) (t u : Option Ty) → At schema env ps cs (ite x y z m) → (IsOpen s → MayGive schema env ps (known_after cs (tested schema env cs x)) y t) → (IsOpen s → MayGive schema env ps cs z u) →
         Each (IsTrueAt schema env ps) (branches_found m s t u)
     branches_true x y z m true_type t u at ly lz = tt
     branches_true x y z m false_type t u at ly lz = tt
@@ -122,7 +122,7 @@ module _ (schema : SchemaData) (env : EnvData) where
     besides_true (Fail t fs) w h = h
 
     set_own : (xs : Trees (Mark (Unit {0}))) (m : Mark (Unit {0})) (o : Option (List Typing)) → At schema env ps cs (set xs m) → ((ys : List Typing) → o ≡ Some ys → types_in ys ≡ [] → xs ≡ no_trees) →
-        ((ys : List Typing) → o ≡ Some ys → LendEach schema env cs xs (types_in ys)) → Each (IsTrueAt schema env ps) (option_map_or (λ ys. set_found m.loc (types_in ys)) o [])
+        ((ys : List Typing) → o ≡ Some ys → GiveEach schema env cs xs (types_in ys)) → Each (IsTrueAt schema env ps) (option_map_or (λ ys. set_found m.loc (types_in ys)) o [])
     set_own xs m None at k lent = tt
     set_own xs m (Some ys) at k lent = set_true schema env ps cs xs m (types_in ys) at (k ys refl) (lent ys refl)
 
@@ -130,19 +130,19 @@ module _ (schema : SchemaData) (env : EnvData) where
     one_is_true : (rule : Typing → Option Typing) (failed : Typed) (own : List Finding) (v : Walked) → Each (IsTrueAt schema env ps) (findings_of v) → Each (IsTrueAt schema env ps) own →
         Each (IsTrueAt schema env ps) (findings_of (one_walked rule failed own v))
     one_is_true rule failed own v h k =
-        each_ended (IsTrueAt schema env ps) (has_typing v) (option_and_then rule (lent_by v)) failed (findings_of v ++ own) (each_both (IsTrueAt schema env ps) (findings_of v) own h k)
+        each_ended (IsTrueAt schema env ps) (has_typing v) (option_and_then rule (given_by v)) failed (findings_of v ++ own) (each_both (IsTrueAt schema env ps) (findings_of v) own h k)
 
     two_is_true : (rule : Typing → Typing → Option Typing) (failed : Typed) (own : List Finding) (v w : Walked) → Each (IsTrueAt schema env ps) (findings_of v) → Each (IsTrueAt schema env ps) (findings_of w) →
         Each (IsTrueAt schema env ps) own → Each (IsTrueAt schema env ps) (findings_of (two_walked rule failed own v w))
     two_is_true rule failed own v w h k i =
-        each_ended (IsTrueAt schema env ps) (has_typing v && has_typing w) (both rule (lent_by v) (lent_by w)) failed (findings_of v ++ (findings_of w ++ own))
+        each_ended (IsTrueAt schema env ps) (has_typing v && has_typing w) (both rule (given_by v) (given_by w)) failed (findings_of v ++ (findings_of w ++ own))
         (each_both (IsTrueAt schema env ps) (findings_of v) (findings_of w ++ own) h (each_both (IsTrueAt schema env ps) (findings_of w) own k i))
 
     all_is_true : (rule : List Typing → Option Typing) (failed : Typed) (found : List Finding) (ws : List Walked) → Each (IsTrueAt schema env ps) found → Each (IsTrueAt schema env ps) (findings_of (all_walked rule failed found ws))
-    all_is_true rule failed found ws h = each_ended (IsTrueAt schema env ps) (list_all has_typing ws) (option_and_then rule (lent_by_all ws)) failed found h
+    all_is_true rule failed found ws h = each_ended (IsTrueAt schema env ps) (list_all has_typing ws) (option_and_then rule (given_by_all ws)) failed found h
 
     unary_is_true : (o : UnaryOp) (m : Mark (Unit {0})) (v : Walked) → Each (IsTrueAt schema env ps) (findings_of v) → Each (IsTrueAt schema env ps) (findings_of (unary_fitting o m v))
-    unary_is_true o m v h = one_is_true (unary_typing o m) (unary o (tree_of v) (lends (Some (unary_lent o)) m)) [] v h tt
+    unary_is_true o m v h = one_is_true (unary_typing o m) (unary o (tree_of v) (lends (Some (unary_given o)) m)) [] v h tt
 
     like_is_true : (p : List PatternElem) (m : Mark (Unit {0})) (v : Walked) → Each (IsTrueAt schema env ps) (findings_of v) → Each (IsTrueAt schema env ps) (findings_of (like_fitting p m v))
     like_is_true p m v h = one_is_true (like_typing p m) (like (tree_of v) p (lends (Some bool_type) m)) [] v h tt
@@ -153,48 +153,48 @@ module _ (schema : SchemaData) (env : EnvData) where
     has_is_true : (known : Bool) (x : Plain) (n : List ℕ) (m : Mark (Unit {0})) (v : Walked) → Each (IsTrueAt schema env ps) (findings_of v) → Each (IsTrueAt schema env ps) (findings_of (has_fitting schema known x n m v))
     has_is_true known x n m v h = one_is_true (has_typing_of schema known x n m) (has (tree_of v) n (lends (Some bool_type) m)) [] v h tt
 
-    attr_is_true : (known : Bool) (x : Plain) (n : List ℕ) (m : Mark (Unit {0})) (v : Walked) → known ≡ has_cap cs (attribute_known x n) → At schema env ps cs (attr x n m) → MayLend schema env ps cs x (type_lent v) → Each (IsTrueAt schema env ps) (findings_of v) →
+    attr_is_true : (known : Bool) (x : Plain) (n : List ℕ) (m : Mark (Unit {0})) (v : Walked) → known ≡ has_cap cs (attribute_known x n) → At schema env ps cs (attr x n m) → MayGive schema env ps cs x (type_given v) → Each (IsTrueAt schema env ps) (findings_of v) →
         Each (IsTrueAt schema env ps) (findings_of (attr_fitting schema env known n m v))
     attr_is_true known x n m v asked at lent h =
-        one_is_true (attr_typing schema env known n m) (attr (tree_of v) n (lends (option_and_then (attr_lent schema env n) (type_lent v)) m)) (option_map_or (attr_found schema env known n m) (lent_by v) []) v h (attr_own known x n m (lent_by v) asked at lent)
+        one_is_true (attr_typing schema env known n m) (attr (tree_of v) n (lends (option_and_then (attr_given schema env n) (type_given v)) m)) (option_map_or (attr_found schema env known n m) (given_by v) []) v h (attr_own known x n m (given_by v) asked at lent)
 
     binary_is_true : (o : BinaryOp) (known : Bool) (x y : Plain) (m : Mark (Unit {0})) (v w : Walked) → known ≡ has_cap cs (tag_known x y) → At schema env ps cs x → At schema env ps cs y → At schema env ps cs (binary o x y m) →
-        MayLend schema env ps cs x (type_lent v) → MayLend schema env ps cs y (type_lent w) →
+        MayGive schema env ps cs x (type_given v) → MayGive schema env ps cs y (type_given w) →
         Each (IsTrueAt schema env ps) (findings_of v) → Each (IsTrueAt schema env ps) (findings_of w) → Each (IsTrueAt schema env ps) (findings_of (binary_fitting schema env o known x y m v w))
     binary_is_true o known x y m v w asked at to in_place lx ly h k =
-        two_is_true (binary_typing schema env o known x y m) (binary o (tree_of v) (tree_of w) (lends (binary_lent schema env o x y (type_lent v)) m)) (binary_own schema env o known x y m (type_lent v) (type_lent w)) v w h k
-        (binary_true schema env ps cs o known x y m (binary_type_lent schema env o known x y (type_lent v) (type_lent w)) (type_lent v) (type_lent w) asked at to in_place lx ly)
+        two_is_true (binary_typing schema env o known x y m) (binary o (tree_of v) (tree_of w) (lends (binary_given schema env o x y (type_given v)) m)) (binary_own schema env o known x y m (type_given v) (type_given w)) v w h k
+        (binary_true schema env ps cs o known x y m (binary_type_given schema env o known x y (type_given v) (type_given w)) (type_given v) (type_given w) asked at to in_place lx ly)
 
     and_sides_true : (m : Mark (Unit {0})) (v w : Walked) → Each (IsTrueAt schema env ps) (findings_of v) → Each (IsTrueAt schema env ps) (findings_of w) → Each (IsTrueAt schema env ps) (findings_of (and_sides m v w))
     and_sides_true m v w h k =
-        each_ended (IsTrueAt schema env ps) (has_typing v && has_typing w) (option_and_then (λ a. and_typing a.type a.caps a.tree m (lent_by w)) (lent_by v)) (conj (tree_of v) (tree_of w) (lends (Some bool_type) m))
+        each_ended (IsTrueAt schema env ps) (has_typing v && has_typing w) (option_and_then (λ a. and_typing a.type a.caps a.tree m (given_by w)) (given_by v)) (conj (tree_of v) (tree_of w) (lends (Some bool_type) m))
         (findings_of v ++ findings_of w) (each_both (IsTrueAt schema env ps) (findings_of v) (findings_of w) h k)
 
     or_sides_true : (m : Mark (Unit {0})) (v w : Walked) → Each (IsTrueAt schema env ps) (findings_of v) → Each (IsTrueAt schema env ps) (findings_of w) → Each (IsTrueAt schema env ps) (findings_of (or_sides m v w))
     or_sides_true m v w h k =
-        each_ended (IsTrueAt schema env ps) (has_typing v && has_typing w) (option_and_then (λ a. or_typing a.type a.caps a.tree m (lent_by w)) (lent_by v)) (disj (tree_of v) (tree_of w) (lends (Some bool_type) m))
+        each_ended (IsTrueAt schema env ps) (has_typing v && has_typing w) (option_and_then (λ a. or_typing a.type a.caps a.tree m (given_by w)) (given_by v)) (disj (tree_of v) (tree_of w) (lends (Some bool_type) m))
         (findings_of v ++ findings_of w) (each_both (IsTrueAt schema env ps) (findings_of v) (findings_of w) h k)
 
-    if_parts_true : (x y z : Plain) (m : Mark (Unit {0})) (u v w : Walked) → At schema env ps cs (ite x y z m) → (IsOpen (test_lent u).type → MayLend schema env ps (known_after cs (tested schema env cs x)) y (type_lent v)) →
-        (IsOpen (test_lent u).type → MayLend schema env ps cs z (type_lent w)) → Each (IsTrueAt schema env ps) (findings_of u) → Each (IsTrueAt schema env ps) (findings_of v) → Each (IsTrueAt schema env ps) (findings_of w) →
+    if_parts_true : (x y z : Plain) (m : Mark (Unit {0})) (u v w : Walked) → At schema env ps cs (ite x y z m) → (IsOpen (test_given u).type → MayGive schema env ps (known_after cs (tested schema env cs x)) y (type_given v)) →
+        (IsOpen (test_given u).type → MayGive schema env ps cs z (type_given w)) → Each (IsTrueAt schema env ps) (findings_of u) → Each (IsTrueAt schema env ps) (findings_of v) → Each (IsTrueAt schema env ps) (findings_of w) →
         Each (IsTrueAt schema env ps) (findings_of (if_parts m u v w))
     if_parts_true x y z m u v w at ly lz h k i =
-        each_ended (IsTrueAt schema env ps) (has_typing u && (has_typing v && has_typing w)) (if_typing_of m (test_lent u) (lent_by v) (lent_by w)) (ite (tree_of u) (tree_of v) (tree_of w) (lends None m))
-        (findings_of u ++ (findings_of v ++ (findings_of w ++ branches_found m (test_lent u).type (type_lent v) (type_lent w))))
-        (each_both (IsTrueAt schema env ps) (findings_of u) (findings_of v ++ (findings_of w ++ branches_found m (test_lent u).type (type_lent v) (type_lent w))) h
-        (each_both (IsTrueAt schema env ps) (findings_of v) (findings_of w ++ branches_found m (test_lent u).type (type_lent v) (type_lent w)) k
-        (each_both (IsTrueAt schema env ps) (findings_of w) (branches_found m (test_lent u).type (type_lent v) (type_lent w)) i (branches_true x y z m (test_lent u).type (type_lent v) (type_lent w) at ly lz))))
+        each_ended (IsTrueAt schema env ps) (has_typing u && (has_typing v && has_typing w)) (if_typing_of m (test_given u) (given_by v) (given_by w)) (ite (tree_of u) (tree_of v) (tree_of w) (lends None m))
+        (findings_of u ++ (findings_of v ++ (findings_of w ++ branches_found m (test_given u).type (type_given v) (type_given w))))
+        (each_both (IsTrueAt schema env ps) (findings_of u) (findings_of v ++ (findings_of w ++ branches_found m (test_given u).type (type_given v) (type_given w))) h
+        (each_both (IsTrueAt schema env ps) (findings_of v) (findings_of w ++ branches_found m (test_given u).type (type_given v) (type_given w)) k
+        (each_both (IsTrueAt schema env ps) (findings_of w) (branches_found m (test_given u).type (type_given v) (type_given w)) i (branches_true x y z m (test_given u).type (type_given v) (type_given w) at ly lz))))
 
-    set_is_true : (xs : Trees (Mark (Unit {0}))) (m : Mark (Unit {0})) (ws : List Walked) → At schema env ps cs (set xs m) → ((ys : List Typing) → lent_by_all ws ≡ Some ys → types_in ys ≡ [] → xs ≡ no_trees) →
-        ((ys : List Typing) → lent_by_all ws ≡ Some ys → LendEach schema env cs xs (types_in ys)) →
+    set_is_true : (xs : Trees (Mark (Unit {0}))) (m : Mark (Unit {0})) (ws : List Walked) → At schema env ps cs (set xs m) → ((ys : List Typing) → given_by_all ws ≡ Some ys → types_in ys ≡ [] → xs ≡ no_trees) →
+        ((ys : List Typing) → given_by_all ws ≡ Some ys → GiveEach schema env cs xs (types_in ys)) →
         Each (IsTrueAt schema env ps) (findings_of_all ws) → Each (IsTrueAt schema env ps) (findings_of (set_walked m ws))
     set_is_true xs m ws at k lent h =
-        all_is_true (set_typing m) (set (trees_walked ws) (lends None m)) (findings_of_all ws ++ option_map_or (λ ys. set_found m.loc (types_in ys)) (lent_by_all ws) []) ws
-        (each_both (IsTrueAt schema env ps) (findings_of_all ws) (option_map_or (λ ys. set_found m.loc (types_in ys)) (lent_by_all ws) []) h (set_own xs m (lent_by_all ws) at k lent))
+        all_is_true (set_typing m) (set (trees_walked ws) (lends None m)) (findings_of_all ws ++ option_map_or (λ ys. set_found m.loc (types_in ys)) (given_by_all ws) []) ws
+        (each_both (IsTrueAt schema env ps) (findings_of_all ws) (option_map_or (λ ys. set_found m.loc (types_in ys)) (given_by_all ws) []) h (set_own xs m (given_by_all ws) at k lent))
 
     record_is_true : (m : Mark (Unit {0})) (es : Fields) → Each (IsTrueAt schema env ps) (findings_of_all (parts_of es)) → Each (IsTrueAt schema env ps) (findings_of (record_walked m es))
     record_is_true m es h =
-        each_ended (IsTrueAt schema env ps) (list_all has_typing (parts_of es)) (option_map (record_typing m) (lent_fields es)) (rec (named_of (map (λ e. (e.0, tree_of e.1)) es)) (lends None m)) (findings_of_all (parts_of es)) h
+        each_ended (IsTrueAt schema env ps) (list_all has_typing (parts_of es)) (option_map (record_typing m) (given_fields es)) (rec (named_of (map (λ e. (e.0, tree_of e.1)) es)) (lends None m)) (findings_of_all (parts_of es)) h
 
     call_fitting_true : (f : List ℕ) (g : ExtensionFunction) (xs : Trees (Mark (Unit {0}))) (m : Mark (Unit {0})) (own : List Finding) (ws : List Walked) → Each (IsTrueAt schema env ps) own → Each (IsTrueAt schema env ps) (findings_of_all ws) →
         Each (IsTrueAt schema env ps) (findings_of (call_fitting f g xs m own ws))
@@ -202,11 +202,11 @@ module _ (schema : SchemaData) (env : EnvData) where
         all_is_true (call_typing f (Some g) xs m) (call f (trees_walked ws) (lends (Some (signature_of g).result) m)) (own ++ findings_of_all ws) ws (each_both (IsTrueAt schema env ps) own (findings_of_all ws) h k)
 
     -- arguments
-    abbrev AreLent : Trees (Mark (Unit {0})) → List Walked → Type 0
-    AreLent (tree x xs) (w ∷ ws) = MayLend schema env ps cs x (type_lent w) × AreLent xs ws
-    AreLent xs ws = Unit {0}
+    abbrev AreBorrowed : Trees (Mark (Unit {0})) → List Walked → Type 0
+    AreBorrowed (tree x xs) (w ∷ ws) = MayGive schema env ps cs x (type_given w) × AreBorrowed xs ws
+    AreBorrowed xs ws = Unit {0}
 
-    fitting_true : (ts : List Ty) (xs : Trees (Mark (Unit {0}))) (ws : List Walked) → AllByRecursion IsLeast ts → ((e : Part) → Contains (all_parts schema env cs xs) e → Contains ps e) → AreLent xs ws →
+    fitting_true : (ts : List Ty) (xs : Trees (Mark (Unit {0}))) (ws : List Walked) → AllByRecursion IsLeast ts → ((e : Part) → Contains (all_parts schema env cs xs) e → Contains ps e) → AreBorrowed xs ws →
         Each (IsTrueAt schema env ps) (findings_of_all ws) → Each (IsTrueAt schema env ps) (findings_of_all (arguments_fitting ts xs ws))
     fitting_true [] xs ws least k lent h = h
     fitting_true (t ∷ ts) no_trees ws least k lent h = h
@@ -222,7 +222,7 @@ module _ (schema : SchemaData) (env : EnvData) where
         split (f ∷ fs) gs i = let p = split fs gs i.1 in ((i.0, p.0), p.1)
 
     call_is_true : (f : List ℕ) (o : Option ExtensionFunction) (xs : Trees (Mark (Unit {0}))) (m : Mark (Unit {0})) (ws : List Walked) → function_of f ≡ o → At schema env ps cs (call f xs m) →
-        ((e : Part) → Contains (all_parts schema env cs xs) e → Contains ps e) → AreLent xs ws → Each (IsTrueAt schema env ps) (findings_of_all ws) → Each (IsTrueAt schema env ps) (findings_of (call_walked f o xs m ws))
+        ((e : Part) → Contains (all_parts schema env cs xs) e → Contains ps e) → AreBorrowed xs ws → Each (IsTrueAt schema env ps) (findings_of_all ws) → Each (IsTrueAt schema env ps) (findings_of (call_walked f o xs m ws))
     call_is_true f None xs m ws e at k lent h = one_true schema env ps cs (UndefinedFunction f) (call f xs m) at (refl, e)
     call_is_true f (Some g) xs m ws e at k lent h = by (call_found g xs m.loc) (call_found g xs m.loc) (call_true schema env ps cs f g xs m e at)
       where
@@ -270,13 +270,13 @@ module _ (schema : SchemaData) (env : EnvData) where
   up : (cs ds : List Capability) (e x : Plain) → Within (ps ds x) (operands schema env cs e) → (w : Walked) → Truth ds x w → Truth cs e w
   up cs ds e x k w h = wider schema env (ps ds x) (ps cs e) (below cs e (ps ds x) k) (findings_of w) h
 
-  -- what a part comes to is what it lends
-  lent : (qs : List Part) (cs : List Capability) (x : Plain) → MayLend schema env qs cs x (type_lent (walked schema env cs x))
+  -- what a part comes to is what it gives
+  lent : (qs : List Part) (cs : List Capability) (x : Plain) → MayGive schema env qs cs x (type_given (walked schema env cs x))
   lent qs cs x t h = h
 
-  all_lent : (qs : List Part) (cs : List Capability) (xs : Trees (Mark (Unit {0}))) → AreLent schema env qs cs xs (walked_all schema env cs xs)
-  all_lent qs cs no_trees = tt
-  all_lent qs cs (tree x xs) = (lent qs cs x, all_lent qs cs xs)
+  all_given : (qs : List Part) (cs : List Capability) (xs : Trees (Mark (Unit {0}))) → AreBorrowed schema env qs cs xs (walked_all schema env cs xs)
+  all_given qs cs no_trees = tt
+  all_given qs cs (tree x xs) = (lent qs cs x, all_given qs cs xs)
 
   -- an operand of which something is expected
   expected : (cs ds : List Capability) (e x : Plain) (o : Expected) → Within (ps ds x) (operands schema env cs e) → Bars o → Truth ds x (walked schema env ds x) →
@@ -304,43 +304,43 @@ module _ (schema : SchemaData) (env : EnvData) where
       (λ t fs is. subst (λ ds. Each (IsTrueAt schema env qs) (findings_of (after ds))) (known_failed cs v t fs is) h)
 
   -- the branches of an `if` whose test is open are both walked
-  after_lent : (qs : List Part) (u : Walked) (cs : List Capability) (y : Plain) → IsOpen (test_lent u).type →
-      MayLend schema env qs (known_after cs u) y (type_lent (reached_after u (λ ds. walked schema env (cs ++ ds) y) (walked schema env cs y)))
-  after_lent qs (Fail t fs) cs y h = lent qs cs y
-  after_lent qs (Success a) cs y h = by a.type h
+  after_given : (qs : List Part) (u : Walked) (cs : List Capability) (y : Plain) → IsOpen (test_given u).type →
+      MayGive schema env qs (known_after cs u) y (type_given (reached_after u (λ ds. walked schema env (cs ++ ds) y) (walked schema env cs y)))
+  after_given qs (Fail t fs) cs y h = lent qs cs y
+  after_given qs (Success a) cs y h = by a.type h
     where
-      by : (s : Ty) → IsOpen s → MayLend schema env qs (cs ++ a.caps) y (type_lent (unless_false s (walked schema env (cs ++ a.caps) y)))
+      by : (s : Ty) → IsOpen s → MayGive schema env qs (cs ++ a.caps) y (type_given (unless_false s (walked schema env (cs ++ a.caps) y)))
       by true_type i = absurd i
       by false_type i = absurd i
       by s i = lent qs (cs ++ a.caps) y
 
-  besides_lent : (qs : List Part) (u : Walked) (cs : List Capability) (z : Plain) → IsOpen (test_lent u).type → MayLend schema env qs cs z (type_lent (reached_besides u (walked schema env cs z)))
-  besides_lent qs (Fail t fs) cs z h = lent qs cs z
-  besides_lent qs (Success a) cs z h = by a.type h
+  besides_given : (qs : List Part) (u : Walked) (cs : List Capability) (z : Plain) → IsOpen (test_given u).type → MayGive schema env qs cs z (type_given (reached_besides u (walked schema env cs z)))
+  besides_given qs (Fail t fs) cs z h = lent qs cs z
+  besides_given qs (Success a) cs z h = by a.type h
     where
-      by : (s : Ty) → IsOpen s → MayLend schema env qs cs z (type_lent (unless_true s (walked schema env cs z)))
+      by : (s : Ty) → IsOpen s → MayGive schema env qs cs z (type_given (unless_true s (walked schema env cs z)))
       by true_type i = absurd i
       by false_type i = absurd i
       by s i = lent qs cs z
 
-  -- where each element lends a type, these are the types that they lend
-  each_lent : (cs : List Capability) (xs : Trees (Mark (Unit {0}))) (ys : List Typing) → lent_by_all (walked_all schema env cs xs) ≡ Some ys → LendEach schema env cs xs (types_in ys)
-  each_lent cs no_trees [] h = tt
-  each_lent cs no_trees (y ∷ ys) h = absurd (cc h)
-  each_lent cs (tree x xs) ys h = by (lent_by (walked schema env cs x)) refl (lent_by_all (walked_all schema env cs xs)) (each_lent cs xs) h
+  -- where each element gives a type, these are the types that they give
+  each_given : (cs : List Capability) (xs : Trees (Mark (Unit {0}))) (ys : List Typing) → given_by_all (walked_all schema env cs xs) ≡ Some ys → GiveEach schema env cs xs (types_in ys)
+  each_given cs no_trees [] h = tt
+  each_given cs no_trees (y ∷ ys) h = absurd (cc h)
+  each_given cs (tree x xs) ys h = by (given_by (walked schema env cs x)) refl (given_by_all (walked_all schema env cs xs)) (each_given cs xs) h
     where
-      by : (o : Option Typing) → lent_by (walked schema env cs x) ≡ o → (os : Option (List Typing)) → ((zs : List Typing) → os ≡ Some zs → LendEach schema env cs xs (types_in zs)) →
-          option_and_then (λ a. option_map (λ more. a ∷ more) os) o ≡ Some ys → LendEach schema env cs (tree x xs) (types_in ys)
+      by : (o : Option Typing) → given_by (walked schema env cs x) ≡ o → (os : Option (List Typing)) → ((zs : List Typing) → os ≡ Some zs → GiveEach schema env cs xs (types_in zs)) →
+          option_and_then (λ a. option_map (λ more. a ∷ more) os) o ≡ Some ys → GiveEach schema env cs (tree x xs) (types_in ys)
       by None e os k i = absurd (cc i)
       by (Some a) e None k i = absurd (cc i)
       by (Some a) e (Some more) k i =
           let same : a ∷ more ≡ ys = cc i in
-          subst (λ zs. LendEach schema env cs (tree x xs) (types_in zs)) same (ap (option_map (λ b. b.type)) e, k more refl)
+          subst (λ zs. GiveEach schema env cs (tree x xs) (types_in zs)) same (ap (option_map (λ b. b.type)) e, k more refl)
 
   -- operands without types are none
-  no_operands : (cs : List Capability) (xs : Trees (Mark (Unit {0}))) (ys : List Typing) → lent_by_all (walked_all schema env cs xs) ≡ Some ys → types_in ys ≡ [] → xs ≡ no_trees
+  no_operands : (cs : List Capability) (xs : Trees (Mark (Unit {0}))) (ys : List Typing) → given_by_all (walked_all schema env cs xs) ≡ Some ys → types_in ys ≡ [] → xs ≡ no_trees
   no_operands cs no_trees ys h e = refl
-  no_operands cs (tree x xs) ys h e = by (lent_by (walked schema env cs x)) (lent_by_all (walked_all schema env cs xs)) ys h e
+  no_operands cs (tree x xs) ys h e = by (given_by (walked schema env cs x)) (given_by_all (walked_all schema env cs xs)) ys h e
     where
       by : (o : Option Typing) (os : Option (List Typing)) (ys : List Typing) → option_and_then (λ a. option_map (λ more. a ∷ more) os) o ≡ Some ys → types_in ys ≡ [] → tree x xs ≡ no_trees
       by None os ys h e = cc
@@ -361,7 +361,7 @@ module _ (schema : SchemaData) (env : EnvData) where
         let in_y = λ (p : Part) (i : Contains (ps ds y) p). second (ps cs x) rest p (first (ps ds y) (ps cs z) p i) in
         let in_z = λ (p : Part) (i : Contains (ps cs z) p). second (ps cs x) rest p (second (ps ds y) (ps cs z) p i) in
         if_parts_true schema env (ps cs e) cs x y z m u (reached_after u (λ ds. walked schema env (cs ++ ds) y) (walked schema env cs y)) (reached_besides u (walked schema env cs z)) (part_in schema env cs e)
-        (after_lent (ps cs e) u cs y) (besides_lent (ps cs e) u cs z)
+        (after_given (ps cs e) u cs y) (besides_given (ps cs e) u cs z)
         (expected cs cs e x a_boolean (first (ps cs x) rest) boolean_bars (true_of cs x))
         (reached_true (ps cs e) cs u (λ ds. walked schema env ds y) (up cs ds e y in_y (walked schema env ds y) (true_of ds y)))
         (besides_true schema env (ps cs e) cs u (walked schema env cs z) (up cs cs e z in_z (walked schema env cs z) (true_of cs z)))
@@ -385,11 +385,11 @@ module _ (schema : SchemaData) (env : EnvData) where
         let e = binary o x y m in
         binary_is_true schema env (ps cs e) cs o (has_cap cs (tag_known x y)) x y m (expect_if (left_of o) (place x) (walked schema env cs x)) (expect_if (right_of o) (place y) (walked schema env cs y)) refl
         (operand_at cs cs e x (first (ps cs x) (ps cs y))) (operand_at cs cs e y (second (ps cs x) (ps cs y))) (part_in schema env cs e)
-        (λ t h. expect_if_lends (left_of o) (place x) (walked schema env cs x) t h) (λ t h. expect_if_lends (right_of o) (place y) (walked schema env cs y) t h)
+        (λ t h. expect_if_gives (left_of o) (place x) (walked schema env cs x) t h) (λ t h. expect_if_gives (right_of o) (place y) (walked schema env cs y) t h)
         (expected_if cs cs e x (left_of o) (first (ps cs x) (ps cs y)) (left_bars o) (true_of cs x)) (expected_if cs cs e y (right_of o) (second (ps cs x) (ps cs y)) (right_bars o) (true_of cs y))
     true_of cs (attr x n m) =
         attr_is_true schema env (ps cs (attr x n m)) cs (has_cap cs (attribute_known x n)) x n m (expect (an_owner no_help) (place x) (walked schema env cs x)) refl (part_in schema env cs (attr x n m))
-        (λ t h. expect_lends (an_owner no_help) (place x) (walked schema env cs x) t h)
+        (λ t h. expect_gives (an_owner no_help) (place x) (walked schema env cs x) t h)
         (expected cs cs (attr x n m) x (an_owner no_help) (same (ps cs x)) (owner_bars no_help) (true_of cs x))
     true_of cs (has x n m) =
         has_is_true schema env (ps cs (has x n m)) cs (has_cap cs (attribute_known x n)) x n m (expect (an_owner contents_help) (place x) (walked schema env cs x))
@@ -403,11 +403,11 @@ module _ (schema : SchemaData) (env : EnvData) where
     true_of cs (call f xs m) =
         let e = call f xs m in
         let within = below cs e (all cs xs) (same (all cs xs)) in
-        call_is_true schema env (ps cs e) cs f (function_of f) xs m (walked_all schema env cs xs) refl (part_in schema env cs e) within (all_lent (ps cs e) cs xs)
+        call_is_true schema env (ps cs e) cs f (function_of f) xs m (walked_all schema env cs xs) refl (part_in schema env cs e) within (all_given (ps cs e) cs xs)
         (wider schema env (all cs xs) (ps cs e) within (findings_of_all (walked_all schema env cs xs)) (true_of_all cs xs))
     true_of cs (set xs m) =
         let e = set xs m in
-        set_is_true schema env (ps cs e) cs xs m (walked_all schema env cs xs) (part_in schema env cs e) (no_operands cs xs) (each_lent cs xs)
+        set_is_true schema env (ps cs e) cs xs m (walked_all schema env cs xs) (part_in schema env cs e) (no_operands cs xs) (each_given cs xs)
         (wider schema env (all cs xs) (ps cs e) (below cs e (all cs xs) (same (all cs xs))) (findings_of_all (walked_all schema env cs xs)) (true_of_all cs xs))
     true_of cs (rec xs m) =
         let e = rec xs m in

@@ -12,12 +12,12 @@ use Rattle.typing_spec.specs.Signatures.{same_type, same_types, signature_of, co
 use Rattle.typing_spec.specs.Typing.{Typed, Typing, types_in}
 use Rattle.findings.specs.Finding.{Finding}
 use Rattle.typecheck_rules.specs.Expected.{an_argument}
-use Rattle.typecheck_rules.specs.Walked.{Walked, Success, Fail, has_typing, lent_by_all, lends, trees_walked, ended, findings_of_all}
+use Rattle.typecheck_rules.specs.Walked.{Walked, Success, Fail, has_typing, given_by_all, lends, trees_walked, ended, findings_of_all}
 use Rattle.typecheck_rules.specs.Own.{if_not, text_found, call_found}
 use Rattle.typecheck_rules.specs.Operators.{place, arguments_fitting, arguments_walked, call_typing, call_fitting, call_walked}
 use Rattle.typecheck_rules.proofs.Lists.{AllTyped, SomeFails, typed_or_not}
 use Rattle.typecheck_rules.proofs.Found.{NonEmpty, front, back, HasFinding, Holds, found_mapped, ended_full, ended_found, Fitted, fitted, gives_both}
-use Rattle.typecheck_rules.proofs.Failing.{HaveFindings, some_found, all_lent, all_typed}
+use Rattle.typecheck_rules.proofs.Failing.{HaveFindings, some_found, all_given, all_typed}
 
 -- there are as many operands as were walked, and as many as there are types
 abbrev pub AreWalked : Trees (Mark (Unit {0})) → List Walked → Type 0
@@ -100,13 +100,13 @@ module _ (f : List ℕ) (g : ExtensionFunction) (xs : Trees (Mark (Unit {0}))) (
       (found_mapped _ (call_type (Some g) xs (types_in ys)) fs (gives_both (has_count g xs && (has_literals g xs && has_readable g xs)) (same_types (types_in ys) (signature_of g).arguments) (signature_of g).result fs h k))
 
   all_typed_call : (ys : List Typing) (t : Typed) (fs : List Finding) → Holds (has_count g xs && (has_literals g xs && has_readable g xs)) → Holds (same_types (types_in ys) (signature_of g).arguments) →
-      HasFinding (ended (list_all has_typing (map Success ys)) (option_and_then (call_typing f (Some g) xs m) (lent_by_all (map Success ys))) t fs)
+      HasFinding (ended (list_all has_typing (map Success ys)) (option_and_then (call_typing f (Some g) xs m) (given_by_all (map Success ys))) t fs)
   all_typed_call ys t fs h k =
-      subst (λ b. HasFinding (ended b (option_and_then (call_typing f (Some g) xs m) (lent_by_all (map Success ys))) t fs)) (sym (all_typed ys))
-      (subst (λ o. HasFinding (ended true (option_and_then (call_typing f (Some g) xs m) o) t fs)) (sym (all_lent ys)) (typed_call ys t fs h k))
+      subst (λ b. HasFinding (ended b (option_and_then (call_typing f (Some g) xs m) (given_by_all (map Success ys))) t fs)) (sym (all_typed ys))
+      (subst (λ o. HasFinding (ended true (option_and_then (call_typing f (Some g) xs m) o) t fs)) (sym (all_given ys)) (typed_call ys t fs h k))
 
-  fitting_told : (own : List Finding) (ws : List Walked) → Holds (has_count g xs && (has_literals g xs && has_readable g xs)) → AllFit (signature_of g).arguments ws → HasFinding (call_fitting f g xs m own ws)
-  fitting_told own ws h k = by (typed_or_not ws)
+  fitting_reported : (own : List Finding) (ws : List Walked) → Holds (has_count g xs && (has_literals g xs && has_readable g xs)) → AllFit (signature_of g).arguments ws → HasFinding (call_fitting f g xs m own ws)
+  fitting_reported own ws h k = by (typed_or_not ws)
     where
       by : AllTyped ws ⊎ SomeFails ws → HasFinding (call_fitting f g xs m own ws)
       by (inl i) =
@@ -114,18 +114,18 @@ module _ (f : List ℕ) (g : ExtensionFunction) (xs : Trees (Mark (Unit {0}))) (
           (all_typed_call i.0 (failed_call (map Success i.0)) (own ++ findings_of_all (map Success i.0)) h (fit_same (signature_of g).arguments i.0 (subst (AllFit (signature_of g).arguments) i.1 k)))
       by (inr i) = ended_full (list_all has_typing ws) _ _ (own ++ findings_of_all ws) (back own (findings_of_all ws) (some_found ws (fit_found (signature_of g).arguments ws k) i.0))
 
-  defined_told : (ws : List Walked) → AreWalked xs ws → HaveFindings ws → HasFinding (call_walked f (Some g) xs m ws)
-  defined_told ws d h = by (call_found g xs m.loc) refl
+  defined_reported : (ws : List Walked) → AreWalked xs ws → HaveFindings ws → HasFinding (call_walked f (Some g) xs m ws)
+  defined_reported ws d h = by (call_found g xs m.loc) refl
     where
       by : (own : List Finding) → call_found g xs m.loc ≡ own → HasFinding (call_fitting f g xs m (call_found g xs m.loc) (arguments_walked (call_found g xs m.loc) (signature_of g).arguments xs ws))
       by [] e =
           subst (λ fs. HasFinding (call_fitting f g xs m fs (arguments_walked fs (signature_of g).arguments xs ws))) (sym e)
-          (fitting_told [] (arguments_fitting (signature_of g).arguments xs ws) (call_formed g xs m.loc e)
+          (fitting_reported [] (arguments_fitting (signature_of g).arguments xs ws) (call_formed g xs m.loc e)
           (arguments_fit (signature_of g).arguments xs ws (counted (signature_of g).arguments xs (eqb-true (count_of xs) (length (signature_of g).arguments) (first_holds (has_count g xs) _ (call_formed g xs m.loc e)))) d h))
       by (p ∷ own) e =
           subst (λ fs. HasFinding (call_fitting f g xs m fs (arguments_walked fs (signature_of g).arguments xs ws))) (sym e)
           (ended_full (list_all has_typing ws) _ _ (p ∷ (own ++ findings_of_all ws)) tt)
 
-pub call_told : (f : List ℕ) (o : Option ExtensionFunction) (xs : Trees (Mark (Unit {0}))) (m : Mark (Unit {0})) (ws : List Walked) → AreWalked xs ws → HaveFindings ws → HasFinding (call_walked f o xs m ws)
-call_told f None xs m ws d h = tt
-call_told f (Some g) xs m ws d h = defined_told f g xs m ws d h
+pub call_reported : (f : List ℕ) (o : Option ExtensionFunction) (xs : Trees (Mark (Unit {0}))) (m : Mark (Unit {0})) (ws : List Walked) → AreWalked xs ws → HaveFindings ws → HasFinding (call_walked f o xs m ws)
+call_reported f None xs m ws d h = tt
+call_reported f (Some g) xs m ws d h = defined_reported f g xs m ws d h

@@ -55,12 +55,12 @@ CheckIsExact =
     checked schema env e ≡ (if nat_lt 200 (depth_of e) then TooDeep
     else check_by (types schema env [] e) (findings_of (condition_walked schema env e)))
 
--- a check that fails tells why
-abbrev pub TellsWhy : Check → Type 0
-TellsWhy (Fail []) = ⊥
-TellsWhy c = ⊤
+-- a check that fails says why
+abbrev pub SaysWhy : Check → Type 0
+SaysWhy (Fail []) = ⊥
+SaysWhy c = ⊤
 
--- where each name is known and the environment's action is declared, every check that fails tells why
-abbrev pub RefusalIsTold : Type 0
-RefusalIsTold = (schema : SchemaData) (env : EnvData) → IsSome (action_type_in schema env) →
-    (e : Plain) → IsTrue (has_known_names schema e) → TellsWhy (checked schema env e)
+-- where each name is known and the environment's action is declared, every check that fails says why
+abbrev pub RefusalIsReported : Type 0
+RefusalIsReported = (schema : SchemaData) (env : EnvData) → IsSome (action_type_in schema env) →
+    (e : Plain) → IsTrue (has_known_names schema e) → SaysWhy (checked schema env e)

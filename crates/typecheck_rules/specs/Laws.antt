@@ -11,7 +11,7 @@ use Rattle.typecheck_rules.specs.Walked.{Walked, typing_of, findings_of}
 use Rattle.typecheck_rules.specs.Walk.{walked}
 use Rattle.typecheck_rules.specs.Faults.{faults}
 
--- the walk gives the typing, where there is one, and tells each fault
+-- the walk gives the typing, where there is one, and says each fault
 pub record WalkAgrees (w : Walked) (t : Option Typing) (fs : List Finding) : Type 0 where
   pub exact : typing_of w ≡ t
   pub told : (f : Finding) → Contains fs f → Contains (findings_of w) f
@@ -33,8 +33,8 @@ HasTypingOrFinding None (f ∷ fs) = ⊤
 
 -- where each name is known and the environment's action is declared, an expression without a type has
 -- a finding
-abbrev pub FailureIsTold : Type 0
-FailureIsTold =
+abbrev pub FailureIsReported : Type 0
+FailureIsReported =
     (schema : SchemaData) (env : EnvData) → IsSome (action_type_in schema env) →
     (cs : List Capability) (e : Plain) → IsTrue (has_known_names schema e) →
     HasTypingOrFinding (types schema env cs e) (findings_of (walked schema env cs e))

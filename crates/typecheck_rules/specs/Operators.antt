@@ -24,16 +24,16 @@ use Rattle.findings.specs.declared.helps.LubContext.TheVariants as context
 use Rattle.findings.specs.Finding.{Finding, UndefinedFunction}
 use Rattle.findings.specs.Access.{attribute_access}
 use Rattle.typecheck_rules.specs.Expected.{a_boolean, a_string, an_entity, an_owner, an_argument, no_help, like_help, test_help, contents_help, of_unary, left_of, right_of}
-use Rattle.typecheck_rules.specs.Walked.{Walked, Success, Fail, findings_of, tree_of, has_typing, lent_by, lends, one, expect, expect_if, ended, one_walked, two_walked, lent_by_all, trees_walked, findings_of_all, all_walked}
+use Rattle.typecheck_rules.specs.Walked.{Walked, Success, Fail, findings_of, tree_of, has_typing, given_by, lends, one, expect, expect_if, ended, one_walked, two_walked, given_by_all, trees_walked, findings_of_all, all_walked}
 use Rattle.typecheck_rules.specs.Own.{of_both, no_join, binary_found, attribute_found, set_found, call_found}
 
 -- where an expression stands
 abbrev pub place : Plain → Option Loc
 place x = (mark_of x).loc
 
--- the type that an operand lends
-abbrev pub type_lent : Walked → Option Ty
-type_lent w = option_map (λ a. a.type) (lent_by w)
+-- the type that an operand gives
+abbrev pub type_given : Walked → Option Ty
+type_given w = option_map (λ a. a.type) (given_by w)
 
 -- what stands in the place of an operand that is not reached, and is not walked
 abbrev pub skipped : Walked
@@ -44,17 +44,17 @@ abbrev pub leaf_walked : (Mark (Option Ty) → Typed) → Mark (Unit {0}) → Op
 leaf_walked part m (Some t) = Success (typing t [] (part (at t m)))
 leaf_walked part m None = Fail (part (lends None m)) []
 
--- an operator of one operand; where it has no type it lends that of its table
-abbrev pub unary_lent : UnaryOp → Ty
-unary_lent Not = bool_type
-unary_lent Neg = long_type
-unary_lent IsEmpty = bool_type
+-- an operator of one operand; where it has no type it gives that of its table
+abbrev pub unary_given : UnaryOp → Ty
+unary_given Not = bool_type
+unary_given Neg = long_type
+unary_given IsEmpty = bool_type
 
 abbrev pub unary_typing : UnaryOp → Mark (Unit {0}) → Typing → Option Typing
 unary_typing o m a = option_map (λ t. typing t [] (unary o a.tree (at t m))) (rule.unary_type o a.type)
 
 abbrev pub unary_fitting : UnaryOp → Mark (Unit {0}) → Walked → Walked
-unary_fitting o m v = one_walked (unary_typing o m) (unary o (tree_of v) (lends (Some (unary_lent o)) m)) [] v
+unary_fitting o m v = one_walked (unary_typing o m) (unary o (tree_of v) (lends (Some (unary_given o)) m)) [] v
 
 abbrev pub unary_walked : UnaryOp → Mark (Unit {0}) → Option Loc → Walked → Walked
 unary_walked o m l v = unary_fitting o m (expect (of_unary o) l v)
@@ -93,13 +93,13 @@ module _ (schema : SchemaData) where
   has_walked known x n m v = has_fitting known x n m (expect (an_owner contents_help) (place x) v)
 
   module _ (env : EnvData) where
-    -- `.`, by whether the attribute is known to be there; an attribute that may be absent lends its type
+    -- `.`, by whether the attribute is known to be there; an attribute that may be absent gives its type
     abbrev pub attr_typing : Bool → List ℕ → Mark (Unit {0}) → Typing → Option Typing
     attr_typing known n m a =
         option_map (λ t. typing t [] (attr a.tree n (at t m))) (rule.attr_type schema known a.type n)
 
-    abbrev pub attr_lent : List ℕ → Ty → Option Ty
-    attr_lent n t = option_map (λ a. a.attr_type) (attribute_of schema t n)
+    abbrev pub attr_given : List ℕ → Ty → Option Ty
+    attr_given n t = option_map (λ a. a.attr_type) (attribute_of schema t n)
 
     abbrev pub attr_found : Bool → List ℕ → Mark (Unit {0}) → Typing → List Finding
     attr_found known n m a = attribute_found schema (attribute_access env a.tree n)
@@ -108,24 +108,24 @@ module _ (schema : SchemaData) where
     abbrev pub attr_fitting : Bool → List ℕ → Mark (Unit {0}) → Walked → Walked
     attr_fitting known n m v =
         one_walked (attr_typing known n m)
-        (attr (tree_of v) n (lends (option_and_then (attr_lent n) (type_lent v)) m))
-        (option_map_or (attr_found known n m) (lent_by v) []) v
+        (attr (tree_of v) n (lends (option_and_then (attr_given n) (type_given v)) m))
+        (option_map_or (attr_found known n m) (given_by v) []) v
 
     abbrev pub attr_walked : Bool → List ℕ → Mark (Unit {0}) → Option Loc → Walked → Walked
     attr_walked known n m l v = attr_fitting known n m (expect (an_owner no_help) l v)
 
     -- an operator of two operands, both of which are walked, by whether the tag that they name is known to be
-    -- there; where it has no type it lends Bool, but arithmetic a long, `==` what is known of the ids,
+    -- there; where it has no type it gives Bool, but arithmetic a long, `==` what is known of the ids,
     -- `hasTag` what its left operand's type gives, and `getTag` nothing
-    abbrev pub binary_lent : BinaryOp → Plain → Plain → Option Ty → Option Ty
-    binary_lent Eq x y t =
+    abbrev pub binary_given : BinaryOp → Plain → Plain → Option Ty → Option Ty
+    binary_given Eq x y t =
         Some (option_map_or truth_type (are_one (known_id env x) (known_id env y)) bool_type)
-    binary_lent Add x y t = Some long_type
-    binary_lent Sub x y t = Some long_type
-    binary_lent Mul x y t = Some long_type
-    binary_lent GetTag x y t = None
-    binary_lent HasTag x y t = option_map (λ u. rule.possible (rule.may_have_tags schema u)) t
-    binary_lent o x y t = Some bool_type
+    binary_given Add x y t = Some long_type
+    binary_given Sub x y t = Some long_type
+    binary_given Mul x y t = Some long_type
+    binary_given GetTag x y t = None
+    binary_given HasTag x y t = option_map (λ u. rule.possible (rule.may_have_tags schema u)) t
+    binary_given o x y t = Some bool_type
 
     abbrev pub binary_typing : BinaryOp → Bool → Plain → Plain →
         Mark (Unit {0}) → Typing → Typing → Option Typing
@@ -133,21 +133,21 @@ module _ (schema : SchemaData) where
         option_map (λ t. typing t (binary_caps o x y) (binary o a.tree b.tree (at t m)))
         (rule.binary_type schema env o known x y a.type b.type)
 
-    -- the type by the rule, of the types that are lent
-    abbrev pub binary_type_lent : BinaryOp → Bool → Plain → Plain → Option Ty → Option Ty → Option Ty
-    binary_type_lent o known x y t u =
+    -- the type by the rule, of the types that are given
+    abbrev pub binary_type_given : BinaryOp → Bool → Plain → Plain → Option Ty → Option Ty → Option Ty
+    binary_type_given o known x y t u =
         option_and_then (λ s. option_and_then (rule.binary_type schema env o known x y s) u) t
 
     abbrev pub binary_own : BinaryOp → Bool → Plain → Plain →
         Mark (Unit {0}) → Option Ty → Option Ty → List Finding
     binary_own o known x y m t u =
-        binary_found schema o known y (binary_type_lent o known x y t u) (place x) (place y) m.loc t u
+        binary_found schema o known y (binary_type_given o known x y t u) (place x) (place y) m.loc t u
 
     abbrev pub binary_fitting : BinaryOp → Bool → Plain → Plain → Mark (Unit {0}) → Walked → Walked → Walked
     binary_fitting o known x y m v w =
         two_walked (binary_typing o known x y m)
-        (binary o (tree_of v) (tree_of w) (lends (binary_lent o x y (type_lent v)) m))
-        (binary_own o known x y m (type_lent v) (type_lent w)) v w
+        (binary o (tree_of v) (tree_of w) (lends (binary_given o x y (type_given v)) m))
+        (binary_own o known x y m (type_given v) (type_given w)) v w
 
     abbrev pub binary_walked : BinaryOp → Bool → Plain → Plain → Mark (Unit {0}) → Walked → Walked → Walked
     binary_walked o known x y m v w =
@@ -177,7 +177,7 @@ reached_besides (Fail t fs) w = w
 abbrev pub and_sides : Mark (Unit {0}) → Walked → Walked → Walked
 and_sides m v w =
     ended (has_typing v && has_typing w)
-    (option_and_then (λ a. and_typing a.type a.caps a.tree m (lent_by w)) (lent_by v))
+    (option_and_then (λ a. and_typing a.type a.caps a.tree m (given_by w)) (given_by v))
     (conj (tree_of v) (tree_of w) (lends (Some bool_type) m)) (findings_of v ++ findings_of w)
 
 abbrev pub and_walked : Mark (Unit {0}) → Option Loc → Walked → (List Capability → Walked) → Walked → Walked
@@ -188,15 +188,15 @@ and_walked m r v after before =
 abbrev pub or_sides : Mark (Unit {0}) → Walked → Walked → Walked
 or_sides m v w =
     ended (has_typing v && has_typing w)
-    (option_and_then (λ a. or_typing a.type a.caps a.tree m (lent_by w)) (lent_by v))
+    (option_and_then (λ a. or_typing a.type a.caps a.tree m (given_by w)) (given_by v))
     (disj (tree_of v) (tree_of w) (lends (Some bool_type) m)) (findings_of v ++ findings_of w)
 
 abbrev pub or_walked : Mark (Unit {0}) → Option Loc → Walked → Walked → Walked
 or_walked m r v w = or_sides m v (reached_besides v (expect a_boolean r w))
 
 -- a test without a type is one of which nothing is known
-abbrev pub test_lent : Walked → Typing
-test_lent v = unwrap_or (lent_by v) (typing bool_type [] (tree_of v))
+abbrev pub test_given : Walked → Typing
+test_given v = unwrap_or (given_by v) (typing bool_type [] (tree_of v))
 
 -- the branches need a join where the test is not known
 abbrev pub branches_found : Mark (Unit {0}) → Ty → Option Ty → Option Ty → List Finding
@@ -210,9 +210,9 @@ if_typing_of m a b c = if_typing a.type a.caps a.tree m b c
 abbrev pub if_parts : Mark (Unit {0}) → Walked → Walked → Walked → Walked
 if_parts m u v w =
     ended (has_typing u && (has_typing v && has_typing w))
-    (if_typing_of m (test_lent u) (lent_by v) (lent_by w))
+    (if_typing_of m (test_given u) (given_by v) (given_by w))
     (ite (tree_of u) (tree_of v) (tree_of w) (lends None m)) (findings_of u ++ (findings_of v ++
-    (findings_of w ++ branches_found m (test_lent u).type (type_lent v) (type_lent w))))
+    (findings_of w ++ branches_found m (test_given u).type (type_given v) (type_given w))))
 
 abbrev pub if_walked : Mark (Unit {0}) → Walked → (List Capability → Walked) → Walked → Walked → Walked
 if_walked m u after before w = if_parts m u (reached_after u after before) (reached_besides u w)
@@ -224,7 +224,7 @@ set_typing m ys = option_map (λ t. typing t [] (set (trees_in ys) (at t m))) (r
 abbrev pub set_walked : Mark (Unit {0}) → List Walked → Walked
 set_walked m ws =
     all_walked (set_typing m) (set (trees_walked ws) (lends None m))
-    (findings_of_all ws ++ option_map_or (λ ys. set_found m.loc (types_in ys)) (lent_by_all ws) []) ws
+    (findings_of_all ws ++ option_map_or (λ ys. set_found m.loc (types_in ys)) (given_by_all ws) []) ws
 
 -- a record literal
 abbrev pub Fields : Type 0
@@ -233,16 +233,16 @@ Fields = List (List ℕ × Walked)
 abbrev pub parts_of : Fields → List Walked
 parts_of es = map (λ e. e.1) es
 
-abbrev pub lent_fields : Fields → Option (List (List ℕ × Typing))
-lent_fields [] = Some []
-lent_fields (e ∷ es) = option_and_then (λ a. option_map (λ ys. (e.0, a) ∷ ys) (lent_fields es)) (lent_by e.1)
+abbrev pub given_fields : Fields → Option (List (List ℕ × Typing))
+given_fields [] = Some []
+given_fields (e ∷ es) = option_and_then (λ a. option_map (λ ys. (e.0, a) ∷ ys) (given_fields es)) (given_by e.1)
 
 abbrev pub record_typing : Mark (Unit {0}) → List (List ℕ × Typing) → Typing
 record_typing m ys = typing (record_type ys) [] (rec (named_in ys) (at (record_type ys) m))
 
 abbrev pub record_walked : Mark (Unit {0}) → Fields → Walked
 record_walked m es =
-    ended (list_all has_typing (parts_of es)) (option_map (record_typing m) (lent_fields es))
+    ended (list_all has_typing (parts_of es)) (option_map (record_typing m) (given_fields es))
     (rec (named_of (map (λ e. (e.0, tree_of e.1)) es)) (lends None m)) (findings_of_all (parts_of es))
 
 -- the arguments have to be of the types, one after another

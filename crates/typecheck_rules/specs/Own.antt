@@ -40,7 +40,7 @@ abbrev pub if_not : Bool → List Finding → List Finding
 if_not true fs = []
 if_not false fs = fs
 
--- by the types that two operands lend: nothing, where one lends none
+-- by the types that two operands give: nothing, where one gives none
 abbrev pub of_both : (Ty → Ty → List Finding) → Option Ty → Option Ty → List Finding
 of_both found (Some t) (Some u) = found t u
 of_both found (Some t) None = []
@@ -107,7 +107,7 @@ tag_found schema true k l t =
     if_none (tag_type schema t) (one (NoTagsAllowed (option_and_then only_name (names_of t))) l)
 
 -- an operator of two operands: by the places of these, the tag that they name, its own place, and the types
--- that they lend
+-- that they give
 abbrev pub binary_found : SchemaData → {A : Type 0} → BinaryOp → Bool → Tree A →
     Option Ty → Option Loc → Option Loc → Option Loc → Option Ty → Option Ty → List Finding
 binary_found schema Eq known k type l r m t u = of_both (equal_found type m) t u

@@ -1,4 +1,4 @@
--- What findings say is so: each names a part of the expression, the types that its operands lend, and the
+-- What findings say is so: each names a part of the expression, the types that its operands give, and the
 -- rule that they break.
 use Rattle.std.specs.Prelude.{◌≡◌, ⊤, ℕ, false, ◌==◌, List, [], ◌∷◌, ◌++◌, length, None, Some, Err, Contains, All, IsSomeAnd}
 use Rattle.std.specs.Option.{option_and_then}
@@ -24,7 +24,7 @@ use Rattle.findings.specs.Finding.{Finding, Kind, UnexpectedType, IncompatibleTy
 use Rattle.typecheck_rules.specs.Expected.{a_boolean}
 use Rattle.typecheck_rules.specs.Walked.{Walked, Success, Fail, expect, findings_of}
 use Rattle.typecheck_rules.specs.Own.{ascending, entity_names, tag_text, unreadable}
-use Rattle.typecheck_rules.specs.Operators.{place, type_lent}
+use Rattle.typecheck_rules.specs.Operators.{place, type_given}
 use Rattle.typecheck_rules.specs.Walk.{walked}
 
 -- a type that no schema gives: of no value, of sets of anything, of sets of no value
@@ -86,41 +86,41 @@ module _ (schema : SchemaData) (env : EnvData) where
     named_parts cs no_named = []
     named_parts cs (named k x xs) = parts cs x ++ named_parts cs xs
 
-  -- with this known before it, a part has the type or, where it has none, lends it to the operator above
-  abbrev pub Lends : List Capability → Plain → Ty → Type 0
-  Lends cs e t = type_lent (walked schema env cs e) ≡ Some t
+  -- with this known before it, a part has the type or, where it has none, gives it to the operator above
+  abbrev pub Gives : List Capability → Plain → Ty → Type 0
+  Gives cs e t = type_given (walked schema env cs e) ≡ Some t
 
-  -- the types that the elements of a set literal lend, in their order
-  abbrev pub LendEach : List Capability → Trees (Mark (Unit {0})) → List Ty → Type 0
-  LendEach cs no_trees [] = ⊤
-  LendEach cs (tree x xs) (t ∷ ts) = Lends cs x t × LendEach cs xs ts
-  LendEach cs xs ts = ⊥
+  -- the types that the elements of a set literal give, in their order
+  abbrev pub GiveEach : List Capability → Trees (Mark (Unit {0})) → List Ty → Type 0
+  GiveEach cs no_trees [] = ⊤
+  GiveEach cs (tree x xs) (t ∷ ts) = Gives cs x t × GiveEach cs xs ts
+  GiveEach cs xs ts = ⊥
 
   -- the types of which a part wants a join: of the branches of an `if`, of a set's elements, of the elements
   -- of the left operand of `contains` and of its right operand, of the operands of another operator
   abbrev pub IsToJoin : List Capability → Plain → List Ty → Type 0
-  IsToJoin cs (ite x y z m) (t ∷ u ∷ []) = Lends (known_after cs (tested cs x)) y t × Lends cs z u
-  IsToJoin cs (set xs m) ts = LendEach cs xs ts
-  IsToJoin cs (binary ContainsOp x y m) (t ∷ u ∷ []) = Lends cs x (set_of t) × Lends cs y u
-  IsToJoin cs (binary o x y m) (t ∷ u ∷ []) = Lends cs x t × Lends cs y u
+  IsToJoin cs (ite x y z m) (t ∷ u ∷ []) = Gives (known_after cs (tested cs x)) y t × Gives cs z u
+  IsToJoin cs (set xs m) ts = GiveEach cs xs ts
+  IsToJoin cs (binary ContainsOp x y m) (t ∷ u ∷ []) = Gives cs x (set_of t) × Gives cs y u
+  IsToJoin cs (binary o x y m) (t ∷ u ∷ []) = Gives cs x t × Gives cs y u
   IsToJoin cs e ts = ⊥
 
   -- what a finding of the kind says of the part at which it stands, with what is known before that
   abbrev pub IsSo : List Capability → Plain → Kind → Type 0
-  IsSo cs e (UnexpectedType expected actual help) = Lends cs e actual × NoneAbove actual expected
+  IsSo cs e (UnexpectedType expected actual help) = Gives cs e actual × NoneAbove actual expected
   IsSo cs e (IncompatibleTypes types why context) =
       (ts : List Ty) × IsToJoin cs e ts × (types ≡ ascending ts) × (join_all Strict ts ≡ Err why)
   IsSo cs (attr x n m) (UnsafeAttributeAccess access may_exist) =
-      (t : Ty) × Lends cs x t × (attribute_of schema t n ≡ None) ×
+      (t : Ty) × Gives cs x t × (attribute_of schema t n ≡ None) ×
       (may_exist ≡ may_have (declared_attributes schema) t n)
   IsSo cs (attr x n m) (UnsafeOptionalAttributeAccess access) =
-      (t : Ty) × Lends cs x t × IsSomeAnd (attribute_of schema t n) (λ a. a.is_required ≡ false) ×
+      (t : Ty) × Gives cs x t × IsSomeAnd (attribute_of schema t n) (λ a. a.is_required ≡ false) ×
       (has_cap cs (attribute_known x n) ≡ false)
   IsSo cs (binary GetTag x k m) (UnsafeTagAccess types tag) =
-      (t : Ty) × Lends cs x t × (types ≡ entity_names t) ×
+      (t : Ty) × Gives cs x t × (types ≡ entity_names t) ×
       (tag ≡ tag_text k) × (has_cap cs (tag_known x k) ≡ false)
   IsSo cs (binary GetTag x k m) (NoTagsAllowed type) =
-      (t : Ty) × Lends cs x t × (type ≡ option_and_then only_name (names_of t)) × (tag_type schema t ≡ None)
+      (t : Ty) × Gives cs x t × (type ≡ option_and_then only_name (names_of t)) × (tag_type schema t ≡ None)
   IsSo cs (call f xs m) (UndefinedFunction name) = (name ≡ f) × (function_of f ≡ None)
   IsSo cs (call f xs m) (WrongNumberArguments expected actual) =
       (g : ExtensionFunction) × (function_of f ≡ Some g) × (expected ≡ length (signature_of g).arguments) ×

@@ -1,4 +1,4 @@
--- The walk through an expression: its typing, or what is found. An operand that failed lends its type to the
+-- The walk through an expression: its typing, or what is found. An operand that failed gives its type to the
 -- operator above.
 use Rattle.std.specs.Prelude.{List, [], ◌∷◌, ◌++◌}
 use Rattle.schema_core.specs.Schema.{SchemaData}

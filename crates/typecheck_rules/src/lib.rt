@@ -30,6 +30,6 @@ pub use error::error_of;
 pub use expected::{Expected, fits, left_of, of_unary, right_of, unexpected};
 pub use finding::{Finding, FindingKind, joined, one, undefined_found};
 pub use joins::{no_join, strict_join};
-pub use operators::{binary_lent, binary_type};
+pub use operators::{binary_given, binary_type};
 pub use own::binary_own;
 pub use sets::{record_type, set_found, set_type};

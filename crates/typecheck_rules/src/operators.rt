@@ -44,9 +44,9 @@ pub fn binary_type<'a>(
     }
 }
 
-/// The type that an operator lends where it has none, by its operands and by the type that the left
-/// one lends.
-pub fn binary_lent<'a>(
+/// The type that an operator gives where it has none, by its operands and by the type that the left
+/// one gives.
+pub fn binary_given<'a>(
     schema: &ValidatorSchema,
     env: &RequestEnv<'a>,
     op: BinaryOp,
@@ -54,7 +54,7 @@ pub fn binary_lent<'a>(
     y: &'a Expr<()>,
     t: &Option<Type>,
 ) -> Option<Type>
-    ensures { result ≡ definition.binary_lent schema.now (env_data_of env.now) op x.now y.now t.now }
+    ensures { result ≡ definition.binary_given schema.now (env_data_of env.now) op x.now y.now t.now }
 {
     match op {
         BinaryOp::Eq => match are_one(known_id(env, x), known_id(env, y)) {

@@ -1,4 +1,4 @@
-//! What is found of an operator of two operands itself, by the types that they lend.
+//! What is found of an operator of two operands itself, by the types that they give.
 
 ghost use Rattle.std.specs.Prelude.{◌≡◌, [], IfOk};
 ghost use Rattle.std.specs.Option.{option_map_or};
@@ -22,7 +22,7 @@ use schema_types::Type;
 use std::alloc::{AllocError, Global};
 
 /// What is found of an operator itself, by whether the tag that its operands name is known to be there, by
-/// the operands and by the types that they lend.
+/// the operands and by the types that they give.
 pub fn binary_own<'a>(
     alloc: Global,
     schema: &ValidatorSchema,

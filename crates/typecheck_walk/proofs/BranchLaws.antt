@@ -9,7 +9,7 @@ use Rattle.typing_spec.specs.Rules.{strict_join}
 use Rattle.typing_spec.specs.Typing.{Typed, Typing, typing, at, if_typing}
 use Rattle.typecheck_rules.specs.Walked.{ended, lends}
 use Rattle.typecheck_rules.specs.Operators.{branches_found}
-use Rattle.typecheck_operators.specs.Told.{Operand, lent, lent_as}
+use Rattle.typecheck_operators.specs.Reported.{Operand, lent, given_as}
 use Rattle.typecheck_walk.specs.declared.conditional.Chosen.{Chosen}
 use Rattle.typecheck_walk.specs.Branches.{Tested, chosen, own_behind, if_own, if_typed, if_by, all_ok, all_found, if_of}
 
@@ -21,13 +21,13 @@ module _ {A B C : Type 0} where
 module _ (m : Mark (Unit {0})) (x : Typed) (cs : List Capability) where
   -- one branch alone
   one_branch : (f : Ty → Chosen) (g : Typing → Typing) (y z : Typed) (o : Option Ty) (ds : List Capability) (v : Typed)
-      → ((t : Ty) → if_typed m x y z (f t) ≡ g (typing t ds v)) → option_map (if_typed m x y z) (option_map f o) ≡ option_map g (lent_as o ds v)
+      → ((t : Ty) → if_typed m x y z (f t) ≡ g (typing t ds v)) → option_map (if_typed m x y z) (option_map f o) ≡ option_map g (given_as o ds v)
   one_branch f g y z None ds v h = refl
   one_branch f g y z (Some t) ds v h = ap Some (h t)
 
   both_branches : (o p : Option Ty) (ds es : List Capability) (y z : Typed)
       → option_map (if_typed m x y z) (option_and_then (λ t. option_and_then (λ u. option_map (λ w. chosen w (common es (ds ++ cs)) true true) (strict_join t u)) p) o)
-      ≡ option_and_then (λ a. option_and_then (λ b. option_map (λ t. typing t (common b.caps (a.caps ++ cs)) (ite x a.tree b.tree (at t m))) (strict_join a.type b.type)) (lent_as p es z)) (lent_as o ds y)
+      ≡ option_and_then (λ a. option_and_then (λ b. option_map (λ t. typing t (common b.caps (a.caps ++ cs)) (ite x a.tree b.tree (at t m))) (strict_join a.type b.type)) (given_as p es z)) (given_as o ds y)
   both_branches None p ds es y z = refl
   both_branches (Some t) None ds es y z = refl
   both_branches (Some t) (Some u) ds es y z = map_twice (if_typed m x y z) (λ w. chosen w (common es (ds ++ cs)) true true) (strict_join t u)

@@ -8,7 +8,7 @@ use Rattle.typing_spec.specs.Rules.{and_type, or_type}
 use Rattle.typing_spec.specs.Signatures.{bool_type}
 use Rattle.typing_spec.specs.Typing.{Typed, typing, at, and_caps, and_typing, or_caps, or_typing}
 use Rattle.typecheck_rules.specs.Walked.{ended, lends}
-use Rattle.typecheck_operators.specs.Told.{Operand, lent, lent_as}
+use Rattle.typecheck_operators.specs.Reported.{Operand, lent, given_as}
 use Rattle.typecheck_walk.specs.Sides.{own, and_own, and_own_of, and_typed, and_by, and_of, or_own, or_own_of, or_typed, or_by, or_of}
 
 module _ {A B C : Type 0} where
@@ -19,7 +19,7 @@ module _ {A B C : Type 0} where
 module _ (m : Mark (Unit {0})) (x : Typed) (cs : List Capability) where
   and_right : (t : Ty) (o : Option Ty) (ds : List Capability) (y : Typed)
       → option_map (and_typed m x y) (option_and_then (λ u. option_map (λ w. own w (and_caps u cs ds) true) (and_type t u)) o)
-      ≡ option_and_then (λ y. option_map (λ w. typing w (and_caps y.type cs y.caps) (conj x y.tree (at w m))) (and_type t y.type)) (lent_as o ds y)
+      ≡ option_and_then (λ y. option_map (λ w. typing w (and_caps y.type cs y.caps) (conj x y.tree (at w m))) (and_type t y.type)) (given_as o ds y)
   and_right t None ds y = refl
   and_right t (Some u) ds y = map_twice (and_typed m x y) (λ w. own w (and_caps u cs ds) true) (and_type t u)
 
@@ -37,7 +37,7 @@ module _ (m : Mark (Unit {0})) (x : Typed) (cs : List Capability) where
   and_left (extension n) b = and_right (extension n) b.of b.caps b.tree
 
 and_any : (m : Mark (Unit {0})) (o : Option Ty) (cs : List Capability) (x : Typed) (b : Operand)
-    → option_map (and_typed m x b.tree) (option_and_then (λ t. and_own_of t cs b) o) ≡ option_and_then (λ y. and_typing y.type y.caps y.tree m (lent b)) (lent_as o cs x)
+    → option_map (and_typed m x b.tree) (option_and_then (λ t. and_own_of t cs b) o) ≡ option_and_then (λ y. and_typing y.type y.caps y.tree m (lent b)) (given_as o cs x)
 and_any m None cs x b = refl
 and_any m (Some t) cs x b = and_left m x cs t b
 
@@ -48,7 +48,7 @@ and_by_own m a b =
 module _ (m : Mark (Unit {0})) (x : Typed) (cs : List Capability) where
   or_right : (t : Ty) (o : Option Ty) (ds : List Capability) (y : Typed)
       → option_map (or_typed m x y) (option_and_then (λ u. option_map (λ w. own w (or_caps t u cs ds) true) (or_type t u)) o)
-      ≡ option_and_then (λ y. option_map (λ w. typing w (or_caps t y.type cs y.caps) (disj x y.tree (at w m))) (or_type t y.type)) (lent_as o ds y)
+      ≡ option_and_then (λ y. option_map (λ w. typing w (or_caps t y.type cs y.caps) (disj x y.tree (at w m))) (or_type t y.type)) (given_as o ds y)
   or_right t None ds y = refl
   or_right t (Some u) ds y = map_twice (or_typed m x y) (λ w. own w (or_caps t u cs ds) true) (or_type t u)
 
@@ -66,7 +66,7 @@ module _ (m : Mark (Unit {0})) (x : Typed) (cs : List Capability) where
   or_left (extension n) b = or_right (extension n) b.of b.caps b.tree
 
 or_any : (m : Mark (Unit {0})) (o : Option Ty) (cs : List Capability) (x : Typed) (b : Operand)
-    → option_map (or_typed m x b.tree) (option_and_then (λ t. or_own_of t cs b) o) ≡ option_and_then (λ y. or_typing y.type y.caps y.tree m (lent b)) (lent_as o cs x)
+    → option_map (or_typed m x b.tree) (option_and_then (λ t. or_own_of t cs b) o) ≡ option_and_then (λ y. or_typing y.type y.caps y.tree m (lent b)) (given_as o cs x)
 or_any m None cs x b = refl
 or_any m (Some t) cs x b = or_left m x cs t b
 

@@ -10,11 +10,11 @@ use Rattle.policy_expressions.specs.Tree.{named_of, deepest_named}
 use Rattle.typing_spec.specs.Capability.{Capability}
 use Rattle.typecheck_rules.specs.Walk.{walked, walked_named}
 use Rattle.typecheck_rules.specs.Operators.{Fields}
-use Rattle.typecheck_operators.specs.declared.told.Told.{Told}
-use Rattle.typecheck_operators.specs.Told.{walked_of, field_of}
+use Rattle.typecheck_operators.specs.declared.told.Reported.{Reported}
+use Rattle.typecheck_operators.specs.Reported.{walked_of, field_of}
 
 module _ (s : SchemaData) (env : EnvData) (cs : List Capability)
-    (done new : List (List ℕ × Told)) (k : List ℕ) (x : Plain) (v : Told) (it rest : List (List ℕ × Plain)) (is : it ≡ (k, x) ∷ rest) (pushed : new ≡ done ++ (k, v) ∷ []) where
+    (done new : List (List ℕ × Reported)) (k : List ℕ) (x : Plain) (v : Reported) (it rest : List (List ℕ × Plain)) (is : it ≡ (k, x) ∷ rest) (pushed : new ≡ done ++ (k, v) ∷ []) where
   pub so_far_more : (all : Fields) → walked_of v ≡ walked s env cs x → map field_of done ++ walked_named s env cs (named_of it) ≡ all → map field_of new ++ walked_named s env cs (named_of rest) ≡ all
   so_far_more all e h =
       ap (λ es. map field_of es ++ walked_named s env cs (named_of rest)) pushed

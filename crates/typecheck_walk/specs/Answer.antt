@@ -16,7 +16,7 @@ use Rattle.typecheck_walk.specs.declared.policy_check.PolicyCheck.TheVariants.{S
 abbrev pub too_deep : List ℕ → ValidationError
 too_deep id = error.TooDeep (record { source_loc = None; policy_id = id })
 
--- the errors of the policy that a check tells
+-- the errors of the policy that a check says
 abbrev pub errors_of : List ℕ → Check → List ValidationError
 errors_of id (definition.Success t) = []
 errors_of id (definition.Irrelevant t) = []
@@ -24,13 +24,13 @@ errors_of id (definition.Fail fs) = map (error_of id) fs
 errors_of id definition.TooDeep = too_deep id ∷ []
 
 -- the answer for the policy is the definitions' answer
-abbrev pub Tells : List ℕ → Check → PolicyCheck → Type 0
-Tells id (definition.Success t) (Success u) = u ≡ t
-Tells id (definition.Irrelevant t) (Irrelevant u) = u ≡ t
-Tells id (definition.Fail fs) (Fail es) = es.items ≡ errors_of id (definition.Fail fs)
-Tells id definition.TooDeep (Fail es) = es.items ≡ errors_of id definition.TooDeep
-Tells id c r = ⊥
+abbrev pub Reports : List ℕ → Check → PolicyCheck → Type 0
+Reports id (definition.Success t) (Success u) = u ≡ t
+Reports id (definition.Irrelevant t) (Irrelevant u) = u ≡ t
+Reports id (definition.Fail fs) (Fail es) = es.items ≡ errors_of id (definition.Fail fs)
+Reports id definition.TooDeep (Fail es) = es.items ≡ errors_of id definition.TooDeep
+Reports id c r = ⊥
 
 -- in the environment beside it
-abbrev pub TellsIn : SchemaData → List ℕ → Plain → RequestEnv × PolicyCheck → Type 0
-TellsIn schema id x r = Tells id (checked schema (env_data_of r.0) x) r.1
+abbrev pub SaysIn : SchemaData → List ℕ → Plain → RequestEnv × PolicyCheck → Type 0
+SaysIn schema id x r = Reports id (checked schema (env_data_of r.0) x) r.1

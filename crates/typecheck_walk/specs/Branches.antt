@@ -15,7 +15,7 @@ use Rattle.typecheck_rules.specs.Walked.{Walked, ended, lends}
 use Rattle.typecheck_rules.specs.Operators.{branches_found, reached_after}
 use Rattle.typecheck_rules.specs.Walk.{walked}
 use Rattle.typecheck_rules.specs.Found.{findings_from}
-use Rattle.typecheck_operators.specs.Told.{Operand, lent}
+use Rattle.typecheck_operators.specs.Reported.{Operand, lent}
 use Rattle.typecheck_walk.specs.Sides.{reached}
 use Rattle.typecheck_walk.specs.declared.conditional.Test.{Test}
 use Rattle.typecheck_walk.specs.declared.conditional.Chosen.{Chosen}
@@ -25,7 +25,7 @@ abbrev pub first_branch_walked : SchemaData → EnvData → List Capability → 
 first_branch_walked schema env cs u y =
     reached_after u (λ ds. walked schema env (cs ++ ds) y) (walked schema env cs y)
 
--- a test taken apart: one that lends no type is one of which nothing is known
+-- a test taken apart: one that gives no type is one of which nothing is known
 pub record Tested : Type 0 where
   pub ok : Bool
   pub of : Ty

@@ -15,7 +15,7 @@ use Rattle.findings.specs.Finding.{Finding}
 use Rattle.typecheck_rules.specs.Walked.{Walked, ended, lends}
 use Rattle.typecheck_rules.specs.Operators.{reached_after}
 use Rattle.typecheck_rules.specs.Truth.{tested}
-use Rattle.typecheck_operators.specs.Told.{Operand, lent}
+use Rattle.typecheck_operators.specs.Reported.{Operand, lent}
 use Rattle.typecheck_walk.specs.declared.sides.Own.{Own}
 
 -- the walk through the right side of `&&`, with what the left side makes known, unless that failed

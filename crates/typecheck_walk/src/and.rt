@@ -5,14 +5,14 @@ ghost use Rattle.policy_expressions.specs.Tree.{conj};
 ghost use Rattle.typing_spec.specs.Typing.{at, and_caps};
 ghost use Rattle.typecheck_rules.specs.Operators as definition;
 ghost use Rattle.typecheck_rules.specs.Found.{findings_from};
-ghost use Rattle.typecheck_operators.specs.Told.{mark, operand_of, walked_of};
+ghost use Rattle.typecheck_operators.specs.Reported.{mark, operand_of, walked_of};
 ghost use Rattle.typecheck_walk.specs.Sides.{and_by, and_of, and_own, and_reached};
 
 use crate::sides::{Own, Sides, if_reached, sides_of};
 use policy_expressions::{BuildError, Expr, Loc};
 use schema_types::{Type, TypeKind};
 use std::alloc::{AllocError, Global};
-use typecheck_operators::{Part, Told, Typing, ended_typed, failed, or_drop, parted};
+use typecheck_operators::{Part, Reported, Typing, ended_typed, failed, or_drop, parted};
 use typecheck_rules::and_type;
 use typing_spec::CapabilitySet;
 
@@ -21,9 +21,9 @@ use typing_spec::CapabilitySet;
 pub fn and_sides<'a>(
     alloc: Global,
     loc: Option<Loc>,
-    v: Told<'a>,
-    w: Told<'a>,
-) -> Result<Told<'a>, BuildError>
+    v: Reported<'a>,
+    w: Reported<'a>,
+) -> Result<Reported<'a>, BuildError>
     ensures { IfOk result (λ r. walked_of r ≡
         definition.and_sides (mark loc) (walked_of v.entry) (walked_of w.entry)) }
 {
@@ -37,7 +37,7 @@ fn and_ended<'a>(
     loc: Option<Loc>,
     v: Part<'a>,
     w: Part<'a>,
-) -> Result<Told<'a>, BuildError>
+) -> Result<Reported<'a>, BuildError>
     ensures { IfOk result (λ r. walked_of r ≡
         and_of (mark loc) (operand_of v.entry) (operand_of w.entry)) }
 {
@@ -46,7 +46,7 @@ fn and_ended<'a>(
     and_by(alloc, loc, own, sides)
 }
 
-// The type by the rule, of the types that are lent. A false left side leaves the right one
+// The type by the rule, of the types that are given. A false left side leaves the right one
 // unreached.
 fn and_own<'a>(alloc: Global, v: &Part<'a>, w: &Part<'a>) -> Result<Option<Own<'a>>, AllocError>
     ensures { IfOk result (λ o. o ≡ and_own (operand_of v.now) (operand_of w.now)) }
@@ -107,7 +107,7 @@ fn and_by<'a>(
     loc: Option<Loc>,
     own: Option<Own<'a>>,
     sides: Sides,
-) -> Result<Told<'a>, BuildError>
+) -> Result<Reported<'a>, BuildError>
     ensures { IfOk result (λ r. walked_of r ≡
         and_by (mark loc) own.entry sides.ok sides.left sides.right
         (findings_from sides.found.items)) }
@@ -123,7 +123,7 @@ fn and_typed<'a>(
     loc: Option<Loc>,
     own: Own<'a>,
     sides: Sides,
-) -> Result<Told<'a>, BuildError>
+) -> Result<Reported<'a>, BuildError>
     ensures { IfOk result (λ r. walked_of r ≡
         and_by (mark loc) (Some own.entry) sides.ok sides.left sides.right
         (findings_from sides.found.items)) }
@@ -157,7 +157,7 @@ fn and_tree(
     Expr::and(alloc, left, right, Some(note), loc)
 }
 
-fn and_failed<'a>(alloc: Global, loc: Option<Loc>, sides: Sides) -> Result<Told<'a>, BuildError>
+fn and_failed<'a>(alloc: Global, loc: Option<Loc>, sides: Sides) -> Result<Reported<'a>, BuildError>
     ensures { IfOk result (λ r. walked_of r ≡
         and_by (mark loc) None sides.ok sides.left sides.right (findings_from sides.found.items)) }
 {

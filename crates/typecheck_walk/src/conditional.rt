@@ -10,9 +10,9 @@ ghost use Rattle.typecheck_rules.specs.Walked.{has_typing, tree_of, findings_of}
 ghost use Rattle.typecheck_rules.specs.Own as of_operators;
 ghost use Rattle.typecheck_rules.specs.Own.{of_both};
 ghost use Rattle.typecheck_rules.specs.Operators as definition;
-ghost use Rattle.typecheck_rules.specs.Operators.{test_lent, branches_found};
+ghost use Rattle.typecheck_rules.specs.Operators.{test_given, branches_found};
 ghost use Rattle.typecheck_rules.specs.Found.{findings_from};
-ghost use Rattle.typecheck_operators.specs.Told.{mark, operand_of, walked_of};
+ghost use Rattle.typecheck_operators.specs.Reported.{mark, operand_of, walked_of};
 ghost use Rattle.typecheck_walk.specs.Branches.{all_found, all_ok, if_by, if_of, if_own, joined_own, tested_of};
 ghost use Rattle.typecheck_walk.specs.Branches as branches;
 
@@ -22,12 +22,12 @@ use policy_expressions::{BuildError, Expr, Loc};
 use schema_types::{Primitive, Type, TypeKind};
 use std::alloc::{AllocError, Global};
 use typecheck_operators::{
-    Failure, Part, Told, Typing, ended_typed, failed, or_drop, parted, rest_of,
+    Failure, Part, Reported, Typing, ended_typed, failed, or_drop, parted, rest_of,
 };
 use typecheck_rules::{Finding, joined, no_join, strict_join};
 use typing_spec::CapabilitySet;
 
-// A test taken apart. One that lends no type is one of which nothing is known.
+// A test taken apart. One that gives no type is one of which nothing is known.
 #[derive(Drop)]
 pub(crate) struct Test<'a> {
     pub(crate) ok: bool,
@@ -61,10 +61,10 @@ struct Branches {
 pub fn if_parts<'a>(
     alloc: Global,
     loc: Option<Loc>,
-    u: Told<'a>,
-    v: Told<'a>,
-    w: Told<'a>,
-) -> Result<Told<'a>, BuildError>
+    u: Reported<'a>,
+    v: Reported<'a>,
+    w: Reported<'a>,
+) -> Result<Reported<'a>, BuildError>
     ensures { IfOk result (λ r. walked_of r ≡
         definition.if_parts (mark loc) (walked_of u.entry) (walked_of v.entry)
         (walked_of w.entry)) }
@@ -75,16 +75,16 @@ pub fn if_parts<'a>(
     if_ended(alloc, loc, u, v, w)
 }
 
-fn test_of<'a>(alloc: Global, u: Told<'a>) -> Result<Test<'a>, AllocError>
+fn test_of<'a>(alloc: Global, u: Reported<'a>) -> Result<Test<'a>, AllocError>
     ensures ok { IfOk result (λ p. p.ok ≡ has_typing (walked_of u.entry)) }
-    ensures lent { IfOk result (λ p. typing p.of p.caps p.tree ≡ test_lent (walked_of u.entry)) }
-    ensures of { IfOk result (λ p. p.of ≡ (test_lent (walked_of u.entry)).type) }
+    ensures lent { IfOk result (λ p. typing p.of p.caps p.tree ≡ test_given (walked_of u.entry)) }
+    ensures of { IfOk result (λ p. p.of ≡ (test_given (walked_of u.entry)).type) }
     ensures tree { IfOk result (λ p. p.tree ≡ tree_of (walked_of u.entry)) }
     ensures found { IfOk result (λ p. findings_from p.found.items ≡
         findings_of (walked_of u.entry)) }
 {
     match u {
-        Told::Success(a) => {
+        Reported::Success(a) => {
             let Typing { of, caps, tree } = Box::into_inner(a);
             Ok(Test {
                 ok: true,
@@ -94,9 +94,9 @@ fn test_of<'a>(alloc: Global, u: Told<'a>) -> Result<Test<'a>, AllocError>
                 found: Vec::new(alloc),
             })
         }
-        Told::Fail(failure) => {
+        Reported::Fail(failure) => {
             let Failure { tree, found } = Box::into_inner(failure);
-            let of = or_drop!(lent_or_boolean(alloc, &tree), tree, found);
+            let of = or_drop!(given_or_boolean(alloc, &tree), tree, found);
             Ok(Test {
                 ok: false,
                 of,
@@ -108,7 +108,7 @@ fn test_of<'a>(alloc: Global, u: Told<'a>) -> Result<Test<'a>, AllocError>
     }
 }
 
-fn lent_or_boolean(alloc: Global, tree: &Expr<Option<Type>>) -> Result<Type, AllocError>
+fn given_or_boolean(alloc: Global, tree: &Expr<Option<Type>>) -> Result<Type, AllocError>
     ensures { IfOk result (λ t. t ≡ unwrap_or (mark_of tree.now).note bool_type) }
 {
     match tree.data() {
@@ -158,7 +158,7 @@ fn if_ended<'a>(
     u: Test<'a>,
     v: Part<'a>,
     w: Part<'a>,
-) -> Result<Told<'a>, BuildError>
+) -> Result<Reported<'a>, BuildError>
     ensures { IfOk result (λ r. walked_of r ≡
         if_of (mark loc) (tested_of u.entry) (operand_of v.entry) (operand_of w.entry)) }
 {
@@ -168,7 +168,7 @@ fn if_ended<'a>(
     if_by(alloc, loc, own, parts)
 }
 
-// The type by the rule, of the types that are lent. A known test leaves one branch unreached.
+// The type by the rule, of the types that are given. A known test leaves one branch unreached.
 fn if_own<'a>(
     alloc: Global,
     u: &Test<'a>,
@@ -335,7 +335,7 @@ fn if_by<'a>(
     loc: Option<Loc>,
     own: Option<Chosen<'a>>,
     parts: Branches,
-) -> Result<Told<'a>, BuildError>
+) -> Result<Reported<'a>, BuildError>
     ensures { IfOk result (λ r. walked_of r ≡
         if_by (mark loc) own.entry parts.ok parts.test parts.first parts.second
         (findings_from parts.found.items)) }
@@ -351,7 +351,7 @@ fn if_typed<'a>(
     loc: Option<Loc>,
     own: Chosen<'a>,
     parts: Branches,
-) -> Result<Told<'a>, BuildError>
+) -> Result<Reported<'a>, BuildError>
     ensures { IfOk result (λ r. walked_of r ≡
         if_by (mark loc) (Some own.entry) parts.ok parts.test parts.first parts.second
         (findings_from parts.found.items)) }
@@ -394,7 +394,11 @@ fn if_tree(
     Expr::ite(alloc, test, first, second, Some(note), loc)
 }
 
-fn if_failed<'a>(alloc: Global, loc: Option<Loc>, parts: Branches) -> Result<Told<'a>, BuildError>
+fn if_failed<'a>(
+    alloc: Global,
+    loc: Option<Loc>,
+    parts: Branches,
+) -> Result<Reported<'a>, BuildError>
     ensures { IfOk result (λ r. walked_of r ≡
         if_by (mark loc) None parts.ok parts.test parts.first parts.second
         (findings_from parts.found.items)) }

@@ -4,8 +4,8 @@ ghost use Rattle.std.specs.Prelude.{◌≡◌, ◌∷◌, [], IfOk, nat_lt};
 ghost use Rattle.schema_core.specs.RequestEnvs.{env_data_of};
 ghost use Rattle.policy_expressions.specs.Tree.{depth_of};
 ghost use Rattle.typecheck_rules.specs.Check.{check_walked, checked, condition_walked};
-ghost use Rattle.typecheck_operators.specs.Told.{walked_of};
-ghost use Rattle.typecheck_walk.specs.Answer.{Tells, too_deep};
+ghost use Rattle.typecheck_operators.specs.Reported.{walked_of};
+ghost use Rattle.typecheck_walk.specs.Answer.{Reports, too_deep};
 
 use crate::PolicyCheck;
 use crate::errors::errors_of;
@@ -16,7 +16,7 @@ use policy_expressions::{BuildError, Expr};
 use policy_values::Text;
 use schema_types::{Primitive, TypeKind};
 use std::alloc::{AllocError, Global};
-use typecheck_operators::{Failure, Told, expect, into_tree};
+use typecheck_operators::{Failure, Reported, expect, into_tree};
 use typecheck_rules::Expected;
 use typing_spec::CapabilitySet;
 
@@ -37,7 +37,7 @@ pub fn check_condition<'a>(
     condition: &'a Expr<()>,
 ) -> Result<PolicyCheck, AllocError>
     ensures { IfOk result
-        (λ r. Tells id.now (checked at.now.schema.now
+        (λ r. Reports id.now (checked at.now.schema.now
         (env_data_of at.now.env.now) condition.now) r) }
 {
     if is_too_deep(condition) {
@@ -53,7 +53,7 @@ pub fn check_walk<'a>(
     e: &'a Expr<()>,
 ) -> Result<PolicyCheck, AllocError>
     ensures { IfOk result
-        (λ r. Tells id.now (check_walked
+        (λ r. Reports id.now (check_walked
         (condition_walked at.now.schema.now (env_data_of at.now.env.now) e.now)) r) }
 {
     match walk_condition(at, e) {
@@ -77,7 +77,10 @@ pub fn only_too_deep(alloc: Global, id: &Text) -> Result<Vec<ValidationError>, A
     Ok(errors)
 }
 
-fn walk_condition<'a>(at: &Setting<'a, '_, '_, '_>, e: &'a Expr<()>) -> Result<Told<'a>, BuildError>
+fn walk_condition<'a>(
+    at: &Setting<'a, '_, '_, '_>,
+    e: &'a Expr<()>,
+) -> Result<Reported<'a>, BuildError>
     ensures { IfOk result (λ r. walked_of r ≡
         condition_walked at.now.schema.now (env_data_of at.now.env.now) e.now) }
 {
@@ -87,11 +90,11 @@ fn walk_condition<'a>(at: &Setting<'a, '_, '_, '_>, e: &'a Expr<()>) -> Result<T
     Ok(told)
 }
 
-fn answer(alloc: Global, id: &Text, told: Told<'_>) -> Result<PolicyCheck, AllocError>
-    ensures { IfOk result (λ r. Tells id.now (check_walked (walked_of told.entry)) r) }
+fn answer(alloc: Global, id: &Text, told: Reported<'_>) -> Result<PolicyCheck, AllocError>
+    ensures { IfOk result (λ r. Reports id.now (check_walked (walked_of told.entry)) r) }
 {
     match told {
-        Told::Success(a) => match a.of.kind() {
+        Reported::Success(a) => match a.of.kind() {
             TypeKind::True
             | TypeKind::Primitive {
                 primitive_type: Primitive::Bool,
@@ -102,7 +105,7 @@ fn answer(alloc: Global, id: &Text, told: Told<'_>) -> Result<PolicyCheck, Alloc
                 Ok(PolicyCheck::Fail(Vec::new(alloc)))
             }
         },
-        Told::Fail(failure) => {
+        Reported::Fail(failure) => {
             let Failure { tree, found } = Box::into_inner(failure);
             drop(tree);
             Ok(PolicyCheck::Fail(errors_of(alloc, id, found)?))

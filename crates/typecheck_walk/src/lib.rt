@@ -1,4 +1,4 @@
-//! The walk through a condition in an environment, which gives its type or tells what it found, and the
+//! The walk through a condition in an environment, which gives its type or says what it found, and the
 //! operators of which an operand may not be reached: `&&`, `||` and `if`.
 #![tactic(auto)]
 

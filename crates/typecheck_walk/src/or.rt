@@ -5,14 +5,14 @@ ghost use Rattle.policy_expressions.specs.Tree.{disj};
 ghost use Rattle.typing_spec.specs.Typing.{at, or_caps};
 ghost use Rattle.typecheck_rules.specs.Operators as definition;
 ghost use Rattle.typecheck_rules.specs.Found.{findings_from};
-ghost use Rattle.typecheck_operators.specs.Told.{mark, operand_of, walked_of};
+ghost use Rattle.typecheck_operators.specs.Reported.{mark, operand_of, walked_of};
 ghost use Rattle.typecheck_walk.specs.Sides.{or_by, or_of, or_own, or_reached};
 
 use crate::sides::{Own, Sides, if_reached, sides_of};
 use policy_expressions::{BuildError, Expr, Loc};
 use schema_types::{Type, TypeKind};
 use std::alloc::{AllocError, Global};
-use typecheck_operators::{Part, Told, Typing, ended_typed, failed, or_drop, parted};
+use typecheck_operators::{Part, Reported, Typing, ended_typed, failed, or_drop, parted};
 use typecheck_rules::or_type;
 use typing_spec::CapabilitySet;
 
@@ -21,9 +21,9 @@ use typing_spec::CapabilitySet;
 pub fn or_sides<'a>(
     alloc: Global,
     loc: Option<Loc>,
-    v: Told<'a>,
-    w: Told<'a>,
-) -> Result<Told<'a>, BuildError>
+    v: Reported<'a>,
+    w: Reported<'a>,
+) -> Result<Reported<'a>, BuildError>
     ensures { IfOk result (λ r. walked_of r ≡
         definition.or_sides (mark loc) (walked_of v.entry) (walked_of w.entry)) }
 {
@@ -37,7 +37,7 @@ fn or_ended<'a>(
     loc: Option<Loc>,
     v: Part<'a>,
     w: Part<'a>,
-) -> Result<Told<'a>, BuildError>
+) -> Result<Reported<'a>, BuildError>
     ensures { IfOk result (λ r. walked_of r ≡
         or_of (mark loc) (operand_of v.entry) (operand_of w.entry)) }
 {
@@ -46,7 +46,7 @@ fn or_ended<'a>(
     or_by(alloc, loc, own, sides)
 }
 
-// The type by the rule, of the types that are lent. A true left side leaves the right one
+// The type by the rule, of the types that are given. A true left side leaves the right one
 // unreached.
 fn or_own<'a>(v: &Part<'a>, w: &Part<'a>) -> Result<Option<Own<'a>>, AllocError>
     ensures { IfOk result (λ o. o ≡ or_own (operand_of v.now) (operand_of w.now)) }
@@ -114,7 +114,7 @@ fn or_by<'a>(
     loc: Option<Loc>,
     own: Option<Own<'a>>,
     sides: Sides,
-) -> Result<Told<'a>, BuildError>
+) -> Result<Reported<'a>, BuildError>
     ensures { IfOk result (λ r. walked_of r ≡
         or_by (mark loc) own.entry sides.ok sides.left sides.right
         (findings_from sides.found.items)) }
@@ -130,7 +130,7 @@ fn or_typed<'a>(
     loc: Option<Loc>,
     own: Own<'a>,
     sides: Sides,
-) -> Result<Told<'a>, BuildError>
+) -> Result<Reported<'a>, BuildError>
     ensures { IfOk result (λ r. walked_of r ≡
         or_by (mark loc) (Some own.entry) sides.ok sides.left sides.right
         (findings_from sides.found.items)) }
@@ -164,7 +164,7 @@ fn or_tree(
     Expr::or(alloc, left, right, Some(note), loc)
 }
 
-fn or_failed<'a>(alloc: Global, loc: Option<Loc>, sides: Sides) -> Result<Told<'a>, BuildError>
+fn or_failed<'a>(alloc: Global, loc: Option<Loc>, sides: Sides) -> Result<Reported<'a>, BuildError>
     ensures { IfOk result (λ r. walked_of r ≡
         or_by (mark loc) None sides.ok sides.left sides.right (findings_from sides.found.items)) }
 {

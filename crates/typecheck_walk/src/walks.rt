@@ -7,7 +7,7 @@ ghost use Rattle.typecheck_rules.specs.Expected.{a_boolean};
 ghost use Rattle.typecheck_rules.specs.Walk.{walked, walked_all, walked_named};
 ghost use Rattle.typecheck_rules.specs.Walked.{expect};
 ghost use Rattle.typecheck_rules.specs.Operators.{place, reached_besides};
-ghost use Rattle.typecheck_operators.specs.Told.{all_of, field_of, mark, walked_of};
+ghost use Rattle.typecheck_operators.specs.Reported.{all_of, field_of, mark, walked_of};
 ghost use Rattle.typecheck_walk.specs.Branches.{first_branch_walked};
 ghost use Rattle.typecheck_walk.specs.Sides.{right_side_walked};
 
@@ -20,29 +20,29 @@ use schema_types::TypeKind;
 use std::alloc::AllocError;
 use std::collections::BTreeMap;
 use typecheck_operators::{
-    Access, Operator, Told, attr_told, binary_told, call_told, expect, has_told, is_told,
-    knows_attribute, like_told, literal_told, record_told, set_told, skipped, slot_told,
-    unary_told, undefined_told, variable_told,
+    Access, Operator, Reported, attr_reported, binary_reported, call_reported, expect,
+    has_reported, is_reported, knows_attribute, like_reported, literal_reported, record_reported,
+    set_reported, skipped, slot_reported, unary_reported, undefined_reported, variable_reported,
 };
 use typecheck_rules::Expected;
 use typing_spec::CapabilitySet;
 
 // The walk through an expression: its typing, or what is found. Each kind has a function of its own, which
-// keeps proofs short; so does dropping by a call what was told of one part when the walk of the next fails.
+// keeps proofs short; so does dropping by a call what was reported of one part when the walk of the next fails.
 #[cycle(walk)]
 pub(crate) fn walk<'a>(
     at: &Setting<'a, '_, '_, '_>,
     caps: &CapabilitySet<'a>,
     e: &'a Expr<()>,
-) -> Result<Told<'a>, BuildError>
+) -> Result<Reported<'a>, BuildError>
     ensures { IfOk result (λ r. walked_of r ≡
         walked at.now.schema.now (env_data_of at.now.env.now) caps.now e.now) }
 {
     let loc = e.source_loc();
     match e.kind() {
-        ExprKind::Lit(l) => literal_told(at.alloc, at.schema, l, loc),
-        ExprKind::Var(v) => variable_told(at.alloc, at.schema, at.env, *v, loc),
-        ExprKind::Slot(id) => slot_told(at.alloc, at.env, *id, loc),
+        ExprKind::Lit(l) => literal_reported(at.alloc, at.schema, l, loc),
+        ExprKind::Var(v) => variable_reported(at.alloc, at.schema, at.env, *v, loc),
+        ExprKind::Slot(id) => slot_reported(at.alloc, at.env, *id, loc),
         ExprKind::If(x, y, z) => walk_if(at, caps, x, y, z, loc),
         ExprKind::And(x, y) => walk_and(at, caps, x, y, loc),
         ExprKind::Or(x, y) => walk_or(at, caps, x, y, loc),
@@ -66,7 +66,7 @@ fn walk_if<'a>(
     y: &'a Expr<()>,
     z: &'a Expr<()>,
     loc: Option<Loc>,
-) -> Result<Told<'a>, BuildError>
+) -> Result<Reported<'a>, BuildError>
     ensures { IfOk result (λ r. walked_of r ≡
         walked at.now.schema.now (env_data_of at.now.env.now) caps.now
         (ite x.now y.now z.now (mark loc))) }
@@ -95,7 +95,7 @@ fn walk_and<'a>(
     x: &'a Expr<()>,
     y: &'a Expr<()>,
     loc: Option<Loc>,
-) -> Result<Told<'a>, BuildError>
+) -> Result<Reported<'a>, BuildError>
     ensures { IfOk result (λ r. walked_of r ≡
         walked at.now.schema.now (env_data_of at.now.env.now) caps.now
         (conj x.now y.now (mark loc))) }
@@ -117,7 +117,7 @@ fn walk_or<'a>(
     x: &'a Expr<()>,
     y: &'a Expr<()>,
     loc: Option<Loc>,
-) -> Result<Told<'a>, BuildError>
+) -> Result<Reported<'a>, BuildError>
     ensures { IfOk result (λ r. walked_of r ≡
         walked at.now.schema.now (env_data_of at.now.env.now) caps.now
         (disj x.now y.now (mark loc))) }
@@ -138,7 +138,7 @@ fn walk_boolean<'a>(
     at: &Setting<'a, '_, '_, '_>,
     caps: &CapabilitySet<'a>,
     y: &'a Expr<()>,
-) -> Result<Told<'a>, BuildError>
+) -> Result<Reported<'a>, BuildError>
     ensures { IfOk result (λ r. walked_of r ≡
         expect a_boolean (place y.now)
         (walked at.now.schema.now (env_data_of at.now.env.now) caps.now y.now)) }
@@ -153,21 +153,21 @@ fn walk_boolean<'a>(
 fn walk_after<'a>(
     at: &Setting<'a, '_, '_, '_>,
     caps: &CapabilitySet<'a>,
-    v: &Told<'a>,
+    v: &Reported<'a>,
     y: &'a Expr<()>,
-) -> Result<Told<'a>, BuildError>
+) -> Result<Reported<'a>, BuildError>
     ensures { IfOk result (λ r. walked_of r ≡
         first_branch_walked at.now.schema.now (env_data_of at.now.env.now) caps.now (walked_of v.now) y.now) }
 {
     match v {
-        Told::Success(a) => match a.of.kind() {
+        Reported::Success(a) => match a.of.kind() {
             TypeKind::False => Ok(skipped(at.alloc)?),
             _ => {
                 let inner = caps.union(&a.caps)?;
                 walk(at, &inner, y)
             }
         },
-        Told::Fail(_) => walk(at, caps, y),
+        Reported::Fail(_) => walk(at, caps, y),
     }
 }
 
@@ -176,19 +176,19 @@ fn walk_after<'a>(
 fn walk_besides<'a>(
     at: &Setting<'a, '_, '_, '_>,
     caps: &CapabilitySet<'a>,
-    v: &Told<'a>,
+    v: &Reported<'a>,
     z: &'a Expr<()>,
-) -> Result<Told<'a>, BuildError>
+) -> Result<Reported<'a>, BuildError>
     ensures { IfOk result (λ r. walked_of r ≡
         reached_besides (walked_of v.now)
         (walked at.now.schema.now (env_data_of at.now.env.now) caps.now z.now)) }
 {
     match v {
-        Told::Success(a) => match a.of.kind() {
+        Reported::Success(a) => match a.of.kind() {
             TypeKind::True => Ok(skipped(at.alloc)?),
             _ => walk(at, caps, z),
         },
-        Told::Fail(_) => walk(at, caps, z),
+        Reported::Fail(_) => walk(at, caps, z),
     }
 }
 
@@ -197,21 +197,21 @@ fn walk_besides<'a>(
 fn walk_right_of_and<'a>(
     at: &Setting<'a, '_, '_, '_>,
     caps: &CapabilitySet<'a>,
-    v: &Told<'a>,
+    v: &Reported<'a>,
     y: &'a Expr<()>,
-) -> Result<Told<'a>, BuildError>
+) -> Result<Reported<'a>, BuildError>
     ensures { IfOk result (λ r. walked_of r ≡
         right_side_walked at.now.schema.now (env_data_of at.now.env.now) caps.now (walked_of v.now) y.now) }
 {
     match v {
-        Told::Success(a) => match a.of.kind() {
+        Reported::Success(a) => match a.of.kind() {
             TypeKind::False => Ok(skipped(at.alloc)?),
             _ => {
                 let inner = caps.union(&a.caps)?;
                 walk_boolean(at, &inner, y)
             }
         },
-        Told::Fail(_) => walk_boolean(at, caps, y),
+        Reported::Fail(_) => walk_boolean(at, caps, y),
     }
 }
 
@@ -220,20 +220,20 @@ fn walk_right_of_and<'a>(
 fn walk_right_of_or<'a>(
     at: &Setting<'a, '_, '_, '_>,
     caps: &CapabilitySet<'a>,
-    v: &Told<'a>,
+    v: &Reported<'a>,
     y: &'a Expr<()>,
-) -> Result<Told<'a>, BuildError>
+) -> Result<Reported<'a>, BuildError>
     ensures { IfOk result (λ r. walked_of r ≡
         reached_besides (walked_of v.now)
         (expect a_boolean (place y.now)
         (walked at.now.schema.now (env_data_of at.now.env.now) caps.now y.now))) }
 {
     match v {
-        Told::Success(a) => match a.of.kind() {
+        Reported::Success(a) => match a.of.kind() {
             TypeKind::True => Ok(skipped(at.alloc)?),
             _ => walk_boolean(at, caps, y),
         },
-        Told::Fail(_) => walk_boolean(at, caps, y),
+        Reported::Fail(_) => walk_boolean(at, caps, y),
     }
 }
 
@@ -244,13 +244,13 @@ fn walk_unary<'a>(
     op: UnaryOp,
     x: &'a Expr<()>,
     loc: Option<Loc>,
-) -> Result<Told<'a>, BuildError>
+) -> Result<Reported<'a>, BuildError>
     ensures { IfOk result (λ r. walked_of r ≡
         walked at.now.schema.now (env_data_of at.now.env.now) caps.now
         (unary op x.now (mark loc))) }
 {
     let v = walk(at, caps, x)?;
-    unary_told(at.alloc, op, loc, x.source_loc(), v)
+    unary_reported(at.alloc, op, loc, x.source_loc(), v)
 }
 
 #[cycle(walk)]
@@ -261,7 +261,7 @@ fn walk_binary<'a>(
     x: &'a Expr<()>,
     y: &'a Expr<()>,
     loc: Option<Loc>,
-) -> Result<Told<'a>, BuildError>
+) -> Result<Reported<'a>, BuildError>
     ensures { IfOk result (λ r. walked_of r ≡
         walked at.now.schema.now (env_data_of at.now.env.now) caps.now
         (binary op x.now y.now (mark loc))) }
@@ -278,7 +278,7 @@ fn walk_binary<'a>(
         loc,
     };
     match walk(at, caps, y) {
-        Ok(w) => binary_told(at.alloc, &operator, v, w),
+        Ok(w) => binary_reported(at.alloc, &operator, v, w),
         Err(error) => {
             drop(v);
             Err(error)
@@ -293,7 +293,7 @@ fn walk_attr<'a>(
     x: &'a Expr<()>,
     n: &'a Text,
     loc: Option<Loc>,
-) -> Result<Told<'a>, BuildError>
+) -> Result<Reported<'a>, BuildError>
     ensures { IfOk result (λ r. walked_of r ≡
         walked at.now.schema.now (env_data_of at.now.env.now) caps.now
         (attr x.now n.now (mark loc))) }
@@ -307,7 +307,7 @@ fn walk_attr<'a>(
         name: n,
         loc,
     };
-    attr_told(at.alloc, &access, x.source_loc(), v)
+    attr_reported(at.alloc, &access, x.source_loc(), v)
 }
 
 #[cycle(walk)]
@@ -317,14 +317,14 @@ fn walk_has<'a>(
     x: &'a Expr<()>,
     n: &'a Text,
     loc: Option<Loc>,
-) -> Result<Told<'a>, BuildError>
+) -> Result<Reported<'a>, BuildError>
     ensures { IfOk result (λ r. walked_of r ≡
         walked at.now.schema.now (env_data_of at.now.env.now) caps.now
         (has x.now n.now (mark loc))) }
 {
     let known = knows_attribute(caps, x, n)?;
     let v = walk(at, caps, x)?;
-    has_told(at.alloc, at.schema, known, x, n, loc, v)
+    has_reported(at.alloc, at.schema, known, x, n, loc, v)
 }
 
 #[cycle(walk)]
@@ -334,13 +334,13 @@ fn walk_like<'a>(
     x: &'a Expr<()>,
     p: &'a Pattern,
     loc: Option<Loc>,
-) -> Result<Told<'a>, BuildError>
+) -> Result<Reported<'a>, BuildError>
     ensures { IfOk result (λ r. walked_of r ≡
         walked at.now.schema.now (env_data_of at.now.env.now) caps.now
         (like x.now p.now (mark loc))) }
 {
     let v = walk(at, caps, x)?;
-    like_told(at.alloc, p, loc, x.source_loc(), v)
+    like_reported(at.alloc, p, loc, x.source_loc(), v)
 }
 
 #[cycle(walk)]
@@ -350,13 +350,13 @@ fn walk_is<'a>(
     x: &'a Expr<()>,
     n: &'a EntityType,
     loc: Option<Loc>,
-) -> Result<Told<'a>, BuildError>
+) -> Result<Reported<'a>, BuildError>
     ensures { IfOk result (λ r. walked_of r ≡
         walked at.now.schema.now (env_data_of at.now.env.now) caps.now
         (is_type x.now n.now (mark loc))) }
 {
     let v = walk(at, caps, x)?;
-    is_told(at.alloc, n, loc, x.source_loc(), v)
+    is_reported(at.alloc, n, loc, x.source_loc(), v)
 }
 
 #[cycle(walk)]
@@ -366,7 +366,7 @@ fn walk_call<'a>(
     f: &'a Name,
     xs: &'a Vec<Expr<()>>,
     loc: Option<Loc>,
-) -> Result<Told<'a>, BuildError>
+) -> Result<Reported<'a>, BuildError>
     ensures { IfOk result (λ r. walked_of r ≡
         walked at.now.schema.now (env_data_of at.now.env.now) caps.now
         (call f.now (trees_of xs.now.items) (mark loc))) }
@@ -374,9 +374,9 @@ fn walk_call<'a>(
     match at.extensions.called(f) {
         Some(g) => {
             let ws = walk_all(at, caps, xs)?;
-            call_told(at.alloc, f, g, xs, loc, ws)
+            call_reported(at.alloc, f, g, xs, loc, ws)
         }
-        None => undefined_told(at.alloc, f, loc),
+        None => undefined_reported(at.alloc, f, loc),
     }
 }
 
@@ -386,13 +386,13 @@ fn walk_set<'a>(
     caps: &CapabilitySet<'a>,
     xs: &'a Vec<Expr<()>>,
     loc: Option<Loc>,
-) -> Result<Told<'a>, BuildError>
+) -> Result<Reported<'a>, BuildError>
     ensures { IfOk result (λ r. walked_of r ≡
         walked at.now.schema.now (env_data_of at.now.env.now) caps.now
         (set (trees_of xs.now.items) (mark loc))) }
 {
     let ws = walk_all(at, caps, xs)?;
-    set_told(at.alloc, loc, ws)
+    set_reported(at.alloc, loc, ws)
 }
 
 #[cycle(walk)]
@@ -401,13 +401,13 @@ fn walk_record<'a>(
     caps: &CapabilitySet<'a>,
     fields: &'a BTreeMap<Text, Expr<()>>,
     loc: Option<Loc>,
-) -> Result<Told<'a>, BuildError>
+) -> Result<Reported<'a>, BuildError>
     ensures { IfOk result (λ r. walked_of r ≡
         walked at.now.schema.now (env_data_of at.now.env.now) caps.now
         (rec (named_of fields.now.entries) (mark loc))) }
 {
     let ws = walk_named(at, caps, fields)?;
-    record_told(at.alloc, loc, ws)
+    record_reported(at.alloc, loc, ws)
 }
 
 // Operands, one after another.
@@ -417,7 +417,7 @@ fn walk_all<'a>(
     at: &Setting<'a, '_, '_, '_>,
     caps: &CapabilitySet<'a>,
     xs: &'a Vec<Expr<()>>,
-) -> Result<Vec<Told<'a>>, BuildError>
+) -> Result<Vec<Reported<'a>>, BuildError>
     ensures { IfOk result (λ r. all_of r.items ≡
         walked_all at.now.schema.now (env_data_of at.now.env.now) caps.now
         (trees_of xs.now.items)) }
@@ -436,7 +436,7 @@ fn walk_named<'a>(
     at: &Setting<'a, '_, '_, '_>,
     caps: &CapabilitySet<'a>,
     fields: &'a BTreeMap<Text, Expr<()>>,
-) -> Result<BTreeMap<Text, Told<'a>>, BuildError>
+) -> Result<BTreeMap<Text, Reported<'a>>, BuildError>
     ensures { IfOk result (λ r. map field_of r.entries ≡
         walked_named at.now.schema.now (env_data_of at.now.env.now) caps.now
         (named_of fields.now.entries)) }

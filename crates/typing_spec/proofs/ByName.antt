@@ -97,7 +97,7 @@ overloading_more es e =
     ap (union []) (flat_map-append (λ (e : Extension). e.overloading) es (e ∷ []) ∙ ap (λ r. flat_map (λ (e : Extension). e.overloading) es ++ r) (append-nil e.overloading))
     ∙ union_behind [] (flat_map (λ (e : Extension). e.overloading) es) e.overloading
 
--- the function at a place, where those in front of it are gathered
+-- the function at a place, where those before it are gathered
 pub repeated_at : (fs : List (Bor FunctionType)) (i : ℕ) (x : Bor FunctionType) (entries : BTreeMap (List ℕ) (Bor FunctionType)) (name : List ℕ) → take (i + 1) fs ≡ take i fs ++ x ∷ []
     → AreGathered (pointed (take i fs)) entries → name ≡ x.now.name → is_some (get text_cmp entries name) ≡ true → IsFirstRepeated (names_of (pointed fs)) name
 repeated_at fs i x entries name next g same again =

@@ -1,6 +1,6 @@
 pub mod HoldSteps
 pub mod PartSteps
-mod LentSteps
+mod GivenSteps
 mod PlaceSteps
 mod Basics
 pub mod Booleans

@@ -15,7 +15,7 @@ use Rattle.type_relations.proofs.MemberLaws.{member_sub}
 use Rattle.policy_core.specs.declared.outcome.EvalError.{EvalError}
 use Rattle.policy_core.specs.declared.outcome.Outcome.{Outcome}
 use Rattle.policy_core.specs.declared.outcome.Outcome.TheVariants.{Value, Error}
-use Rattle.policy_core.specs.Eval.{in_front, set_outcome, record_outcome}
+use Rattle.policy_core.specs.Eval.{in_prefix, set_outcome, record_outcome}
 use Rattle.typing_spec.specs.Rules.{set_type}
 use Rattle.policy_core.specs.Allowed.{IsAllowedError}
 use Rattle.typing_spec.specs.Sound.{IsOfType}
@@ -34,10 +34,10 @@ abbrev pub AreOf : List Ty → Result (List Val) EvalError → Type 0
 AreOf ts (Ok vs) = AreMembers ts vs
 AreOf ts (Err e) = IsAllowedError e
 
-pub front_of : (t : Ty) (ts : List Ty) (o : Outcome) (r : Result (List Val) EvalError) → IsOfType t o → AreOf ts r → AreOf (t ∷ ts) (in_front (λ v. v) o r)
-front_of t ts (Error e) r h i = h
-front_of t ts (Value v) (Ok vs) h i = (h, i)
-front_of t ts (Value v) (Err e) h i = i
+pub prefix_of : (t : Ty) (ts : List Ty) (o : Outcome) (r : Result (List Val) EvalError) → IsOfType t o → AreOf ts r → AreOf (t ∷ ts) (in_prefix (λ v. v) o r)
+prefix_of t ts (Error e) r h i = h
+prefix_of t ts (Value v) (Ok vs) h i = (h, i)
+prefix_of t ts (Value v) (Err e) h i = i
 
 -- the elements of a set
 abbrev pub EachIs : (Val → Type 0) → List Val → Type 0
@@ -92,10 +92,10 @@ abbrev pub AreFieldsOf : List (List ℕ × Typing) → Result (List (List ℕ ×
 AreFieldsOf ys (Ok fs) = AreFields ys fs
 AreFieldsOf ys (Err e) = IsAllowedError e
 
-pub front_field : (k : List ℕ) (x : Typing) (ys : List (List ℕ × Typing)) (o : Outcome) (r : Result (List (List ℕ × Val)) EvalError) → IsOfType x.type o → AreFieldsOf ys r → AreFieldsOf ((k, x) ∷ ys) (in_front (λ v. (k, v)) o r)
-front_field k x ys (Error e) r h i = h
-front_field k x ys (Value v) (Ok fs) h i = (refl, h, i)
-front_field k x ys (Value v) (Err e) h i = i
+pub prefix_field : (k : List ℕ) (x : Typing) (ys : List (List ℕ × Typing)) (o : Outcome) (r : Result (List (List ℕ × Val)) EvalError) → IsOfType x.type o → AreFieldsOf ys r → AreFieldsOf ((k, x) ∷ ys) (in_prefix (λ v. (k, v)) o r)
+prefix_field k x ys (Error e) r h i = h
+prefix_field k x ys (Value v) (Ok fs) h i = (refl, h, i)
+prefix_field k x ys (Value v) (Err e) h i = i
 
 -- no key stands twice
 abbrev pub IsNew : List ℕ → List (List ℕ × Typing) → Type 0

@@ -23,7 +23,7 @@ use Rattle.policy_expressions.specs.declared.kinds.BinaryOp.TheVariants.{Eq, Les
 use Rattle.policy_core.specs.declared.outcome.Outcome.{Outcome}
 use Rattle.policy_core.specs.declared.outcome.Outcome.TheVariants.{Value}
 use Rattle.policy_core.specs.Calls.{call_outcome}
-use Rattle.policy_core.specs.Eval.{known_fields, eval, eval_all, eval_named, literal_value, variable_value, with_value, in_front, set_outcome, record_outcome}
+use Rattle.policy_core.specs.Eval.{known_fields, eval, eval_all, eval_named, literal_value, variable_value, with_value, in_prefix, set_outcome, record_outcome}
 use Rattle.policy_expressions.specs.Functions.{function_of}
 use Rattle.policy_core.specs.Operators.{unary_value, binary_value, attr_value, has_value, has_tag_value, like_value, is_value}
 use Rattle.policy_expressions.specs.Tree.{lit, var, slot, ite, conj, disj, unary, binary, attr, has, like, is_type, call, set, rec, Trees, no_trees, tree, Named, no_named, named, Mark}
@@ -46,7 +46,7 @@ use Rattle.typing_spec.proofs.Calls.{call_of_type}
 use Rattle.typing_spec.proofs.Ids.{one_name, truth_member, equal_of_type, is_of}
 use Rattle.typing_spec.proofs.Kept.{IsKept, AreKept, AllKept, join_members}
 use Rattle.typing_spec.proofs.KeptTypes.{types_kept, all_kept}
-use Rattle.typing_spec.proofs.Lists.{AreOf, front_of, set_of_type, AreFieldsOf, front_field, IsNew, AreNew, record_of_type}
+use Rattle.typing_spec.proofs.Lists.{AreOf, prefix_of, set_of_type, AreFieldsOf, prefix_field, IsNew, AreNew, record_of_type}
 use Rattle.typing_spec.proofs.Operators.{two, unary_of, sum_of, order_of, contains_of, contains_all_of, contains_any_of, like_of}
 use Rattle.typing_spec.proofs.Stored.{context_kept}
 use Rattle.typing_spec.proofs.Within.{known_is, in_of_type}
@@ -281,7 +281,7 @@ module _ (schema : SchemaData) (ok : IsSchema schema) (env : LinkedEnvironment) 
     sound_all cs h (tree x xs) c =
         when_some (Promise (eval x q s)) (AllPromised (tree x xs)) (λ a. option_map (λ ys. a ∷ ys) (types_all schema (declared_action env) cs xs)) (g cs x) (sound cs h x c.0) (λ a f.
         mapped (AllPromised xs) (AllPromised (tree x xs)) (λ ys. a ∷ ys) (types_all schema (declared_action env) cs xs) (sound_all cs h xs c.1) (λ ys k.
-        (front_of a.type (types_in ys) (eval x q s) (eval_all xs q s) f.value k.0, λ j. in_front (λ v. v) (f.same j) (k.1 j))))
+        (prefix_of a.type (types_in ys) (eval x q s) (eval_all xs q s) f.value k.0, λ j. in_prefix (λ v. v) (f.same j) (k.1 j))))
 
     sound_named : (cs : List Capability) → AllHold q s cs → (xs : Named (Mark (Unit {0}))) → AreCompleteNamed xs → IfSome (types_named schema (declared_action env) cs xs) (NamedPromised xs)
     sound_named cs h no_named c = (tt, refl, tt)
@@ -289,7 +289,7 @@ module _ (schema : SchemaData) (ok : IsSchema schema) (env : LinkedEnvironment) 
         when_some (Promise (eval x q s)) (NamedPromised (named l x xs)) (λ a. option_map (λ ys. (l, a) ∷ ys) (types_named schema (declared_action env) cs xs)) (g cs x) (sound cs h x c.0) (λ a f.
         mapped (λ ys. NamedPromised xs ys × IsNew l ys) (NamedPromised (named l x xs)) (λ ys. (l, a) ∷ ys) (types_named schema (declared_action env) cs xs)
         (both_some (NamedPromised xs) (IsNew l) (λ ys. NamedPromised xs ys × IsNew l ys) (types_named schema (declared_action env) cs xs) (sound_named cs h xs c.2) (new_in cs l xs c.1) (λ ys k n. (k, n))) (λ ys k.
-        (front_field l a ys (eval x q s) (eval_named xs q s) f.value k.0.0, (λ j. in_front (λ v. (l, v)) (f.same j) (k.0.1 j)), (k.1, k.0.2))))
+        (prefix_field l a ys (eval x q s) (eval_named xs q s) f.value k.0.0, (λ j. in_prefix (λ v. (l, v)) (f.same j) (k.0.1 j)), (k.1, k.0.2))))
 
 pub typing_is_sound : TypingIsSound
 typing_is_sound schema ok env q whole of s stored cs h e n k = sound schema ok env q whole of s stored cs h e (complete e n k)

@@ -20,7 +20,7 @@ use Rattle.policy_expressions.specs.declared.functions.ExtensionFunction.TheVari
 use Rattle.typing_spec.specs.Table.{typed, decimals, ranges, times, all_typed, all_extensions, functions_in, function_at, names_of, AreOnce, IsFirstRepeated}
 use Rattle.plain_lemmas.proofs.Booleans.{false_of_not}
 
--- an entry whose name is new among those in front may stand in front of them
+-- an entry whose name is new among those in front may stand before them
 pick : (q : List ℕ) (e : List ℕ × ExtensionFunction) (front rest : Functions) → list_all (λ f. not (bytes_eq e.0 f.0)) front ≡ true
     → beside (front ++ e ∷ rest) q ≡ (if bytes_eq q e.0 then Some e.1 else beside (front ++ rest) q)
 pick q e [] rest new = refl

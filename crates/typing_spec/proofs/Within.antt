@@ -22,7 +22,7 @@ use Rattle.policy_expressions.specs.declared.kinds.Literal.TheVariants as litera
 use Rattle.policy_expressions.specs.declared.kinds.Var.TheVariants.{Principal, Action, Resource, Context}
 use Rattle.policy_core.specs.declared.outcome.Outcome.{Outcome}
 use Rattle.policy_core.specs.declared.outcome.Outcome.TheVariants.{Value, Error}
-use Rattle.policy_core.specs.Eval.{eval, eval_all, in_front, set_outcome}
+use Rattle.policy_core.specs.Eval.{eval, eval_all, in_prefix, set_outcome}
 use Rattle.policy_core.specs.Operators.{above, within, or_within, within_any, in_value}
 use Rattle.policy_expressions.specs.Tree.{lit, var, set, Trees, no_trees, tree, Mark}
 use Rattle.policy_expressions.specs.Plain.{Plain}
@@ -204,10 +204,10 @@ module _ (schema : SchemaData) (ok : IsSchema schema) (s : Store) (stored : Stor
     known_all (tree x xs) = by (known_id (declared_action env) x) (known_is x) (known_ids (declared_action env) xs) (known_all xs)
       where
         by : (a : Option EntityUID) → IfSome a (IsKnownAs (eval x q s)) → (o : Option (List EntityUID)) → IfSome o (λ us. eval_all xs q s ≡ Ok (map id us)) →
-            IfSome (option_and_then (λ u. option_map (λ us. u ∷ us) o) a) (λ us. in_front (λ v. v) (eval x q s) (eval_all xs q s) ≡ Ok (map id us))
+            IfSome (option_and_then (λ u. option_map (λ us. u ∷ us) o) a) (λ us. in_prefix (λ v. v) (eval x q s) (eval_all xs q s) ≡ Ok (map id us))
         by None h o i = tt
         by (Some u) h None i = tt
-        by (Some u) h (Some us) i = λ j. in_front (λ v. v) (h j) (i j)
+        by (Some u) h (Some us) i = λ j. in_prefix (λ v. v) (h j) (i j)
 
     abbrev value_in : Val → Outcome → Val
     value_in w (Value v) = v

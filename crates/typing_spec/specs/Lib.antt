@@ -11,7 +11,7 @@ pub mod Conditions
 pub mod Conforms
 pub mod Environment
 pub mod Known
-pub mod Lent
+pub mod Recovered
 pub mod Operands
 pub mod Rules
 pub mod Signatures

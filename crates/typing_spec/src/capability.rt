@@ -18,7 +18,7 @@ use std::marker::Model;
 pub struct Capability<'a> {
     on: &'a Expr<()>,
     what: Known<'a>,
-    // A hash: most capabilities are told apart by it.
+    // A hash: most capabilities are reported apart by it.
     print: u64,
 }
 
@@ -130,7 +130,7 @@ pub(crate) fn are_alike(k: &Capability<'_>, m: &Capability<'_>) -> bool
     is_same(k, m)
 }
 
-// The prints are compared first: they tell most capabilities apart.
+// The prints are compared first: they say most capabilities apart.
 #[tactic(auto, using(crate::specs::CapabilityLaws::same_print))]
 fn is_same(k: &Capability<'_>, m: &Capability<'_>) -> bool
     ensures { IsTrue result ↔ AreAlike k.now m.now }

@@ -3,7 +3,7 @@
 ghost use Rattle.std.specs.Prelude.{◌≡◌, ◌++◌, ◌||◌, IfOk};
 ghost use Rattle.std.specs.List.{filter};
 ghost use Rattle.typing_spec.specs.Capability.{Capability as Known, common, has_cap, together};
-ghost use Rattle.typing_spec.specs.Lent.{lends};
+ghost use Rattle.typing_spec.specs.Recovered.{lends};
 
 use crate::Capability;
 use crate::part::Part;
@@ -68,7 +68,7 @@ fn hold_all<'b, 'a>(
 }
 
 // The capabilities that are held.
-#[tactic(auto, using(crate::proofs::LentSteps::lent_more))]
+#[tactic(auto, using(crate::proofs::GivenSteps::given_more))]
 fn all_held<'b, 'a>(
     alloc: Global,
     parts: &'b Vec<Part<'a>>,

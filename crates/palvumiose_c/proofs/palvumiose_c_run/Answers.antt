@@ -1,6 +1,6 @@
 use Rattle.std.proofs.Common.{length, ap, sym, ◌∙◌}
 use Rattle.policy_gate.specs.Reply.{answer}
-use Rattle.palvumiose_c.specs.Told.{IsHanded, laid_over}
+use Rattle.palvumiose_c.specs.KnownText.{IsHanded, laid_over}
 use Rattle.palvumiose_c.proofs.Codes.{done_from_code, code_of_either}
 use Rattle.palvumiose_c.proofs.palvumiose_c_run.Goals as goal
 

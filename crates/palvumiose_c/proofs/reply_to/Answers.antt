@@ -4,8 +4,8 @@ use Rattle.policy_gate.specs.Command.{command_of}
 use Rattle.policy_gate.specs.Headline.{HasDocument, IsDecided, IsSliced}
 use Rattle.policy_gate.specs.Reply.{answer}
 use Rattle.policy_gate.specs.declared.command.Command.TheVariants.{Slice, Decide}
-use Rattle.palvumiose_c.specs.Told.{IsTold}
-use Rattle.palvumiose_c.proofs.Told.{IsInMemory, said_of_both, to_work_on, told_from_runs, took_all}
+use Rattle.palvumiose_c.specs.KnownText.{IsReported}
+use Rattle.palvumiose_c.proofs.KnownText.{IsInMemory, said_of_both, to_work_on, known_from_runs, took_all}
 use Rattle.palvumiose_c.proofs.reply_to.Goals as goal
 
 in_memory : (c : goal.After-drop-words-2) → IsInMemory c.args.document.now c.run-status.new.sink.bytes.items (slice_state c.new-source.result) (slice_state c.run-status.new.source) (sink_state c.new-sink.result) (sink_state c.run-status.new.sink)
@@ -19,8 +19,8 @@ in_memory c = record {
 
 pub returns-clause-told : goal.returns-clause-told
 returns-clause-told c =
-    subst (λ ws. IsTold (command_of ws) c.args.document.now (answer c.run-status.result c.run-status.new.sink.bytes.items)) c.in_ok-words.ensures
-    (told_from_runs (in_memory c) _ _ c.run-status.ensures.written)
+    subst (λ ws. IsReported (command_of ws) c.args.document.now (answer c.run-status.result c.run-status.new.sink.bytes.items)) c.in_ok-words.ensures
+    (known_from_runs (in_memory c) _ _ c.run-status.ensures.written)
 
 pub returns-clause-headline : goal.returns-clause-headline
 returns-clause-headline c is ends =

@@ -3,8 +3,8 @@ use Rattle.access_tries.specs.Table.{has_mark}
 use Rattle.access_tries.specs.Tails.{tails}
 use Rattle.access_tries.proofs.Addresses.{none_in}
 use Rattle.access_tries.proofs.Unions.{nodes_step, kept_at_end, closed_at_end, ordered_at_end}
-use Rattle.access_tries.proofs.Tails.{turn, edges_of, rises_below, edge_count, edges_after_ends, left_of_ends, run_in, tails_length, front_of_none}
-use Rattle.access_tries.proofs.Groups.{uniting_start, any_front, any_marked, IsGathered, searches_fronts, searches_marked, gather_start, gather_step, gather_end, grouping_start, grouping_step, first_further}
+use Rattle.access_tries.proofs.Tails.{turn, edges_of, rises_below, edge_count, edges_after_ends, left_of_ends, run_in, tails_length, prefix_of_none}
+use Rattle.access_tries.proofs.Groups.{uniting_start, any_prefix, any_marked, IsGathered, searches_prefixes, searches_marked, gather_start, gather_step, gather_end, grouping_start, grouping_step, first_further}
 use Rattle.access_tries.proofs.least.+append_node.Goals as goal
 
 pub split_at-requires : goal.split_at-requires
@@ -23,7 +23,7 @@ loop-rest-init t c =
       fewer = omega (arith, ap edge_count left, edges_after_ends ts);
       nodes = rw links (rw c.in_ok-push.ensures.items (rw at_is (uniting_start c.args.nodes.now.items c.new-2.result none)));
       grouping = rw links (rw left (grouping_start ts c.requires.rise));
-      present = rw links (rw left (gather_start is_some any_front _ ts searches_fronts));
+      present = rw links (rw left (gather_start is_some any_prefix _ ts searches_prefixes));
       marked = rw links (rw left (gather_start has_mark (any_marked c.args.mark) _ ts (searches_marked c.args.mark)));
     }
 
@@ -78,7 +78,7 @@ loop-rest-preserved t c =
       fewer = omega (arith, i.fewer, edges_of edge below after left next.parted);
       nodes = rw c.in_ok-push-2.ensures.items (rw c.in_ok-edge.ensures (nodes_step _ _ _ _ _ edge number i.at_in i.nodes fact.number.0 fact.number.1 fact.kept fact.closed fact.ordered));
       grouping = rw c.in_ok-push-2.ensures.items (rw c.in_ok-edge.ensures (grouping_step _ edge number below after left long next.parted i.grouping));
-      present = rw c.in_ok-push-2.ensures.items (rw c.in_ok-edge.ensures (gather_step is_some any_front _ _ _ _ _ edge number below after left all searches_fronts i.nodes fact.kept next.parted fact.present i.present));
+      present = rw c.in_ok-push-2.ensures.items (rw c.in_ok-edge.ensures (gather_step is_some any_prefix _ _ _ _ _ edge number below after left all searches_prefixes i.nodes fact.kept next.parted fact.present i.present));
       marked = rw c.in_ok-push-2.ensures.items (rw c.in_ok-edge.ensures (gather_step has_mark (any_marked c.args.mark) _ _ _ _ _ edge number below after left all (searches_marked c.args.mark) i.nodes fact.kept next.parted fact.marked i.marked));
     }
 
@@ -114,8 +114,8 @@ pub returns-clause-present : goal.returns-clause-present
 returns-clause-present t c =
     let i = c.loop-rest.invariant in
     let all = tails c.args.depth c.args.addresses.now in
-    let gathered = subst (λ rs. IsGathered is_some any_front c.loop-rest.nodes.items c.loop-rest.links.items (tails c.args.depth rs) all) (none_in c.loop-rest.rest.now c.in_default.len_below) i.present in
-    rw c.new-3.ensures (gather_end is_some any_front _ _ _ _ all i.at_in searches_fronts i.nodes gathered (front_of_none c.args.depth c.args.addresses.now c.requires.some))
+    let gathered = subst (λ rs. IsGathered is_some any_prefix c.loop-rest.nodes.items c.loop-rest.links.items (tails c.args.depth rs) all) (none_in c.loop-rest.rest.now c.in_default.len_below) i.present in
+    rw c.new-3.ensures (gather_end is_some any_prefix _ _ _ _ all i.at_in searches_prefixes i.nodes gathered (prefix_of_none c.args.depth c.args.addresses.now c.requires.some))
 
 pub returns-clause-marked : goal.returns-clause-marked
 returns-clause-marked t c =

@@ -3,7 +3,7 @@ use Rattle.access_tries.specs.Table.{has_mark}
 use Rattle.access_tries.specs.Tails.{tails}
 use Rattle.access_tries.proofs.Tails.{edge_count}
 use Rattle.access_tries.proofs.Unions.{IsUniting}
-use Rattle.access_tries.proofs.Groups.{any_front, any_marked, IsGathered, IsGrouping}
+use Rattle.access_tries.proofs.Groups.{any_prefix, any_marked, IsGathered, IsGrouping}
 use Rattle.access_tries.proofs.least.+append_node.Given as goal
 
 -- each edge of the addresses that is not yet passed
@@ -18,7 +18,7 @@ invariant-loop-rest l = record {
   fewer : edge_count (tails l.depth l.rest) ≤ edge_count (tails l.depth l.addresses);
   nodes : IsUniting l.at l.fn.nodes.items l.nodes.items l.links.items;
   grouping : IsGrouping l.links.items (tails l.depth l.rest);
-  present : IsGathered is_some any_front l.nodes.items l.links.items (tails l.depth l.rest) (tails l.depth l.addresses);
+  present : IsGathered is_some any_prefix l.nodes.items l.links.items (tails l.depth l.rest) (tails l.depth l.addresses);
   marked : IsGathered has_mark (any_marked l.mark) l.nodes.items l.links.items (tails l.depth l.rest) (tails l.depth l.addresses);
 }
 

@@ -5,9 +5,9 @@ use Rattle.access_tries.specs.Edges.{edge_eq}
 use Rattle.access_tries.specs.Paths.{edge_of}
 use Rattle.access_tries.specs.Table.{links_at, at_path, has_mark}
 use Rattle.std.specs.List.{list_any}
-use Rattle.entity_loading.specs.Stuck.{tests_of, is_step, MarksSome}
+use Rattle.entity_loading.specs.CannotGoOn.{tests_of, is_step, MarksSome}
 use Rattle.entity_loading.proofs.DemandSteps.{link_marks}
-use Rattle.entity_loading.proofs.StuckSteps.{later_link, none_later, step_edge, no_marks}
+use Rattle.entity_loading.proofs.CannotGoOnSteps.{later_link, none_later, step_edge, no_marks}
 use Rattle.access_tries.specs.SameLaws.{edge_is}
 use Rattle.entity_loading.proofs.demand.+marking.Goals as goal
 use Rattle.entity_loading.proofs.demand.+marking.Goals.{then-is_step+else-marks_some, else-is_step}

@@ -5,9 +5,9 @@ use Rattle.access_tries.specs.Edges.{edge_eq}
 use Rattle.access_tries.specs.Paths.{edge_of}
 use Rattle.access_tries.specs.Table.{links_at, at_path}
 use Rattle.std.specs.List.{list_any}
-use Rattle.entity_loading.specs.Stuck.{is_step}
+use Rattle.entity_loading.specs.CannotGoOn.{is_step}
 use Rattle.entity_loading.proofs.DemandSteps.{link_goes_on}
-use Rattle.entity_loading.proofs.StuckSteps.{later_link, none_later, step_edge}
+use Rattle.entity_loading.proofs.CannotGoOnSteps.{later_link, none_later, step_edge}
 use Rattle.access_tries.specs.SameLaws.{edge_is}
 use Rattle.entity_loading.proofs.demand.goes_on.Goals as goal
 

@@ -6,9 +6,9 @@ use Rattle.access_tries.specs.Edges.{edge_eq}
 use Rattle.access_tries.specs.Paths.{edge_of}
 use Rattle.access_tries.specs.Table.{links_at, at_path, has_mark}
 use Rattle.std.specs.List.{list_any}
-use Rattle.entity_loading.specs.Stuck.{tests_of, is_step, MarksSome}
+use Rattle.entity_loading.specs.CannotGoOn.{tests_of, is_step, MarksSome}
 use Rattle.entity_loading.proofs.DemandSteps.{link_demands}
-use Rattle.entity_loading.proofs.StuckSteps.{later_link, none_later, root_edge}
+use Rattle.entity_loading.proofs.CannotGoOnSteps.{later_link, none_later, root_edge}
 use Rattle.access_tries.specs.SameLaws.{edge_is}
 use Rattle.entity_loading.proofs.demand.is_demanded.Goals as goal
 use Rattle.entity_loading.proofs.demand.is_demanded.Goals.{then-not-is_step+else-marks_some, else-not-is_step}

@@ -1,4 +1,4 @@
-use Rattle.entity_loading.proofs.LendSteps.{lends}
+use Rattle.entity_loading.proofs.BorrowSteps.{lends}
 use Rattle.entity_loading.proofs.lent.lend.Goals as goal
 
 pub returns : goal.returns

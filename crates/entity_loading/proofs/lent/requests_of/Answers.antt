@@ -1,4 +1,4 @@
-use Rattle.entity_loading.proofs.LendSteps.{requests_ascend}
+use Rattle.entity_loading.proofs.BorrowSteps.{requests_ascend}
 use Rattle.entity_loading.proofs.lent.requests_of.Goals as goal
 
 pub returns-clause-ascending : goal.returns-clause-ascending

@@ -1,7 +1,7 @@
 use Rattle.std.proofs.Common.{◌≡◌, Some, sym, subst}
 use Rattle.entity_loading.specs.Lending.{IsUnited}
-use Rattle.entity_loading.specs.declared.lent.Lent.TheVariants.{One, Many}
-use Rattle.entity_loading.proofs.LendSteps.{united_two}
+use Rattle.entity_loading.specs.declared.lent.Borrowed.TheVariants.{One, Many}
+use Rattle.entity_loading.proofs.BorrowSteps.{united_two}
 use Rattle.entity_loading.proofs.lent.united.Goals as goal
 
 pub returns-in_ok-add-in-Some-One-2 : goal.returns-in_ok-add-in-Some-One-2

@@ -8,7 +8,7 @@ use Rattle.entity_loading.specs.Joining.{IsAskedFor, IsJoined}
 use Rattle.entity_loading.specs.KeptPart.{IsState, IsBegun}
 use Rattle.entity_store.specs.FromParents.{without_links}
 use Rattle.entity_loading.specs.Causes.{IsRight}
-use Rattle.entity_loading.specs.Right.{IsStuck, SticksAt}
+use Rattle.entity_loading.specs.Right.{CannotStep, BlocksAt}
 use Rattle.entity_loading.specs.Unasked.{DemandNothing}
 use Rattle.entity_loading.proofs.BetweenSteps.{part_at, left_ascends, loaded_between}
 use Rattle.entity_loading.proofs.RightSteps.{right_later}
@@ -133,8 +133,8 @@ returns-in_err-loaded-clause-right g c = λ s told order.
     let begun : IsBegun ns q s c.in-Ok.start.keys = record { asked = c.in-Ok.ensures.asked; leads = c.in-Ok.ensures.leads; order = order } in
     let exit = err_from_is_err_and c.from_residual.result c.from_residual.ensures.1 in
     rw (exit.1, exit.2)
-    (right_later (IsStuck ns q s) (SticksAt ns q s) old old new (goes_on_here old) (λ v h. inr h) c.in_err-loaded.field-0.0
-    (subst (λ t. IsRight (IsStuck t q s) old new c.in_err-loaded.field-0.0) c.nodes.ensures.nodes (c.in_err-loaded.ensures.right s told q (subst (λ t. IsBegun t q s c.in-Ok.start.keys) (sym c.nodes.ensures.nodes) begun))))
+    (right_later (CannotStep ns q s) (BlocksAt ns q s) old old new (goes_on_here old) (λ v h. inr h) c.in_err-loaded.field-0.0
+    (subst (λ t. IsRight (CannotStep t q s) old new c.in_err-loaded.field-0.0) c.nodes.ensures.nodes (c.in_err-loaded.ensures.right s told q (subst (λ t. IsBegun t q s c.in-Ok.start.keys) (sym c.nodes.ensures.nodes) begun))))
 
 pub returns-in_err-kept-clause-right : goal.returns-in_err-kept-clause-right
 returns-in_err-kept-clause-right g c = λ s told order.
@@ -142,7 +142,7 @@ returns-in_err-kept-clause-right g c = λ s told order.
     let mid = g.D.EntityLoader.state c.load_rounds.new.loader in
     let exit = err_from_is_err_and c.from_residual-in_err-kept.result c.from_residual-in_err-kept.ensures.1 in
     rw (exit.1, exit.2)
-    (right_later (λ v. ⊥) (SticksAt c.args.trie.now c.args.request.now s) old mid (g.D.EntityLoader.state c.with_ancestors.new.loader) c.load_rounds.ensures.goes_on (λ v h. absurd h) c.in_err-kept.field-0.0
+    (right_later (λ v. ⊥) (BlocksAt c.args.trie.now c.args.request.now s) old mid (g.D.EntityLoader.state c.with_ancestors.new.loader) c.load_rounds.ensures.goes_on (λ v h. absurd h) c.in_err-kept.field-0.0
     (c.in_err-kept.ensures.right s (c.load_rounds.ensures.goes_on.told s told)))
 
 pub returns-in_err-kept-clause-counted : goal.returns-in_err-kept-clause-counted

@@ -3,8 +3,8 @@ use Rattle.std.specs.BTreeMap.{get}
 use Rattle.policy_values.specs.Uid.{uid_cmp}
 use Rattle.reads_spec.proofs.Lists.{IsIn}
 use Rattle.entity_loading.specs.Places.{IsPlaceBelow, node_of}
-use Rattle.entity_loading.specs.Answered.{answer_points, answers_point, AnswerSticks, SomeAnswerSticks}
-use Rattle.entity_loading.specs.Stuck.{tests_of}
+use Rattle.entity_loading.specs.Answered.{answer_points, answers_point, AnswerBlocks, SomeAnswerBlocks}
+use Rattle.entity_loading.specs.CannotGoOn.{tests_of}
 use Rattle.entity_loading.specs.Wants.{Adds}
 use Rattle.entity_loading.proofs.FollowSteps.{following_more, refused_weaker, or_weaker}
 use Rattle.entity_loading.proofs.next.next_places.Goals as goal
@@ -13,11 +13,11 @@ pub returns-in-Err-clause-why : goal.returns-in-Err-clause-why
 returns-in-Err-clause-why c =
     let p = c.in-Some.place.now in
     let found = get uid_cmp c.args.found.now in
-    refused_weaker _ (SomeAnswerSticks c.args.nodes.now found c.args.pending.now.keys)
+    refused_weaker _ (SomeAnswerBlocks c.args.nodes.now found c.args.pending.now.keys)
     (λ u h. record {
       place = p;
       among = c.loop-place.invariant.among p (subst (IsIn p) (sym c.in-Some.ensures.steps) (inl refl));
-      sticks = subst (λ v. AnswerSticks (found p.uid) (tests_of v) u) c.new-trie.ensures (subst (λ o. AnswerSticks o (tests_of c.new-trie.result) u) c.get.ensures.value h);
+      sticks = subst (λ v. AnswerBlocks (found p.uid) (tests_of v) u) c.new-trie.ensures (subst (λ o. AnswerBlocks o (tests_of c.new-trie.result) u) c.get.ensures.value h);
     })
     c.in-Err.error c.in-Err.ensures.why
 

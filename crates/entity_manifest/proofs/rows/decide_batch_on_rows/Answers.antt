@@ -1,7 +1,7 @@
 use Rattle.std.proofs.Common.{refl}
 use Rattle.std.specs.List.{AllZip}
 use Rattle.std.proofs.lemmas.Result.{IfOk-weaker}
-use Rattle.table_loader.specs.State.{store_told, loader_state}
+use Rattle.table_loader.specs.State.{store_known, loader_state}
 use Rattle.entity_manifest.specs.Answers.{AreLoaderAnswers, IsRowAnswer, AreCounted}
 use Rattle.entity_manifest.proofs.OneAfterAnother.{counted}
 use Rattle.entity_manifest.proofs.ByRows.{row_answers}
@@ -16,8 +16,8 @@ returns-clause-answers g c =
     let old = loader_state r c.args.loader.now.rounds c.args.loader.now.lists in
     let new = loader_state (g.R.Rows.state c.decide_batch.new.loader.rows) c.decide_batch.new.loader.rounds c.decide_batch.new.loader.lists in
     IfOk-weaker c.decide_batch.result (λ answers. AreLoaderAnswers schema ps old qs answers.items new)
-    (λ answers. AllZip (IsRowAnswer schema ps (store_told r)) qs answers.items)
-    (λ answers h. row_answers schema ps (store_told r) (c.told_stores_are_ordered.ensures r) old new qs answers.items (λ w is. is) refl h)
+    (λ answers. AllZip (IsRowAnswer schema ps (store_known r)) qs answers.items)
+    (λ answers h. row_answers schema ps (store_known r) (c.known_stores_are_ordered.ensures r) old new qs answers.items (λ w is. is) refl h)
     c.decide_batch.ensures.answers
 
 pub returns-clause-faults : goal.returns-clause-faults

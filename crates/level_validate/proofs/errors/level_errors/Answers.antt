@@ -3,7 +3,7 @@ use Rattle.std.specs.Prelude.{◌↔◌}
 use Rattle.std.specs.List.{AllByRecursion, flat_map}
 use Rattle.std.proofs.lemmas.Result.{IfOk-weaker}
 use Rattle.findings.specs.declared.error.ValidationError.{ValidationError}
-use Rattle.level_validate.specs.Errors.{level_error, condition_in, dereferences_in, PassesIn, IsToldOf}
+use Rattle.level_validate.specs.Errors.{level_error, condition_in, dereferences_in, PassesIn, IsReportedOf}
 use Rattle.level_validate.proofs.errors.level_errors.Goals as goal
 
 pub returns-clause-none : goal.returns-clause-none
@@ -21,5 +21,5 @@ returns-clause-told c =
     let n = c.args.max_level in
     let conditions = map condition_in c.args.conditions.now.items in
     IfOk-weaker c.errors.result _ _
-    (λ errors is. subst (AllByRecursion (IsToldOf id n (flat_map dereferences_in conditions))) (sym (is ∙ ap (map (level_error id n)) c.in_ok-faults.ensures)) (c.level_errors_are_exact.ensures id n conditions).1)
+    (λ errors is. subst (AllByRecursion (IsReportedOf id n (flat_map dereferences_in conditions))) (sym (is ∙ ap (map (level_error id n)) c.in_ok-faults.ensures)) (c.level_errors_are_exact.ensures id n conditions).1)
     c.errors.ensures

@@ -4,7 +4,7 @@ use Rattle.entity_manifest.specs.Answers.{IsStoreAnswer}
 use Rattle.policy_gate.specs.Answer.{IsWork}
 use Rattle.policy_gate.specs.Reply.{reply_view}
 use Rattle.policy_gate.specs.declared.command.Command.TheVariants.{Batch}
-use Rattle.policy_gate.proofs.Lines.{all_told, answered}
+use Rattle.policy_gate.proofs.Lines.{all_reported, answered}
 use Rattle.policy_gate.proofs.Manifests.{refused}
 use Rattle.policy_gate.proofs.Results.{more}
 use Rattle.policy_gate.proofs.Says.{conforming_store}
@@ -15,7 +15,7 @@ lines_reply-requires c =
     let d = c.args.document.now in let answers = c.in-Ok.answers.items in
     let conforms = conforming_store c.laws.ensures d c.is_well_made.ensures c.requires in
     let are = subst (λ qs. AllZip (IsStoreAnswer d.schema d.policies.policies d.entities) qs answers) c.as_vec.ensures (c.in-Ok.ensures.answers conforms) in
-    all_told c.laws.ensures d c.is_well_made.ensures d.requests answers are
+    all_reported c.laws.ensures d c.is_well_made.ensures d.requests answers are
 
 pub returns-in-Ok : goal.returns-in-Ok
 returns-in-Ok c =

@@ -8,4 +8,4 @@ same_test true false P f g = absurd (true≢false (sym (g.1 (f.0 refl))))
 same_test false true P f g = absurd (true≢false (sym (f.1 (g.0 refl))))
 
 pub returns : goal.returns
-returns c = same_test _ _ _ c.is_name.ensures (c.names_are_told.ensures c.args.word.now)
+returns c = same_test _ _ _ c.is_name.ensures (c.names_are_reported.ensures c.args.word.now)

@@ -1,4 +1,4 @@
-use Rattle.policy_gate.proofs.Runs.{causes, complete_for, done_for, edit_for, exact_for, read_for, refused_for, sampled_for, too_long_for, too_long_told, usage_for}
+use Rattle.policy_gate.proofs.Runs.{causes, complete_for, done_for, edit_for, exact_for, read_for, refused_for, sampled_for, too_long_for, too_long_reported, usage_for}
 use Rattle.policy_gate.specs.Run.{Run, run_of}
 use Rattle.policy_gate.specs.declared.command.Command.TheVariants.{Check, Level, Request, Manifest, Slice, Decide, Batch, Live, Review, List as Page}
 use Rattle.policy_gate.proofs.runner.run.Given as given
@@ -20,9 +20,9 @@ returns-clause-usage g c = usage_for _ _ _ _ _ _ c.outcome.ensures.runs
 pub returns-clause-too_long : goal.returns-clause-too_long
 returns-clause-too_long g c = too_long_for _ _ _ _ _ _ c.outcome.ensures.runs
 
-pub returns-clause-too_long_told : goal.returns-clause-too_long_told
-returns-clause-too_long_told g c reads (bytes, told, long, q) =
-    too_long_told bytes _ _ _ _ _ told q _ c.outcome.ensures.runs reads long
+pub returns-clause-too_long_reported : goal.returns-clause-too_long_reported
+returns-clause-too_long_reported g c reads (bytes, told, long, q) =
+    too_long_reported bytes _ _ _ _ _ told q _ c.outcome.ensures.runs reads long
 
 pub returns-clause-exact : goal.returns-clause-exact
 returns-clause-exact g c command bytes (is, work, q) =

@@ -7,9 +7,9 @@ use Rattle.policy_set.specs.Condition.{condition_of}
 use Rattle.typecheck_rules.specs.Check.{checked}
 use Rattle.level_spec.specs.Levels.{greater}
 use Rattle.policy_validate.specs.Checks.{condition_in}
-use Rattle.policy_validate.proofs.Checks.{told_condition}
+use Rattle.policy_validate.proofs.Checks.{reported_condition}
 use Rattle.policy_review.specs.Levels.{greatest}
-use Rattle.policy_review.specs.Found.{level_told, level_found_in}
+use Rattle.policy_review.specs.Found.{level_reported, level_found_in}
 use Rattle.policy_review.proofs.Raising.{greater_zero, greater_assoc}
 use Rattle.policy_review.proofs.levels.level_of.Goals as goal
 
@@ -20,8 +20,8 @@ loop-env-preserved c =
     let before = c.loop-env.level in
     let level = level_found_in c.args.schema.now (condition_of t) in
     let rest = greatest (map level (map env_data_of (into_iter_items c.next.new.self))) in
-    let told = told_condition t.id (checked c.args.typechecker.now e (condition_of t)) c.in_ok-check.check c.in_ok-check.ensures ∙ ap (λ s. condition_in (checked s e (condition_of t))) c.requires in
-    ap (λ l. greater l rest) (c.in_ok-level.ensures ∙ ap (λ o. greater before (level_told (action_in e) o)) told)
+    let told = reported_condition t.id (checked c.args.typechecker.now e (condition_of t)) c.in_ok-check.check c.in_ok-check.ensures ∙ ap (λ s. condition_in (checked s e (condition_of t))) c.requires in
+    ap (λ l. greater l rest) (c.in_ok-level.ensures ∙ ap (λ o. greater before (level_reported (action_in e) o)) told)
     ∙ greater_assoc before (level e) rest
     ∙ ap (λ es. greater before (greatest (map level (map env_data_of es)))) (sym c.in-Some.ensures.steps.0)
     ∙ c.loop-env.invariant

@@ -5,11 +5,11 @@ use Rattle.std.specs.Vec.Iter.{into_iter_items}
 use Rattle.schema_core.specs.EnvData.{action_in}
 use Rattle.schema_core.specs.RequestEnvs.{env_data_of}
 use Rattle.typecheck_rules.specs.Check.{checked}
-use Rattle.policy_typecheck.specs.Answer.{Tells}
+use Rattle.policy_typecheck.specs.Answer.{Reports}
 use Rattle.level_spec.specs.Levels.{greater}
-use Rattle.policy_validate.proofs.Checks.{told_condition}
+use Rattle.policy_validate.proofs.Checks.{reported_condition}
 use Rattle.policy_review.specs.Matrix.{row_at}
-use Rattle.policy_review.specs.Found.{level_told}
+use Rattle.policy_review.specs.Found.{level_reported}
 use Rattle.policy_review.proofs.Checks.{verdict_is, verdict_found}
 use Rattle.policy_review.proofs.Steps.{begun, gone_on, stopped, all_passed, all_rows, whole_level}
 use Rattle.policy_review.proofs.matrix.add_rows.Goals as goal
@@ -29,13 +29,13 @@ loop-env-preserved c =
     let matrix = c.loop-env.matrix.items in
     let level = c.loop-env.level in
     let exact = c.check_is_exact.ensures in
-    let tells = subst (λ s. Tells p.id (checked s e p.condition) check) c.requires c.in_ok-check.ensures in
+    let tells = subst (λ s. Reports p.id (checked s e p.condition) check) c.requires c.in_ok-check.ensures in
     gone_on schema p c.args.matrix.now.items c.args.level.now matrix level (map env_data_of (into_iter_items c.loop-env.env-iterator)) (map env_data_of (into_iter_items c.next.new.self)) e
     (ap (map env_data_of) c.in-Some.ensures.steps.0) c.loop-env.invariant
     (sym (verdict_found exact schema e p.condition p.id check tells) ∙ ap is_some (sym c.in-Some-passed_verdict.ensures))
     verdict (verdict_is exact schema e p.condition p.id check tells verdict (sym c.in-Some-passed_verdict.ensures))
     c.add_row.new.matrix.items (c.in_ok-add_row.ensures ∙ ap (λ id. matrix ++ option_to_list (row_at id e verdict)) c.id.ensures)
-    c.in_ok-raised.raised (c.in_ok-raised.ensures ∙ ap (λ o. greater level (level_told (action_in e) o)) (told_condition p.id (checked schema e p.condition) check tells))
+    c.in_ok-raised.raised (c.in_ok-raised.ensures ∙ ap (λ o. greater level (level_reported (action_in e) o)) (reported_condition p.id (checked schema e p.condition) check tells))
 
 pub returns-in_default-clause-passes : goal.returns-in_default-clause-passes
 returns-in_default-clause-passes c =
@@ -43,7 +43,7 @@ returns-in_default-clause-passes c =
     let p = c.args.policy.now in
     let e = env_data_of c.in-Some.env in
     let check = c.in_ok-check.check in
-    let tells = subst (λ s. Tells p.id (checked s e p.condition) check) c.requires c.in_ok-check.ensures in
+    let tells = subst (λ s. Reports p.id (checked s e p.condition) check) c.requires c.in_ok-check.ensures in
     stopped schema p c.args.matrix.now.items c.args.level.now c.loop-env.matrix.items c.loop-env.level (map env_data_of (into_iter_items c.loop-env.env-iterator)) (map env_data_of (into_iter_items c.next.new.self)) e
     (ap (map env_data_of) c.in-Some.ensures.steps.0) c.loop-env.invariant
     (sym (verdict_found c.check_is_exact.ensures schema e p.condition p.id check tells) ∙ ap is_some (sym c.in_default.ensures))

@@ -5,7 +5,7 @@ use Rattle.policy_expressions.specs.Tree.{depth_of}
 use Rattle.policy_set.specs.Condition.{condition_of}
 use Rattle.schema_core.specs.RequestEnvs.{env_data_of}
 use Rattle.typecheck_rules.specs.Check.{checked}
-use Rattle.policy_typecheck.specs.Answer.{Tells}
+use Rattle.policy_typecheck.specs.Answer.{Reports}
 use Rattle.policy_validate.proofs.AtLevel.{IsTypedSoFar, begun, gone_on, stopped, deep_refused, ended, none_there, some_there}
 use Rattle.policy_validate.proofs.levels.typed_at.Goals as goal
 
@@ -21,7 +21,7 @@ loop-env-preserved c =
     let t = c.args.template.now in
     let e = env_data_of c.in-Some.env in
     let check = c.in_ok-check.check in
-    let tells = subst (λ s. Tells t.id (checked s e (condition_of t)) check) c.requires c.in_ok-check.ensures in
+    let tells = subst (λ s. Reports t.id (checked s e (condition_of t)) check) c.requires c.in_ok-check.ensures in
     gone_on schema c.args.level t c.loop-env.typed.impossible c.loop-env.typed.faults (map env_data_of (into_iter_items c.loop-env.env-iterator)) (map env_data_of (into_iter_items c.next.new.self)) e
     (ap (map env_data_of) c.in-Some.ensures.steps.0) c.loop-env.invariant check tells (none_there _ (sym c.has_errors.ensures ∙ c.if-has_errors.false))
     c.in_ok-typed.typed.impossible c.in_ok-typed.ensures.impossible c.in_ok-typed.typed.faults c.in_ok-typed.ensures.faults
@@ -36,7 +36,7 @@ returns-then-has_errors c =
     let t = c.args.template.now in
     let e = env_data_of c.in-Some.env in
     let check = c.in_ok-check.check in
-    let tells = subst (λ s. Tells t.id (checked s e (condition_of t)) check) c.requires c.in_ok-check.ensures in
+    let tells = subst (λ s. Reports t.id (checked s e (condition_of t)) check) c.requires c.in_ok-check.ensures in
     let flat = sym (ap (λ x. nat_lt 200 (depth_of x)) c.condition.ensures.value) ∙ sym c.is_too_deep.ensures ∙ c.if-is_too_deep.false in
     stopped schema c.args.level t c.loop-env.typed.impossible c.loop-env.typed.faults (map env_data_of (into_iter_items c.loop-env.env-iterator)) (map env_data_of (into_iter_items c.next.new.self)) e
     (ap (map env_data_of) c.in-Some.ensures.steps.0) c.loop-env.invariant check tells flat (some_there _ (sym c.has_errors.ensures ∙ c.if-has_errors.true))

@@ -9,4 +9,4 @@ pub returns : goal.returns
 returns c =
     dedup_is _ _ _ c.dedup.ensures.filtered
     ∙ dedup_sorted val_cmp val_cmp_total exact_val _ (λ x y. refl) c.args.values.items
-        c.sort_unstable.new.self.items c.sort_unstable.ensures.permutation c.sort_unstable.ensures.sorted
+    c.sort_unstable.new.self.items c.sort_unstable.ensures.permutation c.sort_unstable.ensures.sorted

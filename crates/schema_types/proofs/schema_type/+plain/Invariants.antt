@@ -4,7 +4,7 @@ use Rattle.std.specs.Map.{keys_of}
 use Rattle.schema_types.specs.Ty.{size_of, size_of_attrs}
 use Rattle.schema_types.specs.TyView.{kind_of, attrs_of}
 use Rattle.schema_types.specs.Plain.{plain_attrs}
-use Rattle.schema_types.proofs.PlainSteps.{in_front}
+use Rattle.schema_types.proofs.PlainSteps.{in_prefix}
 use Rattle.schema_types.proofs.schema_type.+plain.Given as goal
 
 abbrev pub decreases-schema_type_of : goal.decreases-schema_type_of
@@ -22,7 +22,7 @@ decreases-schema_entries l = 3 * size_of_attrs (attrs_of l.entries.now.entries) 
 -- what is done, before what is left
 abbrev pub invariant-schema_entries-loop-key : goal.invariant-schema_entries-loop-key
 invariant-schema_entries-loop-key l = record {
-  left : option_map (in_front l.made.entries) (plain_attrs (attrs_of l.key-iterator)) ≡ plain_attrs (attrs_of l.entries.entries);
+  left : option_map (in_prefix l.made.entries) (plain_attrs (attrs_of l.key-iterator)) ≡ plain_attrs (attrs_of l.entries.entries);
   keys : keys_of l.entries.entries ≡ keys_of l.made.entries ++ keys_of l.key-iterator;
   size : size_of_attrs (attrs_of l.key-iterator) ≤ size_of_attrs (attrs_of l.entries.entries);
 }

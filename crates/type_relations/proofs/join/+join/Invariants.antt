@@ -4,7 +4,7 @@ use Rattle.schema_types.specs.Ty.{size_of, size_of_attrs}
 use Rattle.schema_types.specs.declared.ty.TypeKind.TheVariants.{Set}
 use Rattle.schema_types.specs.TyView.{kind_of, ty_of, attrs_of}
 use Rattle.type_relations.specs.Join.{result_map, join_attrs, shared}
-use Rattle.type_relations.proofs.JoinSteps.{in_front}
+use Rattle.type_relations.proofs.JoinSteps.{in_prefix}
 use Rattle.type_relations.proofs.Pending.{pending}
 use Rattle.type_relations.proofs.MergeSteps.{IsMerge}
 use Rattle.type_relations.proofs.join.+join.Given as goal
@@ -42,7 +42,7 @@ decreases-keep_shared l = 4 * size_of l.x.now.attr_type + 2
 -- what is done, before the join of what is left
 abbrev pub invariant-join_entries-loop-key : goal.invariant-join_entries-loop-key
 invariant-join_entries-loop-key l = record {
-  left : result_map (in_front l.joined.entries) (join_attrs (attrs_of l.key-iterator) (attrs_of l.rest)) ≡ join_attrs (attrs_of l.a.entries) (attrs_of l.b.entries);
+  left : result_map (in_prefix l.joined.entries) (join_attrs (attrs_of l.key-iterator) (attrs_of l.rest)) ≡ join_attrs (attrs_of l.a.entries) (attrs_of l.b.entries);
   keys : keys_of l.a.entries ≡ keys_of l.joined.entries ++ keys_of l.key-iterator;
   size : size_of_attrs (attrs_of l.key-iterator) ≤ size_of_attrs (attrs_of l.a.entries);
 }

@@ -5,7 +5,7 @@ use Rattle.std.proofs.lemmas.List.{map-append, append-nil}
 use Rattle.policy_expressions.specs.Tree.{trees_of}
 use Rattle.typecheck_rules.specs.Operators.{arguments_fitting}
 use Rattle.typecheck_operators.specs.Parts.{argument_walked}
-use Rattle.typecheck_operators.specs.Told.{walked_of, all_of}
+use Rattle.typecheck_operators.specs.Reported.{walked_of, all_of}
 use Rattle.typecheck_operators.proofs.Arguments.{none_left, nothing_fits}
 use Rattle.typecheck_operators.proofs.PartLaws.{arguments_more}
 use Rattle.typecheck_operators.proofs.call.arguments_fitting.Goals as goal

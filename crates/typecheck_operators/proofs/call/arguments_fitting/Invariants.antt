@@ -2,7 +2,7 @@ use Rattle.std.proofs.Common.{◌≡◌, ◌++◌, drop, length, vec_len}
 use Rattle.std.specs.Vec.Iter.{into_iter_items, into_iter_len}
 use Rattle.policy_expressions.specs.Tree.{trees_of}
 use Rattle.typecheck_rules.specs.Operators.{arguments_fitting}
-use Rattle.typecheck_operators.specs.Told.{all_of}
+use Rattle.typecheck_operators.specs.Reported.{all_of}
 use Rattle.typecheck_operators.proofs.call.arguments_fitting.Given as goal
 
 -- the arguments so far, and then what is left

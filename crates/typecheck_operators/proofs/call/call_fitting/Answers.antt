@@ -4,7 +4,7 @@ use Rattle.policy_expressions.specs.Tree.{trees_of}
 use Rattle.typing_spec.specs.Signatures.{call_type}
 use Rattle.typecheck_rules.specs.Found.{findings_from}
 use Rattle.typecheck_operators.specs.Parts.{call_by_type}
-use Rattle.typecheck_operators.specs.Told.{mark, walked_of, all_of}
+use Rattle.typecheck_operators.specs.Reported.{mark, walked_of, all_of}
 use Rattle.typecheck_operators.proofs.PartLaws.{call_by_parts}
 use Rattle.typecheck_operators.proofs.call.call_fitting.Goals as goal
 

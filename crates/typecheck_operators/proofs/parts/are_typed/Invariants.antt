@@ -1,7 +1,7 @@
 use Rattle.std.proofs.Common.{◌≡◌, drop}
 use Rattle.std.specs.List.{list_all}
 use Rattle.typecheck_rules.specs.Walked.{has_typing}
-use Rattle.typecheck_operators.specs.Told.{all_of}
+use Rattle.typecheck_operators.specs.Reported.{all_of}
 use Rattle.typecheck_operators.proofs.parts.are_typed.Given as goal
 
 -- what is left decides

@@ -2,7 +2,7 @@ use Rattle.std.proofs.Common.{◌≡◌, ◌++◌, length, map}
 use Rattle.std.specs.Vec.Iter.{into_iter_items, into_iter_len}
 use Rattle.typecheck_rules.specs.Walked.{tree_of, findings_of_all}
 use Rattle.typecheck_rules.specs.Found.{findings_from}
-use Rattle.typecheck_operators.specs.Told.{all_of}
+use Rattle.typecheck_operators.specs.Reported.{all_of}
 use Rattle.typecheck_operators.proofs.parts.rest_of_all.Given as goal
 
 -- what is taken so far, and then what is left

@@ -2,7 +2,7 @@ use Rattle.std.proofs.Common.{◌≡◌, map}
 use Rattle.std.specs.List.{list_all}
 use Rattle.typecheck_rules.specs.Walked.{has_typing}
 use Rattle.typecheck_rules.specs.Operators.{parts_of}
-use Rattle.typecheck_operators.specs.Told.{field_of}
+use Rattle.typecheck_operators.specs.Reported.{field_of}
 use Rattle.typecheck_operators.proofs.record.are_fields_typed.Given as goal
 
 -- what is left decides

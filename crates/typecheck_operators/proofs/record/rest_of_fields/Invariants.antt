@@ -4,7 +4,7 @@ use Rattle.typecheck_rules.specs.Walked.{findings_of_all}
 use Rattle.typecheck_rules.specs.Operators.{parts_of}
 use Rattle.typecheck_rules.specs.Found.{findings_from}
 use Rattle.typecheck_operators.specs.Parts.{trees_in_fields}
-use Rattle.typecheck_operators.specs.Told.{field_of}
+use Rattle.typecheck_operators.specs.Reported.{field_of}
 use Rattle.typecheck_operators.proofs.record.rest_of_fields.Given as goal
 
 -- what is taken so far, and then what is left

@@ -1,5 +1,5 @@
 use Rattle.std.proofs.Common.{◌≡◌, ◌∙◌, IfOk, ap, subst}
-use Rattle.typecheck_operators.specs.Told.{mark, operand_of, walked_of}
+use Rattle.typecheck_operators.specs.Reported.{mark, operand_of, walked_of}
 use Rattle.typecheck_walk.specs.Branches.{all_found, if_by, tested_of}
 use Rattle.typecheck_walk.proofs.BranchLaws.{if_by_own}
 use Rattle.typecheck_walk.proofs.conditional.if_ended.Goals as goal

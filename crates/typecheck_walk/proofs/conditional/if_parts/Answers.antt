@@ -2,7 +2,7 @@ use Rattle.std.proofs.Common.{◌≡◌, ◌++◌, ◌&&◌, None, IfOk, subst}
 use Rattle.policy_expressions.specs.Tree.{ite}
 use Rattle.typecheck_rules.specs.Walked.{ended, lends}
 use Rattle.typecheck_rules.specs.Operators.{branches_found, if_typing_of}
-use Rattle.typecheck_operators.specs.Told.{mark, walked_of}
+use Rattle.typecheck_operators.specs.Reported.{mark, walked_of}
 use Rattle.typecheck_walk.proofs.conditional.if_parts.Goals as goal
 
 pub returns-4 : goal.returns-4

@@ -1,5 +1,5 @@
 use Rattle.std.proofs.Common.{◌≡◌, ◌∙◌, IfOk, subst}
-use Rattle.typecheck_operators.specs.Told.{mark, operand_of, walked_of}
+use Rattle.typecheck_operators.specs.Reported.{mark, operand_of, walked_of}
 use Rattle.typecheck_walk.specs.Sides.{or_by}
 use Rattle.typecheck_walk.proofs.SideLaws.{or_by_own}
 use Rattle.typecheck_walk.proofs.or.or_ended.Goals as goal

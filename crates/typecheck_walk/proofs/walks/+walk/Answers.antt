@@ -11,7 +11,7 @@ use Rattle.policy_expressions.specs.Tree.{mark_of, ite, conj, disj, unary, binar
 use Rattle.policy_expressions.specs.TreeView.{tree_of}
 use Rattle.typecheck_rules.specs.Walk.{walked}
 use Rattle.typecheck_rules.specs.Operators.{attr_walked, has_walked, binary_walked, unary_walked, like_walked, is_walked, set_walked, record_walked, if_parts, reached_after, reached_besides}
-use Rattle.typecheck_operators.specs.Told.{mark, walked_of}
+use Rattle.typecheck_operators.specs.Reported.{mark, walked_of}
 use Rattle.typecheck_walk.proofs.Asks.{asks_tag}
 use Rattle.typecheck_walk.proofs.WalkSteps.{so_far_more, keys_more, depth_more}
 use Rattle.typecheck_walk.proofs.walks.+walk.Goals as goal
@@ -90,13 +90,13 @@ walk-returns-in-Record t c =
 
 pub walk_attr-returns : goal.walk_attr-returns
 walk_attr-returns t c =
-    subst (λ w. IfOk c.attr_told.result (λ r. walked_of r ≡ w))
-    (λ i. attr_walked c.args.at.now.schema.now (env_data_of c.args.at.now.env.now) (has_cap c.args.caps.now (attribute_known c.args.x.now c.args.n.now)) c.args.n.now (mark c.args.loc) (c.source_loc.ensures i) (c.in_ok-v.ensures i)) c.attr_told.ensures
+    subst (λ w. IfOk c.attr_reported.result (λ r. walked_of r ≡ w))
+    (λ i. attr_walked c.args.at.now.schema.now (env_data_of c.args.at.now.env.now) (has_cap c.args.caps.now (attribute_known c.args.x.now c.args.n.now)) c.args.n.now (mark c.args.loc) (c.source_loc.ensures i) (c.in_ok-v.ensures i)) c.attr_reported.ensures
 
 pub walk_has-returns : goal.walk_has-returns
 walk_has-returns t c =
-    subst (λ w. IfOk c.has_told.result (λ r. walked_of r ≡ w))
-    (λ i. has_walked c.args.at.now.schema.now (c.in_ok-known.ensures i) c.args.x.now c.args.n.now (mark c.args.loc) (c.in_ok-v.ensures i)) c.has_told.ensures
+    subst (λ w. IfOk c.has_reported.result (λ r. walked_of r ≡ w))
+    (λ i. has_walked c.args.at.now.schema.now (c.in_ok-known.ensures i) c.args.x.now c.args.n.now (mark c.args.loc) (c.in_ok-v.ensures i)) c.has_reported.ensures
 
 pub walk_binary-returns-in-Ok : goal.walk_binary-returns-in-Ok
 walk_binary-returns-in-Ok t c =
@@ -106,10 +106,10 @@ walk_binary-returns-in-Ok t c =
     let y = c.args.y.now in
     let m = mark c.args.loc in
     let known = has_cap c.args.caps.now (tag_known x y) in
-    subst (λ w. IfOk c.binary_told.result (λ r. walked_of r ≡ w))
+    subst (λ w. IfOk c.binary_reported.result (λ r. walked_of r ≡ w))
     ((λ i. binary_walked s e c.args.op (c.knows_tag-known.ensures i) x y m (c.in_ok-v.ensures i) (c.in-Ok.ensures i))
     ∙ asks_tag s e c.args.op known x y m (walked s e c.args.caps.now x) (walked s e c.args.caps.now y))
-    c.binary_told.ensures
+    c.binary_reported.ensures
 
 pub walk_named-push_entry-requires : goal.walk_named-push_entry-requires
 walk_named-push_entry-requires t c =
@@ -145,20 +145,20 @@ walk_if-returns-in-Ok-walk_besides t c =
 
 pub walk_unary-returns : goal.walk_unary-returns
 walk_unary-returns t c =
-    subst (λ w. IfOk c.unary_told.result (λ r. walked_of r ≡ w)) (λ i. unary_walked c.args.op (mark c.args.loc) (c.source_loc.ensures i) (c.in_ok-v.ensures i)) c.unary_told.ensures
+    subst (λ w. IfOk c.unary_reported.result (λ r. walked_of r ≡ w)) (λ i. unary_walked c.args.op (mark c.args.loc) (c.source_loc.ensures i) (c.in_ok-v.ensures i)) c.unary_reported.ensures
 
 pub walk_like-returns : goal.walk_like-returns
 walk_like-returns t c =
-    subst (λ w. IfOk c.like_told.result (λ r. walked_of r ≡ w)) (λ i. like_walked c.args.p.now (mark c.args.loc) (c.source_loc.ensures i) (c.in_ok-v.ensures i)) c.like_told.ensures
+    subst (λ w. IfOk c.like_reported.result (λ r. walked_of r ≡ w)) (λ i. like_walked c.args.p.now (mark c.args.loc) (c.source_loc.ensures i) (c.in_ok-v.ensures i)) c.like_reported.ensures
 
 pub walk_is-returns : goal.walk_is-returns
 walk_is-returns t c =
-    subst (λ w. IfOk c.is_told.result (λ r. walked_of r ≡ w)) (λ i. is_walked c.args.n.now (mark c.args.loc) (c.source_loc.ensures i) (c.in_ok-v.ensures i)) c.is_told.ensures
+    subst (λ w. IfOk c.is_reported.result (λ r. walked_of r ≡ w)) (λ i. is_walked c.args.n.now (mark c.args.loc) (c.source_loc.ensures i) (c.in_ok-v.ensures i)) c.is_reported.ensures
 
 pub walk_set-returns : goal.walk_set-returns
 walk_set-returns t c =
-    subst (λ w. IfOk c.set_told.result (λ r. walked_of r ≡ w)) (λ i. set_walked (mark c.args.loc) (c.in_ok-ws.ensures i)) c.set_told.ensures
+    subst (λ w. IfOk c.set_reported.result (λ r. walked_of r ≡ w)) (λ i. set_walked (mark c.args.loc) (c.in_ok-ws.ensures i)) c.set_reported.ensures
 
 pub walk_record-returns : goal.walk_record-returns
 walk_record-returns t c =
-    subst (λ w. IfOk c.record_told.result (λ r. walked_of r ≡ w)) (λ i. record_walked (mark c.args.loc) (c.in_ok-ws.ensures i)) c.record_told.ensures
+    subst (λ w. IfOk c.record_reported.result (λ r. walked_of r ≡ w)) (λ i. record_walked (mark c.args.loc) (c.in_ok-ws.ensures i)) c.record_reported.ensures

@@ -3,7 +3,7 @@ use Rattle.std.specs.Map.{keys_of}
 use Rattle.schema_core.specs.RequestEnvs.{env_data_of}
 use Rattle.policy_expressions.specs.Tree.{depth_of, deepest, deepest_named, trees_of, named_of}
 use Rattle.typecheck_rules.specs.Walk.{walked_all, walked_named}
-use Rattle.typecheck_operators.specs.Told.{all_of, field_of}
+use Rattle.typecheck_operators.specs.Reported.{all_of, field_of}
 use Rattle.typecheck_walk.proofs.walks.+walk.Given as goal
 
 abbrev pub decreases-walk : goal.decreases-walk

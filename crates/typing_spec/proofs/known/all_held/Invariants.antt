@@ -1,7 +1,7 @@
 use Rattle.std.proofs.Common.{◌≡◌, take}
 use Rattle.std.specs.List.{filter}
 use Rattle.typing_spec.specs.Capability.{together}
-use Rattle.typing_spec.specs.Lent.{lends}
+use Rattle.typing_spec.specs.Recovered.{lends}
 use Rattle.typing_spec.proofs.known.all_held.Given as goal
 
 abbrev pub invariant-loop-part : goal.invariant-loop-part

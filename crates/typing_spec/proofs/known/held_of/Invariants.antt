@@ -1,6 +1,6 @@
 use Rattle.std.proofs.Common.{◌≡◌, ◌||◌, drop}
 use Rattle.typing_spec.specs.Capability.{Capability, has_cap, together}
-use Rattle.typing_spec.specs.Lent.{lends}
+use Rattle.typing_spec.specs.Recovered.{lends}
 use Rattle.typing_spec.proofs.known.held_of.Given as goal
 
 -- what is held, or left, is known

@@ -1,6 +1,6 @@
 use Rattle.std.proofs.Common.{◌≡◌, ◌++◌, take}
 use Rattle.std.specs.List.{filter}
-use Rattle.typing_spec.specs.Lent.{lends}
+use Rattle.typing_spec.specs.Recovered.{lends}
 use Rattle.typing_spec.proofs.known.push_held.Given as goal
 
 abbrev pub invariant-loop-k : goal.invariant-loop-k

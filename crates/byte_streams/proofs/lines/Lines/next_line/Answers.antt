@@ -1,7 +1,7 @@
 use Rattle.std.proofs.Common.{◌≡◌, ◌+◌, ◌++◌, ◌∷◌, [], ◌∙◌, true, length, length-append, ap, arith, subst, sym}
 use Rattle.std.specs.Io.KnownBytes.{Consumes}
 use Rattle.byte_streams.specs.Lines.{is_plain}
-use Rattle.byte_streams.proofs.Taken.{behind, front_more, last_is, newline_ends, pushed}
+use Rattle.byte_streams.proofs.Taken.{behind, prefix_more, last_is, newline_ends, pushed}
 use Rattle.byte_streams.proofs.lines.Lines.next_line.Goals as goal
 
 pub loop-self-preserved : goal.loop-self-preserved
@@ -12,7 +12,7 @@ loop-self-preserved g c =
     let byte = c.in-Byte.byte in
     let grown : c.push.new.self.items ≡ front ++ (byte ∷ []) = pushed c.push.result front c.push.new.self.items byte c.if-is_err.ensures.value c.push.ensures.items in
     let longer : length c.push.new.self.items ≡ length front + 1 = ap length grown ∙ length-append front (byte ∷ []) in
-    let more = front_more c.args.self.now c.loop-self.self c.next_byte.new.self front byte i.plain i.taken h.0 h.1 in
+    let more = prefix_more c.args.self.now c.loop-self.self c.next_byte.new.self front byte i.plain i.taken h.0 h.1 in
     record {
       in_range = omega (arith, longer, c.loop-self-test.true, c.len.ensures, c.loop-self.line.ok.0, c.push.new.self.ok.0);
       plain = subst (λ xs. is_plain xs ≡ true) (sym grown) more.0;

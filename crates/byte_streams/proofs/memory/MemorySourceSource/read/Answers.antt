@@ -7,7 +7,7 @@ pub returns-clause-bytes : goal.returns-clause-bytes
 returns-clause-bytes c =
     let all = c.args.self.now.bytes.items in
     let at = c.args.self.now.at in
-    let n = c.copy_front-n.result in
-    let room : n ≤ length c.copy_front-n.new.piece = omega (arith, c.copy_front-n.auto.piece, c.copy_front-n.ensures.count) in
-    let given = take-append-le n c.copy_front-n.new.piece (drop c.min-most.result c.args.piece.now) room ∙ c.copy_front-n.ensures.copied in
+    let n = c.copy_prefix-n.result in
+    let room : n ≤ length c.copy_prefix-n.new.piece = omega (arith, c.copy_prefix-n.auto.piece, c.copy_prefix-n.ensures.count) in
+    let given = take-append-le n c.copy_prefix-n.new.piece (drop c.min-most.result c.args.piece.now) room ∙ c.copy_prefix-n.ensures.copied in
     drop_piece at n all ∙ ap (λ r. r ++ drop (at + n) all) (sym (rw (rest_whole, c.deref-2.ensures.value) at given))

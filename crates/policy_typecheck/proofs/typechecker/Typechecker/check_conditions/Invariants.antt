@@ -2,11 +2,11 @@ use Rattle.std.proofs.Common.{◌≡◌, map}
 use Rattle.std.specs.Vec.Iter.{into_iter_items}
 use Rattle.schema_core.specs.RequestEnvs.{env_data_of}
 use Rattle.link_spec.specs.Linked.{linked_envs}
-use Rattle.policy_typecheck.specs.Told.{all_told, condition_check}
+use Rattle.policy_typecheck.specs.Reported.{all_reported, condition_check}
 use Rattle.policy_typecheck.proofs.typechecker.Typechecker.check_conditions.Given as goal
 
--- what is told so far, before what the environments that are left tell
+-- what is reported so far, before what the environments that are left say
 abbrev pub invariant-loop-env : goal.invariant-loop-env
 invariant-loop-env l =
-    all_told l.t.id (condition_check l.self l.t) (l.summary, l.found.keys) (map env_data_of (into_iter_items l.env-iterator)) ≡
-    all_told l.t.id (condition_check l.self l.t) (l.initial.summary, l.initial.found.keys) (linked_envs l.self l.t)
+    all_reported l.t.id (condition_check l.self l.t) (l.summary, l.found.keys) (map env_data_of (into_iter_items l.env-iterator)) ≡
+    all_reported l.t.id (condition_check l.self l.t) (l.initial.summary, l.initial.found.keys) (linked_envs l.self l.t)

@@ -1,6 +1,6 @@
 use Rattle.schema_core.specs.declared.request_env.RequestEnv.{RequestEnv}
 use Rattle.typecheck_walk.specs.declared.policy_check.PolicyCheck.{PolicyCheck}
-use Rattle.policy_typecheck.proofs.AllChecks.{envs_more, told_more}
+use Rattle.policy_typecheck.proofs.AllChecks.{envs_more, reported_more}
 use Rattle.std.specs.Vec.Iter.{into_iter_items}
 use Rattle.policy_typecheck.proofs.typechecker.Typechecker.check_in_each.Goals as goal
 
@@ -18,5 +18,5 @@ loop-env-preserved c =
     let pushed = c.in_ok-push.ensures.items in
     record {
       environments = envs_more s id x done new r it rest is pushed _ c.loop-env.invariant.environments;
-      checks = told_more s id x done new r it rest is pushed c.loop-env.invariant.checks c.in_ok-check.ensures;
+      checks = reported_more s id x done new r it rest is pushed c.loop-env.invariant.checks c.in_ok-check.ensures;
     }

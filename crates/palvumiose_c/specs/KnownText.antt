@@ -1,0 +1,57 @@
+-- What a call says its caller.
+use Rattle.std.specs.Prelude.{◌≡◌, ◌==◌, ◌<◌, ◌≤◌, ◌⊎◌, ℕ, List, [], ◌++◌, length, take, drop, Option, Some, None, if◌then◌else◌}
+use Rattle.std.specs.List.{slice_split}
+use Rattle.std.specs.Str.{is_utf8}
+use Rattle.byte_streams.specs.Document.{document_limit}
+use Rattle.policy_gate.specs.Answer.{IsAnswer}
+use Rattle.json_document.specs.declared.document.Document.{Document}
+use Rattle.policy_gate.specs.Command.{command_of, own_document, shape_of}
+use Rattle.policy_gate.specs.Headline.{HasDocument, IsDocumentOf, KeepsRulesOf}
+use Rattle.policy_gate.specs.Reply.{Answer, answer}
+use Rattle.policy_gate.specs.Run.{Reads, too_long, usage}
+use Rattle.policy_gate.specs.declared.command.Command.{Command}
+use Rattle.policy_gate.specs.declared.status.Status.TheVariants as status
+
+-- the words of a command, which zero bytes part; bytes that are no text have none
+abbrev pub words_in : List ℕ → List (List ℕ)
+words_in bytes = if is_utf8 bytes then slice_split (λ b. b == 0) bytes else []
+
+-- what is due for a command that has a document of its own; and for the others, which read the caller's
+abbrev pub IsDueOn : Option (List ℕ) → Command → List ℕ → Answer → Type 0
+IsDueOn (Some own) command document a = IsAnswer command own a
+IsDueOn None command document a = ((length document ≤ document_limit) × IsAnswer command document a)
+    ⊎ ((document_limit < length document) × (a ≡ too_long))
+
+-- what is due for words that are no command, and for those that are one
+abbrev pub IsDueTo : Option Command → List ℕ → Answer → Type 0
+IsDueTo None document a = a ≡ usage
+IsDueTo (Some command) document a = IsDueOn (own_document command) command document a
+
+-- a call says what is due; or that memory ran out, with no text
+abbrev pub IsReported : Option Command → List ℕ → Answer → Type 0
+IsReported command document a = IsDueTo command document a ⊎ (a ≡ answer status.OutOfMemory [])
+
+-- the words are a command that reads the caller's document, and that is no longer than one may be, and keeps
+-- every rule of the command
+pub record KeepAllRules (words document : List ℕ) : Type 0 where
+  pub command : Command
+  pub is : command_of (words_in words) ≡ Some command
+  pub reads : Reads command
+  pub few : length document ≤ document_limit
+  pub read : Document
+  pub of : IsDocumentOf (shape_of command) document read
+  pub rules : KeepsRulesOf command read
+
+-- a text over the front of other bytes: as much of it as there is room for, and behind it what was there
+abbrev pub laid_over : List ℕ → List ℕ → List ℕ
+laid_over text bytes = take (length bytes) text ++ drop (length text) bytes
+
+-- the caller is handed a text: its size, and as much of it as `out` has room for
+pub record IsHanded (text : List ℕ) (size : ℕ) (out out' : List ℕ) : Type 0 where
+  pub whole : size ≡ length text
+  pub front : out' ≡ laid_over text out
+
+-- the bytes are a document for the command, and the caller is handed a text that says of it what it should
+abbrev pub HandsOut : Command → (Document → List ℕ → Type 0) → List ℕ → ℕ → List ℕ → List ℕ → Type 0
+HandsOut command Is document size out out' =
+    (text : List ℕ) × IsHanded text size out out' × HasDocument command document (λ d. Is d text)
