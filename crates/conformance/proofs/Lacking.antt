@@ -22,8 +22,8 @@ use Rattle.entity_store.specs.Store.{StoredEntity, Store, is_named, entity_at}
 use Rattle.entity_store.specs.FromParents.{ids_of}
 use Rattle.policy_values.proofs.Keyed.{value_named}
 use Rattle.schema_core.specs.Schema.{SchemaData, ActionData, action_at, action_below}
-use Rattle.conformance_errors.specs.declared.store_rule.StoreRule.{StoreRule}
-use Rattle.conformance_errors.specs.declared.store_rule.StoreRule.TheVariants.{ActionNotDeclared, ActionHasAttributes, ActionHasTags, ActionAncestorsDiffer}
+use Rattle.conformance.specs.declared.store_rule.StoreRule.{StoreRule}
+use Rattle.conformance.specs.declared.store_rule.StoreRule.TheVariants.{ActionNotDeclared, ActionHasAttributes, ActionHasTags, ActionAncestorsDiffer}
 use Rattle.conformance.specs.RequestRules.{unless}
 use Rattle.conformance.specs.StoreRules.{is_ancestor_if_above, has_all_ancestors, action_entity_fault, entity_fault, first_store_fault, first_key, lacks, lacks_it}
 

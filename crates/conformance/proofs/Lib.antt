@@ -6,3 +6,4 @@ pub mod Options
 pub mod Requests
 pub mod Sizes
 pub mod Stores
+pub mod TextSizes

@@ -15,8 +15,8 @@ use Rattle.policy_scope.specs.Names.{choices_in, others_listed}
 use Rattle.typing_spec.specs.Conforms.{is_listed_in, lists_fields, HasAttributes, IdConforms, Applies, RequestConforms}
 use Rattle.conformance.specs.Misfits.{misfit}
 use Rattle.conformance.specs.RequestRules.{unless, context_error, listed_fault, principal_fault, resource_fault, principal_type_fault, resource_type_fault, context_fault, applied_fault, action_fault, first_request_fault}
-use Rattle.conformance_errors.specs.declared.request_error.RequestValidationError.{RequestValidationError}
-use Rattle.conformance_errors.specs.declared.request_error.RequestValidationError.TheVariants.{UndeclaredAction, InvalidEnumEntity}
+use Rattle.conformance.specs.declared.request_error.RequestValidationError.{RequestValidationError}
+use Rattle.conformance.specs.declared.request_error.RequestValidationError.TheVariants.{UndeclaredAction, InvalidEnumEntity}
 use Rattle.conformance.specs.Ids.{unlisted_in_fields}
 use Rattle.conformance.specs.Laws.{RequestRulesAreExact}
 use Rattle.conformance.proofs.Options.{none_first, none_rest, neither, kept, keeps, none_inside}

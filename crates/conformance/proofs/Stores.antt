@@ -25,8 +25,8 @@ use Rattle.typing_spec.specs.Conforms.{is_listed, lists_ids, lists_fields, AreTa
 use Rattle.conformance.specs.Misfits.{misfit, first_missing}
 use Rattle.conformance.specs.RequestRules.{unless}
 use Rattle.conformance.specs.StoreRules.{first_key, is_of, first_broken, declared_fault, attribute_fault, tag_fault, tags_fault, ancestor_fault, ancestors_fault, declared_entity_fault, typed_entity_fault, is_ancestor_if_above, has_its_ancestors, action_entity_fault, entity_fault, first_store_fault}
-use Rattle.conformance_errors.specs.declared.store_rule.StoreRule.{StoreRule}
-use Rattle.conformance_errors.specs.declared.store_rule.StoreRule.TheVariants.{TypeNotDeclared, IdNotListed, AttributeNotDeclared, AttributeOfAnotherType, AttributeHoldsUnlistedId, RequiredAttributeMissing, TagsNotAllowed, TagOfAnotherType, TagHoldsUnlistedId, AncestorNotAllowed, AncestorNotListed, ActionNotDeclared, ActionHasAttributes, ActionHasTags, ActionAncestorsDiffer}
+use Rattle.conformance.specs.declared.store_rule.StoreRule.{StoreRule}
+use Rattle.conformance.specs.declared.store_rule.StoreRule.TheVariants.{TypeNotDeclared, IdNotListed, AttributeNotDeclared, AttributeOfAnotherType, AttributeHoldsUnlistedId, RequiredAttributeMissing, TagsNotAllowed, TagOfAnotherType, TagHoldsUnlistedId, AncestorNotAllowed, AncestorNotListed, ActionNotDeclared, ActionHasAttributes, ActionHasTags, ActionAncestorsDiffer}
 use Rattle.conformance.specs.Laws.{StoreRulesAreExact}
 use Rattle.conformance.proofs.Options.{none_first, none_rest, neither, kept, keeps, no_fault, none_inside, all_more, all_pass, pass_all}
 use Rattle.plain_lemmas.proofs.Booleans.{and_parts_of, equal_by_both_ways, or_right_true}

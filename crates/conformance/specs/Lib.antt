@@ -4,3 +4,7 @@ pub mod Laws
 pub mod Misfits
 pub mod RequestRules
 pub mod StoreRules
+pub mod InvalidTypes
+pub mod RuleText
+pub mod ValueText
+pub mod Written

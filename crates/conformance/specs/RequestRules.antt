@@ -15,8 +15,8 @@ use Rattle.conformance.specs.Misfits.{name_of, misfit}
 use Rattle.conformance.specs.declared.misfits.Constructor.{Constructor}
 use Rattle.conformance.specs.declared.misfits.Misfit.{Misfit}
 use Rattle.conformance.specs.declared.misfits.Misfit.TheVariants.{Lacks, Other}
-use Rattle.conformance_errors.specs.declared.request_error.RequestValidationError.{RequestValidationError}
-use Rattle.conformance_errors.specs.declared.request_error.RequestValidationError.TheVariants.{UndeclaredAction, UndeclaredPrincipalType, UndeclaredResourceType, InvalidPrincipalType, InvalidResourceType, InvalidEnumEntity, InvalidContext, TypeOfContext, OutOfMemory}
+use Rattle.conformance.specs.declared.request_error.RequestValidationError.{RequestValidationError}
+use Rattle.conformance.specs.declared.request_error.RequestValidationError.TheVariants.{UndeclaredAction, UndeclaredPrincipalType, UndeclaredResourceType, InvalidPrincipalType, InvalidResourceType, InvalidEnumEntity, InvalidContext, TypeOfContext, OutOfMemory}
 
 -- the fault, unless the rule is kept
 abbrev pub unless : {F : Type 0} → Bool → F → Option F

@@ -16,10 +16,10 @@ use Rattle.schema_core.specs.Schema.{SchemaData, TypeData, ActionData, type_at, 
 use Rattle.typing_spec.specs.Conforms.{is_listed, lists_ids}
 use Rattle.conformance.specs.Misfits.{misfit, first_missing}
 use Rattle.conformance.specs.RequestRules.{unless}
-use Rattle.conformance_errors.specs.declared.store_rule.ConformanceError.{ConformanceError}
-use Rattle.conformance_errors.specs.declared.store_rule.ConformanceError.TheVariants as refused
-use Rattle.conformance_errors.specs.declared.store_rule.StoreRule.{StoreRule}
-use Rattle.conformance_errors.specs.declared.store_rule.StoreRule.TheVariants.{TypeNotDeclared, IdNotListed, AttributeNotDeclared, AttributeOfAnotherType, AttributeHoldsUnlistedId, RequiredAttributeMissing, TagsNotAllowed, TagOfAnotherType, TagHoldsUnlistedId, AncestorNotAllowed, AncestorNotListed, ActionNotDeclared, ActionHasAttributes, ActionHasTags, ActionAncestorsDiffer}
+use Rattle.conformance.specs.declared.store_rule.ConformanceError.{ConformanceError}
+use Rattle.conformance.specs.declared.store_rule.ConformanceError.TheVariants as refused
+use Rattle.conformance.specs.declared.store_rule.StoreRule.{StoreRule}
+use Rattle.conformance.specs.declared.store_rule.StoreRule.TheVariants.{TypeNotDeclared, IdNotListed, AttributeNotDeclared, AttributeOfAnotherType, AttributeHoldsUnlistedId, RequiredAttributeMissing, TagsNotAllowed, TagOfAnotherType, TagHoldsUnlistedId, AncestorNotAllowed, AncestorNotListed, ActionNotDeclared, ActionHasAttributes, ActionHasTags, ActionAncestorsDiffer}
 
 -- the least key of fields
 abbrev pub first_key : Fields → Option (List ℕ)

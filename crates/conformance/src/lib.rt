@@ -5,12 +5,18 @@ mod ids;
 pub mod laws;
 mod misfits;
 mod request;
+mod request_error;
 mod store;
+mod store_rule;
+mod value_text;
+mod written;
 
-pub use conformance_errors::{
-    ConformanceError, EntityDoesNotConform, InvalidContextError, InvalidPrincipalTypeError,
-    InvalidResourceTypeError, RequestValidationError, StoreRule, UndeclaredActionError,
-    UndeclaredPrincipalTypeError, UndeclaredResourceTypeError, entity_text, request_text,
-};
 pub use request::validate_request;
+pub use request_error::{
+    InvalidContextError, InvalidPrincipalTypeError, InvalidResourceTypeError,
+    RequestValidationError, UndeclaredActionError, UndeclaredPrincipalTypeError,
+    UndeclaredResourceTypeError,
+};
 pub use store::conforms;
+pub use store_rule::{ConformanceError, EntityDoesNotConform, StoreRule};
+pub use written::{entity_text, request_text};

@@ -9,7 +9,7 @@ ghost use Rattle.policy_values.specs.Basename.{is_action_type};
 ghost use Rattle.policy_values.specs.Uid.{uid_cmp, uid_eq};
 ghost use Rattle.policy_values.specs.Value.{fields_of};
 ghost use Rattle.schema_core.specs.Schema.{type_below, action_below};
-ghost use Rattle.conformance_errors.specs.declared.store_rule.StoreRule.TheVariants.{TagsNotAllowed};
+ghost use Rattle.conformance.specs.declared.store_rule.StoreRule.TheVariants.{TagsNotAllowed};
 ghost use Rattle.conformance.specs.StoreRules.{IsConformanceFault, first_store_fault, entity_fault, action_entity_fault, typed_entity_fault, declared_entity_fault, further_fault, first_broken, attribute_fault, declared_fault, tags_fault, tag_fault, ancestors_fault, ancestor_fault, is_of, first_key, has_all_ancestors, lacks, lacks_it};
 
 use crate::ids::{is_listed, lists_ids};

@@ -3,8 +3,8 @@ use Rattle.std.specs.Prelude.{◌≡◌, ⊤, Option, Some}
 use Rattle.policy_values.specs.declared.entity_uid.EntityUID.{EntityUID}
 use Rattle.policy_set.specs.PolicySet.{PolicySetData}
 use Rattle.schema_core.specs.Schema.{SchemaData}
-use Rattle.conformance_errors.specs.declared.request_error.RequestValidationError.{RequestValidationError}
-use Rattle.conformance_errors.specs.declared.store_rule.StoreRule.{StoreRule}
+use Rattle.conformance.specs.declared.request_error.RequestValidationError.{RequestValidationError}
+use Rattle.conformance.specs.declared.store_rule.StoreRule.{StoreRule}
 use Rattle.policy_validate.specs.Accepted.{findings_of, IsAccepted}
 use Rattle.manifest_computation.specs.declared.slice_error.SliceForRequestError.{SliceForRequestError}
 use Rattle.manifest_computation.specs.declared.slice_error.SliceForRequestError.TheVariants as no_slice

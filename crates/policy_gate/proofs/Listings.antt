@@ -7,9 +7,9 @@ use Rattle.finding_messages.specs.Findings.{Findings}
 use Rattle.finding_messages.specs.Written.{findings_text}
 use Rattle.conformance.specs.RequestRules.{first_request_fault}
 use Rattle.conformance.specs.StoreRules.{first_store_fault}
-use Rattle.conformance_errors.specs.Written.{request_text, entity_text}
-use Rattle.conformance_errors.specs.declared.request_error.RequestValidationError.{RequestValidationError}
-use Rattle.conformance_errors.specs.declared.store_rule.EntityDoesNotConform.{EntityDoesNotConform}
+use Rattle.conformance.specs.Written.{request_text, entity_text}
+use Rattle.conformance.specs.declared.request_error.RequestValidationError.{RequestValidationError}
+use Rattle.conformance.specs.declared.store_rule.EntityDoesNotConform.{EntityDoesNotConform}
 use Rattle.json_document.specs.declared.document.Document.{Document}
 use Rattle.policy_validate.specs.Accepted.{findings_of, IsAccepted}
 use Rattle.principal_listing.specs.Allowed.{IsWholeBut, passed_over}

@@ -13,7 +13,7 @@ use Rattle.entity_store.specs.Request.{IsWhole}
 use Rattle.json_document.specs.declared.document.Document.{Document}
 use Rattle.finding_messages.specs.Findings.{Findings}
 use Rattle.findings.specs.declared.error.ValidationError.{ValidationError}
-use Rattle.conformance_errors.specs.Written.{request_text, entity_text}
+use Rattle.conformance.specs.Written.{request_text, entity_text}
 use Rattle.typing_spec.specs.Conforms.{RequestConforms, StoreConforms}
 use Rattle.policy_gate.specs.Answer.{IsAnswer, IsWellMade, IsRefusedOr, IsWork, found_in, found_at, refused_batch, refused_levels, refused_listing, is_whole, partial_message, partial_request, refusal, refused_line, request_line, whole_line, refused_asked, refused_data, refused_decision, refused_entries, refused_first, refused_partial, refused_policies, refused_request, refused_store, refused_with, request_fault, slice_of, store_fault}
 use Rattle.policy_gate.specs.Headline.{Conforms, HasAcceptedPolicies, HasAllowedOutcomes, HasPoliciesAt, HasPoliciesFor, IsDocumentOf, KeepsOtherRules, KeepsRules, KeepsRulesOf, IsSliced, IsDecided, IsReadyForRequests, IsRefusedEdit, ReadsAreEnough, Says}

@@ -22,9 +22,9 @@ use Rattle.policy_validate.specs.Accepted.{findings_of}
 use Rattle.policy_validate.specs.Levels.{level_findings_of}
 use Rattle.conformance.specs.RequestRules.{first_request_fault}
 use Rattle.conformance.specs.StoreRules.{first_store_fault}
-use Rattle.conformance_errors.specs.Written.{id_text, request_message, request_text, entity_text}
-use Rattle.conformance_errors.specs.declared.request_error.RequestValidationError.{RequestValidationError}
-use Rattle.conformance_errors.specs.declared.store_rule.StoreRule.{StoreRule}
+use Rattle.conformance.specs.Written.{id_text, request_message, request_text, entity_text}
+use Rattle.conformance.specs.declared.request_error.RequestValidationError.{RequestValidationError}
+use Rattle.conformance.specs.declared.store_rule.StoreRule.{StoreRule}
 use Rattle.manifest_computation.specs.Slice.{slice}
 use Rattle.serde_json.specs.Written.{compact_text}
 use Rattle.manifest_core.specs.Manifest.{Manifest}

@@ -1,6 +1,6 @@
 -- What is written of the answers to many requests over one store.
 use Rattle.std.specs.Prelude.{ℕ, List, []}
-use Rattle.conformance_errors.specs.Written.{request_message}
+use Rattle.conformance.specs.Written.{request_message}
 use Rattle.json_response.specs.SliceJson.{response_text}
 use Rattle.entity_manifest.specs.declared.answer.BatchAnswer.{BatchAnswer}
 use Rattle.entity_manifest.specs.declared.answer.BatchAnswer.TheVariants.{Partial, Refused, Loading, Decided}

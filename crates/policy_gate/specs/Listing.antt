@@ -4,8 +4,8 @@ use Rattle.std.specs.List.{flat_map}
 use Rattle.policy_values.specs.declared.entity_uid.EntityUID.{EntityUID}
 use Rattle.entity_store.specs.declared.request.Request.{Request}
 use Rattle.conformance.specs.RequestRules.{first_request_fault}
-use Rattle.conformance_errors.specs.Written.{id_text}
-use Rattle.conformance_errors.specs.declared.request_error.RequestValidationError.{RequestValidationError}
+use Rattle.conformance.specs.Written.{id_text}
+use Rattle.conformance.specs.declared.request_error.RequestValidationError.{RequestValidationError}
 use Rattle.json_document.specs.declared.document.Document.{Document}
 use Rattle.principal_listing.specs.Allowed.{allowed_principals, passed_over}
 use Rattle.principal_listing.specs.Pages.{page_ids, has_more}

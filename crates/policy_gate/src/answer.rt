@@ -4,7 +4,7 @@ ghost use Rattle.serde_json.specs.View.{view};
 ghost use Rattle.entity_store.specs.Request.{IsWhole};
 ghost use Rattle.conformance.specs.Misfits.{knows};
 ghost use Rattle.conformance.specs.RequestRules.{first_request_fault};
-ghost use Rattle.conformance_errors.specs.Written.{request_text};
+ghost use Rattle.conformance.specs.Written.{request_text};
 ghost use Rattle.finding_messages.specs.Written.{findings_text};
 ghost use Rattle.json_response.specs.SliceJson.{decision_text};
 ghost use Rattle.policy_gate.specs.Answer.{IsAnswer, IsAnswerTo, IsRefusedOr, IsWellMade, IsWork, found_at, found_in, manifest_text, refused_data, refused_decision, refused_policies, refused_request, refused_store, refused_with, request_fault, sample_line, slice_of, status_of, store_fault};

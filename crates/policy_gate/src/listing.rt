@@ -1,7 +1,7 @@
 //! A page of the principals that may do what the request asks.
 ghost use Rattle.std.specs.Prelude.{◌≡◌, Some, IfOk, string_bytes};
 ghost use Rattle.std.specs.List.{flat_map};
-ghost use Rattle.conformance_errors.specs.Written.{entity_text, request_text};
+ghost use Rattle.conformance.specs.Written.{entity_text, request_text};
 ghost use Rattle.policy_gate.specs.Answer.{IsAnswerTo, refused_listing};
 ghost use Rattle.policy_gate.specs.Listing.{end_line, id_line, page_text};
 ghost use Rattle.policy_gate.specs.Reply.{answer, reply_view};

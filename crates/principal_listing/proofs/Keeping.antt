@@ -18,7 +18,7 @@ use Rattle.policy_scope.specs.Names.{choices_in, others_listed}
 use Rattle.reads_spec.specs.Among.{IsIn}
 use Rattle.conformance.specs.Laws.{RequestRulesAreExact}
 use Rattle.conformance.specs.RequestRules.{unless, listed_fault, principal_fault, resource_fault, applied_fault, action_fault, first_request_fault, principal_type_fault}
-use Rattle.conformance_errors.specs.declared.request_error.RequestValidationError.TheVariants as error
+use Rattle.conformance.specs.declared.request_error.RequestValidationError.TheVariants as error
 use Rattle.principal_listing.specs.Allowed.{asked_by, passed_over, applies_to}
 use Rattle.principal_listing.specs.Laws.{CandidatesKeepRules}
 

@@ -3,8 +3,8 @@ use Rattle.std.specs.Prelude.{◌≡◌, ⊤, Option, Some}
 use Rattle.policy_values.specs.declared.entity_uid.EntityUID.{EntityUID}
 use Rattle.policy_set.specs.PolicySet.{PolicySetData}
 use Rattle.schema_core.specs.Schema.{SchemaData}
-use Rattle.conformance_errors.specs.declared.request_error.RequestValidationError.{RequestValidationError}
-use Rattle.conformance_errors.specs.declared.store_rule.StoreRule.{StoreRule}
+use Rattle.conformance.specs.declared.request_error.RequestValidationError.{RequestValidationError}
+use Rattle.conformance.specs.declared.store_rule.StoreRule.{StoreRule}
 use Rattle.entity_manifest.specs.Accepted.{findings_of, IsAccepted}
 use Rattle.principal_listing.specs.declared.error.ListError.{ListError}
 use Rattle.principal_listing.specs.declared.error.ListError.TheVariants as error

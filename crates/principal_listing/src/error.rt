@@ -1,6 +1,6 @@
 //! Why there is no page.
 
-use conformance_errors::{EntityDoesNotConform, RequestValidationError};
+use conformance::{EntityDoesNotConform, RequestValidationError};
 use policy_scope::ValidationResult;
 use std::alloc::AllocError;
 use thiserror::Error;

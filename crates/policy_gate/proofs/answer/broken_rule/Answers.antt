@@ -1,7 +1,7 @@
 use Rattle.std.proofs.Common.{◌≡◌, subst}
 use Rattle.std.specs.Prelude.{IfOk}
 use Rattle.std.specs.Option.{option_map}
-use Rattle.conformance_errors.specs.Written.{request_text}
+use Rattle.conformance.specs.Written.{request_text}
 use Rattle.policy_gate.specs.Answer.{request_fault}
 use Rattle.policy_gate.proofs.answer.broken_rule.Goals as goal
 

@@ -1,4 +1,4 @@
-use Rattle.conformance_errors.proofs.written.RequestValidationErrorDiagnostic.message.Goals as goal
+use Rattle.conformance.proofs.written.RequestValidationErrorDiagnostic.message.Goals as goal
 
 pub returns-in_ok-text-in-InvalidResourceType : goal.returns-in_ok-text-in-InvalidResourceType
 returns-in_ok-text-in-InvalidResourceType c =

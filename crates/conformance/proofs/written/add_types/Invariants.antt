@@ -1,6 +1,6 @@
 use Rattle.std.proofs.Common.{◌≡◌, ◌++◌, drop, string_bytes}
-use Rattle.conformance_errors.specs.Written.{further_types}
-use Rattle.conformance_errors.proofs.written.add_types.Given as goal
+use Rattle.conformance.specs.Written.{further_types}
+use Rattle.conformance.proofs.written.add_types.Given as goal
 
 -- the text so far, and then the types that are left
 abbrev pub invariant-loop-ty : goal.invariant-loop-ty

@@ -2,8 +2,8 @@
 
 ghost use Rattle.std.specs.Prelude.{◌≡◌, ◌++◌, IfOk, OnOk, None, codes, string_bytes};
 ghost use Rattle.policy_values.specs.Value.{rec};
-ghost use Rattle.conformance_errors.specs.ValueText.{value_text};
-ghost use Rattle.conformance_errors.specs.Written.{id_text, request_message, request_help, valid_types, further_types, request_text, entity_text};
+ghost use Rattle.conformance.specs.ValueText.{value_text};
+ghost use Rattle.conformance.specs.Written.{id_text, request_message, request_help, valid_types, further_types, request_text, entity_text};
 
 use crate::value_text::write_record;
 use crate::{EntityDoesNotConform, InvalidContextError, RequestValidationError};

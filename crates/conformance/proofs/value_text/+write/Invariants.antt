@@ -1,7 +1,7 @@
 use Rattle.std.proofs.Common.{◌≡◌, ◌+◌, ◌*◌, ◌≤◌, ◌++◌, drop, string_bytes}
 use Rattle.policy_values.specs.Value.{size_of, size_of_all, size_of_fields, vals_of, fields_of}
-use Rattle.conformance_errors.specs.ValueText.{elements_text, elements_left, fields_text, fields_left}
-use Rattle.conformance_errors.proofs.value_text.+write.Given as goal
+use Rattle.conformance.specs.ValueText.{elements_text, elements_left, fields_text, fields_left}
+use Rattle.conformance.proofs.value_text.+write.Given as goal
 
 abbrev pub decreases-write_value : goal.decreases-write_value
 decreases-write_value l = 5 * size_of l.v.now

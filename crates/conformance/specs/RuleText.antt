@@ -1,8 +1,8 @@
 -- How the rules of stores are written.
 use Rattle.std.specs.Prelude.{ℕ, List, ◌++◌, codes}
 use Rattle.policy_values.specs.Show.{uid_text}
-use Rattle.conformance_errors.specs.declared.store_rule.StoreRule.{StoreRule}
-use Rattle.conformance_errors.specs.declared.store_rule.StoreRule.TheVariants.{TypeNotDeclared, IdNotListed, AttributeNotDeclared, AttributeOfAnotherType, AttributeHoldsUnlistedId, RequiredAttributeMissing, TagsNotAllowed, TagOfAnotherType, TagHoldsUnlistedId, AncestorNotAllowed, AncestorNotListed, ActionNotDeclared, ActionHasAttributes, ActionHasTags, ActionAncestorsDiffer}
+use Rattle.conformance.specs.declared.store_rule.StoreRule.{StoreRule}
+use Rattle.conformance.specs.declared.store_rule.StoreRule.TheVariants.{TypeNotDeclared, IdNotListed, AttributeNotDeclared, AttributeOfAnotherType, AttributeHoldsUnlistedId, RequiredAttributeMissing, TagsNotAllowed, TagOfAnotherType, TagHoldsUnlistedId, AncestorNotAllowed, AncestorNotListed, ActionNotDeclared, ActionHasAttributes, ActionHasTags, ActionAncestorsDiffer}
 
 abbrev pub rule_text : StoreRule → List ℕ
 rule_text TypeNotDeclared = codes "type is not declared"

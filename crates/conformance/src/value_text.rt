@@ -7,7 +7,7 @@ ghost use Rattle.policy_ext.specs.Decimal.{decimal_text};
 ghost use Rattle.policy_ext.specs.IpText.{range_text};
 ghost use Rattle.policy_values.specs.Value.{set, rec, vals_of, fields_of};
 ghost use Rattle.findings.specs.Texts.{string_text};
-ghost use Rattle.conformance_errors.specs.ValueText.{is_head, is_tail, is_component, key_text, truth_text, field_text, value_text, elements_text, further_elements, fields_text, further_fields};
+ghost use Rattle.conformance.specs.ValueText.{is_head, is_tail, is_component, key_text, truth_text, field_text, value_text, elements_text, further_elements, fields_text, further_fields};
 
 use policy_ext::{Decimal, IpAddr};
 use policy_values::{Quoted, Text, Value, ValueKind};
@@ -101,7 +101,7 @@ fn write_set(alloc: Global, text: &mut String, items: &Vec<Value>) -> Result<(),
 }
 
 #[cycle(write)]
-#[tactic(auto, using(crate::proofs::Sizes::size_in))]
+#[tactic(auto, using(crate::proofs::TextSizes::size_in))]
 fn write_elements(alloc: Global, text: &mut String, items: &Vec<Value>) -> Result<(), AllocError>
     ensures { OnOk result (string_bytes text.new ≡ string_bytes text.old ++
         elements_text 4 (vals_of items.now.items)) }

@@ -44,7 +44,7 @@ pub struct InvalidPrincipalTypeError {
 }
 
 impl Model for InvalidPrincipalTypeError {
-    ghost use Rattle.conformance_errors.specs.InvalidTypes.{InvalidPrincipalType, coded_principal_type};
+    ghost use Rattle.conformance.specs.InvalidTypes.{InvalidPrincipalType, coded_principal_type};
 
     ghost Value = { InvalidPrincipalType };
 
@@ -70,7 +70,7 @@ pub struct InvalidResourceTypeError {
 }
 
 impl Model for InvalidResourceTypeError {
-    ghost use Rattle.conformance_errors.specs.InvalidTypes.{InvalidResourceType, coded_resource_type};
+    ghost use Rattle.conformance.specs.InvalidTypes.{InvalidResourceType, coded_resource_type};
 
     ghost Value = { InvalidResourceType };
 
@@ -127,7 +127,7 @@ pub enum RequestValidationError {
 
 impl From<AllocError> for RequestValidationError {
     ghost use Rattle.std.specs.Prelude.{◌≡◌};
-    ghost use Rattle.conformance_errors.specs.declared.request_error.RequestValidationError.TheVariants.{OutOfMemory};
+    ghost use Rattle.conformance.specs.declared.request_error.RequestValidationError.TheVariants.{OutOfMemory};
 
     ghost from_gives = { λ _ e. e ≡ OutOfMemory };
 

@@ -5,11 +5,11 @@ use Rattle.policy_values.specs.Show.{uid_text}
 use Rattle.policy_values.specs.Value.{rec}
 use Rattle.findings.specs.Texts.{enum_entity_text, enum_help}
 use Rattle.finding_messages.specs.Written.{help_line}
-use Rattle.conformance_errors.specs.ValueText.{value_text}
-use Rattle.conformance_errors.specs.RuleText.{rule_text}
-use Rattle.conformance_errors.specs.declared.store_rule.EntityDoesNotConform.{EntityDoesNotConform}
-use Rattle.conformance_errors.specs.declared.request_error.RequestValidationError.{RequestValidationError}
-use Rattle.conformance_errors.specs.declared.request_error.RequestValidationError.TheVariants.{UndeclaredAction, UndeclaredPrincipalType, UndeclaredResourceType, InvalidPrincipalType, InvalidResourceType, InvalidEnumEntity, InvalidContext, TypeOfContext, OutOfMemory}
+use Rattle.conformance.specs.ValueText.{value_text}
+use Rattle.conformance.specs.RuleText.{rule_text}
+use Rattle.conformance.specs.declared.store_rule.EntityDoesNotConform.{EntityDoesNotConform}
+use Rattle.conformance.specs.declared.request_error.RequestValidationError.{RequestValidationError}
+use Rattle.conformance.specs.declared.request_error.RequestValidationError.TheVariants.{UndeclaredAction, UndeclaredPrincipalType, UndeclaredResourceType, InvalidPrincipalType, InvalidResourceType, InvalidEnumEntity, InvalidContext, TypeOfContext, OutOfMemory}
 
 abbrev pub id_text : EntityUID → List ℕ
 id_text uid = uid_text uid.entity_type uid.eid

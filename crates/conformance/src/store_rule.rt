@@ -1,7 +1,7 @@
 //! The rules of stores.
 
 ghost use Rattle.std.specs.Prelude.{Some};
-ghost use Rattle.conformance_errors.specs.RuleText.{rule_text};
+ghost use Rattle.conformance.specs.RuleText.{rule_text};
 
 use policy_values::{EntityUID, Text};
 use std::alloc::AllocError;
@@ -97,7 +97,7 @@ pub enum ConformanceError {
 
 impl From<AllocError> for ConformanceError {
     ghost use Rattle.std.specs.Prelude.{◌≡◌};
-    ghost use Rattle.conformance_errors.specs.declared.store_rule.ConformanceError.TheVariants.{OutOfMemory};
+    ghost use Rattle.conformance.specs.declared.store_rule.ConformanceError.TheVariants.{OutOfMemory};
 
     ghost from_gives = { λ _ e. e ≡ OutOfMemory };
 

@@ -1,4 +1,0 @@
-pub mod InvalidTypes
-pub mod RuleText
-pub mod ValueText
-pub mod Written
