@@ -21,7 +21,8 @@ class Served:
             text=True,
         )
         self.address = self.process.stdout.readline().strip()
-        self.port = int(self.address.rstrip("/").rpartition(":")[2])
+        self.origin, _, secret = self.address.rstrip("/").rpartition("/")
+        self.port, self.prefix = int(self.origin.rpartition(":")[2]), f"/{secret}"
         self.errors, self.status = "", None
 
     def __enter__(self):
@@ -32,8 +33,9 @@ class Served:
         self.errors = self.process.communicate(timeout=30)[1]
         self.status = self.process.returncode
 
-    def send(self, method, path, body=None, headers=()):
-        """The status, the headers and the body."""
+    def send(self, method, path, body=None, headers=(), prefix=None):
+        """The status, the headers and the body; the path goes behind the secret part of the address."""
+        path = (self.prefix if prefix is None else prefix) + path
         connection = http.client.HTTPConnection("127.0.0.1", self.port, timeout=120)
         try:
             try:

@@ -113,7 +113,7 @@ class Page {
     notice("");
     if (example.forms[wanted]) return this.fill(wanted, this.withRequest(example.forms[wanted]));
     const own = Object.keys(example.forms)[0], parts = this.withRequest(example.forms[own]);
-    const reply = await this.send("/convert", { form: own, parts, to: wanted });
+    const reply = await this.send("convert", { form: own, parts, to: wanted });
     return reply && reply.parts ? this.fill(wanted, reply.parts) : this.fill(own, parts);
   }
 
@@ -133,7 +133,7 @@ class Page {
     const own = this.examples.get(this.example);
     notice("");
     if (own && !this.edited && own.forms[to]) return this.fill(to, this.withRequest(own.forms[to]));
-    const reply = await this.send("/convert", { form: this.form, parts: this.parts, to });
+    const reply = await this.send("convert", { form: this.form, parts: this.parts, to });
     if (reply && reply.parts) {
       const { edited } = this;
       this.fill(to, reply.parts);
@@ -172,7 +172,7 @@ class Page {
     byId("command-text").textContent = COMMANDS[chosen("command")];
     byId("level-label").hidden = chosen("command") !== "level";
     document.body.dataset.busy = "yes";
-    const reply = await this.send("/answer", this.job);
+    const reply = await this.send("answer", this.job);
     if (turn !== this.asked) return;
     this.reply = reply;
     if (reply) this.tell(reply);
@@ -265,7 +265,7 @@ function tellAbout({ name, version, note, limits }) {
 }
 
 async function begin() {
-  const sent = await fetch("/examples"), given = await sent.json();
+  const sent = await fetch("examples"), given = await sent.json();
   if (!sent.ok) throw new Error(given.refused);
   const page = new Page(given);
   offer(page);

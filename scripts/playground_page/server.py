@@ -1,10 +1,15 @@
-"""The server of the page: on the loopback address alone, for its own page alone, with bounded requests."""
+"""The server of the page: on the loopback address alone, for its own page alone, with bounded requests. The page's
+address has a secret part, which other users of the machine do not know."""
+import hmac
+import io
 import json
 import pathlib
+import secrets
 import socket
 import sys
 from http.server import BaseHTTPRequestHandler, ThreadingHTTPServer
 
+from playground_page.connections import Connections, TimedReader
 from playground_page.examples import examples
 from playground_page.workers import Workers
 
@@ -36,13 +41,26 @@ class Refused(Exception):
 
 
 class Server(ThreadingHTTPServer):
-    daemon_threads = True
+    daemon_threads, request_queue_size = True, 64
+    seconds = 20  # so long a request may take to arrive, and an answer to be taken
 
     def __init__(self, port, program):
         super().__init__((ADDRESS, port), Handler)
-        self.program, self.workers = program, Workers(program)
+        self.program, self.workers, self.connections = program, Workers(program), Connections()
+        self.secret = secrets.token_urlsafe(12)
+        self.address = f"http://{ADDRESS}:{self.server_port}/{self.secret}/"
         names = [f"{name}:{self.server_port}" for name in (ADDRESS, "localhost")]
         self.hosts, self.origins = set(names), {f"http://{name}" for name in names}
+
+    def process_request(self, request, client_address):
+        if self.connections.admit(request):
+            super().process_request(request, client_address)
+        else:
+            self.shutdown_request(request)
+
+    def shutdown_request(self, request):
+        self.connections.forget(request)
+        super().shutdown_request(request)
 
     def handle_error(self, request, client_address):
         """Of a connection that breaks nothing is said; of a fault one line, without a trace."""
@@ -52,7 +70,16 @@ class Server(ThreadingHTTPServer):
 
 
 class Handler(BaseHTTPRequestHandler):
-    protocol_version, server_version, sys_version, timeout = "HTTP/1.1", "playground", "", 20
+    protocol_version, server_version, sys_version = "HTTP/1.1", "playground", ""
+
+    def setup(self):
+        super().setup()
+        self.timed = TimedReader(self.connection)
+        self.rfile = io.BufferedReader(self.timed)
+
+    def handle_one_request(self):
+        self.timed.begin(self.server.seconds)
+        super().handle_one_request()
 
     def do_GET(self):
         self.answered(self.get)
@@ -64,7 +91,7 @@ class Handler(BaseHTTPRequestHandler):
         """Answers by what `work` makes, or says why not."""
         try:
             self.from_here()
-            status, kind, body = work()
+            status, kind, body = work(self.own_path())
         except Refused as why:
             status, kind, body = why.args[0], "application/json", as_json({"refused": why.args[1]})
             self.close_connection = True
@@ -77,6 +104,7 @@ class Handler(BaseHTTPRequestHandler):
         self.send(status, kind, body)
 
     def send(self, status, kind, body):
+        self.connection.settimeout(self.server.seconds)
         self.send_response(status)
         for name, value in (HEADERS | {"Content-Type": kind, "Content-Length": str(len(body))}).items():
             self.send_header(name, value)
@@ -95,21 +123,34 @@ class Handler(BaseHTTPRequestHandler):
             raise Refused(403, "this host's name is not answered")
         if "Origin" in self.headers and self.headers["Origin"] not in self.server.origins:
             raise Refused(403, "another origin is not answered")
-        if self.headers.get("Sec-Fetch-Site", "none") not in ("none", "same-origin"):
+        if self.headers.get("Sec-Fetch-Site", "none") not in ("none", "same-origin") and not self.is_followed_link():
             raise Refused(403, "another site is not answered")
 
-    def get(self):
-        path = self.path.partition("?")[0]
+    def is_followed_link(self):
+        """Whether a browser opens the page itself in a window of its own, as where a link is followed."""
+        wanted = {"Sec-Fetch-Mode": "navigate", "Sec-Fetch-Dest": "document"}
+        is_opened = all(self.headers.get(name) == value for name, value in wanted.items())
+        return is_opened and self.command == "GET" and self.path == f"/{self.server.secret}/"
+
+    def own_path(self):
+        """The path behind the secret of the address."""
+        secret, slash, path = self.path.partition("?")[0][1:].partition("/")
+        if not slash or not hmac.compare_digest(secret.encode(), self.server.secret.encode()):
+            raise Refused(404, "the page's whole address is what scripts/playground has printed")
+        self.server.connections.trust(self.connection)
+        return f"/{path}"
+
+    def get(self, path):
         if path in FILES:
             return 200, KINDS[FILES[path].suffix], FILES[path].read_bytes()
         if path == "/examples":
             return 200, "application/json", as_json({"examples": examples(), "about": self.server.program.about()})
         raise Refused(404, "there is no such page")
 
-    def post(self):
-        if self.path not in WORK:
+    def post(self, path):
+        if path not in WORK:
             raise Refused(404, "there is no such page")
-        status, body = self.server.workers.ask(self.path, self.body())
+        status, body = self.server.workers.ask(path, self.body())
         return status, "application/json", body
 
     def body(self):

@@ -80,7 +80,12 @@ class Workers:
             self.free.put(Worker(self.words))
 
     def ask(self, path, body):
-        worker = self.free.get()
+        try:
+            worker = self.free.get(timeout=self.seconds)
+        except queue.Empty:
+            return 503, refused("Other requests are still answered; ask again in a while.")
+        if worker.process.poll() is not None:  # it was ended from outside
+            worker = self.replaced(worker)
         try:
             return worker.ask(path, body, self.seconds)
         except TooLong:
