@@ -74,9 +74,10 @@ def line_files():
 
 
 def example_documents():
-    """The files with documents; examples/cedar has Cedar's own JSON besides."""
+    """The files with documents; examples/cedar and examples/first have Cedar's own JSON besides."""
+    cedars = {"cedar", "first"}
     return sorted(
         path
         for path in EXAMPLES.rglob("*.json")
-        if path.name == "document.json" or "cedar" not in path.relative_to(EXAMPLES).parts
+        if path.name == "document.json" or not cedars & set(path.relative_to(EXAMPLES).parts)
     )
