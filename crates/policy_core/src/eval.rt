@@ -60,10 +60,13 @@ fn outcome_of<T>(
         ExprKind::If(x, y, z) => if_of(alloc, x, y, z, request, entities),
         ExprKind::And(x, y) => and_of(alloc, x, y, request, entities),
         ExprKind::Or(x, y) => or_of(alloc, x, y, request, entities),
-        ExprKind::UnaryApp(op, x) => {
-            let x = outcome_of(alloc, x, request, entities)?;
-            Ok(applied(*op, x))
-        }
+        ExprKind::UnaryApp(op, x) => match stored_value(x, request, entities) {
+            Some(x) => Ok(apply(*op, x)),
+            None => {
+                let x = outcome_of(alloc, x, request, entities)?;
+                Ok(applied(*op, x))
+            }
+        },
         ExprKind::BinaryApp(op, x, y) => both_of(alloc, *op, x, y, request, entities),
         ExprKind::GetAttr(x, name) => match entry_of(x, name, request, entities) {
             Some(value) => Ok(Outcome::Value(value.try_clone(alloc)?)),
@@ -79,10 +82,13 @@ fn outcome_of<T>(
                 Ok(has_attribute_of(x, name, entities))
             }
         },
-        ExprKind::Like(x, pattern) => {
-            let x = outcome_of(alloc, x, request, entities)?;
-            like_of(alloc, x, pattern)
-        }
+        ExprKind::Like(x, pattern) => match stored_value(x, request, entities) {
+            Some(x) => matches_pattern(alloc, x, pattern),
+            None => {
+                let x = outcome_of(alloc, x, request, entities)?;
+                like_of(alloc, x, pattern)
+            }
+        },
         ExprKind::Is(x, entity_type) => {
             let x = outcome_of(alloc, x, request, entities)?;
             Ok(is_of(x, entity_type))
@@ -175,12 +181,39 @@ fn both_of<T>(
     ensures { IfOk result (λ o. o ≡ with_value (eval x.now.value request.now entities.now) (λ v.
         with_value (eval y.now.value request.now entities.now) (λ w. binary_value op v w entities.now))) }
 {
-    match outcome_of(alloc, x, request, entities)? {
-        Outcome::Value(x) => {
+    match stored_value(x, request, entities) {
+        Some(x) => with_right(alloc, op, x, y, request, entities),
+        None => match outcome_of(alloc, x, request, entities)? {
+            Outcome::Value(x) => {
+                let outcome = with_right(alloc, op, &x, y, request, entities);
+                drop(x);
+                outcome
+            }
+            Outcome::Error(error) => Ok(Outcome::Error(error)),
+        },
+    }
+}
+
+// The right operand, and then the operator on the left one's value and its value.
+#[cycle(evaluate)]
+fn with_right<T>(
+    alloc: Global,
+    op: BinaryOp,
+    x: &Value,
+    y: &Rc<Expr<T>>,
+    request: &Request,
+    entities: &Entities,
+) -> Result<Outcome, AllocError>
+    requires { IsWhole request.now }
+    ensures { IfOk result (λ o. o ≡ with_value (eval y.now.value request.now entities.now)
+        (λ w. binary_value op x.now w entities.now)) }
+{
+    match stored_value(y, request, entities) {
+        Some(y) => apply_two(alloc, op, x, y, entities),
+        None => {
             let y = outcome_of(alloc, y, request, entities)?;
             applied_to_both(alloc, op, x, y, entities)
         }
-        Outcome::Error(error) => Ok(Outcome::Error(error)),
     }
 }
 
@@ -328,23 +361,35 @@ fn applied(op: UnaryOp, x: Outcome) -> Outcome
 fn applied_to_both(
     alloc: Global,
     op: BinaryOp,
-    x: Value,
+    x: &Value,
     y: Outcome,
     entities: &Entities,
 ) -> Result<Outcome, AllocError>
-    ensures { IfOk result (λ o. o ≡ with_value y (λ w. binary_value op x w entities.now)) }
+    ensures { IfOk result (λ o. o ≡ with_value y (λ w. binary_value op x.now w entities.now)) }
 {
     match y {
         Outcome::Value(y) => {
-            let outcome = apply_two(alloc, op, &x, &y, entities);
-            drop(x);
+            let outcome = apply_two(alloc, op, x, &y, entities);
             drop(y);
             outcome
         }
-        Outcome::Error(error) => {
-            drop(x);
-            Ok(Outcome::Error(error))
-        }
+        Outcome::Error(error) => Ok(Outcome::Error(error)),
+    }
+}
+
+// The value of an attribute or a field, as it stands in the request or the store, where the expression is a way to
+// one: what an operator only looks at is not copied.
+fn stored_value<'a, T>(
+    x: &Expr<T>,
+    request: &'a Request,
+    entities: &'a Entities,
+) -> Option<&'a Value>
+    requires { IsWhole request.now }
+    ensures { IfSome result (λ v. eval x.now request.now entities.now ≡ Outcome.Value v.now) }
+{
+    match x.kind() {
+        ExprKind::GetAttr(x, name) => entry_of(x, name, request, entities),
+        _ => None,
     }
 }
 

@@ -5,25 +5,28 @@ use Rattle.policy_core.specs.Eval.{result_map, eval_all, eval_named}
 use Rattle.policy_core.proofs.eval.+evaluate.Given as goal
 
 abbrev pub decreases-outcome_of : goal.decreases-outcome_of
-decreases-outcome_of g l = 2 * depth_of l.expr.now
+decreases-outcome_of g l = 3 * depth_of l.expr.now
 
 abbrev pub decreases-if_of : goal.decreases-if_of
-decreases-if_of g l = 2 * max (depth_of l.x.now.value) (max (depth_of l.y.now.value) (depth_of l.z.now.value)) + 1
+decreases-if_of g l = 3 * max (depth_of l.x.now.value) (max (depth_of l.y.now.value) (depth_of l.z.now.value)) + 1
 
 abbrev pub decreases-and_of : goal.decreases-and_of
-decreases-and_of g l = 2 * max (depth_of l.x.now.value) (depth_of l.y.now.value) + 1
+decreases-and_of g l = 3 * max (depth_of l.x.now.value) (depth_of l.y.now.value) + 1
 
 abbrev pub decreases-or_of : goal.decreases-or_of
-decreases-or_of g l = 2 * max (depth_of l.x.now.value) (depth_of l.y.now.value) + 1
+decreases-or_of g l = 3 * max (depth_of l.x.now.value) (depth_of l.y.now.value) + 1
 
 abbrev pub decreases-both_of : goal.decreases-both_of
-decreases-both_of g l = 2 * max (depth_of l.x.now.value) (depth_of l.y.now.value) + 1
+decreases-both_of g l = 3 * max (depth_of l.x.now.value) (depth_of l.y.now.value) + 2
+
+abbrev pub decreases-with_right : goal.decreases-with_right
+decreases-with_right g l = 3 * depth_of l.y.now.value + 1
 
 abbrev pub decreases-evaluate_all : goal.decreases-evaluate_all
-decreases-evaluate_all g l = 2 * deepest (trees_of l.items.now.items) + 1
+decreases-evaluate_all g l = 3 * deepest (trees_of l.items.now.items) + 1
 
 abbrev pub decreases-evaluate_named : goal.decreases-evaluate_named
-decreases-evaluate_named g l = 2 * deepest_named (named_of l.fields.now.entries) + 1
+decreases-evaluate_named g l = 3 * deepest_named (named_of l.fields.now.entries) + 1
 
 -- the values so far, and then those of what is left
 abbrev pub invariant-evaluate_all-loop-item : goal.invariant-evaluate_all-loop-item
