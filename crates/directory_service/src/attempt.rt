@@ -1,6 +1,6 @@
 //! Deciding on what was looked up so far.
 
-ghost use Rattle.std.specs.Prelude.{◌≡◌, ◌≢◌, IfOk};
+ghost use Rattle.std.specs.Prelude.{◌≡◌, ◌≢◌, None, IfOk};
 ghost use Rattle.sqlite.specs.Held.{state};
 ghost use Rattle.entity_store.specs.Request.{IsWhole};
 ghost use Rattle.entity_store.specs.Store.{entity_at};
@@ -8,10 +8,12 @@ ghost use Rattle.typing_spec.specs.Conforms.{RequestConforms};
 ghost use Rattle.entity_manifest.specs.Accepted.{IsAccepted};
 ghost use Rattle.entity_manifest.specs.OfPolicies.{IsManifestOf};
 ghost use Rattle.entity_manifest.specs.declared.EntitySliceError.TheVariants.{LoaderFault};
+ghost use Rattle.conformance.specs.StoreRules.{first_store_fault};
 ghost use Rattle.entity_files.specs.Fetched.{AreFetched};
 ghost use Rattle.entity_files.specs.Rows.{known_store};
 ghost use Rattle.directory_service.specs.Attempts.{OfStore, IsAttempt, Becomes};
 
+use conformance::{ConformanceError, conforms};
 use entity_files::{Fetched, FetchedLoader};
 use entity_loader::LoadError;
 use entity_manifest::{EntityManifest, EntitySliceError, Steps, load_for_request};
@@ -34,12 +36,31 @@ pub enum Attempt {
     Refused(EntitySliceError),
 }
 
-// The store of what was found.
-fn store_of(alloc: Global, fetched: &Fetched) -> Result<Entities, LoadError>
-    ensures { IfOk result (λ s. (u : EntityUID) → entity_at s u ≡ entity_at fetched.now.found.items u) }
+// Checks that each entity that was found conforms.
+fn check_entities(schema: &ValidatorSchema, entities: &Entities) -> Result<(), LoadError>
+    ensures { IfOk result (λ _. first_store_fault schema.now entities.now ≡ None) }
+{
+    match conforms(schema, entities) {
+        Ok(()) => Ok(()),
+        Err(ConformanceError::OutOfMemory) => Err(LoadError::OutOfMemory),
+        Err(_) => Err(LoadError::Failed),
+    }
+}
+
+// The store of what was found, which conforms.
+fn store_of(
+    alloc: Global,
+    schema: &ValidatorSchema,
+    fetched: &Fetched,
+) -> Result<Entities, LoadError>
+    ensures found { IfOk result (λ s. (u : EntityUID) → entity_at s u ≡ entity_at fetched.now.found.items u) }
+    ensures conforms { IfOk result (λ s. first_store_fault schema.now s ≡ None) }
 {
     match fetched.entities(alloc) {
-        Ok(entities) => Ok(entities),
+        Ok(entities) => {
+            check_entities(schema, &entities)?;
+            Ok(entities)
+        }
         Err(EntitiesError::OutOfMemory) => Err(LoadError::OutOfMemory),
         Err(_) => Err(LoadError::Failed),
     }
@@ -49,7 +70,8 @@ fn store_of(alloc: Global, fetched: &Fetched) -> Result<Entities, LoadError>
 /// far.
 ///
 /// Where the database says the store of its rows and that conforms, a decision is the response on all of it,
-/// and nothing is refused. Errs with `Failed` where two entities that were found have one id.
+/// and nothing is refused. Errs with `Failed` where two entities that were found have one id, or one of them
+/// does not conform.
 pub(crate) fn try_decide<S: Alter, L: Ledger>(
     alloc: Global,
     schema: &ValidatorSchema,
@@ -69,7 +91,7 @@ pub(crate) fn try_decide<S: Alter, L: Ledger>(
         IfOk result (IsAttempt policies.now.policies request.now w)) }
     ensures no_fault { IfOk result (λ a. a ≢ Attempt.Refused LoaderFault) }
 {
-    let entities = store_of(alloc, fetched)?;
+    let entities = store_of(alloc, schema, fetched)?;
     let mut loader = FetchedLoader::new(alloc, conn, &fetched.seen, &entities);
     let loaded = load_for_request(
         alloc,

@@ -6,7 +6,7 @@ use crate::document::read_source;
 use crate::reply::{Reply, file_reply, reply_with};
 use crate::status::Status;
 use byte_streams::Source;
-use entity_files::{FileError, check_store, import_into_file, read_file};
+use entity_files::{FileError, check_closed, check_store, import_into_file, read_file};
 use json_document::Document;
 use sqlite::Start;
 use std::alloc::{AllocError, Global};
@@ -57,7 +57,7 @@ pub(crate) fn import_source<S: Start, I: Source>(
     }
 }
 
-// Whether the store of all rows of the file conforms.
+// Whether the store of all rows of the file conforms, and each row has all ancestors of its ancestors.
 fn check_rows<S: Start>(
     rt: &HostRuntime,
     path: &str,
@@ -65,7 +65,8 @@ fn check_rows<S: Start>(
     document: &Document,
 ) -> Result<(), FileError> {
     let entities = read_file(rt, path, start)?;
-    check_store(rt.alloc(), &document.schema, &entities)
+    check_store(rt.alloc(), &document.schema, &entities)?;
+    check_closed(rt.alloc(), &entities)
 }
 
 fn check_file<S: Start>(

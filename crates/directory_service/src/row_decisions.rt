@@ -25,7 +25,7 @@ use entity_store::Request;
 use policy_set::PolicySet;
 use policy_values::EntityUID;
 use schema_core::ValidatorSchema;
-use sqlite::{Alter, Connection};
+use sqlite::{Alter, Connection, Error, ErrorCode};
 use std::alloc::{AllocError, Global};
 use std::sync::ledger::Ledger;
 
@@ -34,8 +34,8 @@ use std::sync::ledger::Ledger;
 pub struct Directory<S: Alter + Drop> {
     /// The database.
     pub conn: Connection<S>,
-    /// How often a request was not decided, since the database failed or a row was no entity; at the last
-    /// value of u64 it stays.
+    /// How often a request was not decided, since the database failed, a row was no entity, or rows broke a
+    /// rule; at the last value of u64 it stays.
     pub faults: u64,
 }
 
@@ -55,8 +55,16 @@ fn fetch<S: Alter>(
 {
     match fetched.fetch(alloc, conn, uid) {
         Ok(()) => Ok(()),
-        Err(FindError::OutOfMemory) => Err(LoadError::OutOfMemory),
-        Err(_) => Err(LoadError::Failed),
+        Err(error) => Err(load_error(error)),
+    }
+}
+
+// Why nothing is loaded, where a look-up failed so.
+fn load_error(error: FindError) -> LoadError {
+    match error {
+        FindError::OutOfMemory => LoadError::OutOfMemory,
+        FindError::Database(Error::SqliteFailure(ErrorCode::OutOfMemory)) => LoadError::OutOfMemory,
+        _ => LoadError::Failed,
     }
 }
 
@@ -122,7 +130,8 @@ fn decided<S: Alter, L: Ledger>(
 
 /// The answer to a request, by the manifest of accepted policies: `Partial` where an entry of it is not
 /// known; else `Refused` where it breaks a rule, with the first one; else the response, or
-/// `Loading(LoaderFault)`, which is counted, where the database failed or a row that is read is no entity.
+/// `Loading(LoaderFault)`, which is counted, where the database failed, or a row that is read is no entity,
+/// does not conform, or lacks an ancestor of its ancestors.
 ///
 /// Where after the call the database is open and its disk has returned what was written, and the store of its
 /// rows is in order and conforms, the answer is that on this whole store, or a fault.

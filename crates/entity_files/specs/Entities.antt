@@ -12,11 +12,12 @@ use Rattle.json_values.specs.Values.{given_fields_of}
 abbrev pub entity_names : List (List ℕ)
 entity_names = codes "id" ∷ codes "attrs" ∷ codes "tags" ∷ codes "ancestors" ∷ []
 
--- the entity of the members
+-- the entity of the members, of which `attrs` and `tags` alone may be left out
 unfoldable pub given_entity_of : Data → Option StoredEntity
 given_entity_of d = do
   uid ← option_and_then uid_of (get (codes "id") d)
-  ancestors ← uid_set_of (get (codes "ancestors") d)
+  list ← get (codes "ancestors") d
+  ancestors ← uid_set_of (Some list)
   attrs ← given_fields_of (get (codes "attrs") d)
   tags ← given_fields_of (get (codes "tags") d)
   Some (record { uid = uid; attrs = fields_of attrs; ancestors = ancestors; tags = fields_of tags })

@@ -16,7 +16,8 @@ pub enum FileError {
     InTransaction,
     /// A row is not the entity with its type and eid: which row, and why.
     Row(String),
-    /// The store does not conform: the first rule that it breaks, on a line.
+    /// The store does not conform, or an entity lacks an ancestor of its ancestors: the first rule that is
+    /// broken, on a line.
     Refused(String),
     /// There is no memory left.
     OutOfMemory,

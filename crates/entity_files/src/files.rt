@@ -59,7 +59,8 @@ fn write_into_file<S: Start>(
 }
 
 /// Writes the entities of a store that conforms, with all their ancestors, into a file: all of them or none.
-/// The file is made where there is none; that of a store that does not conform is left alone.
+/// The file is made where there is none; that of a store that does not conform is left alone. Nothing is
+/// written where an entity lacks an ancestor that the row of one of its ancestors has.
 pub fn import_into_file<S: Start>(
     rt: &HostRuntime,
     path: &str,

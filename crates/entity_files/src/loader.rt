@@ -1,6 +1,6 @@
 //! What was looked up, as a loader.
 
-ghost use Rattle.std.specs.Prelude.{◌≡◌};
+ghost use Rattle.std.specs.Prelude.{◌≡◌, IsTrue, true};
 ghost use Rattle.std.specs.List.{list_all};
 ghost use Rattle.std.specs.BTreeSet.{contains};
 ghost use Rattle.policy_values.specs.Uid.{uid_cmp};
@@ -8,6 +8,7 @@ ghost use Rattle.sqlite.specs.Held.{state};
 ghost use Rattle.entity_files.specs.Rows.{known_store};
 ghost use Rattle.entity_files.specs.Fetched.{AreFetchedOf, AreFetchedOf-prop};
 
+use crate::closed::is_closed;
 use entity_loader::{
     AncestorsRequest, EntityAnswer, EntityLoader, EntityRequest, EntitySlicer, LoadError,
 };
@@ -18,7 +19,9 @@ use std::alloc::{AllocError, Global};
 use std::collections::BTreeSet;
 
 /// A loader of what was looked up in a database, which answers just what is asked. A call that asks for an id
-/// that was not looked up fails, is counted, and leaves the id among the missing ones.
+/// that was not looked up fails, is counted, and leaves the id among the missing ones. So does one that asks
+/// for ancestors of an entity whose ancestors were not all looked up. Where they were, and the entity lacks an
+/// ancestor that one of them has, or they run in a circle, the call fails with nothing missing.
 ///
 /// It says the store of the database's rows, where the database is open and its disk has returned what was
 /// written.
@@ -30,7 +33,7 @@ pub struct FetchedLoader<'a, S: Alter> {
     pub seen: &'a BTreeSet<EntityUID>,
     /// The entities that were found.
     pub entities: &'a Entities,
-    /// The ids that were asked for and not looked up.
+    /// The ids that were not looked up: those that were asked for, and ancestors of these.
     pub missing: Vec<EntityUID>,
     /// How often a call has failed; at the last value of u64 it stays.
     pub faults: u64,
@@ -66,7 +69,7 @@ impl<'a, S: Alter> FetchedLoader<'a, S> {
 }
 
 impl<S: Alter> FetchedLoader<'_, S> {
-    /// The ids that were asked for and not looked up.
+    /// The ids that were not looked up: those that were asked for, and ancestors of these.
     pub fn into_missing(self) -> Vec<EntityUID> {
         let FetchedLoader { missing, .. } = self;
         missing
@@ -88,6 +91,32 @@ fn are_all_seen(seen: &BTreeSet<EntityUID>, requests: &[AncestorsRequest]) -> bo
     requests
         .iter()
         .all(|request| seen.contains(&request.entity_id))
+}
+
+// Whether all ancestors of the entity were looked up, and have no ancestors but its own.
+fn has_known_ancestors(seen: &BTreeSet<EntityUID>, entities: &Entities, uid: &EntityUID) -> bool {
+    match entities.entity(uid) {
+        Some(entity) => {
+            entity.ancestors().iter().all(|above| seen.contains(above))
+                && is_closed(entities, entity)
+        }
+        None => true,
+    }
+}
+
+fn have_known_ancestors(
+    seen: &BTreeSet<EntityUID>,
+    entities: &Entities,
+    requests: &[AncestorsRequest],
+) -> bool {
+    requests.iter().all(|request| has_known_ancestors(seen, entities, &request.entity_id))
+}
+
+// Whether the ancestors that are asked for are known.
+fn are_known(seen: &BTreeSet<EntityUID>, entities: &Entities, requests: &[AncestorsRequest]) -> bool
+    ensures { IsTrue result → list_all (λ r. contains uid_cmp seen.now r.entity_id) requests.now ≡ true }
+{
+    are_all_seen(seen, requests) && have_known_ancestors(seen, entities, requests)
 }
 
 // Adds an id that was not looked up to the missing ones.
@@ -113,13 +142,29 @@ fn note_entities(
     Ok(())
 }
 
+// Adds those of the ids that were not looked up.
+fn note_all(
+    seen: &BTreeSet<EntityUID>,
+    missing: &mut Vec<EntityUID>,
+    ids: &BTreeSet<EntityUID>,
+) -> Result<(), AllocError> {
+    for uid in ids {
+        note(seen, missing, uid)?;
+    }
+    Ok(())
+}
+
 fn note_ancestors(
     seen: &BTreeSet<EntityUID>,
+    entities: &Entities,
     missing: &mut Vec<EntityUID>,
     requests: &Vec<AncestorsRequest>,
 ) -> Result<(), AllocError> {
     for request in requests {
         note(seen, missing, &request.entity_id)?;
+        if let Some(entity) = entities.entity(&request.entity_id) {
+            note_all(seen, missing, entity.ancestors())?;
+        }
     }
     Ok(())
 }
@@ -150,12 +195,12 @@ impl<S: Alter> EntityLoader for FetchedLoader<'_, S> {
         requests: &Vec<AncestorsRequest>,
     ) -> Result<Vec<Vec<EntityUID>>, LoadError> {
         self.lists = self.lists.saturating_add(1);
-        if are_all_seen(self.seen, requests) {
+        if are_known(self.seen, self.entities, requests) {
             let mut slicer = EntitySlicer::new(self.entities);
             return slicer.load_ancestors(alloc, requests);
         }
         self.faults = self.faults.saturating_add(1);
-        note_ancestors(self.seen, &mut self.missing, requests)?;
+        note_ancestors(self.seen, self.entities, &mut self.missing, requests)?;
         Err(LoadError::Failed)
     }
 }

@@ -30,7 +30,10 @@ fn read_given_entity(alloc: Global, tree: &Tree<'_>) -> Result<Option<Entity>, A
     let Some(uid) = read_uid(alloc, id)? else {
         return Ok(None);
     };
-    let Some(ancestors) = read_uid_set(alloc, get(tree, "ancestors"), None)? else {
+    let Some(list) = get(tree, "ancestors") else {
+        return Ok(None);
+    };
+    let Some(ancestors) = read_uid_set(alloc, Some(list), None)? else {
         return Ok(None);
     };
     let Some(attrs) = read_fields(alloc, get(tree, "attrs"))? else {

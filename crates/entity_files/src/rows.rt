@@ -48,6 +48,23 @@ fn read_id(alloc: Global, row: &Row) -> Result<EntityUID, FileError> {
     }
 }
 
+/// The entity of the row with this id, where there is one.
+pub(crate) fn find_row<S: Alter>(
+    alloc: Global,
+    conn: &mut Connection<S>,
+    uid: &EntityUID,
+) -> Result<Option<Entity>, FileError>
+    requires { IsReady (state S.Store conn.old) }
+    ensures { IsReady (state S.Store conn.new) }
+{
+    match find_entity(alloc, conn, uid) {
+        Ok(found) => Ok(found),
+        Err(FindError::NoEntity) => Err(no_entity(alloc, uid)),
+        Err(FindError::Database(error)) => Err(database_error(alloc, error)),
+        Err(FindError::OutOfMemory) => Err(FileError::OutOfMemory),
+    }
+}
+
 // The entity of the row with this id.
 fn read_entity<S: Alter>(
     alloc: Global,
@@ -57,11 +74,9 @@ fn read_entity<S: Alter>(
     requires { IsReady (state S.Store conn.old) }
     ensures { IsReady (state S.Store conn.new) }
 {
-    match find_entity(alloc, conn, uid) {
-        Ok(Some(entity)) => Ok(entity),
-        Ok(None) | Err(FindError::NoEntity) => Err(no_entity(alloc, uid)),
-        Err(FindError::Database(error)) => Err(database_error(alloc, error)),
-        Err(FindError::OutOfMemory) => Err(FileError::OutOfMemory),
+    match find_row(alloc, conn, uid)? {
+        Some(entity) => Ok(entity),
+        None => Err(no_entity(alloc, uid)),
     }
 }
 
@@ -97,7 +112,8 @@ fn read_all<S: Alter>(
     Ok(entities)
 }
 
-fn store_of(alloc: Global, entities: Vec<Entity>) -> Result<Entities, FileError> {
+/// The store of entities of rows.
+pub(crate) fn store_of(alloc: Global, entities: Vec<Entity>) -> Result<Entities, FileError> {
     match Entities::from_ancestors(alloc, entities) {
         Ok(store) => Ok(store),
         Err(EntitiesError::Duplicate(uid) | EntitiesError::Cycle(uid)) => Err(no_entity(

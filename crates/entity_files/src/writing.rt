@@ -3,8 +3,9 @@
 ghost use Rattle.std.specs.Prelude.{◌≡◌, None, IfOk};
 ghost use Rattle.conformance.specs.StoreRules.{first_store_fault};
 
+use crate::above::check_above;
 use crate::fault::database_error;
-use crate::{FileError, check_store};
+use crate::{FileError, check_store, is_ready};
 use entity_store::{Entities, Entity};
 use json_response::write_entity;
 use schema_core::ValidatorSchema;
@@ -59,7 +60,8 @@ fn commit<S: Alter>(alloc: Global, tx: Transaction<'_, S>) -> Result<(), FileErr
     }
 }
 
-/// Writes a row for each entity, in one transaction: all of them or none.
+/// Writes a row for each entity, in one transaction: all of them or none. None is written where an entity
+/// lacks an ancestor that the row of one of its ancestors has.
 pub(crate) fn write_entities<S: Alter>(
     alloc: Global,
     entities: &Entities,
@@ -68,13 +70,18 @@ pub(crate) fn write_entities<S: Alter>(
     if !conn.is_autocommit() {
         return Err(FileError::InTransaction);
     }
+    if !is_ready(conn) {
+        return Err(FileError::OtherSchema);
+    }
+    check_above(alloc, entities, conn)?;
     let mut tx = conn.transaction();
     insert_all(alloc, &mut tx, entities)?;
     commit(alloc, tx)
 }
 
 /// Writes the entities of a store that conforms, with all their ancestors, in one transaction: all of them
-/// or none.
+/// or none. Errs with `Refused` also where an entity lacks an ancestor that the row of one of its ancestors
+/// has.
 pub fn import<S: Alter>(
     alloc: Global,
     schema: &ValidatorSchema,

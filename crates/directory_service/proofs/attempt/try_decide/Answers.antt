@@ -6,7 +6,7 @@ use Rattle.directory_service.proofs.Attempted.{attempted_if, no_fault_if}
 use Rattle.directory_service.proofs.attempt.try_decide.Goals as goal
 
 pub new-loader-requires : goal.new-loader-requires
-new-loader-requires g c w told u seen = c.in_ok-entities.ensures u ∙ c.requires.fetched.same w told u seen
+new-loader-requires g c w told u seen = c.in_ok-entities.ensures.found u ∙ c.requires.fetched.same w told u seen
 
 pub returns-clause-right : goal.returns-clause-right
 returns-clause-right g c w told order stored =
