@@ -13,7 +13,7 @@ const FIRST = "cedar/tinytodo";
 const CEDAR = ["policies", "schema", "entities", "request", "links"];
 const COMMANDS = {
   check: "what is wrong with the policies",
-  level: "and whether they read more than N steps from the request",
+  level: "and whether they read N or more steps from the request",
   review: "on which types of requests each policy can be true, and the least level of each",
   request: "whether request and entities conform to the schema",
   manifest: "what the policies can read, for each type of requests",
