@@ -1,4 +1,4 @@
--- Answers by rows, which never stray, and by a store in memory, of which no call fails.
+-- Answers by rows, which never stray.
 use Rattle.std.proofs.Common.{◌≡◌, ℕ, ◌≤◌, List, [], ◌∷◌, Option, Some, None, Result, Ok, Err, refl, subst, arith, inl, inr}
 use Rattle.std.specs.Prelude.{IfOk, IfSome}
 use Rattle.std.specs.List.{AllZip}
@@ -67,44 +67,3 @@ module _ (schema : SchemaData) (ps : List PolicyData) (o : Option Store) (ordere
   )
   row_answers old new [] (a ∷ answers) tells none h = absurd h
   row_answers old new (q ∷ qs) [] tells none h = absurd h
-
--- ---- of a store in memory
-
-module _ (schema : SchemaData) (ps : List PolicyData) (w : Store) (stored : StoreConforms schema w) where
-  store_answer : (q : Request) (a : BatchAnswer) → is_fault a ≡ 0 → IsRowAnswer schema ps (Some w) q a → IsStoreAnswer schema ps w q a
-  store_answer q Partial none h = h
-  store_answer q (Refused e) none h = h
-  store_answer q (Decided r) none h = (h.0, h.1, h.2 stored)
-  store_answer q (Loading error.LoaderFault) none h = absurd (omega (arith, none))
-  store_answer q (Loading (error.IncompatibleEntityManifest e)) none h = h.2 stored
-  store_answer q (Loading (error.InconsistentLoader uid kept got)) none h = absurd (let no : Some w ≡ None = h.2 in cc)
-  store_answer q (Loading (error.WrongNumberOfEntities e)) none h = h.2
-  store_answer q (Loading (error.WrongNumberOfAncestors n k)) none h = h.2
-  store_answer q (Loading (error.PartialRequest e)) none h = h.2
-  store_answer q (Loading error.OutOfMemory) none h = h.2
-
-  store_answers : (qs : List Request) (answers : List BatchAnswer) → faults_in answers ≡ 0 →
-      AllZip (IsRowAnswer schema ps (Some w)) qs answers → AllZip (IsStoreAnswer schema ps w) qs answers
-  store_answers [] [] none h = tt
-  store_answers (q ∷ qs) (a ∷ answers) none h = (
-    store_answer q a (omega (arith, none)) h.0,
-    store_answers qs answers (omega (arith, none)) h.1,
-  )
-  store_answers [] (a ∷ answers) none h = absurd h
-  store_answers (q ∷ qs) [] none h = absurd h
-
-  no_faults : (answers : List BatchAnswer) → AreCounted answers 0 0 → faults_in answers ≡ 0
-  no_faults answers (inl few) = omega (arith, few)
-  no_faults answers (inr last) = absurd (omega (arith, last))
-
-  pub by_store : (qs : List Request) (answers : List BatchAnswer) → AreCounted answers 0 0 →
-      AllZip (IsRowAnswer schema ps (Some w)) qs answers → AllZip (IsStoreAnswer schema ps w) qs answers
-  by_store qs answers few h = store_answers qs answers (no_faults answers few) h
-
-pub store_result : {E : Type 0} (schema : SchemaData) (ps : List PolicyData) (w : Store) (o : Option Store) → o ≡ Some w →
-    (qs : List Request) (r : Result (Vec BatchAnswer Global) E) →
-    IfOk r (λ answers. AllZip (IsRowAnswer schema ps o) qs answers.items) → IfOk r (λ answers. AreCounted answers.items 0 0) →
-    IfOk r (λ answers. StoreConforms schema w → AllZip (IsStoreAnswer schema ps w) qs answers.items)
-store_result schema ps w o is qs (Ok answers) h few = λ stored.
-    by_store schema ps w stored qs answers.items few (subst (λ (p : Option Store). AllZip (IsRowAnswer schema ps p) qs answers.items) is h)
-store_result schema ps w o is qs (Err e) h few = tt

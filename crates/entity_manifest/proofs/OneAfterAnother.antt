@@ -1,5 +1,6 @@
 -- Answers to requests, one after another.
 use Rattle.std.proofs.Common.{◌⊎◌, ◌≤◌, ◌+◌, ◌^◌, List, [], ◌∷◌, ◌++◌, refl, sym, ◌∙◌, subst, arith, inl, inr}
+use Rattle.std.specs.List.{AllZip}
 use Rattle.entity_store.specs.declared.request.Request.{Request}
 use Rattle.policy_set.specs.Data.{PolicyData}
 use Rattle.schema_core.specs.Schema.{SchemaData}
@@ -9,6 +10,13 @@ use Rattle.entity_manifest.specs.declared.answer.BatchAnswer.{BatchAnswer}
 use Rattle.entity_manifest.specs.declared.answer.BatchAnswer.TheVariants.{Partial, Refused, Loading, Decided}
 use Rattle.entity_manifest.specs.Answers.{IsLoaderAnswer, AreLoaderAnswers, is_fault, AreCounted}
 use Rattle.entity_manifest.specs.BatchLaws.{FaultsAreCounted}
+
+pub zip_push : {X Y : Type 0} (R : X → Y → Type 0) (xs : List X) (ys : List Y) (x : X) (y : Y) → AllZip R xs ys → R x y →
+    AllZip R (xs ++ x ∷ []) (ys ++ y ∷ [])
+zip_push R [] [] x y h r = (r, tt)
+zip_push R (a ∷ xs) (b ∷ ys) x y h r = (h.0, zip_push R xs ys x y h.1 r)
+zip_push R [] (b ∷ ys) x y h r = absurd h
+zip_push R (a ∷ xs) [] x y h r = absurd h
 
 pub goes_on_here : (l : LoaderState) → Continues l l
 goes_on_here l = record { told = λ s h. h; exact = refl; faults = omega arith; strays = omega arith; honest = λ s h. refl }

@@ -10,6 +10,7 @@ pub mod laws;
 mod lines;
 mod loading;
 pub mod loading_laws;
+mod on_store;
 mod rows;
 
 pub use access_tries::{AccessPath, AccessTrie, EntityRoot, RootAccessTrie, RootTrieRef, TrieRef};
@@ -33,4 +34,5 @@ pub use manifest_core::{
     EntityManifest, EntityManifestFromJsonError, MismatchedEntityManifestError,
     MismatchedMissingEntityError, MismatchedNotStrictSchemaError,
 };
-pub use rows::{decide_batch_on_rows, decide_batch_on_store};
+pub use on_store::decide_batch_on_store;
+pub use rows::decide_batch_on_rows;

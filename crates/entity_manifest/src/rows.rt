@@ -1,20 +1,19 @@
-//! Decisions on many requests, over rows of tables and over a store in memory.
+//! Decisions on many requests, over rows of tables.
 
 ghost use Rattle.std.specs.Prelude.{IfOk, IfErr};
 ghost use Rattle.std.specs.List.{AllZip};
-ghost use Rattle.typing_spec.specs.Conforms.{StoreConforms};
 ghost use Rattle.entity_manifest.specs.Accepted.{IsAccepted};
 ghost use Rattle.entity_manifest.specs.OfPolicies.{WhyNone};
 ghost use Rattle.table_loader.specs.State.{store_known};
-ghost use Rattle.entity_manifest.specs.Answers.{IsStoreAnswer, IsRowAnswer, AreCounted};
+ghost use Rattle.entity_manifest.specs.Answers.{IsRowAnswer, AreCounted};
 
 use crate::{BatchAnswer, EntityManifestError, decide_batch};
-use entity_store::{Entities, Request};
+use entity_store::Request;
 use policy_set::PolicySet;
 use schema_core::ValidatorSchema;
 use std::alloc::Global;
 use table_loader::laws::known_stores_are_ordered;
-use table_loader::{RowLoader, Rows, StoreRows, store_rows_say};
+use table_loader::{RowLoader, Rows};
 
 /// The same over rows of tables. Where the rows say a store that conforms, each decision is the response on
 /// all of it, and each whole request that conforms is decided, or the rows failed: at most as often as their
@@ -36,23 +35,4 @@ pub fn decide_batch_on_rows<R: Rows>(
 {
     known_stores_are_ordered();
     decide_batch(alloc, schema, policies, requests, loader)
-}
-
-/// The same over a store in memory, by rows of it that never fail: no answer is `Loading`.
-pub fn decide_batch_on_store(
-    alloc: Global,
-    schema: &ValidatorSchema,
-    policies: &PolicySet,
-    requests: &Vec<Request>,
-    entities: &Entities,
-) -> Result<Vec<BatchAnswer>, EntityManifestError>
-    ensures answers { IfOk result (λ answers. StoreConforms schema.now entities.now →
-        AllZip (IsStoreAnswer schema.now policies.now.policies entities.now)
-        requests.now.items answers.items) }
-    ensures accepted { IfOk result (λ _. IsAccepted schema.now policies.now) }
-    ensures refused { IfErr result (WhyNone schema.now policies.now) }
-{
-    store_rows_say(entities);
-    let mut loader = RowLoader::new(StoreRows::new(entities));
-    decide_batch_on_rows(alloc, schema, policies, requests, &mut loader)
 }

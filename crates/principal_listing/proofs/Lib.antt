@@ -1,6 +1,5 @@
 mod Keeping
 mod Listed
-mod Loaded
 mod Pages
 mod Ready
 mod Refusals

@@ -6,11 +6,10 @@ use Rattle.policy_values.specs.declared.entity_uid.EntityUID.{EntityUID}
 use Rattle.policy_values.specs.Uid.{text_cmp}
 use Rattle.entity_store.specs.declared.request.Request.{Request}
 use Rattle.entity_store.specs.Request.{action_of}
-use Rattle.policy_set.specs.PolicySet.{IsPolicySet, AreKeyedOnce}
+use Rattle.policy_set.specs.PolicySet.{IsPolicySet}
 use Rattle.schema_core.specs.Faults.{IsSchema}
 use Rattle.schema_core.specs.Schema.{ActionData, action_at}
 use Rattle.table_loader.specs.Laws.{IsStoreOrdered}
-use Rattle.entity_manifest.specs.OfPolicies.{IsManifestOf}
 use Rattle.principal_listing.specs.Allowed.{KeepOtherRules, is_allowed}
 use Rattle.principal_listing.specs.Pages.{comes_after}
 use Rattle.principal_listing.specs.declared.candidates.Listing.{Listing}
@@ -28,13 +27,10 @@ abbrev pub is_listed_after : Listing → Request → Option EntityUID → Entity
 is_listed_after l q x u =
     comes_after x u && is_allowed l.schema.now l.policies.now.policies q l.entities.now u
 
--- every rule holds that does not speak of the principal, the manifest is that of the policies, and all is in
--- order
+-- every rule holds that does not speak of the principal, and all is in order
 pub record IsListingReady (l : Listing) (q : Request) : Type 0 where
   pub rules : KeepOtherRules l.schema.now l.policies.now q l.entities.now
   pub action : option_copied l.action ≡ action_at l.schema.now (action_of q)
-  pub manifest : IsManifestOf l.schema.now l.policies.now.policies l.manifest.now
   pub schema : IsSchema l.schema.now
   pub set : IsPolicySet l.policies.now
-  pub keyed : AreKeyedOnce l.policies.now.policies
   pub store : IsStoreOrdered l.entities.now

@@ -1,29 +1,21 @@
 //! Whether principals of a store may do what a request asks.
 
-ghost use Rattle.std.specs.Prelude.{◌≡◌, ◌&&◌, IfOk, IfErr};
+ghost use Rattle.std.specs.Prelude.{◌≡◌, ◌&&◌, IfOk};
 ghost use Rattle.std.specs.Option.{option_copied};
 ghost use Rattle.entity_store.specs.Request.{IsWhole};
 ghost use Rattle.policy_set.specs.Response.{response};
 ghost use Rattle.reads_spec.specs.Among.{IsIn};
-ghost use Rattle.entity_manifest.specs.Rules.{KeepRules};
-ghost use Rattle.entity_loading.specs.declared.error.EntitySliceError.TheVariants.{OutOfMemory};
-ghost use Rattle.entity_manifest.specs.Loaded.{AreDecidedAlike};
 ghost use Rattle.principal_listing.specs.Allowed.{passed_over, is_allow};
 ghost use Rattle.principal_listing.specs.Pages.{comes_after};
 ghost use Rattle.principal_listing.specs.Ready.{IsListingReady, takes, is_candidate, is_listed_after};
 
 use crate::laws::candidates_keep_rules;
 use crate::scopes::some_lets_in;
-use entity_loader::EntitySlicer;
-use entity_loading::{EntitySliceError, Steps, load_entities};
-use entity_manifest::EntityManifest;
-use entity_manifest::loading_laws::{loaded_is_enough, refusals_are_faults};
 use entity_store::{Entities, Entity, Request};
 use policy_set::{Decision, PolicySet, decide};
 use policy_values::{EntityType, EntityUID};
 use schema_core::{ValidatorActionId, ValidatorSchema};
 use std::alloc::{AllocError, Global};
-use std::sync::ledger::Ledger;
 
 /// What principals are decided by.
 #[derive(Drop)]
@@ -34,8 +26,6 @@ pub(crate) struct Listing<'a> {
     pub(crate) action: Option<&'a ValidatorActionId>,
     /// The policies, which are accepted.
     pub(crate) policies: &'a PolicySet,
-    /// Their manifest.
-    pub(crate) manifest: &'a EntityManifest,
     /// The whole store.
     pub(crate) entities: &'a Entities,
 }
@@ -43,13 +33,12 @@ pub(crate) struct Listing<'a> {
 /// Whether a principal of the store is one of those that come after this id, if there is one, and may do what
 /// is asked. The request becomes the principal's where the policies are asked; whom no permit's scope lets in
 /// is denied without that.
-pub(crate) fn is_listed<L: Ledger>(
+pub(crate) fn is_listed(
     alloc: Global,
     listing: &Listing<'_>,
     asked: &mut Request,
     after: Option<&EntityUID>,
     entity: &Entity,
-    steps: &mut Steps<L>,
 ) -> Result<bool, AllocError>
     requires ready { IsListingReady listing.now (passed_over asked.old) }
     requires entity { IsIn entity.now listing.now.entities.now }
@@ -67,7 +56,7 @@ pub(crate) fn is_listed<L: Ledger>(
     }
     let principal = uid.try_clone()?;
     asked.principal = Some(principal);
-    is_allowed(alloc, listing, asked, steps)
+    is_allowed(alloc, listing.policies, asked, listing.entities)
 }
 
 // Whether the id comes after that one, and is of a type to which the action applies.
@@ -101,27 +90,8 @@ fn applies_to(action: Option<&ValidatorActionId>, name: &EntityType) -> bool
     }
 }
 
-// Whether the decision on the request, which keeps every rule, is Allow.
-fn is_allowed<L: Ledger>(
-    alloc: Global,
-    listing: &Listing<'_>,
-    asked: &Request,
-    steps: &mut Steps<L>,
-) -> Result<bool, AllocError>
-    requires ready { IsListingReady listing.now (passed_over asked.now) }
-    requires rules { KeepRules listing.now.schema.now listing.now.policies.now asked.now
-        listing.now.entities.now }
-    ensures { IfOk result (λ b. b ≡
-        is_allow (response listing.now.policies.now.policies asked.now listing.now.entities.now).decision) }
-{
-    match load_candidate(alloc, listing, asked, steps) {
-        Ok(slice) => allowed_on(alloc, listing.policies, asked, &slice),
-        Err(_) => Err(AllocError),
-    }
-}
-
 // Whether the decision on the entities is Allow.
-fn allowed_on(
+fn is_allowed(
     alloc: Global,
     policies: &PolicySet,
     asked: &Request,
@@ -135,24 +105,4 @@ fn allowed_on(
         Decision::Allow => Ok(true),
         Decision::Deny => Ok(false),
     }
-}
-
-// What the manifest reads of the store on the request, which keeps every rule, by look-ups.
-fn load_candidate<L: Ledger>(
-    alloc: Global,
-    listing: &Listing<'_>,
-    asked: &Request,
-    steps: &mut Steps<L>,
-) -> Result<Entities, EntitySliceError>
-    requires ready { IsListingReady listing.now (passed_over asked.now) }
-    requires rules { KeepRules listing.now.schema.now listing.now.policies.now asked.now
-        listing.now.entities.now }
-    ensures decided { IfOk result
-        (λ s. AreDecidedAlike listing.now.policies.now.policies asked.now s listing.now.entities.now) }
-    ensures memory { IfErr result (λ e. e ≡ OutOfMemory) }
-{
-    loaded_is_enough();
-    refusals_are_faults();
-    let mut loader = EntitySlicer::new(listing.entities);
-    load_entities(alloc, listing.manifest, asked, &mut loader, steps)
 }

@@ -3,7 +3,6 @@
 ghost use Rattle.std.specs.Prelude.{◌≡◌, true, None, IfOk, IfErr, MatchResult, OnOk};
 ghost use Rattle.conformance.specs.RequestRules.{first_request_fault};
 ghost use Rattle.entity_manifest.specs.Accepted.{IsAccepted};
-ghost use Rattle.entity_manifest.specs.OfPolicies.{IsManifestOf};
 ghost use Rattle.principal_listing.specs.Allowed.{passed_over, KeepOtherRules};
 ghost use Rattle.principal_listing.specs.Refused.{WhyNoPage};
 ghost use Rattle.principal_listing.specs.CheckSteps.{IsRequestRefusal, IsStoreRefusal, IsPoliciesRefusal};
@@ -14,25 +13,23 @@ use crate::request::{is_whole_but, without_principal};
 use conformance::laws::store_rules_are_exact;
 use conformance::{ConformanceError, conforms};
 use entity_manifest::{
-    EntityManifest, EntityManifestError, SliceForRequestError, check_request,
-    compute_entity_manifest,
+    EntityManifestError, SliceForRequestError, check_request, compute_entity_manifest,
 };
 use entity_store::{Entities, Request};
 use policy_set::PolicySet;
 use schema_core::ValidatorSchema;
 use std::alloc::Global;
 
-/// The manifest of the policies and the request without its principal, where every rule holds that does not
-/// speak of the principal; else the first that does not.
+/// The request without its principal, where every rule holds that does not speak of the principal; else the
+/// first that does not.
 pub(crate) fn checked(
     alloc: Global,
     schema: &ValidatorSchema,
     policies: &PolicySet,
     request: &Request,
     entities: &Entities,
-) -> Result<(EntityManifest, Request), ListError>
-    ensures manifest { IfOk result (λ p. IsManifestOf schema.now policies.now.policies p.0) }
-    ensures request { IfOk result (λ p. p.1 ≡ passed_over request.now) }
+) -> Result<Request, ListError>
+    ensures request { IfOk result (λ q. q ≡ passed_over request.now) }
     ensures rules { OnOk result (KeepOtherRules schema.now policies.now request.now entities.now) }
     ensures refused { IfErr result (WhyNoPage schema.now policies.now request.now entities.now) }
 {
@@ -45,8 +42,8 @@ pub(crate) fn checked(
     if let Err(error) = check_store(schema, entities) {
         return Err(error);
     }
-    match manifest_of(alloc, schema, policies) {
-        Ok(manifest) => Ok((manifest, asked)),
+    match check_policies(alloc, schema, policies) {
+        Ok(()) => Ok(asked),
         Err(error) => Err(error),
     }
 }
@@ -85,18 +82,17 @@ fn check_store(schema: &ValidatorSchema, entities: &Entities) -> Result<(), List
     }
 }
 
-// The manifest of the policies, where they are accepted.
-fn manifest_of(
+// Whether the policies are accepted: exactly then they have a manifest.
+fn check_policies(
     alloc: Global,
     schema: &ValidatorSchema,
     policies: &PolicySet,
-) -> Result<EntityManifest, ListError>
-    ensures manifest { IfOk result (IsManifestOf schema.now policies.now.policies) }
+) -> Result<(), ListError>
     ensures accepted { OnOk result (IsAccepted schema.now policies.now) }
     ensures refused { IfErr result (IsPoliciesRefusal schema.now policies.now) }
 {
     match compute_entity_manifest(alloc, schema, policies) {
-        Ok(manifest) => Ok(manifest),
+        Ok(_) => Ok(()),
         Err(EntityManifestError::Validation(found)) => Err(ListError::Validation(found)),
         Err(EntityManifestError::OutOfMemory) => Err(ListError::OutOfMemory),
     }

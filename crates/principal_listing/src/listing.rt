@@ -4,7 +4,6 @@ ghost use Rattle.std.specs.Prelude.{◌≡◌, ◌≤◌, IfOk, OnOk, IfErr, IsS
 ghost use Rattle.std.specs.Option.{option_copied};
 ghost use Rattle.entity_store.specs.Request.{action_of};
 ghost use Rattle.schema_core.specs.Schema.{action_at};
-ghost use Rattle.entity_manifest.specs.OfPolicies.{IsManifestOf};
 ghost use Rattle.principal_listing.specs.Allowed.{allowed_principals, passed_over, KeepOtherRules};
 ghost use Rattle.principal_listing.specs.Pages.{page_ids, has_more, IsPage};
 ghost use Rattle.principal_listing.specs.Ready.{IsListingReady};
@@ -13,15 +12,12 @@ ghost use Rattle.principal_listing.specs.Refused.{WhyNoPage};
 use crate::candidates::{Listing, is_listed};
 use crate::checks::checked;
 use crate::{ListError, Page};
-use entity_loading::Steps;
 use entity_store::{Entities, Request};
 use policy_set::PolicySet;
-use policy_set::laws::{have_keys_once, is_policy_set};
+use policy_set::laws::is_policy_set;
 use policy_values::EntityUID;
 use schema_core::{ValidatorActionId, ValidatorSchema};
 use std::alloc::{AllocError, Global};
-use std::marker::Brand;
-use std::sync::ledger::{Blank, Ledger};
 use table_loader::entities_are_ordered;
 
 /// The first principals of the store, as many as the limit at most, that may do what the request asks,
@@ -33,8 +29,7 @@ use table_loader::entities_are_ordered;
 /// they break no rule of requests; the store conforms; the policies are accepted. Where all hold, it errs for
 /// want of memory alone.
 ///
-/// The manifest is computed once, and each principal is decided on what it reads, by look-ups; whom no
-/// permit's scope lets in is denied without that. None is decided behind the first allowed one for which the
+/// Each principal is decided on the store itself; whom no permit's scope lets in is denied without that. None is decided behind the first allowed one for which the
 /// page has no room.
 pub fn list_principals(
     alloc: Global,
@@ -53,16 +48,15 @@ pub fn list_principals(
     ensures rules { OnOk result (KeepOtherRules schema.now policies.now request.now entities.now) }
     ensures refused { IfErr result (WhyNoPage schema.now policies.now request.now entities.now) }
 {
-    let (manifest, mut asked) = checked(alloc, schema, policies, request, entities)?;
+    let mut asked = checked(alloc, schema, policies, request, entities)?;
     let listing = Listing {
         schema,
         action: declared_action(schema, &asked),
         policies,
-        manifest: &manifest,
         entities,
     };
     is_ready(&listing, &asked);
-    let page = page_of::<Brand>(alloc, &listing, &mut asked, after, limit, Blank::new(1))?;
+    let page = page_of(alloc, &listing, &mut asked, after, limit)?;
     Ok(page)
 }
 
@@ -83,41 +77,33 @@ fn is_ready(listing: &Listing<'_>, asked: &Request)
         listing.now.entities.now }
     requires action { option_copied listing.now.action ≡
         action_at listing.now.schema.now (action_of asked.now) }
-    requires manifest { IsManifestOf listing.now.schema.now listing.now.policies.now.policies
-        listing.now.manifest.now }
     ensures { IsListingReady listing.now asked.now }
 {
     // for the proof: the names of a schema's actions ascend, and so do the ids of a store
     let _actions = listing.schema.action_ids();
     let _entities = listing.entities.iter();
     is_policy_set(listing.policies);
-    have_keys_once(listing.policies);
     entities_are_ordered(listing.entities);
 }
 
 // The page, where every rule holds that does not speak of the principal. It begins the search at the first
 // id.
-fn page_of<L: Ledger>(
+fn page_of(
     alloc: Global,
     listing: &Listing<'_>,
     asked: &mut Request,
     after: Option<&EntityUID>,
     limit: usize,
-    blank: Blank,
 ) -> Result<Page, AllocError>
-    requires name { blank.name ≡ L.name }
-    requires parts { blank.parts ≡ L.parts }
-    requires one { blank.parts ≡ 1 }
-    requires ready { IsListingReady listing.now (passed_over asked.old) }
+    requires { IsListingReady listing.now (passed_over asked.old) }
     ensures { IfOk result (IsPage limit
         (allowed_principals listing.now.schema.now listing.now.policies.now.policies asked.old
         listing.now.entities.now)
         (option_copied after.entry)) }
 {
-    let mut steps = Steps::<L>::new(blank);
     let mut ids = Vec::new(alloc);
     for entity in listing.entities.iter() {
-        let listed = is_listed(alloc, listing, asked, after, entity, &mut steps)?;
+        let listed = is_listed(alloc, listing, asked, after, entity)?;
         if !listed {
             continue;
         }

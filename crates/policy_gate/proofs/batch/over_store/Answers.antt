@@ -7,21 +7,18 @@ use Rattle.policy_gate.specs.declared.command.Command.TheVariants.{Batch}
 use Rattle.policy_gate.proofs.Lines.{all_reported, answered}
 use Rattle.policy_gate.proofs.Manifests.{refused}
 use Rattle.policy_gate.proofs.Results.{more}
-use Rattle.policy_gate.proofs.Says.{conforming_store}
 use Rattle.policy_gate.proofs.batch.over_store.Goals as goal
 
 pub lines_reply-requires : goal.lines_reply-requires
 lines_reply-requires c =
     let d = c.args.document.now in let answers = c.in-Ok.answers.items in
-    let conforms = conforming_store c.laws.ensures d c.is_well_made.ensures c.requires in
-    let are = subst (λ qs. AllZip (IsStoreAnswer d.schema d.policies.policies d.entities) qs answers) c.as_vec.ensures (c.in-Ok.ensures.answers conforms) in
+    let are = subst (λ qs. AllZip (IsStoreAnswer d.schema d.policies.policies d.entities) qs answers) c.as_vec.ensures c.in-Ok.ensures.answers in
     all_reported c.laws.ensures d c.is_well_made.ensures d.requests answers are
 
 pub returns-in-Ok : goal.returns-in-Ok
 returns-in-Ok c =
     let d = c.args.document.now in let answers = c.in-Ok.answers.items in
-    let conforms = conforming_store c.laws.ensures d c.is_well_made.ensures c.requires in
-    let are = subst (λ qs. AllZip (IsStoreAnswer d.schema d.policies.policies d.entities) qs answers) c.as_vec.ensures (c.in-Ok.ensures.answers conforms) in
+    let are = subst (λ qs. AllZip (IsStoreAnswer d.schema d.policies.policies d.entities) qs answers) c.as_vec.ensures c.in-Ok.ensures.answers in
     more _ _ (λ r is. answered c.laws.ensures d c.is_well_made.ensures c.in-Ok.ensures.accepted answers are (reply_view r) is.0 is.1) c.lines_reply.result c.lines_reply.ensures
 
 pub returns-in-Err-Validation : goal.returns-in-Err-Validation

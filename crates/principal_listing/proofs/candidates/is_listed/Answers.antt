@@ -2,27 +2,27 @@ use Rattle.std.proofs.Common.{◌≡◌, true, sym, ap, ◌∙◌, subst}
 use Rattle.std.specs.Option.{option_copied}
 use Rattle.std.proofs.lemmas.Result.{IfOk-weaker}
 use Rattle.policy_set.specs.Response.{response}
-use Rattle.entity_manifest.specs.Rules.{KeepRules}
+use Rattle.entity_store.specs.Request.{IsWhole}
 use Rattle.principal_listing.specs.Allowed.{asked_by, passed_over, is_allow}
 use Rattle.principal_listing.specs.Ready.{is_candidate}
 use Rattle.principal_listing.proofs.Ready.{listed, no_candidate, a_candidate, applies_there}
 use Rattle.principal_listing.proofs.Unmet.{denied}
 use Rattle.principal_listing.proofs.candidates.is_listed.Goals as goal
 
-pub is_allowed-requires-clause-rules : goal.is_allowed-requires-clause-rules
-is_allowed-requires-clause-rules g c =
+pub is_allowed-requires : goal.is_allowed-requires
+is_allowed-requires c =
     let l = c.args.listing.now in
     let q = c.args.asked.now in
     let e = c.args.entity.now in
     let same : c.in_ok-principal.principal ≡ e.uid = c.in_ok-principal.ensures ∙ c.uid-uid.ensures in
     let test : is_candidate (option_copied l.action) (option_copied c.args.after) e.uid ≡ true =
     ap (is_candidate (option_copied l.action) (option_copied c.args.after)) (sym c.uid-uid.ensures) ∙ sym c.is_candidate.ensures ∙ c.if-not-is_candidate.false in
-    subst (λ u. KeepRules l.schema.now l.policies.now (asked_by q u) l.entities.now) (sym same)
+    subst (λ u. IsWhole (asked_by q u)) (sym same)
     (c.candidates_keep_rules.ensures l.schema.now c.requires.ready.schema l.policies.now (passed_over q) l.entities.now c.requires.ready.rules e c.requires.entity
-    (applies_there l q c.requires.ready (option_copied c.args.after) e.uid test))
+    (applies_there l q c.requires.ready (option_copied c.args.after) e.uid test)).whole
 
 pub returns-clause-listed : goal.returns-clause-listed
-returns-clause-listed g c =
+returns-clause-listed c =
     let l = c.args.listing.now in
     let q = c.args.asked.now in
     let e = c.args.entity.now in
@@ -37,7 +37,7 @@ returns-clause-listed g c =
     c.is_allowed.ensures
 
 pub returns-then-not-some_lets_in-clause-listed : goal.returns-then-not-some_lets_in-clause-listed
-returns-then-not-some_lets_in-clause-listed g c =
+returns-then-not-some_lets_in-clause-listed c =
     let l = c.args.listing.now in
     let q = c.args.asked.now in
     let e = c.args.entity.now in

@@ -5,9 +5,7 @@ pub returns : goal.returns
 returns c = record {
   rules = c.requires.rules;
   action = c.requires.action;
-  manifest = c.requires.manifest;
   schema = c.action_ids-actions.ensures.schema;
   set = c.is_policy_set.ensures;
-  keyed = c.have_keys_once.ensures;
   store = store_ordered c.args.listing.now.entities.now c.iter-entities.ensures.ascending c.entities_are_ordered.ensures;
 }

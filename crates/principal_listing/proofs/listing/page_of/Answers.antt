@@ -6,7 +6,7 @@ use Rattle.principal_listing.proofs.Listed.{IsWalk, walk_start, walk_skipped, wa
 use Rattle.principal_listing.proofs.listing.page_of.Goals as goal
 
 pub loop-entity-init : goal.loop-entity-init
-loop-entity-init g c =
+loop-entity-init c =
     let l = c.args.listing.now in
     rw (c.into_iter-entity-iterator.ensures.into_iter_gives, c.iter-entity-items.ensures.rest, c.new-ids.ensures.items, c.new-ids.ensures.len) (record {
       walk = walk_start (is_allowed l.schema.now l.policies.now.policies c.args.asked.now l.entities.now) (option_copied c.args.after) l.entities.now c.args.limit;
@@ -15,10 +15,10 @@ loop-entity-init g c =
     })
 
 pub is_listed-requires-clause-entity : goal.is_listed-requires-clause-entity
-is_listed-requires-clause-entity g c = (rw c.in-Some.ensures.steps at c.loop-entity.invariant.walk).among c.in-Some.entity.now (inl refl)
+is_listed-requires-clause-entity c = (rw c.in-Some.ensures.steps at c.loop-entity.invariant.walk).among c.in-Some.entity.now (inl refl)
 
 pub loop-entity-preserved-then-not-listed : goal.loop-entity-preserved-then-not-listed
-loop-entity-preserved-then-not-listed g c =
+loop-entity-preserved-then-not-listed c =
     let l = c.args.listing.now in
     let x = option_copied c.args.after in
     let e = c.in-Some.entity.now in
@@ -33,7 +33,7 @@ loop-entity-preserved-then-not-listed g c =
     }
 
 pub loop-entity-preserved : goal.loop-entity-preserved
-loop-entity-preserved g c =
+loop-entity-preserved c =
     let l = c.args.listing.now in
     let x = option_copied c.args.after in
     let e = c.in-Some.entity.now in
@@ -52,7 +52,7 @@ loop-entity-preserved g c =
     }
 
 pub returns-then-len-limit : goal.returns-then-len-limit
-returns-then-len-limit g c =
+returns-then-len-limit c =
     let l = c.args.listing.now in
     let x = option_copied c.args.after in
     let e = c.in-Some.entity.now in
