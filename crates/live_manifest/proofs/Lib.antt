@@ -2,6 +2,7 @@ mod Adding
 mod Calls
 mod Computed
 mod Each
+mod Edited
 mod Edits
 mod Keeping
 mod Others

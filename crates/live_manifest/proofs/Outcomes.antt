@@ -4,6 +4,7 @@ use Rattle.std.specs.Prelude.{is_some, IsSomeAnd}
 use Rattle.std.specs.BTreeMap.{UpdatesBy, is_at}
 use Rattle.std.specs.Map.{lookup}
 use Rattle.std.specs.Option.{option_or}
+use Rattle.plain_lemmas.proofs.Booleans.{or_right_true}
 use Rattle.plain_lemmas.proofs.Options.{none_of_no_some}
 use Rattle.policy_values.specs.Uid.{text_cmp}
 use Rattle.schema_core.specs.Schema.{SchemaData}
@@ -19,7 +20,7 @@ use Rattle.manifest_computation.specs.Computed.{IsManifestOf}
 use Rattle.live_manifest.specs.Adding.{AddsTo, Tries}
 use Rattle.live_manifest.specs.Edits.{Edit, add_template, made, or_findings, refusal}
 use Rattle.live_manifest.specs.Faults.{IsFaulty}
-use Rattle.live_manifest.specs.Kept.{IsKept, IsMade, IsEditRefused, IsRefusedFor, LiveData}
+use Rattle.live_manifest.specs.Kept.{edited, IsKept, IsMade, IsEditRefused, IsRefusedFor, LiveData}
 use Rattle.live_manifest.specs.Laws.{EditsKeepAcceptance}
 use Rattle.live_manifest.specs.Tries.{HasTriesOf, HaveTries}
 use Rattle.live_manifest.specs.declared.error.LiveManifestError.{LiveManifestError}
@@ -31,8 +32,8 @@ use Rattle.live_manifest.proofs.Taking.{free_of, no_template, policy_taken, put_
 -- the edit was made, or it was refused and all is as it was; and what is to be kept is
 pub record IsOutcome (e : Edit) (old now : LiveData) (after : Tries) (r : Result (Unit {0}) LiveManifestError) : Type 0 where
   pub kept : IsKept now × HaveTries now.schema after now.policies.policies
-  pub made : OnOk r (IsMade e old now)
-  pub refused : IfErr r (IsEditRefused e old)
+  pub made : OnOk r (IsMade e (edited old) (edited now))
+  pub refused : IfErr r (IsEditRefused e (edited old))
   pub unchanged : OnErr r (now ≡ old)
 
 abbrev pub live : SchemaData → PolicySetData → Manifest → LiveData
@@ -70,10 +71,10 @@ module _ (schema : SchemaData) (s new : PolicySetData) (t : TemplateData) (id : 
   pub template_free : IsPolicySet s → removal_fault new id ≡ None
   template_free set = (λ i. removal_fault (is i) (same i)) ∙ template_removable s t (free_of s t.id free) set
 
-  template_back : without id new ≡ s
+  pub template_back : without id new ≡ s
   template_back = (λ i. without (same i) (is i)) ∙ template_taken s t (free_of s t.id free)
 
-  template_found : findings_of_entry schema new id ≡ findings_of_written schema t
+  pub template_found : findings_of_entry schema new id ≡ findings_of_written schema t
   template_found = ap (λ o. findings_of_either schema o (policy_at new id)) template_there
 
   pub template_steps : steps_of_entry schema new id ≡ length (linked_envs schema t)
@@ -111,10 +112,13 @@ module _ (schema : SchemaData) (s new : PolicySetData) (p : PolicyData) (id : Li
   pub policy_is_there : IsSome (policy_at new id)
   policy_is_there = subst IsSome (sym policy_there) refl
 
-  policy_back : without id new ≡ s
+  pub policy_is_taken : IsTaken new id
+  policy_is_taken = or_right_true (is_some (template_at new id)) (is_some (policy_at new id)) (ap is_some policy_there)
+
+  pub policy_back : without id new ≡ s
   policy_back = (λ i. without (same i) (is i)) ∙ policy_taken s p free
 
-  policy_found : findings_of_entry schema new id ≡ findings_of_policy schema p
+  pub policy_found : findings_of_entry schema new id ≡ findings_of_policy schema p
   policy_found = (λ i. findings_of_either schema (template_none i) (policy_there i))
 
   pub policy_steps : steps_of_entry schema new id ≡ steps_of_policy schema p

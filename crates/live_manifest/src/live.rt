@@ -56,7 +56,7 @@ impl<'a> LiveManifest<'a> {
     ghost use Rattle.link_spec.specs.Linked.{linked_envs};
     ghost use Rattle.policy_set.specs.Condition.{has_scope_slot};
     ghost use Rattle.live_manifest.specs.Edits.{add_static, add_template, link, remove, no_policies};
-    ghost use Rattle.live_manifest.specs.Kept.{IsWithoutPolicies, IsKept, IsMade, IsEditRefused, IsNotTaken};
+    ghost use Rattle.live_manifest.specs.Kept.{edited, IsWithoutPolicies, IsKept, IsMade, IsEditRefused, IsNotTaken};
 
     /// No policies yet.
     pub fn new(alloc: Global, schema: &'a ValidatorSchema) -> LiveManifest<'a>
@@ -97,8 +97,8 @@ impl<'a> LiveManifest<'a> {
         steps: &mut Steps<L>,
     ) -> Result<(), LiveManifestError>
         requires { has_scope_slot template ≡ false }
-        ensures made { OnOk result (IsMade (add_static template) self.old self.new) }
-        ensures refused { IfErr result (IsEditRefused (add_static template) self.old) }
+        ensures made { OnOk result (IsMade (add_static template) (edited self.old) (edited self.new)) }
+        ensures refused { IfErr result (IsEditRefused (add_static template) (edited self.old)) }
         ensures unchanged { OnErr result (self.new ≡ self.old) }
         ensures steps { steps.new ≤ steps.old + 2 * length (unlinked_envs self.old.schema) }
     {
@@ -142,8 +142,8 @@ impl<'a> LiveManifest<'a> {
         steps: &mut Steps<L>,
     ) -> Result<(), LiveManifestError>
         requires { IsTrue (has_scope_slot template) }
-        ensures made { OnOk result (IsMade (add_template template) self.old self.new) }
-        ensures refused { IfErr result (IsEditRefused (add_template template) self.old) }
+        ensures made { OnOk result (IsMade (add_template template) (edited self.old) (edited self.new)) }
+        ensures refused { IfErr result (IsEditRefused (add_template template) (edited self.old)) }
         ensures unchanged { OnErr result (self.new ≡ self.old) }
         ensures steps { steps.new ≤ steps.old + 2 * length (linked_envs self.old.schema template) }
     {
@@ -160,7 +160,7 @@ impl<'a> LiveManifest<'a> {
             drop(id);
             return Err(not_added(e));
         }
-        settle_template(self.alloc, self.schema, &mut self.policies, id, steps)
+        settle_entry(self.alloc, self.schema, &mut self.policies, id, steps)
     }
 
     /// Adds the link of a template of the set under a new id, with an id for each of the template's slots.
@@ -173,8 +173,9 @@ impl<'a> LiveManifest<'a> {
         steps: &mut Steps<L>,
     ) -> Result<(), LiveManifestError>
         ensures made { OnOk result
-            (IsMade (link template_id.now new_id values.items) self.old self.new) }
-        ensures refused { IfErr result (IsEditRefused (link template_id.now new_id values.items) self.old) }
+            (IsMade (link template_id.now new_id values.items) (edited self.old) (edited self.new)) }
+        ensures refused { IfErr result
+            (IsEditRefused (link template_id.now new_id values.items) (edited self.old)) }
         ensures unchanged { OnErr result (self.new ≡ self.old) }
         ensures steps { steps.new ≤ steps.old + 2 * length (unlinked_envs self.old.schema) }
     {
@@ -214,8 +215,8 @@ impl<'a> LiveManifest<'a> {
     /// has no such entry, or a link stands on it; `OutOfMemory` may come in place of any answer. On any error
     /// all is as it was.
     pub fn remove<'b>(&mut self, id: &'b Text) -> Result<(), LiveRemovalError<'b>>
-        ensures made { OnOk result (IsMade (remove id.now) self.old self.new) }
-        ensures refused { IfErr result (IsNotTaken id.now self.old) }
+        ensures made { OnOk result (IsMade (remove id.now) (edited self.old) (edited self.new)) }
+        ensures refused { IfErr result (IsNotTaken id.now (edited self.old)) }
         ensures unchanged { OnErr result (self.new ≡ self.old) }
     {
         edits_keep_acceptance();
@@ -258,8 +259,8 @@ fn has_policy(policies: &PolicySet, id: &Text) -> bool
     policies.policy(id).is_some()
 }
 
-// That the set does not take an entry.
-fn not_added(error: PolicySetError) -> LiveManifestError
+/// That the set does not take an entry.
+pub(crate) fn not_added(error: PolicySetError) -> LiveManifestError
     ensures { IsNotAddedFor error result }
 {
     match error {
@@ -303,8 +304,8 @@ fn settle<L: Ledger>(
     }
 }
 
-// Errs where there are errors in the template with the id, which was just added, and takes it out again.
-fn settle_template<L: Ledger>(
+/// Errs where there are errors in the entry with the id, which was just added, and takes it out again.
+pub(crate) fn settle_entry<L: Ledger>(
     alloc: Global,
     schema: &ValidatorSchema,
     policies: &mut PolicySet,

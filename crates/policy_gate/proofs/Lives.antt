@@ -9,8 +9,10 @@ use Rattle.policy_set.specs.PolicySet.{PolicySetData, IsPolicySet, AreKeyedOnce}
 use Rattle.policy_set.specs.Removal.{RemovalFault}
 use Rattle.schema_core.specs.Schema.{SchemaData}
 use Rattle.manifest_core.specs.Manifest.{Manifest}
+use Rattle.manifest_computation.specs.Computed.{IsManifestOf}
+use Rattle.policy_validate.specs.Accepted.{IsAccepted}
 use Rattle.live_manifest.specs.Edits.{Edit, add_static, add_template, Refusal, not_removed, made, refusal, after_edits}
-use Rattle.live_manifest.specs.Kept.{IsKept, IsMade, LiveData}
+use Rattle.live_manifest.specs.Kept.{EditedData, IsMade}
 use Rattle.policy_gate.specs.Answer.{IsManifestText, IsRefusedOr, manifest_text, refused_first}
 use Rattle.policy_gate.specs.Live.{edit_for, edit_text, first_refused, refusal_text, removal_text}
 use Rattle.policy_gate.specs.Reply.{Answer, answer}
@@ -26,7 +28,7 @@ made_where P (Ok o) (Err x) h p = λ e. absurd (true≢false (sym (h e)))
 made_where P (Err x) done h p = tt
 
 -- and nothing refuses it
-pub taken_where : {B F : Type 0} (e : Edit) (old new : LiveData) (done : Result B F) → OnOk done (IsMade e old new) → OnOk done (refusal old.schema old.policies e ≡ None)
+pub taken_where : {B F : Type 0} (e : Edit) (old new : EditedData) (done : Result B F) → OnOk done (IsMade e old new) → OnOk done (refusal old.schema old.policies e ≡ None)
 taken_where e old new (Ok x) is = is.taken
 taken_where e old new (Err x) is = tt
 
@@ -70,13 +72,13 @@ pub made_end : (o : Option (ℕ × Refusal)) (W : List ℕ → Type 0) (a : Answ
 made_end None W a h ends work = (ends, work)
 made_end (Some r) W a h ends work = absurd (cc h)
 
--- what is kept of a set of policies is their manifest
-pub kept_text : (l : LiveData) (s : PolicySetData) (m : Manifest) (text : List ℕ) → IsKept l → s ≡ l.policies → IsPolicySet s → AreKeyedOnce s.policies → m ≡ l.manifest → text ≡ manifest_text m → IsManifestText l.schema l.policies text
-kept_text l s m text kept is set keys same written = record {
-  manifest = l.manifest;
-  computed = kept.manifest;
-  written = written ∙ ap manifest_text same;
+-- the manifest of accepted policies, written
+pub written_text : (schema : SchemaData) (s t : PolicySetData) (m : Manifest) (text : List ℕ) → IsAccepted schema s → t ≡ s → IsPolicySet t → AreKeyedOnce t.policies → IsManifestOf schema t.policies m → text ≡ manifest_text m → IsManifestText schema s text
+written_text schema s t m text accepted is set keys computed written = record {
+  manifest = m;
+  computed = subst (λ p. IsManifestOf schema p.policies m) is computed;
+  written = written;
   set = subst IsPolicySet is set;
-  keys = subst (λ t. AreKeyedOnce t.policies) is keys;
-  accepted = kept.accepted;
+  keys = subst (λ p. AreKeyedOnce p.policies) is keys;
+  accepted = accepted;
 }

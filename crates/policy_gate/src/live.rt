@@ -1,4 +1,4 @@
-//! A manifest that is kept under the edits of a document.
+//! The manifest of the policies that the edits of a document leave.
 ghost use Rattle.std.specs.Prelude.{◌≡◌, ℕ, List, None, Option, IfOk, IfErr, OnOk, IsOk, Some, map, option_map, string_bytes};
 ghost use Rattle.live_manifest.specs.Edits.{Refusal, after_edits, errors, refusal};
 ghost use Rattle.live_manifest.specs.Kept.{IsMade, IsRefusedFor};
@@ -14,7 +14,8 @@ use crate::answer::written_manifest;
 use crate::reply::Reply;
 use crate::status::Status;
 use json_document::{Document, Edit, Edits, TemplateLink, slot_pairs};
-use live_manifest::{LiveManifest, LiveManifestError, LiveRemovalError, Steps};
+use live_manifest::{AcceptedPolicies, LiveManifestError, Steps};
+use manifest_computation::{EntityManifestError, compute_entity_manifest};
 use policy_scope::{ValidationResult, findings_text};
 use policy_set::laws::{have_keys_once, is_policy_set};
 use policy_set::{PolicySetError, RemovalError, Template};
@@ -47,7 +48,7 @@ fn edited<L: Ledger>(
     ensures { IfOk result (λ r. IsAnswerToEdits schema.now (map edit_for edits) (reply_view r)) }
 {
     let mut steps = Steps::<L>::new(blank);
-    let mut live = LiveManifest::new(alloc, schema);
+    let mut live = AcceptedPolicies::new(alloc, schema);
     match make_all(alloc, &mut live, edits.into_vec(), &mut steps)? {
         Some(text) => Ok(Reply {
             status: Status::Edit,
@@ -57,9 +58,9 @@ fn edited<L: Ledger>(
     }
 }
 
-// The manifest that is kept, written; with two facts of every set of policies, by which what they read is
-// enough.
-fn manifest_reply(alloc: Global, live: &LiveManifest<'_>) -> Result<Reply, AllocError>
+// The manifest of the policies that the edits leave, written; with two facts of every set of policies, by which
+// what they read is enough.
+fn manifest_reply(alloc: Global, live: &AcceptedPolicies<'_>) -> Result<Reply, AllocError>
     ensures done { IfOk result (λ r. r.status ≡ Status.Done) }
     ensures work { IfOk result (λ r.
         IsManifestText live.now.schema live.now.policies (string_bytes r.text)) }
@@ -67,13 +68,18 @@ fn manifest_reply(alloc: Global, live: &LiveManifest<'_>) -> Result<Reply, Alloc
     let policies = live.policies();
     is_policy_set(policies);
     have_keys_once(policies);
-    written_manifest(alloc, live.manifest())
+    match compute_entity_manifest(alloc, live.schema(), policies) {
+        Ok(manifest) => written_manifest(alloc, &manifest),
+        Err(EntityManifestError::OutOfMemory) => Err(AllocError),
+        // The policies are accepted.
+        Err(EntityManifestError::Validation(_)) => unreachable!(),
+    }
 }
 
 // Makes the edits, up to the first that is refused: then the text on it.
 fn make_all<L: Ledger>(
     alloc: Global,
-    live: &mut LiveManifest<'_>,
+    live: &mut AcceptedPolicies<'_>,
     edits: Vec<Edit>,
     steps: &mut Steps<L>,
 ) -> Result<Option<String>, AllocError>
@@ -97,7 +103,7 @@ fn make_all<L: Ledger>(
 // Makes the edit; where it is refused, says why.
 fn make<L: Ledger>(
     alloc: Global,
-    live: &mut LiveManifest<'_>,
+    live: &mut AcceptedPolicies<'_>,
     edit: Edit,
     steps: &mut Steps<L>,
 ) -> Result<Option<String>, AllocError>
@@ -114,7 +120,7 @@ fn make<L: Ledger>(
 
 fn add<L: Ledger>(
     alloc: Global,
-    live: &mut LiveManifest<'_>,
+    live: &mut AcceptedPolicies<'_>,
     template: Template,
     steps: &mut Steps<L>,
 ) -> Result<Option<String>, AllocError>
@@ -135,7 +141,7 @@ fn add<L: Ledger>(
 
 fn link<L: Ledger>(
     alloc: Global,
-    live: &mut LiveManifest<'_>,
+    live: &mut AcceptedPolicies<'_>,
     link: TemplateLink,
     steps: &mut Steps<L>,
 ) -> Result<Option<String>, AllocError>
@@ -157,7 +163,7 @@ fn link<L: Ledger>(
 
 fn remove(
     alloc: Global,
-    live: &mut LiveManifest<'_>,
+    live: &mut AcceptedPolicies<'_>,
     id: Text,
 ) -> Result<Option<String>, AllocError>
     ensures made { IfOk result (λ o. o ≡ None →
@@ -168,10 +174,7 @@ fn remove(
 {
     match live.remove(&id) {
         Ok(()) => Ok(None),
-        Err(LiveRemovalError::PolicySet(fault)) => {
-            Ok(Some(String::from_str(alloc, removal_text(fault))?))
-        }
-        Err(LiveRemovalError::OutOfMemory) => Err(AllocError),
+        Err(fault) => Ok(Some(String::from_str(alloc, removal_text(fault))?)),
     }
 }
 
