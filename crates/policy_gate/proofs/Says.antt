@@ -20,7 +20,7 @@ use Rattle.policy_gate.specs.Headline.{Conforms, HasAcceptedPolicies, HasAllowed
 use Rattle.policy_gate.specs.Listing.{asked_fault, is_whole_but}
 use Rattle.policy_gate.specs.Live.{edit_text, policies_after, refused_edit}
 use Rattle.live_manifest.specs.Edits.{Refusal}
-use Rattle.principal_listing.specs.Allowed.{IsWholeBut}
+use Rattle.principal_listing.specs.Allowed.{IsWholeBut, asked_by}
 use Rattle.policy_gate.specs.Command.{shape_of}
 use Rattle.policy_gate.specs.Laws.{Laws}
 use Rattle.policy_gate.specs.Reply.{Answer, answer}
@@ -321,6 +321,7 @@ module _ (laws : Laws) (d : Document) where
           accepted = policies;
           never = laws.never d.schema made.schema d.policies made.policies made.keys policies;
           least = all_least (written d.policies);
+          enough = λ n passes. laws.levels d.schema made.schema n d.policies made.policies made.keys (record { accepted = policies; levels = passes });
         }
       where
         all_least : (ts : List TemplateData) → AllByRecursion (HasLeastLevel d.schema) ts
@@ -334,7 +335,15 @@ module _ (laws : Laws) (d : Document) where
       enough = laws.slices d.schema made.schema (policies_after d) is.set is.keys;
       made = none_inside (λ r. answer status.Edit (edit_text r)) (refused_edit d) none;
     }
-    says (Page limit after) text none is = record { written = is; rules = page_rules none }
+    says (Page limit after) text none is =
+        let rules = page_rules none in
+        record {
+          written = is;
+          rules = rules;
+          decided = λ e among applies.
+              let kept = laws.candidates d.schema made.schema d.policies d.request d.entities rules e among applies in
+              record { rules = kept; allowed = allowed (asked_by d.request e.uid) d.entities kept };
+        }
     says Batch text none is = record {
       written = is;
       decided = λ q rules. record { written = line_decided q rules.whole rules.request; allowed = allowed q d.entities rules };

@@ -1,21 +1,24 @@
 -- What status 0 says of each command.
-use Rattle.std.specs.Prelude.{◌≡◌, ℕ, List, Option, Some, None, Ok, codes}
+use Rattle.std.specs.Prelude.{◌≡◌, ℕ, true, List, Option, Some, None, Ok, codes}
+use Rattle.std.specs.List.{AllByRecursion}
 use Rattle.std.specs.Io.KnownBytes.{Appends}
 use Rattle.byte_streams.specs.Document.{WasRead}
 use Rattle.policy_set.specs.Allowed.{AreAllowed}
-use Rattle.policy_set.specs.PolicySet.{PolicySetData}
+use Rattle.policy_set.specs.PolicySet.{PolicySetData, written}
 use Rattle.policy_set.specs.Response.{response}
 use Rattle.schema_core.specs.Schema.{SchemaData}
 use Rattle.json_document.specs.Reading.{IsReadAs}
 use Rattle.json_document.specs.declared.document.Document.{Document}
 use Rattle.json_document.specs.declared.shape.Shape.{Shape}
 use Rattle.entity_store.specs.Request.{IsWhole}
-use Rattle.entity_store.specs.Store.{Store}
+use Rattle.entity_store.specs.Store.{StoredEntity, Store}
 use Rattle.entity_store.specs.declared.request.Request.{Request as ARequest}
 use Rattle.serde_json.specs.Data.{Data}
 use Rattle.finding_messages.specs.Written.{findings_text}
 use Rattle.typing_spec.specs.Conforms.{RequestConforms, StoreConforms}
 use Rattle.policy_validate.specs.Accepted.{IsAccepted}
+use Rattle.level_spec.specs.Policies.{PassesAt}
+use Rattle.reads_spec.specs.Among.{IsIn}
 use Rattle.policy_validate.specs.Levels.{IsAcceptedAt, CutIsEnough}
 use Rattle.manifest_computation.specs.Enough.{IsEnough}
 use Rattle.manifest_computation.specs.Rules.{KeepRules}
@@ -26,7 +29,7 @@ use Rattle.manifest_computation.specs.Computed.{IsManifestOf}
 use Rattle.policy_review.specs.Laws.{NeversAreNeverTrue, LevelsAreLeast}
 use Rattle.policy_values.specs.declared.entity_uid.EntityUID.{EntityUID}
 use Rattle.live_manifest.specs.Edits.{Refusal}
-use Rattle.principal_listing.specs.Allowed.{KeepOtherRules}
+use Rattle.principal_listing.specs.Allowed.{KeepOtherRules, applies_to, asked_by}
 use Rattle.policy_gate.specs.Listing.{list_text}
 use Rattle.policy_gate.specs.Live.{edit_text, policies_after, refused_edit}
 use Rattle.policy_gate.specs.Answer.{batch_text, found_in, found_at, manifest_text, request_fault, request_line, review_text, sample_line, slice_of}
@@ -172,12 +175,16 @@ pub record IsBatch (d : Document) (text : List ℕ) : Type 0 where
 
 -- the text has a line for each row and each least level of the review of the document's policies, which are
 -- accepted. Of what a row says never, the policy is true on no request of the row's type and on no store,
--- where both conform; and each level is the least at which the policy passes
+-- where both conform; and each level is the least at which the policy passes. At a level at which all pass, each
+-- policy has on the store cut there the outcome that it has on the whole store, for each request and store that
+-- conform
 pub record IsReviewed (d : Document) (text : List ℕ) : Type 0 where
   pub written : text ≡ review_text d
   pub accepted : HasAcceptedPolicies d
   pub never : NeversAreNeverTrue d.schema d.policies
   pub least : LevelsAreLeast d.schema d.policies
+  pub enough : (n : ℕ) → AllByRecursion (PassesAt d.schema n) (written d.policies) →
+      CutIsEnough d.schema n d.policies
 
 -- none of the document's edits is refused, and the text is the manifest of the policies that they leave,
 -- which are accepted: what they read and ask for in each environment of the schema, which is enough to decide
@@ -190,11 +197,20 @@ pub record IsLive (d : Document) (text : List ℕ) : Type 0 where
   pub enough : ReadsAreEnough d.schema (policies_after d)
   pub made : HasNoRefusedEdit d
 
+-- the request that an entity of the store asks as its principal keeps every rule, and on the whole store the outcome
+-- of each policy is a truth value, a missing entity or an overflow
+pub record IsDecidedFor (d : Document) (u : EntityUID) : Type 0 where
+  pub rules : KeepRules d.schema d.policies (asked_by d.request u) d.entities
+  pub allowed : AreAllowed d.policies.policies (asked_by d.request u) d.entities
+
 -- the text is the page of at most so many principals that comes after the id, of those of the store that may
--- do what the request asks; every rule holds that does not speak of the principal
+-- do what the request asks; every rule holds that does not speak of the principal. So each entity of the store to
+-- whose type the action applies is decided on as `decide` does
 pub record IsListed (limit : ℕ) (after : Option EntityUID) (d : Document) (text : List ℕ) : Type 0 where
   pub written : text ≡ list_text limit after d
   pub rules : KeepsOtherRules d
+  pub decided : (e : StoredEntity) → IsIn e d.entities → applies_to d.schema d.request e.uid.entity_type ≡ true →
+      IsDecidedFor d e.uid
 
 -- the text says which of the document's edits is the first that is refused, and why
 pub record IsRefusedEdit (d : Document) (text : List ℕ) : Type 0 where

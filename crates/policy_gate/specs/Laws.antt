@@ -3,6 +3,7 @@ use Rattle.conformance.specs.Laws.{RequestRulesAreExact, StoreRulesAreExact}
 use Rattle.policy_validate.specs.Laws.{NoErrorsWhereAccepted}
 use Rattle.policy_validate.specs.Levels.{NoErrorsWhereAcceptedAt, AcceptedLevelsAreSound}
 use Rattle.policy_review.specs.Laws.{NeverIsNeverTrue, LeastLevelsAreLeast}
+use Rattle.principal_listing.specs.Laws.{CandidatesKeepRules}
 use Rattle.manifest_computation.specs.Enough.{OutcomesAreAllowed, SlicesAreEnough}
 
 pub record Laws : Type 0 where
@@ -20,3 +21,6 @@ pub record Laws : Type 0 where
   -- what a review says never of is never true, and its levels are the least
   pub never : NeverIsNeverTrue
   pub least : LeastLevelsAreLeast
+  -- every rule holds for each principal of the store to which the action applies, where those do that do not
+  -- speak of the principal
+  pub candidates : CandidatesKeepRules

@@ -8,8 +8,9 @@ use policy_review::laws::{least_levels_are_least, never_is_never_true};
 use policy_validate::laws::{
     accepted_levels_are_sound, no_errors_where_accepted, no_errors_where_accepted_at,
 };
+use principal_listing::laws::candidates_keep_rules;
 
-/// The laws on policies, requests, stores, slices and reviews.
+/// The laws on policies, requests, stores, slices, reviews and listings.
 pub(crate) fn laws()
     ensures { Laws }
 {
@@ -22,4 +23,5 @@ pub(crate) fn laws()
     outcomes_are_allowed();
     never_is_never_true();
     least_levels_are_least();
+    candidates_keep_rules();
 }

@@ -11,4 +11,5 @@ returns c = record {
   outcomes = c.outcomes_are_allowed.ensures;
   never = c.never_is_never_true.ensures;
   least = c.least_levels_are_least.ensures;
+  candidates = c.candidates_keep_rules.ensures;
 }
