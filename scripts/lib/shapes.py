@@ -120,6 +120,31 @@ def members(size):
     return document([{"id": "p", "effect": "permit", "principal": {"in": ["Group", "g7"]}}], people, types)
 
 
+def shared_photo(viewers):
+    """A photo with a set of viewers, and the types for it."""
+    types = TYPES | {"Photo": {"attributes": {"viewers": {"set": {"entity": "User"}}}}}
+    photo_ = {"id": ["Photo", "x"], "attrs": {"viewers": [ref("User", f"u{i}") for i in viewers]}}
+    return types, photo_
+
+
+def viewers(size):
+    """viewers of a photo, whom a quarter as many requests ask about, each by ten policies"""
+    types, photo_ = shared_photo(range(size))
+    made = document(
+        [permit(i, {"contains": [get("resource", "viewers"), {"var": "principal"}]}) for i in range(10)], [photo_], types
+    )
+    del made["request"]
+    return made | {"requests": [REQUEST | {"principal": ["User", f"u{3 * i}"]} for i in range(size // 4)]}
+
+
+def access_list(size):
+    """users, of whom each third may view a photo, and one of nine groups is kept out"""
+    types, photo_ = shared_photo(range(0, size, 3))
+    forbid = {"id": "f", "effect": "forbid", "principal": {"in": ["Group", "g7"]}}
+    allow = permit(0, {"contains": [get("resource", "viewers"), {"var": "principal"}]})
+    return document([allow, forbid], [user(i, i % 9) for i in range(size)] + [photo_], types)
+
+
 def edits(size):
     """edits behind 500 that add a policy each: by turns one is removed and added again"""
     made = [permit(i, compared(i)) for i in range(500)]
@@ -127,6 +152,14 @@ def edits(size):
     whole = document([])
     del whole["policies"]
     return whole | {"edits": made + again}
+
+
+def edits_in_100(size):
+    """edits of policies in 100 environments: each is added, and each second one removed again"""
+    made = [permit(i, compared(i)) for i in range(size)]
+    whole = document([], **square(100))
+    del whole["policies"]
+    return whole | {"edits": made + [{"remove": f"p{i}"} for i in range(0, size, 2)]}
 
 
 def policies(size):
