@@ -1,7 +1,9 @@
 """The words of scripts/from-cedar."""
 import sys
 
-from cedar import documents, explain, files
+from cedar import documents, explain, files, words
+from findings import Broken
+from script import complain
 
 HELP = """usage: scripts/from-cedar --schema FILE [--policies FILE] [--links FILE] [--entities FILE] [REQUEST]
                           [--explain COMMAND [WORD]]
@@ -23,100 +25,72 @@ output:
                    --principal UID --action UID --resource UID (-l, -a, -r) as User::"alice", and
                    --context FILE (-c): JSON
 
-What a file holds tells its form, not its name; - is standard input. What is absent is absent in the
-document too.
+What a file holds tells its form, not its name; - is standard input. --policies, --links and --entities
+may be given several times; a folder stands for the .cedar files (entities: .json) in it and below it, by
+their names, and the policies of all files are numbered on. A request needs entities, if only [].
 
   --explain COMMAND [WORD]  the last words of the call: answers the document by scripts/palvumiose
                    COMMAND, with each finding's place as FILE:LINE:COLUMN, its line and carets
                    underneath; the status is that of the program
 
+  --line           the document in one line
+  --quiet          (-q) nothing of what is dropped and added
+  --program PROGRAM  with --explain, asks this program and not the one that scripts/palvumiose chooses
+
 On standard error stands a line FILE:LINE:COLUMN: .. for what is dropped (annotations; a policy's id is
 the text of its @id, else policy0, policy1, ..), for what is added (entities of actions that the schema
-puts below others), and for all that is refused: what is no Cedar, and what has no counterpart here.
-Where anything is refused, no document is written.
+puts below others), both behind the answer, and for all that is refused: what is no Cedar, and what has
+no counterpart here. Where anything is refused, no document is written.
 
 Lines and columns count from 1, columns in characters. `at` in the document counts bytes of the
 policies' text, from 0.
 
-Status: 0 done; 1 something is refused; 2 usage; 9 the document can't be written; with --explain else
-that of the program. Nothing of this is proved.
+Status: 0 done; 2 usage; 3 something is refused; 8 a file can't be read; 9 the document can't be written;
+with --explain else that of the program. Nothing of this is proved.
 """
-WORDS = {
-    "--schema": "schema",
-    "-s": "schema",
-    "--policies": "policies",
-    "-p": "policies",
-    "--links": "links",
-    "-k": "links",
-    "--template-linked": "links",
-    "--entities": "entities",
-    "--request": "request",
-    "--request-json": "request",
-    "--principal": "principal",
-    "-l": "principal",
-    "--action": "action",
-    "-a": "action",
-    "--resource": "resource",
-    "-r": "resource",
-    "--context": "context",
-    "-c": "context",
-}
 
 
-def usage(why):
-    sys.stderr.write(f"from-cedar: {why}; scripts/from-cedar --help says more\n")
-    return 2
+def parsed(given):
+    """The words, and the command that is to be explained."""
+    made = words.parsed(given, words.FROM_CEDAR, ("--quiet", "-q", "--line"), ("--program",), last="--explain")
+    if "--explain" in made.flags and not made.rest:
+        raise words.Usage("--explain needs a command, as check")
+    if made.rest and "--explain" not in made.flags:
+        raise words.Usage(f"{made.rest[0]} is no option")
+    words.check(made.given)
+    if {"request", "principal"} & set(made.given) and "entities" not in made.given:
+        raise words.Usage("--entities is missing: a request is decided on entities, if only on those of a file with []")
+    return made
 
 
-def parsed(words):
-    """The files by their words, and the command that is to be explained; or a text that says what is
-    wrong."""
-    given, command, left = {}, None, list(words)
-    while left:
-        word = left.pop(0)
-        if word == "--explain":
-            command, left = left, []
-            if not command:
-                return "--explain needs a command, as check", None
-            continue
-        name, equals, value = word.partition("=")
-        if name not in WORDS:
-            return f"{word} is no option", None
-        if not equals and not left:
-            return f"{word} needs a value", None
-        if WORDS[name] in given:
-            return f"{word} is given twice", None
-        given[WORDS[name]] = value if equals else left.pop(0)
-    return wrong(given) or given, command
-
-
-def wrong(given):
-    of_words = [part for part in ("principal", "action", "resource", "context") if part in given]
-    if "schema" not in given:
-        return "--schema is missing"
-    if of_words and "request" in given:
-        return f"--request and --{of_words[0]} exclude each other"
-    if of_words and not {"principal", "action", "resource"} <= set(given):
-        return "--principal, --action and --resource are given together"
-    if (of_words or "request" in given) and "entities" not in given:
-        return "--entities is missing: a request is decided on entities, if only on those of a file with []"
-    if list(given.values()).count("-") > 1:
-        return "standard input is read once"
-    return None
-
-
-def main(words, program=None):
-    given, command = parsed(words)
-    if isinstance(given, str):
-        return usage(given)
-    sys.setrecursionlimit(10000)
-    made = files.make(given)
-    for line in made.report.lines():
+def tell_report(made, quiet=False):
+    """Writes what is dropped, added and refused to standard error; the status that what is refused ends with, or 0."""
+    for line in made.report.lines(quiet):
         sys.stderr.write(line + "\n")
+    return (8 if made.unread else 3) if made.report.refused else 0
+
+
+def main(given, program=None):
+    try:
+        asked = parsed(given)
+    except words.Usage as why:
+        return complain(f"{why}; scripts/from-cedar --help says more", 2)
+    sys.setrecursionlimit(10000)
+    made, quiet = files.make(asked.given), bool({"--quiet", "-q"} & asked.flags)
     if made.report.refused:
-        return 1
-    text = documents.text_of(made.document)
-    if command:
-        return explain.run(program, command, text, made)
+        return tell_report(made, quiet)
+    try:
+        status, text = written(asked, made, program)
+    except Broken as fault:
+        return complain(fault.args[1], fault.args[0])
     sys.stdout.write(text)
-    return 0
+    sys.stdout.flush()
+    tell_report(made, quiet)
+    return status
+
+
+def written(asked, made, program):
+    if "--explain" in asked.flags:
+        answer = explain.run(asked.values.get("--program", program), asked.rest, made)
+        return answer.status, str(answer)
+    return 0, documents.text_of(made.document, "--line" in asked.flags)

@@ -24,7 +24,8 @@ class Writer:
             return made
         if room < 2:
             raise TooDeep
-        return {"at": [self.source.byte(node.span[0]), self.source.byte(node.span[1])], "of": made}
+        start, end = (self.source.base + self.source.byte(offset) for offset in node.span)
+        return {"at": [start, end], "of": made}
 
     def form(self, node, room):
         form, parts = node.form, node.parts
@@ -130,8 +131,8 @@ def depth(value):
     return deepest
 
 
-def text_of(document):
-    """The document's text, with a line for each entity type, action, policy and entity."""
+def text_of(document, in_one_line=False):
+    """The document's text, with a line for each entity type, action, policy and entity, or in one line."""
 
     def compact(value):
         return json.dumps(value, ensure_ascii=False, separators=(",", ":"))
@@ -139,6 +140,8 @@ def text_of(document):
     def lines(opening, items, closing):
         return opening + ("\n  " + ",\n  ".join(items) + "\n" if items else "") + closing
 
+    if in_one_line:
+        return compact(document) + "\n"
     schema = document["schema"]
     types = lines("{", [f"{compact(name)}:{compact(t)}" for name, t in schema["entityTypes"].items()], "}")
     parts = [
@@ -150,6 +153,8 @@ def text_of(document):
         if member in document
     ]
     parts += [f'"request":{compact(document["request"])}'] if "request" in document else []
+    if "requests" in document:
+        parts.append(f'"requests":{lines("[", map_list(compact, document["requests"]), "]")}')
     return ",\n".join(parts) + "}\n"
 
 

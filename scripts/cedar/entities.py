@@ -67,11 +67,11 @@ def entity(e, place, schema, report):
     return made
 
 
-def store(value, top, schema, report):
-    """The entities, each id once."""
+def store(value, top, schema, report, known):
+    """The entities with their places, each id once; `known` has the places of those of other files."""
     if not is_list(value, top, report, "entities"):
         return []
-    known, made = {}, []
+    made = []
     for i, e in enumerate(value):
         found = entity(e, top[i], schema, report)
         if found and found["id"]:
@@ -79,12 +79,12 @@ def store(value, top, schema, report):
             if key in known:
                 report.no(top[i]["uid"], f"two entities have this id; the other stands at {known[key].short()}")
             known.setdefault(key, top[i])
-            made.append(found)
+            made.append((found, top[i]))
     return made
 
 
-def with_actions(made, schema, place, report):
-    """The entities and those of actions that the schema puts below others, as Cedar adds them."""
+def missing_actions(made, schema, place, report):
+    """The entities of actions that the schema puts below others and that are not there: Cedar adds them."""
     there = {tuple(e["id"]) for e in made}
     added = [
         {"id": a["id"], "parents": a["memberOf"]}
@@ -94,7 +94,7 @@ def with_actions(made, schema, place, report):
     if added:
         names = ", ".join(f"{kind}::{shown(eid)}" for kind, eid in (e["id"] for e in added))
         report.added(place, f"the entities of the actions that the schema puts below others: {names}")
-    return made + added
+    return added
 
 
 PARTS = ("principal", "action", "resource")

@@ -1,91 +1,76 @@
 """Shows what the program answers with places in Cedar's files."""
-import re
 import subprocess
-import sys
+from dataclasses import dataclass, field
 
-from cedar.nodes import printed
-from cedar.places import Place
+import findings
+import misfits
+from cedar import documents, located
+from visible import visible
 
-FINDING = re.compile(r"(error|warning) (\w+)(?: at (\d+)\.\.(\d+))?: (.*)")
-POLICY = re.compile(r"for policy `(.*?)`[,:] ")
-
-
-def carets(source, start, end):
-    """The line of a place with carets underneath; of a place over several lines the first."""
-    line, column = source.line_column(start)
-    text = source.line_text(line)
-    width = max(1, min(end - start, len(text) - column + 1))
-    margin = f"{line:5} | "
-    under = "".join("\t" if c == "\t" else " " for c in text[: column - 1])
-    return [margin + text, " " * 5 + " | " + under + "^" * width]
+MOST = 100  # so many values that are not of their types are told
+LOOKS = ("check", "level")  # the commands that answer by findings
 
 
-def explained(line, made, policies):
-    """The lines for one line of the findings; the policies stand under their ids."""
-    found = FINDING.fullmatch(line)
-    if not found:
-        return [line]
-    severity, kind, start, end, text = found.groups()
-    source, policy = made.sources.get("policies"), POLICY.search(text)
-    known = policies.get(policy[1]) if policy else None
-    if start is not None and source is not None:
-        span = source.offset(int(start)), source.offset(int(end))
-    elif known is not None:
-        span = in_scope(known, text)
-    else:
-        return [line]
-    if span is None:
-        return [f"{known.place}: {severity} {kind}: {text}"]
-    return [f"{Place(source, span[0]).short()}: {severity} {kind}: {text}"] + carets(source, *span)
+@dataclass
+class Answer:
+    """The status, and what is shown: the program's text, or lines for people."""
+
+    status: int
+    text: str = ""
+    lines: list = field(default_factory=list)
+
+    def __str__(self):
+        return self.text or "".join(line + "\n" for line in self.lines)
 
 
-def in_scope(policy, text):
-    """The span of what a finding without a place is about: a type or an id in the scope, else the
-    policy's head; None of JSON."""
-    for name, span in policy.named_in_scope if policy.head else ():
-        if f"`{name}`" in text[text.index(policy.name) + len(policy.name) :]:
-            return span
-    return policy.head
-
-
-def placed(line, made):
-    """A line that says what is wrong with the document, the store or the request, with its place in
-    front."""
-    part = re.fullmatch(r"document: (schema|policies|entities|request)(?:\[(\d+)\])?.*", line)
-    if part:
-        index = int(part[2] or 0)
-        if part[1] == "policies" and index < len(made.policies):
-            return f"{made.policies[index].place}: {line}"
-        source = made.sources.get(part[1])
-        if source:
-            return f"{(Place(source)[index] if part[2] and part[1] == 'entities' else Place(source)).short()}: {line}"
-    stored = re.match(r"entity: (.*)", line)
-    source = made.sources.get("entities")
-    if stored and source:
-        for index, entity in enumerate(made.document.get("entities", [])):
-            if stored[1].startswith(printed(entity["id"]) + ": "):
-                return f"{Place(source)[index].short()}: {line}"
-    source = made.sources.get("request")
-    return f"{Place(source).short()}: {line}" if source and line.startswith("request: ") else line
-
-
-def run(program, command, text, made):
-    """Answers the document, and shows the answer; the status is that of the program."""
+def run(program, words, made):
+    """What the program answers on the document that is made."""
+    document = documents.text_of(made.document).encode()
     try:
-        ran = subprocess.run([program, *command], input=text.encode(), stdout=subprocess.PIPE)
+        ran = subprocess.run([program, *words], input=document, stdout=subprocess.PIPE)
     except OSError as fault:
-        sys.stderr.write(f"from-cedar: {program} can't be run: {fault.strerror}\n")
-        return 125
-    answer = ran.stdout.decode(errors="replace")
-    sys.stdout.write(shown(answer, command, ran.returncode, made))
-    return ran.returncode if ran.returncode >= 0 else 128 - ran.returncode
+        raise findings.Broken(125, f"{program} can't be run: {fault.strerror}") from None
+    status = ran.returncode if ran.returncode >= 0 else 128 - ran.returncode
+    text = ran.stdout.decode(errors="replace")
+    if status == 1 or words[0] in LOOKS and status == 0:
+        found = findings.findings_of(program, made.document, words if words[0] in LOOKS else ("check",))
+        return Answer(status, lines=finding_lines(found, made))
+    if status in (3, 4, 5, 6, 12):
+        return Answer(status, lines=rule_lines(text, status, made))
+    return Answer(status, text)
 
 
-def shown(answer, command, status, made):
-    if status == 1 or command[:1] in (["check"], ["level"]) and status == 0:
-        policies = {p.name: p for p in made.policies}
-        return "\n".join(told for line in answer.split("\n") for told in explained(line, made, policies))
-    if status in (3, 4, 5):
-        first, newline, rest = answer.partition("\n")
-        return placed(first, made) + newline + rest
-    return answer
+def finding_lines(found, made):
+    """The findings with their places and excerpts, and how many there are."""
+    lines = [line for finding in found for line in lines_of(finding, located.spot_of_finding(made, finding))]
+    errors = sum(finding.severity == "error" for finding in found)
+    return lines + [f"errors {errors}, warnings {len(found) - errors}"]
+
+
+def lines_of(finding, spot):
+    """A finding, the line of its file with carets underneath, and its help."""
+    front = f"{spot}: " if spot else ""
+    lines = [f"{front}{finding.severity} {finding.kind}: {visible(finding.text)}"]
+    lines += spot.excerpt() if spot else []
+    return lines + [f"  help: {visible(help_)}" for help_ in (finding.help, finding.hint) if help_]
+
+
+def rule_lines(text, status, made):
+    """What is wrong with the document, the store or the request, with its place in front."""
+    what, _, help_ = text.rstrip("\n").partition("\n  help: ")
+    path = findings.rule_path(status, what, made.document)
+    place = located.place_of(made, path) if path else None
+    spot = located.spot_of(place) if place else None
+    lines = [f"{spot}: {visible(what)}", *spot.excerpt()] if spot else [visible(what)]
+    lines += [f"  help: {visible(help_)}"] if help_ else []
+    return lines + [line for line in misfit_lines(made, status) if status in (4, 5)]
+
+
+def misfit_lines(made, status):
+    """Each value of the entities, or of the requests, that is not of its type, with its place."""
+    found = misfits.misfits_of(made.document, status == 5, status == 4)
+    for misfit in found[:MOST]:
+        place = located.place_of(made, misfit.path)
+        yield f"{located.spot_of(place)}: {visible(misfit.text)}" if place else visible(misfit.text)
+    if len(found) > MOST:
+        yield f"{len(found) - MOST} more values are not of their types"

@@ -2,8 +2,10 @@
 from cedar import nodes
 from cedar.nodes import Node
 from cedar.tokens import Reader, Stop
+from misfits import or_near
 
 DEEPEST = 400
+METHODS = sorted({*nodes.METHODS, *nodes.OPERATOR_METHODS})
 COMPARISONS = ("==", "!=", "<", "<=", ">", ">=", "in")
 
 
@@ -154,7 +156,7 @@ class ExpressionReader(Reader):
         if name in nodes.CONSTRUCTORS:
             self.no(token, f"`{name}` is a function: {name}(..)")
         elif name not in nodes.METHODS:
-            self.no(token, f"Cedar has no method `{name}`")
+            self.no(token, f"Cedar has no method `{name}`" + or_near(name, METHODS))
         return self.node("call", (name, left, *arguments), start)
 
     def primary(self):
@@ -193,9 +195,9 @@ class ExpressionReader(Reader):
         if name in nodes.METHODS or name in nodes.OPERATOR_METHODS:
             self.no(token, f"`{name}` is a method: e.{name}(..)")
         elif name not in nodes.CONSTRUCTORS:
-            self.no(
-                token, "unknown values have no counterpart" if name == "unknown" else f"Cedar has no function `{name}`"
-            )
+            near = or_near(name, nodes.CONSTRUCTORS)
+            unknown = "unknown values have no counterpart"
+            self.no(token, unknown if name == "unknown" else f"Cedar has no function `{name}`{near}")
         return self.node("call", (name, *arguments), token.start)
 
     def record(self, opening):

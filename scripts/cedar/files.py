@@ -1,5 +1,7 @@
 """The files of one call: reads each in its form, which what it holds tells, and makes the document."""
+import bisect
 import errno
+import os
 import sys
 
 from cedar import documents, entities, json_text, policy_json, policy_text, schema_text
@@ -7,12 +9,29 @@ from cedar.objects import uid_of_text
 from cedar.places import Place, Report, Source
 from cedar.schema import Schema
 
+ENDINGS = {"policies": ".cedar", "entities": ".json"}  # of the files that a folder is taken for
+
 
 class Made:
-    """The document that is made, the sources that it is made of, and the policies with their places."""
+    """The document that is made, and where its parts come from: `texts` has the sources of each kind of files, `policies`
+    the policies and links, `stored` and `asked` the places of the entities and requests (None of an entity that is of no
+    file), `entries` those of a request that is given in words. `unread` says whether a file can't be read."""
 
     def __init__(self):
-        self.document, self.sources, self.policies, self.report = {}, {}, [], Report()
+        self.document, self.texts, self.policies, self.stored, self.asked, self.entries = {}, {}, [], [], [], {}
+        self.report, self.unread = Report(), False
+
+    def source(self, word):
+        """The first text of a kind of files, or None."""
+        return self.texts[word][0] if self.texts.get(word) else None
+
+    def source_at(self, byte):
+        """The text of policies in which an `at` of the document stands, and the offset there."""
+        texts = [text for text in self.texts.get("policies", []) if not text.is_json]
+        if not texts:
+            return None, 0
+        text = texts[max(0, bisect.bisect_right([text.base for text in texts], byte) - 1)]
+        return text, text.offset(byte - text.base)
 
 
 def bytes_in(name):
@@ -24,37 +43,61 @@ def bytes_in(name):
     return sys.stdin.buffer.read()
 
 
-def opened(name, report):
+def opened(name, made):
     """The text of a file, as a source; None where there is none. What is a source already is one as it stands."""
-    source = name if isinstance(name, Source) else source_of(name, report)
+    source = name if isinstance(name, Source) else source_of(name, made)
     if source is not None and source.text.startswith("\ufeff"):
-        return report.no(Place(source, 0), "a byte order mark, which Cedar does not read")
+        return made.report.no(Place(source, 0), "a byte order mark, which Cedar does not read")
     return source
 
 
-def source_of(name, report):
+def source_of(name, made):
     try:
         read = bytes_in(name)
         return Source("standard input" if name == "-" else name, read.decode("utf-8"))
     except OSError as fault:
-        return report.no(Place(Source(name, "")), f"it can't be read: {fault.strerror}")
+        made.unread = True
+        return made.report.no(Place(Source(name, "")), f"it can't be read: {fault.strerror}")
     except UnicodeDecodeError as fault:
         front = Source(name, read[: fault.start].decode())
-        return report.no(Place(front, len(front.text)), "no UTF-8")
+        return made.report.no(Place(front, len(front.text)), "no UTF-8")
 
 
-def is_json(text):
-    return text.lstrip()[:1] in ("{", "[")
+def names_in(word, given, made):
+    """The names of the files of one kind; a folder is taken for the files in it and below it, by their names."""
+    for name in given[word] if isinstance(given[word], list) else [given[word]]:
+        if isinstance(name, Source) or word not in ENDINGS or not os.path.isdir(name):
+            yield name
+            continue
+        found = sorted(files_below(name, ENDINGS[word]))
+        if not found:
+            made.unread = True
+            made.report.no(Place(Source(name, "")), f"no file in this folder ends with {ENDINGS[word]}")
+        yield from found
 
 
-def load(word, given, made):
-    """The JSON value of a file, with the place of its whole; (None, None) where it is absent or
-    none."""
-    source = opened(given[word], made.report) if word in given else None
-    if source is None:
-        return None, None
-    made.sources[word] = source
-    return json_value(source, made), Place(source)
+def files_below(folder, ending):
+    for here, folders, files in os.walk(folder):
+        folders[:] = [name for name in folders if not name.startswith(".")]
+        yield from (os.path.join(here, name) for name in files if name.endswith(ending) and not name.startswith("."))
+
+
+def sources(word, given, made):
+    """The texts of one kind of files, each once it can be read; they are kept with what is made."""
+    for name in names_in(word, given, made) if word in given else ():
+        source = opened(name, made)
+        if source is not None:
+            source.is_json = source.text.lstrip()[:1] in ("{", "[")
+            made.texts.setdefault(word, []).append(source)
+            yield source
+
+
+def values(word, given, made):
+    """The JSON values of one kind of files, each with its place."""
+    for source in sources(word, given, made):
+        value = json_value(source, made)
+        if value is not None:
+            yield value, Place(source)
 
 
 def json_value(source, made):
@@ -64,65 +107,80 @@ def json_value(source, made):
 
 def read_schema(given, made):
     schema = Schema(made.report)
-    source = opened(given["schema"], made.report)
-    if source is None:
-        return schema
-    made.sources["schema"] = source
-    if is_json(source.text):
-        value = json_value(source, made)
-    else:
-        value = schema_text.read(source, made.report)
-    if value is not None:
-        schema.read(value, Place(source))
+    for source in sources("schema", given, made):
+        value = json_value(source, made) if source.is_json else schema_text.read(source, made.report)
+        if value is not None:
+            schema.read(value, Place(source))
     return schema
 
 
 def read_policies(given, made):
-    static, links = [], []
-    source = opened(given["policies"], made.report) if "policies" in given else None
-    if source is not None:
-        made.sources["policies"] = source
-        if is_json(source.text):
+    """The policies and links. Texts are as if they stood in one, one behind another: in numbers of policies, and in the
+    bytes of places."""
+    static, links, base = [], [], 0
+    for source in sources("policies", given, made):
+        if source.is_json:
             value = json_value(source, made)
             if value is not None:
-                static, links = policy_json.read(value, Place(source), made.report)
+                found, also = policy_json.read(value, Place(source), made.report, len(static))
+                static, links = static + found, links + also
         else:
-            static = policy_text.read(source, made.report)
-    value, top = load("links", given, made)
-    if value is not None:
+            source.base = base
+            base += len(source.text.encode()) + 1
+            static += policy_text.read(source, made.report, len(static))
+    for value, top in values("links", given, made):
         links = links + policy_json.links(value, top, made.report)
     made.policies = static + links
     return documents.policies(static, links, made.report)
 
 
 def read_entities(given, made, schema):
-    value, top = load("entities", given, made)
-    found = entities.store(value, top, schema, made.report) if value is not None else []
-    if not {"entities", "request", "principal"} & set(given) or "schema" not in made.sources:
+    known, found = {}, []
+    for value, top in values("entities", given, made):
+        for one, place in entities.store(value, top, schema, made.report, known):
+            found.append(one)
+            made.stored.append(place)
+    if not {"entities", "request", "requests", "principal"} & set(given) or "schema" not in made.texts:
         return found
-    return entities.with_actions(found, schema, Place(made.sources["schema"]), made.report)
+    added = entities.missing_actions(found, schema, Place(made.source("schema")), made.report)
+    made.stored += [None] * len(added)
+    return found + added
 
 
 def read_request(given, made, schema):
     """The request: of its file, or of words with perhaps a file of the context."""
     if "principal" not in given:
-        value, top = load("request", given, made)
-        return None if value is None else entities.request(value, top, schema, made.report)
+        for value, top in values("request", given, made):
+            return entities.request(value, top, schema, made.report)
+        return None
     found = {}
     for part in entities.PARTS:
-        found[part] = uid_of_text(given[part], Place(Source(f"--{part}", given[part]), 0), made.report)
+        made.entries[part] = Place(Source(f"--{part}", given[part]), 0)
+        found[part] = uid_of_text(given[part], made.entries[part], made.report)
     if "context" not in given:
         made.report.added(Place(Source("--context", ""), 0), "an empty context")
         return {**found, "context": {}}
-    value, top = load("context", given, made)
-    if value is not None:
+    for value, top in values("context", given, made):
         found["context"] = entities.context(value, found["action"], top, schema, made.report)
     return found
 
 
+def read_requests(given, made, schema):
+    """The requests of files, each of which has a list of one or more, or one request."""
+    found = []
+    for value, top in values("requests", given, made):
+        several = value if isinstance(value, list) else [value]
+        for i, one in enumerate(several):
+            made.asked.append(top[i] if several is value else top)
+            found.append(entities.request(one, made.asked[-1], schema, made.report))
+        if not several:
+            made.report.no(top, "expected one request or more")
+    return found
+
+
 def make(given):
-    """The document of the files that are given by their words; it stands only where the report refuses
-    nothing."""
+    """The document of the files that are given by their words, each word with a name or a list of names; it stands only
+    where the report refuses nothing."""
     made = Made()
     schema = read_schema(given, made)
     document = {"schema": schema.document()}
@@ -134,6 +192,8 @@ def make(given):
     request = read_request(given, made, schema)
     if request is not None:
         document["request"] = request
+    if "requests" in given:
+        document["requests"] = read_requests(given, made, schema)
     made.document = document
     if not made.report.refused:
         tell_depth(made)
@@ -142,14 +202,10 @@ def make(given):
 
 def tell_depth(made):
     """Refuses what would nest deeper than the program reads; policies are cut to fit before."""
-    parts = {
-        "schema": made.document["schema"],
-        "entities": made.document.get("entities"),
-        "request": made.document.get("request"),
-    }
-    for word, part in parts.items():
-        if part is not None and documents.depth(part) + 1 > documents.NESTED and word in made.sources:
+    for word in ("schema", "entities", "request", "requests"):
+        part = made.document.get(word)
+        if part is not None and documents.depth(part) + 1 > documents.NESTED and word in made.texts:
             made.report.no(
-                Place(made.sources[word]),
+                Place(made.source(word)),
                 f"its part of the document nests deeper than {documents.NESTED}, which is not read",
             )

@@ -114,6 +114,14 @@ class Finder:
         return at
 
 
+def end_of(text, start):
+    """Where the value ends that begins at an offset; a character behind it where it is none."""
+    try:
+        return DECODER.raw_decode(text, start)[1]
+    except (ValueError, RecursionError):
+        return min(start + 1, len(text))
+
+
 DECODER = json.JSONDecoder(parse_int=str, parse_float=str, parse_constant=str)
 
 

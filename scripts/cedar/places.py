@@ -18,6 +18,7 @@ class Source:
         self.name, self.text = name, text
         self.finder = None  # of a path's offset: of JSON, or of a schema's text
         self.is_json = False
+        self.base = 0  # how many bytes stand before it, where several texts are one
         self.is_ascii = text.isascii()
         self.lines = self.line_bytes = None
 
@@ -116,6 +117,11 @@ class Report:
     def __init__(self):
         self.refused, self.notes = {}, {}
 
+    @property
+    def is_full(self):
+        """Whether what is refused from here on is only counted."""
+        return len(self.refused) >= TOLD
+
     def no(self, place, why):
         """A refusal; its answer is None, in place of what should stand there."""
         if len(self.refused) < TOLD:
@@ -129,7 +135,9 @@ class Report:
     def added(self, place, what):
         self.notes[f"{place}: added: {what}"] = place, f"added: {what}"
 
-    def lines(self):
+    def lines(self, quiet=False):
+        """Notes, and what is refused; with `quiet` the latter alone."""
+        notes = [] if quiet else self.notes
         told = [line for line in self.refused if isinstance(line, str)]
         more = len(self.refused) - len(told)
-        return list(map(visible, [*self.notes, *told])) + ([f"refused: {more} more"] if more else [])
+        return list(map(visible, [*notes, *told])) + ([f"refused: {more} more"] if more else [])

@@ -10,10 +10,10 @@ DEEPEST = 400
 SET_PARTS = ("staticPolicies", "templates", "templateLinks")
 
 
-def read(value, top, report):
-    """Static policies and templates, and links."""
+def read(value, top, report, before=0):
+    """Static policies and templates, and links; other policies stand before them."""
     if isinstance(value, dict) and "effect" in value:
-        return [p for p in [PolicyReader(report).policy("policy0", value, top)] if p], []
+        return [p for p in [PolicyReader(report).policy(f"policy{before}", value, top)] if p], []
     if not isinstance(value, dict):
         report.no(top, "policies as JSON are an object: a policy set, or one policy")
         return [], []

@@ -5,13 +5,14 @@ from cedar.tokens import Stop
 
 
 class PolicyReader(ExpressionReader):
-    def policies(self):
-        """All policies of the text; of one with a fault the rest is passed over, up to its `;`."""
+    def policies(self, before):
+        """All policies of the text, which others stand before; of one with a fault the rest is passed over, up to its
+        `;`."""
         found = []
         while self.next.kind != "end":
             start, self.depth = self.index, 0
             try:
-                found.append(self.policy(f"policy{len(found)}"))
+                found.append(self.policy(f"policy{before + len(found)}"))
             except Stop as stop:
                 self.no(*stop.args)
                 found.append(None)
@@ -121,5 +122,5 @@ class PolicyReader(ExpressionReader):
         return uid
 
 
-def read(source, report):
-    return PolicyReader(source, report).policies()
+def read(source, report, before=0):
+    return PolicyReader(source, report).policies(before)

@@ -3,9 +3,11 @@ out."""
 from cedar.extensions import FUNCTIONS
 from cedar.nodes import is_action_type
 from cedar.objects import is_list, is_name, is_text, members, shown
+from misfits import or_near
 
 PRIMITIVE = {"String": "String", "Long": "Long", "Bool": "Bool", "Boolean": "Bool"}
 RESERVED_TYPES = frozenset(("Bool", "Boolean", "Entity", "Extension", "Long", "Record", "Set", "String"))
+SLIPS = {"Boolean": "Bool", "boolean": "Bool", "Int": "Long", "Integer": "Long", "int": "Long", "Number": "Long"}
 KINDS = {"Set": "element", "Entity": "name", "Extension": "name", "EntityOrCommon": "name"}
 NESTED = 127  # so deep may JSON nest
 DEEPEST = 60  # so deep may common types stand one in another
@@ -123,7 +125,10 @@ class Schema:
             if isinstance(name, str)
             else None
         )
-        return found or self.no(place, f"the entity type {shown(name)} is not declared")
+        if found is None:
+            near = or_near(name, self.entities) if isinstance(name, str) and not self.report.is_full else ""
+            self.no(place, f"the entity type {shown(name)} is not declared{near}")
+        return found
 
     def entity_names(self, names, space, place):
         """Names of entity types; one that stands twice counts once."""
@@ -166,7 +171,15 @@ class Schema:
         own = name[len("__cedar::") :] if name.startswith("__cedar::") else name
         if own in PRIMITIVE and own != "Boolean":
             return PRIMITIVE[own]
-        return own if own in FUNCTIONS else self.no(place, f"there is no type `{name}`")
+        return own if own in FUNCTIONS else self.no(place, f"there is no type `{name}`" + self.meant_type(name))
+
+    def meant_type(self, name):
+        """The type that was probably meant, as the end of a sentence."""
+        if self.report.is_full:
+            return ""
+        if name in SLIPS:
+            return f"; did you mean `{SLIPS[name]}`?"
+        return or_near(name, [*self.commons, *self.entities, *PRIMITIVE, *FUNCTIONS])
 
     def common(self, full, place=None):
         """A common type's meaning, which is found out once."""
@@ -260,7 +273,8 @@ class Schema:
         for kind in candidates(given or "Action", space):
             if (kind, m["id"]) in self.action_ids:
                 return [kind, m["id"]]
-        return self.no(place, f"the action {shown(m['id'])} is not declared")
+        near = "" if self.report.is_full else or_near(m["id"], [name for _, name in self.action_ids])
+        return self.no(place, f"the action {shown(m['id'])} is not declared{near}")
 
     def document(self):
         return {"entityTypes": self.types, "actions": self.actions}

@@ -10,7 +10,12 @@ import re
 import secrets
 import subprocess
 
-
+ENTRY = re.compile(r"request: (?:request's )?(principal|action|resource|context) ")
+MEMBER = re.compile(r": (?:required )?(attribute|tag|ancestor) `(.*?)` ", re.DOTALL)
+MEMBERS = {"attribute": "attrs", "tag": "tags"}
+PART = re.compile(r"document: (schema|policies|entities|requests?)(?:\[(\d+)\])?")
+ENTRIES = ("principal", "action", "resource", "context")
+MOST_HELPS = 20  # for so many requests the program is asked once more, which gives a help
 ESCAPES = str.maketrans({"\\": "\\\\", '"': '\\"', "\n": "\\n", "\r": "\\r", "\t": "\\t", "\0": "\\0"})
 
 
@@ -20,10 +25,10 @@ class Broken(Exception):
 
 class Finding:
     """What is found: `path` is that of the part of the document that it is about, `at` the source
-    location that the document gives, or None."""
+    location that the document gives, or None; `help` is the program's, `hint` the scripts' own."""
 
-    def __init__(self, severity, kind, text, path, policy=None, at=None, help=None):
-        self.severity, self.kind, self.text, self.help = severity, kind, text, help
+    def __init__(self, severity, kind, text, path, policy=None, at=None, help=None, hint=None):
+        self.severity, self.kind, self.text, self.help, self.hint = severity, kind, text, help, hint
         self.path, self.policy, self.at = path, policy, at
 
 
@@ -165,10 +170,6 @@ def conformance_of(program, document):
     return found
 
 
-ENTRIES = ("principal", "action", "resource", "context")
-MOST_HELPS = 20  # for so many requests the program is asked once more, which gives a help
-
-
 def one_conformance(program, document, path):
     """What `request` says of a document with one request, which stands at the path."""
     status, told = ask(program, ["request"], document)
@@ -177,9 +178,12 @@ def one_conformance(program, document, path):
     if status not in (4, 5):
         raise Broken(status, f"request ended with {status}: {told.strip()}")
     if status == 5:
-        return [Finding("error", "InvalidEntity", told.rstrip("\n"), entity_path(told, document.get("entities", [])))]
+        path = entity_path(told, document.get("entities", []))
+        path += member_path(told[len("entity: ") :]) if len(path) > 1 else ()
+        return [Finding("error", "InvalidEntity", told.rstrip("\n"), path)]
     text, _, help_ = told.rstrip("\n").partition("\n  help: ")
-    return [Finding("error", "InvalidRequest", text, path, help=help_ or None)]
+    entry = ENTRY.match(text)
+    return [Finding("error", "InvalidRequest", text, path + ((entry[1],) if entry else ()), help=help_ or None)]
 
 
 def uid(id_):
@@ -195,3 +199,25 @@ def entity_path(told, entities):
         if told.startswith(f"entity: {uid(entity['id'])}: ")
     ]
     return ("entities", max(named)[1]) if named else ("entities",)
+
+
+def rule_path(status, text, document):
+    """The path of the part of the document that a text of a status is about; None where there is none."""
+    if status == 5:
+        path = entity_path(text, document.get("entities", []))
+        return path + member_path(text[len("entity: ") :]) if len(path) > 1 else None
+    part = PART.match(text)
+    if status == 3 and part:
+        return (part[1], int(part[2])) if part[2] else (part[1],)
+    if status not in (4, 6) or "request" not in document:
+        return None
+    entry = ENTRY.match(text)
+    return ("request", entry[1]) if entry else ("request",)
+
+
+def member_path(text):
+    """The member of an entity that a text is about."""
+    member = MEMBER.search(text)
+    if member is None:
+        return ()
+    return ("parents",) if member[1] == "ancestor" else (MEMBERS[member[1]], member[2])

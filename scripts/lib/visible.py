@@ -2,6 +2,7 @@
 direction of writing, begins a line, or is a command in the log of a build; all of that is shown as an escape."""
 import json
 import re
+import sys
 
 HIDDEN = re.compile(
     "[\0-\x1f\x7f-\x9f\u061c\u200b-\u200f\u2028-\u202e\u2060-\u2064\u2066-\u206f\ufeff\ud800-\udfff]"
@@ -19,7 +20,24 @@ def visible(text):
     return HIDDEN.sub(escape, text)
 
 
+def escape_all(text):
+    """The same of a part of a line of a file, of which tabs stay."""
+    return HIDDEN.sub(lambda found: found[0] if found[0] == "\t" else escape(found), text)
+
+
 def json_line(value, **options):
     """JSON in which hidden characters are escapes; it stands for the same value."""
     text = json.dumps(value, ensure_ascii=False, **options)
     return re.sub(HIDDEN, lambda found: found[0] if found[0] == "\n" else f"\\u{ord(found[0]):04x}", text)
+
+
+def main():
+    """Shows the lines of standard input."""
+    sys.stdout.reconfigure(encoding="utf-8", errors="replace", newline="\n")
+    for line in sys.stdin.buffer:
+        text = line.decode(errors="replace")
+        print(escape_all(text.rstrip("\n")), end="\n" * text.endswith("\n"), flush=True)
+
+
+if __name__ == "__main__":
+    main()

@@ -4,17 +4,15 @@ import json
 import re
 
 import findings
-from cedar.explain import FINDING, POLICY, in_scope
+from cedar.located import in_scope
 
 from playground_page.reading import DocumentText, placed
 from playground_page.spans import span
 
+FINDING = re.compile(r"(error|warning) (\w+)(?: at (\d+)\.\.(\d+))?: (.*)")
+POLICY = re.compile(r"for policy `(.*?)`[,:] ")
 LAST = re.compile(r"errors (\d+), warnings (\d+)")
-ENTRY = re.compile(r"request: (?:request's )?(principal|action|resource|context) ")
-MEMBER = re.compile(r": (attribute|tag|ancestor) `(.*?)` ")
-MEMBERS = {"attribute": "attrs", "tag": "tags"}
 MOST = 200  # so many findings are told, and so many places of one
-PART = re.compile(r"document: (schema|policies|entities|request)(?:\[(\d+)\])?")
 
 
 def has_findings(words, status):
@@ -50,7 +48,7 @@ def with_spans(found, reading, program, words):
 
 def placed_in_texts(finding, reading):
     """The policy and the spans of a finding on Cedar's texts, which the document's own places lead to."""
-    source, named = reading.made.sources.get("policies"), POLICY.search(finding["text"] + " " + (finding["help"] or ""))
+    source, named = reading.made.source("policies"), POLICY.search(finding["text"] + " " + (finding["help"] or ""))
     known = reading.policies.get(named[1]) if named else None
     policy = named[1] if named else None
     if finding["at"] and source is not None:
@@ -58,7 +56,7 @@ def placed_in_texts(finding, reading):
         return {"policy": policy, "spans": [span("policies", source.text, start, end)]}
     if known is None:
         return {"policy": policy, "spans": []}
-    within = in_scope(known, finding["text"]) if known.name in finding["text"] else known.head
+    within = in_scope(known, finding["text"]) if known.head else None
     if within is None:
         return {"policy": policy, "spans": [placed(known.place)]}
     return {"policy": policy, "spans": [span("policies", source.text, *within)]}
@@ -84,7 +82,7 @@ def placed_in_document(found, reading, program, words):
 def broken_rule(ran, reading):
     """What the program says against the document, the request or the entity store, with its place."""
     text, _, help_ = ran.text.rstrip("\n").partition("\n  help: ")
-    path = rule_path(ran.status, text, reading.document)
+    path = findings.rule_path(ran.status, text, reading.document)
     where = reading.span(path) if path else None
     found = {"severity": "error", "kind": None, "at": None, "text": text, "help": help_ or None, "policy": None}
     return found | {"spans": [where] if where else []}
@@ -98,25 +96,3 @@ def named_policies(ran, words, reading):
     named = set(decision["reasons"]) | {policy for policy, _ in decision["errors"]}
     ids = [policy["id"] for policy in reading.document.get("policies", [])]
     return {id_: reading.policy_span(i) for i, id_ in enumerate(ids) if id_ in named}
-
-
-def rule_path(status, text, document):
-    """The path of the part of the document that a text of a status is about; None where there is none."""
-    if status == 5:
-        path = findings.entity_path(text, document.get("entities", []))
-        return path + member_path(text[len("entity: ") :]) if len(path) > 1 else None
-    part = PART.match(text)
-    if status == 3 and part:
-        return (part[1], int(part[2])) if part[2] else (part[1],)
-    if status not in (4, 6) or "request" not in document:
-        return None
-    entry = ENTRY.match(text)
-    return ("request", entry[1]) if entry else ("request",)
-
-
-def member_path(text):
-    """The member of an entity that a text is about."""
-    member = MEMBER.search(text)
-    if member is None:
-        return ()
-    return ("parents",) if member[1] == "ancestor" else (MEMBERS[member[1]], member[2])

@@ -2,11 +2,10 @@
 has `data`, the document's bytes (None where Cedar's texts make none), `value`, their JSON (None where they have none),
 `document`, the same (None where it has a fault), `faults` and `notes`, each with its span, and finds the span of a
 part of the document."""
-import json
-
 import places
 from cedar import documents, files
-from cedar.places import Place, Source
+from cedar.located import place_of
+from cedar.places import Source
 from refusals import faults_in
 
 from playground_page.spans import span
@@ -36,33 +35,13 @@ class CedarTexts:
 
     def span(self, path):
         """The span of a part of the document; None where it stands in none of the texts."""
-        place = self.place(path)
+        place = place_of(self.made, path) if path else None
         return placed(place) if place else None
-
-    def place(self, path):
-        source = self.made.sources.get(path[0] if path else None)
-        if path[:1] == ("policies",) and len(path) > 1:
-            return self.made.policies[path[1]].place
-        if source is None:
-            return None
-        if path[0] == "entities" and len(path) > 1 and path[1] >= self.stored():
-            return None  # of an action, which stands in no text
-        if path[:2] == ("schema", "actions"):
-            kind, eid = self.made.document["schema"]["actions"][path[2]]["id"]
-            return Place(source)[kind[: -len("::Action")]]["actions"][eid]
-        place = Place(source)
-        for step in path[1:]:
-            place = place[step]
-        return place
 
     def policy_span(self, index):
         """The span of a policy: its effect and scope, where it stands in Cedar's text."""
         policy = self.made.policies[index]
         return span("policies", policy.place.source.text, *policy.head) if policy.head else placed(policy.place)
-
-    def stored(self):
-        """How many entities stand in the entities' text."""
-        return len(json.loads(self.made.sources["entities"].text))
 
 
 class DocumentText:

@@ -1,9 +1,6 @@
 """Places of findings: what --explain shows of policies with faults, of a store and of a request."""
-import contextlib
-import io
-
 from cedar import explain
-from cedar.tests.shared import make, text_of
+from cedar.tests.shared import make
 
 SCHEMA = "entity User in [Group] = { age?: Long, name: String } tags String;\nentity Group;\nentity Doc { owner: User };\naction view appliesTo { principal: User, resource: Doc };\n"
 # Each with the finding's place, kind, and what is marked of the line (nothing where the place is that of the policy).
@@ -34,11 +31,8 @@ LINKS = '[{"template_id": "policy2", "link_id": "l", "args": {"?principal": "Usr
 
 
 def explained(program, command, given):
-    made = make(given)
-    out = io.StringIO()
-    with contextlib.redirect_stdout(out):
-        status = explain.run(program, command, text_of(made).decode(), made)
-    return status, out.getvalue().split("\n")
+    answer = explain.run(program, command, make(given))
+    return answer.status, str(answer).split("\n")
 
 
 def marked(lines, index):
@@ -61,10 +55,10 @@ def test(program):
     others = (
         (["check"], {"policies": SCOPES, "links": LINKS}, 1, "policies:2:22: error UnrecognizedEntityType: for policy `policy1`"),
         (["check"], {"policies": SCOPES, "links": LINKS}, 1, "policies:2:1: error InvalidActionApplication: for policy `policy1`"),
-        (["check"], {"policies": SCOPES, "links": LINKS}, 1, "links:1:2: [0]: error UnrecognizedEntityType: for policy `l`"),
+        (["check"], {"policies": SCOPES, "links": LINKS}, 1, "links:1:2: error UnrecognizedEntityType: for policy `l`"),
         (["level", "0"], {"policies": SCOPES, "links": LINKS}, 1, "policies:2:22: error UnrecognizedEntityType: for policy `policy1`"),
-        (["request"], {"entities": ENTITIES}, 5, "entities:2:2: entity: Group::\"q\\\"\\n\": attribute `x` is not declared"),
-        (["request"], {"request": REQUEST}, 4, "request:1:1: request: principal type `Group` is not valid"),
+        (["request"], {"entities": ENTITIES}, 5, "entities:2:59: entity: Group::\"q\\\"\\n\": attribute `x` is not declared"),
+        (["request"], {"request": REQUEST}, 4, "request:1:15: request: principal type `Group` is not valid"),
         (["nothing"], {}, 2, "usage: "),
         (["manifest"], {}, 0, "{\"perAction\":[]}"),
     )

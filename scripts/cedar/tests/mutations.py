@@ -60,7 +60,7 @@ def tried(program, given, answered):
             to_command.told(part, lambda d, p=part: to_command.PARTS[p](d, False), made.document)
         if answered:
             status, answer = run(program, ["check"], document)
-            explain.shown(answer.decode(), ["check"], status, made)
+            str(explain.run(program, ["check"], made))
             if status not in (0, 1) and not answer.startswith(b"document: schema: "):
                 return f"{status} {answer}", True
         return None, True
