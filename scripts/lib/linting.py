@@ -23,10 +23,11 @@ MOST_HINTS = 100
 FLAGS = ("--deny-warnings", "--json", "--sarif", "--quiet", "-q")
 
 
-def all_findings(program, value):
-    """The findings of a document that has its form, with hints; values that are not of their types one by one."""
+def all_findings(program, value, words=("check",)):
+    """The findings of a document that has its form, with hints; values that are not of their types one by one. Of the
+    policies it is what `check` finds, or these words."""
     broken = conformance_of(program, value)
-    found = findings_of(program, value) + broken + values_of(value, broken)
+    found = findings_of(program, value, words) + broken + values_of(value, broken)
     hints = Hints(value["schema"])
     for finding in found[:MOST_HINTS]:
         finding.hint = hints.of(finding)
@@ -40,9 +41,10 @@ def values_of(value, broken):
     return [Finding("error", "InvalidValue", misfit.text, misfit.path) for misfit in found]
 
 
-def look_at_document(program, data, name):
-    """The findings in a text, each with its place, and whether the text is a document."""
-    text, faults = faults_in(data)
+def look_at_document(program, data, name, command=None):
+    """The findings in a text, each with its place, and whether the text is a document, for a command where its words
+    are given."""
+    text, faults = faults_in(data, command and command[0])
     starts = [0] + [i + 1 for i, c in enumerate(text) if c == "\n"]
 
     def told(finding, part, at):
@@ -53,7 +55,7 @@ def look_at_document(program, data, name):
         return [told(Finding("error", "InvalidDocument", what, ()), part, at) for at, part, what in faults], False
     value, place = places.read(text)
     value, moved, found = replayed(program, value)
-    found += moved(all_findings(program, value))
+    found += moved(all_findings(program, value, command if command and command[0] == "level" else ("check",)))
     all_told = [told(finding, written(finding.path), place.find(finding.path)) for finding in found]
     return sorted(all_told, key=lambda one: (one.line, one.column)), True
 

@@ -48,13 +48,25 @@ def known_part(policy):
     return {"id": id_, "faulty": True} if isinstance(id_, str) else None
 
 
-def told(text):
+OTHERS = {"request": "requests", "requests": "request", "policies": "edits", "edits": "policies"}
+
+
+def faults_for(command, document):
+    """The members of a document that this command does not take."""
+    refused = {"batch": ("request", "edits"), "live": ("requests", "policies")}.get(command, ("requests", "edits"))
+    for member in refused if isinstance(document, dict) else ():
+        if member in document:
+            yield Fault((member,), f"`{command}` takes `{OTHERS[member]}`, and not `{member}`", name=True)
+
+
+def told(text, command=None):
     """Triples of an offset in the text, a place and what is wrong there."""
     try:
         value, place = places.read(text)
     except places.NoJson as fault:
         return [(fault.args[0], "", fault.args[1])]
-    found = [(place.find(fault.path, fault.name), written(fault.path), fault.what) for fault in faults_of(value)]
+    faults = faults_of(value) + (list(faults_for(command, value)) if command else [])
+    found = [(place.find(fault.path, fault.name), written(fault.path), fault.what) for fault in faults]
     return sorted(found, key=lambda fault: fault[0])
 
 
@@ -71,8 +83,8 @@ def written(path):
     return "".join(steps).lstrip(".")
 
 
-def faults_in(data):
-    """The text of the bytes, and a fault where they go wrong."""
+def faults_in(data, command=None):
+    """The text of the bytes, and the faults of them as a document, for a command where one is named."""
     if len(data) > LONGEST:
         return "", [(0, "", f"the document has {len(data)} bytes, and {LONGEST} is the most")]
     if data.startswith((b"\xff\xfe", b"\xfe\xff")) or b"\0" in data[:2]:
@@ -86,4 +98,4 @@ def faults_in(data):
         return text, [
             (len(text), "", f"the bytes from here on are no UTF-8 (byte {fault.start} is {data[fault.start]:#04x})")
         ]
-    return text, told(text)
+    return text, told(text, command)
