@@ -1,7 +1,7 @@
 /* Answers a command as the program does, without starting it: answer WORD.. < DOCUMENT
  *
- * gcc -I FOLDER answer.c -L FOLDER -lpalvumiose_c -Wl,-rpath,FOLDER -o answer
- * where FOLDER has what scripts/c-library builds. */
+ * gcc -I release examples/c/answer.c -L release -lpalvumiose_c -Wl,-rpath,$PWD/release -o answer
+ * at the top of the repository. */
 #include <palvumiose_c.h>
 #include <stdio.h>
 #include <stdlib.h>

@@ -3,10 +3,10 @@ import java.lang.invoke.MethodHandle;
 import java.nio.charset.StandardCharsets;
 
 /**
- * Palvumiose in the process, by the library that scripts/c-library builds; from Java 22.
+ * Palvumiose in the process, by the library of the release; from Java 22.
  *
  * As a program it answers as palvumiose does:
- * java --enable-native-access=ALL-UNNAMED examples/java/Palvumiose.java LIBRARY WORD.. < DOCUMENT
+ * java --enable-native-access=ALL-UNNAMED examples/java/Palvumiose.java release/libpalvumiose_c.so WORD.. < DOCUMENT
  */
 public class Palvumiose {
     /** A status and its text. */
