@@ -1,4 +1,4 @@
-pub mod Ended
+pub mod EndedRuns
 mod Attempted
 mod Served
 mod Written

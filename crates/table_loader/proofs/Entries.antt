@@ -9,7 +9,7 @@ use Rattle.std.specs.declared.cmp.Ordering.TheVariants.{Less}
 use Rattle.std.proofs.lemmas.Cmp.{eq_by_cmp_equiv, nat_list_cmp_total}
 use Rattle.policy_values.specs.Uid.{text_cmp}
 use Rattle.policy_values.specs.Value.{Val, Fields, no_fields, field, fields_of, field_at}
-use Rattle.table_loader.proofs.Lookups.{their_lookups}
+use Rattle.table_loader.proofs.SameLookups.{their_lookups}
 use Rattle.table_loader.specs.OrderLaws.{KeysAscend}
 use Rattle.table_loader.specs.Order.{IsBelowAll, AreOrdered}
 

@@ -8,7 +8,7 @@ use Rattle.policy_values.specs.Value.{no_fields, field_at}
 use Rattle.access_tries.specs.Views.{ViewData}
 use Rattle.entity_store.specs.Store.{StoredEntity, entity_at}
 use Rattle.table_loader.specs.Order.{IsEntityOrdered}
-use Rattle.table_loader.proofs.Lookups.{their_lookups}
+use Rattle.table_loader.proofs.SameLookups.{their_lookups}
 use Rattle.reads_spec.specs.Paths.{along, any_tag}
 use Rattle.reads_spec.specs.Restrict.{cut_entity, cut_fields}
 use Rattle.entity_loader.specs.Answers.{IsHonestEntity}

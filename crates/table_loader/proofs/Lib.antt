@@ -5,9 +5,9 @@ mod Entries
 mod FromRows
 mod Loading
 mod Ordered
-mod Rows
+mod RowSteps
 mod Uids
 pub mod Stores
 mod Written
-pub mod Lookups
+pub mod SameLookups
 mod Ordering

@@ -1,5 +1,5 @@
 use Rattle.directory_service.specs.Lines.{IsLineOn}
-use Rattle.directory_service.proofs.Ended.{answered_all}
+use Rattle.directory_service.proofs.EndedRuns.{answered_all}
 use Rattle.directory_service.proofs.decisions.by_rows.Goals as goal
 
 -- the rows are those behind the last line

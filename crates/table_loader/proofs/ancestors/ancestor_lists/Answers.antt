@@ -6,7 +6,7 @@ use Rattle.policy_values.specs.declared.entity_uid.EntityUID.{EntityUID}
 use Rattle.table_loader.specs.Tables.{store_of}
 use Rattle.table_loader.specs.Asking.{AreFound}
 use Rattle.table_loader.proofs.Loading.{honest_list}
-use Rattle.table_loader.proofs.Rows.{rows_here, rows_later}
+use Rattle.table_loader.proofs.RowSteps.{rows_here, rows_later}
 use Rattle.table_loader.proofs.ancestors.ancestor_lists.Goals as goal
 
 pub loop-request-init : goal.loop-request-init

@@ -5,7 +5,7 @@ use Rattle.policy_values.specs.declared.entity_uid.EntityUID.{EntityUID}
 use Rattle.table_loader.specs.RowsState.{TablesHaveAncestor}
 use Rattle.table_loader.specs.Asking.{AreFound}
 use Rattle.table_loader.proofs.Loading.{at_ok, found_more, found_other}
-use Rattle.table_loader.proofs.Rows.{rows_later}
+use Rattle.table_loader.proofs.RowSteps.{rows_later}
 use Rattle.table_loader.proofs.ancestors.ancestors_among.Goals as goal
 use Rattle.table_loader.proofs.ancestors.ancestors_among.Goals.{then-branch+in_ok-try_clone+in_ok-push, else-branch}
 

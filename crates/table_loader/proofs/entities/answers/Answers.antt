@@ -3,7 +3,7 @@ use Rattle.std.proofs.lemmas.List.{take_more}
 use Rattle.std.proofs.lemmas.Slice.Zip.{all_zipped_more}
 use Rattle.entity_loader.specs.Answers.{Fits, IsHonest}
 use Rattle.table_loader.specs.Tables.{store_of}
-use Rattle.table_loader.proofs.Rows.{rows_here, rows_later}
+use Rattle.table_loader.proofs.RowSteps.{rows_here, rows_later}
 use Rattle.table_loader.proofs.entities.answers.Goals as goal
 
 pub loop-request-init : goal.loop-request-init

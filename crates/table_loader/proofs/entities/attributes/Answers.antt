@@ -5,7 +5,7 @@ use Rattle.policy_values.specs.Uid.{text_cmp}
 use Rattle.access_tries.specs.Views.{ViewData, children_of}
 use Rattle.table_loader.specs.RowsState.{attribute_at}
 use Rattle.table_loader.proofs.Attributes.{IsTaking, asks_children, taking_start, taking_more}
-use Rattle.table_loader.proofs.Rows.{rows_here, rows_later}
+use Rattle.table_loader.proofs.RowSteps.{rows_here, rows_later}
 use Rattle.table_loader.proofs.entities.attributes.Goals as goal
 
 pub loop-key-init : goal.loop-key-init
