@@ -60,6 +60,20 @@ fn commit<S: Alter>(alloc: Global, tx: Transaction<'_, S>) -> Result<(), FileErr
     }
 }
 
+// Writes a row for each entity, in one transaction.
+fn write_rows<S: Alter>(
+    alloc: Global,
+    entities: &Entities,
+    conn: &mut Connection<S>,
+) -> Result<(), FileError> {
+    if !conn.is_autocommit() {
+        return Err(FileError::InTransaction);
+    }
+    let mut tx = conn.transaction();
+    insert_all(alloc, &mut tx, entities)?;
+    commit(alloc, tx)
+}
+
 /// Writes a row for each entity, in one transaction: all of them or none. None is written where an entity
 /// lacks an ancestor that the row of one of its ancestors has.
 pub(crate) fn write_entities<S: Alter>(
@@ -74,9 +88,7 @@ pub(crate) fn write_entities<S: Alter>(
         return Err(FileError::OtherSchema);
     }
     check_above(alloc, entities, conn)?;
-    let mut tx = conn.transaction();
-    insert_all(alloc, &mut tx, entities)?;
-    commit(alloc, tx)
+    write_rows(alloc, entities, conn)
 }
 
 /// Writes the entities of a store that conforms, with all their ancestors, in one transaction: all of them
