@@ -1,7 +1,8 @@
 """The words of scripts/from-cedar."""
+import gc
 import sys
 
-from cedar import documents, explain, files, words
+from cedar import documents, explain, files, located, words
 from findings import Broken
 from script import complain
 
@@ -64,9 +65,12 @@ def parsed(given):
 
 
 def tell_report(made, quiet=False):
-    """Writes what is dropped, added and refused to standard error; the status that what is refused ends with, or 0."""
-    for line in made.report.lines(quiet):
+    """Writes what is dropped, added and refused to standard error, the latter with the lines of its places; the status
+    that what is refused ends with, or 0."""
+    for line, place in made.report.placed_lines(quiet):
         sys.stderr.write(line + "\n")
+        if place is not None and place.source.text:
+            sys.stderr.write("".join(one + "\n" for one in located.spot_of(place).excerpt()))
     return (8 if made.unread else 3) if made.report.refused else 0
 
 
@@ -76,6 +80,7 @@ def main(given, program=None):
     except words.Usage as why:
         return complain(f"{why}; scripts/from-cedar --help says more", 2)
     sys.setrecursionlimit(10000)
+    gc.disable()  # what is read is kept to the end, and looking through it takes half of the time
     made, quiet = files.make(asked.given), bool({"--quiet", "-q"} & asked.flags)
     if made.report.refused:
         return tell_report(made, quiet)

@@ -1,6 +1,8 @@
 """The document: writes policies as its JSON, tests how deep it nests, and puts it out."""
 import json
 
+from cedar.json_text import levels
+
 NESTED = 127  # so deep may a document nest
 PLACES, CHAINS, PLAIN = "places", "chains", "plain"
 
@@ -122,13 +124,7 @@ def policies(static, links, report):
 
 def depth(value):
     """How deep JSON nests."""
-    deepest, left = 0, [(value, 1)]
-    while left:
-        x, d = left.pop()
-        if isinstance(x, (list, dict)):
-            deepest = max(deepest, d)
-            left += [(y, d + 1) for y in (x.values() if isinstance(x, dict) else x) if isinstance(y, (list, dict))]
-    return deepest
+    return sum(1 for _ in levels(value))
 
 
 def text_of(document, in_one_line=False):

@@ -12,9 +12,9 @@ class Values:
         self.report = report
 
     def value(self, v, t, place):
-        t = t["optional"] if isinstance(t, dict) and "optional" in t else t
         if isinstance(v, (bool, int)):
             return v
+        t = t["optional"] if isinstance(t, dict) and "optional" in t else t
         if isinstance(v, str):
             return self.extension(FUNCTIONS[t], v, place) if isinstance(t, str) and t in FUNCTIONS else v
         if isinstance(v, list):
@@ -40,7 +40,9 @@ class Values:
     def values(self, given, types, place):
         """Values under their names; the types are a table of types, or one function of the name."""
         of = types if callable(types) else types.get
-        return {name: self.value(v, of(name), place[name]) for name, v in given.items()}
+        return {
+            name: v if isinstance(v, (bool, int)) else self.value(v, of(name), place[name]) for name, v in given.items()
+        }
 
     def extension(self, function, text, place):
         if not stands_for_value(function, text):

@@ -1,9 +1,9 @@
 #!/usr/bin/env python3
 """What scripts/palvumiose does with Cedar's own files: its --help says more. Called by it, with a command and words of
 which one names a schema."""
+import gc
 import pathlib
 import sys
-from dataclasses import dataclass
 
 sys.dont_write_bytecode = True
 SCRIPTS = pathlib.Path(__file__).resolve().parents[1]
@@ -11,6 +11,8 @@ if __name__ == "__main__":
     sys.path[:1] = [str(SCRIPTS), str(SCRIPTS / "lib")]
 
 from script import complain, program_at, run  # noqa: E402
+
+from dataclasses import dataclass  # noqa: E402
 
 import linting  # noqa: E402
 from cedar import cases, directory, documents, explain, files, words  # noqa: E402
@@ -107,6 +109,7 @@ OTHERS = {"lint": linting.main, "test": cases.main, "directory": directory.main,
 
 def main(given):
     sys.setrecursionlimit(10000)
+    gc.disable()  # what is read is kept to the end, and looking through it takes half of the time
     command, rest = given[0], given[1:]
     try:
         if command in OTHERS:

@@ -12,7 +12,7 @@ SURROGATE = re.compile("[\ud800-\udfff]")
 
 
 class Object(dict):
-    """An object, with the names of the members that stand in it more than once."""
+    """An object with members that stand in it more than once: their names."""
 
     repeated = ()
 
@@ -31,11 +31,22 @@ def whole(text):
 
 
 def members(pairs):
+    made = dict(pairs)
+    if len(made) == len(pairs):
+        return made
+    times = Counter(name for name, _ in pairs)
     made = Object(pairs)
-    if len(made) != len(pairs):
-        times = Counter(name for name, _ in pairs)
-        made.repeated = sorted(name for name in times if times[name] > 1)
+    made.repeated = sorted(name for name in times if times[name] > 1)
     return made
+
+
+def levels(value):
+    """The objects and lists of a value, level by level."""
+    left = [value] if isinstance(value, (dict, list)) else []
+    while left:
+        yield left
+        parts = [x.values() if isinstance(x, dict) else x for x in left]
+        left = [y for part in parts for y in part if isinstance(y, (dict, list))]
 
 
 def load(source, report):
@@ -55,14 +66,10 @@ def load(source, report):
 def sound(value, escaped):
     """Whether `tested` has nothing to say, found out without places; halves of characters stand only
     where there are escapes."""
-    left, depth = [value], 0
-    while left:
-        depth += 1
-        if escaped or depth > DEEPEST or any(isinstance(x, dict) and x.repeated for x in left):
+    for depth, level in enumerate(levels(value), 1):
+        if escaped or depth > DEEPEST or Object in set(map(type, level)):
             return False
-        parts = (y for x in left if isinstance(x, (dict, list)) for y in (x.values() if isinstance(x, dict) else x))
-        left = [y for y in parts if isinstance(y, (dict, list))]
-    return True
+    return not escaped
 
 
 def tested(value, top, report):
@@ -80,7 +87,7 @@ def tested(value, top, report):
         if isinstance(x, str) and SURROGATE.search(x):
             no(place, "a text with half of a surrogate pair")
         elif isinstance(x, dict):
-            for name in x.repeated:
+            for name in getattr(x, "repeated", ()):
                 no(place[name], "a member that stands twice")
             for name in x:
                 if SURROGATE.search(name):

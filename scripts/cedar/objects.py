@@ -2,6 +2,7 @@
 values."""
 import json
 import re
+from functools import lru_cache
 
 from cedar import extensions
 from cedar.json_text import SURROGATE, Number
@@ -21,6 +22,8 @@ def members(value, place, report, needed=(), known=()):
     refused."""
     if not isinstance(value, dict):
         return bool(report.no(place, f"expected an object, found {shown(value)}"))
+    if len(value) == len(needed) and all(name in value for name in needed):
+        return True
     missing = [name for name in needed if name not in value]
     for name in missing:
         report.no(place, f"the member `{name}` is missing")
@@ -42,6 +45,11 @@ def is_list(value, place, report, what):
     return isinstance(value, list) or bool(report.no(place, f"expected a list of {what}, found {shown(value)}"))
 
 
+@lru_cache(maxsize=1 << 12)
+def is_known_name(text):
+    return is_name(text)
+
+
 def is_name(text, single=False):
     """Whether it is a name of Cedar: components without reserved words; or one component alone."""
     good = isinstance(text, str) and NAME.fullmatch(text) and not RESERVED & set(text.split("::"))
@@ -56,6 +64,10 @@ def uid(u, place, report, text=False):
     """An entity's id: an object of `type` and `id`, perhaps below `__entity`; or also Cedar's text."""
     if text and isinstance(u, str):
         return uid_of_text(u, place, report)
+    plain = u["__entity"] if isinstance(u, dict) and len(u) == 1 and "__entity" in u else u
+    if isinstance(plain, dict) and len(plain) == 2 and isinstance(plain.get("id"), str):
+        if isinstance(plain.get("type"), str) and is_known_name(plain["type"]):
+            return [plain["type"], plain["id"]]
     if isinstance(u, dict) and "__entity" in u:
         if not members(u, place, report, ("__entity",)):
             return None

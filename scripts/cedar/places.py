@@ -135,9 +135,12 @@ class Report:
     def added(self, place, what):
         self.notes[f"{place}: added: {what}"] = place, f"added: {what}"
 
-    def lines(self, quiet=False):
-        """Notes, and what is refused; with `quiet` the latter alone."""
-        notes = [] if quiet else self.notes
-        told = [line for line in self.refused if isinstance(line, str)]
+    def placed_lines(self, quiet=False):
+        """Notes, and what is refused with its place; with `quiet` the latter alone."""
+        told = [(line, one[0]) for line, one in self.refused.items() if one]
         more = len(self.refused) - len(told)
-        return list(map(visible, [*notes, *told])) + ([f"refused: {more} more"] if more else [])
+        lines = [(line, None) for line in ([] if quiet else self.notes)] + told
+        return [(visible(line), place) for line, place in lines] + ([(f"refused: {more} more", None)] if more else [])
+
+    def lines(self):
+        return [line for line, _ in self.placed_lines()]

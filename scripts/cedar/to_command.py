@@ -8,7 +8,7 @@ from cedar.places import Report, Source
 from cedar.to_text import Unsayable
 from script import bytes_of, complain
 
-HELP = """usage: scripts/to-cedar PART [--json] < document.json
+HELP = """usage: scripts/to-cedar PART [--json] < document.json, or with the document's name behind these words
 
 Writes a part of a document (docs/FORMAT.md) in Cedar's form to standard output. PART is one of
 
@@ -41,7 +41,21 @@ def checked(p):
     return p
 
 
+def shadow(declared):
+    """What of a namespace has a name that the empty namespace declares too, which Cedar refuses."""
+    plain = {name for name in declared.get("entityTypes", {}) if "::" not in name}
+    for name in declared.get("entityTypes", {}):
+        if "::" in name and name.rsplit("::", 1)[1] in plain:
+            raise Unsayable(f"the type `{name}` beside the type `{name.rsplit('::', 1)[1]}`, which Cedar refuses")
+    ids = {tuple(action["id"]) for action in declared.get("actions", [])}
+    for kind, eid in sorted(ids):
+        if kind != "Action" and ("Action", eid) in ids:
+            named = f"{kind}::{json.dumps(eid, ensure_ascii=False)}"
+            raise Unsayable(f"the action {named} beside one of the empty namespace, which Cedar refuses")
+
+
 def schema(document, as_json):
+    told("schema", shadow, document["schema"])
     if as_json:
         return dumped(told("schema", to_json.schema, document["schema"]))
     return told("schema", lambda s: to_text.SchemaWriter(s).text(), document["schema"])
@@ -80,10 +94,12 @@ PARTS = {"policies": policies, "schema": schema, "links": links, "entities": ent
 def main(words):
     as_json = "--json" in words
     part = [word for word in words if word != "--json"]
-    if len(part) != 1 or part[0] not in PARTS:
-        return complain("expected one of policies, schema, links, entities, request; --help says more", 2)
+    if not part or part[0] not in PARTS:
+        return complain("expected one of policies, schema, links, entities, request first; --help says more", 2)
+    if len(part) > 2 or part[-1].startswith("-"):
+        return complain(f"expected the name of a document behind {part[0]}, found {' '.join(part[1:])}", 2)
     sys.setrecursionlimit(10000)
-    data, fault = bytes_of(None)
+    data, fault = bytes_of(part[1] if part[1:] else None)
     if fault:
         return complain(fault, 8)
     report = Report()

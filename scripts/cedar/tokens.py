@@ -21,6 +21,18 @@ ESCAPE = re.compile(r'[^\\\r*]+|\\u\{[^}"\\]*\}|\\x..|\\.|.', re.S)
 PLAIN = {"n": "\n", "r": "\r", "t": "\t", "0": "\0", "\\": "\\", '"': '"', "'": "'"}
 RESERVED = frozenset(("true", "false", "if", "then", "else", "in", "is", "like", "has", "__cedar"))
 
+SLIPS = {  # what is no token of Cedar, or has no place, and what is written in its stead
+    "and": "write `&&`",
+    "or": "write `||`",
+    "not": "write `!`",
+    "AND": "write `&&`",
+    "OR": "write `||`",
+    "'": "texts stand in double quotes",
+    "#": "comments begin with `//`",
+    "&": "write `&&`",
+    "|": "write `||`",
+}
+
 Token = namedtuple("Token", "kind text start end")
 
 
@@ -80,7 +92,16 @@ class Reader:
         return None
 
     def due(self, what):
-        raise Stop(self.next, f"expected {what}, found {shown(self.next)}")
+        raise Stop(self.next, f"expected {what}, found {shown(self.next)}{self.slip()}")
+
+    def slip(self):
+        """In brackets, what was probably meant by a token that has no place here."""
+        token, following = self.next, self.tokens[min(self.index + 1, len(self.tokens) - 1)]
+        if token.text == "/" and following.text in ("*", "/") and following.start == token.end:
+            return " (comments begin with `//`, and go on to the line's end)"
+        if token.kind == "number" and self.index and self.tokens[self.index - 1].text == ".":
+            return ' (Cedar has no fractions; a decimal is written decimal("1.5"))'
+        return f" ({SLIPS[token.text]})" if token.kind in ("name", "bad") and token.text in SLIPS else ""
 
     def expect(self, text):
         return self.took(text) or self.due(f"`{text}`")

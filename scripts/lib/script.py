@@ -6,6 +6,9 @@ import pathlib
 import subprocess
 import sys
 
+if sys.version_info < (3, 9):
+    sys.exit("%s: this is Python %d.%d, and 3.9 or later is needed" % (os.path.basename(sys.argv[0]), *sys.version_info[:2]))
+
 from visible import visible
 
 TOP = pathlib.Path(__file__).resolve().parents[2]

@@ -78,6 +78,9 @@ CONDITIONS = (
     ("(principal.age)(1)", 16, "no function"),
     ("\"a", 1, "without its closing quote"),
     ("true &", 6, "the character '&'"),
+    ("1.5 == 1", 3, 'no fractions; a decimal is written decimal("1.5")'),
+    ("true and false", 6, "found `and` (write `&&`)"),
+    ("'a' == \"a\"", 1, "texts stand in double quotes"),
 )
 POLICIES = (
     (without("conditions"), "1:1", "`conditions` is missing"),
@@ -90,6 +93,7 @@ POLICIES = (
     ("permit (principal, action);", "1:26", "expected `,`"),
     ("permit (principal, action, resource)", "1:37", "expected `;`, found the end"),
     ("allow (principal, action, resource);", "1:1", "`permit` or `forbid`"),
+    ("/* all */ " + POLICY, "1:1", "comments begin with `//`"),
     ("permit (resource, action, principal);", "1:9", "expected `principal`"),
     ("permit (principal: User, action, resource);", "1:18", "an old form"),
     ("permit (principal == ?resource, action, resource);", "1:22", "has no place in the part of principal"),

@@ -36,6 +36,12 @@ UNSAYABLE = (
         "policies[1]: not of the document's form",
     ),
     ("schema", {"schema": {"actions": [{"id": ["Deed", "a"]}]}}, "Deed"),
+    ("schema", {"schema": {"entityTypes": {"A": {}, "Z::A": {}}}}, "the type `Z::A` beside the type `A`"),
+    (
+        "schema",
+        {"schema": {"actions": [{"id": ["Action", "x"]}, {"id": ["N::Action", "x"]}]}},
+        'the action N::Action::"x" beside one of the empty namespace',
+    ),
     ("schema", {"schema": {"entityTypes": {"in": {}}}}, "`in` is no name of Cedar"),
     (
         "entities",
