@@ -97,11 +97,11 @@ class Browser:
         """Waits until an expression of the page is true."""
         self.until(lambda: self.run(script), script, seconds)
 
-    def give(self, selector, path):
-        """Gives a file to the page's field for files."""
+    def give(self, selector, *paths):
+        """Gives files to the page's field for files."""
         root = self.call("DOM.getDocument")["root"]["nodeId"]
         node = self.call("DOM.querySelector", nodeId=root, selector=selector)["nodeId"]
-        self.call("DOM.setFileInputFiles", files=[str(path)], nodeId=node)
+        self.call("DOM.setFileInputFiles", files=list(map(str, paths)), nodeId=node)
 
     def dark(self, is_dark):
         feature = {"name": "prefers-color-scheme", "value": "dark" if is_dark else "light"}

@@ -65,6 +65,34 @@ def reviewed(program, document, ask=ask):
     return Review(policies, {place: may[place] for place in order}, levels, sorted(environments))
 
 
+def as_table(review):
+    """The review in numbers: of each policy and action, on how many types of requests it may be true."""
+    actions = by_action(review)
+    rows = [
+        {
+            "policy": review.policies[place]["id"],
+            "effect": review.effect(place),
+            "counts": [len(true_on.intersection(of_action)) for of_action in actions.values()],
+            "level": review.level(place),
+        }
+        for place, true_on in review.may.items()
+    ]
+    return {
+        "actions": [{"action": action, "most": len(of_action)} for action, of_action in actions.items()],
+        "rows": rows,
+        "never": [review.policies[place]["id"] for place in review.never()],
+        "unreached": [f"{action}: {principal} on {resource}" for action, principal, resource in review.unreached()],
+    }
+
+
+def by_action(review):
+    """The types of requests by their actions."""
+    actions = {}
+    for environment in review.environments:
+        actions.setdefault(environment[0], []).append(environment)
+    return actions
+
+
 def cell(true_on, of_action):
     """`x` where a policy may be true on all types of requests of an action, `.` on none, else on how many of them."""
     count = len(true_on.intersection(of_action))
@@ -74,9 +102,7 @@ def cell(true_on, of_action):
 def table(program, document):
     """The review as a text of lines."""
     review = reviewed(program, document)
-    actions = {}
-    for environment in review.environments:
-        actions.setdefault(environment[0], []).append(environment)
+    actions = by_action(review)
     lines = ["actions:"] + [f"  {i}  {visible(action)}" for i, action in enumerate(actions, 1)]
     rows = [["policy", "effect", *(str(i) for i in range(1, len(actions) + 1)), "level"]]
     for place, true_on in review.may.items():

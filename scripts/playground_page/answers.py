@@ -1,8 +1,12 @@
 """What the page's requests are answered: an answer of the program with all that is told of it, and the same
 document in another of the forms."""
 import habits
+import hints
+import misfits
+import review
 from cedar import to_command
 from cedar.to_text import Unsayable
+from findings import Broken, Finding
 
 from playground_page import placing, reading
 
@@ -62,21 +66,45 @@ def answer(job, program):
         told["findings"] = findings_in(ran, words, read, program)
         told["warnings"] = [warned(one, read) for one in habits.habits_of(read.document)[: placing.MOST]]
         told["policies"] = placing.named_policies(ran, words, read)
+        if words == ["review"] and ran.status == 0:
+            told["review"] = reviewed_table(read, program)
     return told
+
+
+def reviewed_table(read, program):
+    """The review as a table; None where it takes too long."""
+    try:
+        return review.as_table(review.reviewed(program.path, read.document, program.ask))
+    except Broken:
+        return None
 
 
 def findings_in(ran, words, read, program):
     if placing.has_findings(words, ran.status):
         found = (placing.taken_apart(ran.text) or [])[: placing.MOST]
-        return placing.with_spans(found, read, program, words)
-    return [placing.broken_rule(ran, read)] if ran.status in (3, 4, 5, 6) else []
+        return [hinted(one, read) for one in placing.with_spans(found, read, program, words)]
+    if ran.status not in (3, 4, 5, 6):
+        return []
+    return [hinted(placing.broken_rule(ran, read), read)] + values_in(ran.status, read)
+
+
+def hinted(finding, read):
+    """A finding with the name that was probably meant."""
+    one = Finding(finding["severity"], finding["kind"], finding["text"], (), finding["policy"])
+    return finding | {"hint": hints.Hints(read.document["schema"]).of(one)}
+
+
+def values_in(status, read):
+    """Each value of the entities, or of the request, that is not of its type."""
+    found = misfits.misfits_of(read.document, status == 5, status == 4)[: placing.MOST]
+    return [warned(Finding("error", "InvalidValue", one.text, one.path), read) for one in found]
 
 
 def warned(one, read):
     """A warning that is scripts/lint's own."""
     where = read.span(one.path) if one.path else None
     told = {"severity": one.severity, "kind": one.kind, "text": one.text, "help": one.help, "policy": one.policy}
-    return told | {"at": None, "spans": [where] if where else []}
+    return told | {"hint": one.hint, "at": None, "spans": [where] if where else []}
 
 
 def converted(job, _):

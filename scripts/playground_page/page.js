@@ -2,9 +2,10 @@
 import { byId, chosen, el, notice } from "./dom.js";
 import { Editor } from "./editor.js";
 import { entitiesOf } from "./entities.js";
-import { copy, open, saveAll, saveDocument } from "./files.js";
+import { copy, empty, open, saveAll, saveDocument } from "./files.js";
 import { entityGraph } from "./graph.js";
 import { manifestTrees } from "./manifest.js";
+import { reviewTable } from "./review.js";
 import { decisionBox, findingList, noteList, summary } from "./told.js";
 import { own, readJson } from "./values.js";
 
@@ -194,6 +195,7 @@ class Page {
       decision ? decisionBox(decision, reply.policies, this) : null,
       is("slice") ? entityGraph(entitiesOf(document, decision.slice)) : null,
       is("manifest") ? manifestTrees(readJson(answer.text), document) : null,
+      is("review") && reply.review ? reviewTable(reply.review) : null,
       findingList("Likely mistakes, by scripts/lint", reply.warnings, this),
       noteList(reply.notes, this),
     ];
@@ -230,7 +232,7 @@ const counter = (count) =>
 
 function listen(page) {
   byId("example").addEventListener("change", (event) => page.load(event.target.value));
-  for (const button of byId("starts").querySelectorAll("button")) {
+  for (const button of byId("starts").querySelectorAll("button[data-example]")) {
     button.addEventListener("click", () => {
       byId("commands").elements.command.value = button.dataset.command;
       page.load(button.dataset.example);
@@ -245,7 +247,24 @@ function listen(page) {
   byId("save-document").addEventListener("click", () => saveDocument(page));
   byId("save").addEventListener("click", () => saveAll(page));
   byId("open").addEventListener("click", () => byId("file").click());
-  byId("file").addEventListener("change", (event) => { open(page, event.target.files[0]); event.target.value = ""; });
+  byId("file").addEventListener("change", async (event) => {
+    await open(page, event.target.files);
+    event.target.value = "";
+  });
+  byId("empty").addEventListener("click", () => empty(page));
+  for (const button of byId("loss").querySelectorAll("button")) {
+    button.addEventListener("click", () => byId("loss").close(button.value));
+  }
+  listenToDrops(page);
+}
+
+// Files that are dropped anywhere are opened.
+function listenToDrops(page) {
+  document.addEventListener("dragover", (event) => event.preventDefault());
+  document.addEventListener("drop", (event) => {
+    event.preventDefault();
+    if (event.dataTransfer.files.length) open(page, event.dataTransfer.files);
+  });
 }
 
 function offer(page) {

@@ -3,6 +3,7 @@ import { counted, el } from "./dom.js";
 import { own } from "./values.js";
 
 const MOST = 200;
+const BEFORE = 20; // so many characters stand in front of what is marked, so that this is seen on narrow screens
 const STATUS = {
   2: "The program did not take the command.",
   3: "This is no document.",
@@ -43,7 +44,7 @@ function accepted({ answer, findings }, decision, document) {
   }
   if (command === "request") return conforms(document.request || {});
   if (command === "manifest") return "What the policies can read, for each type of requests:";
-  if (command === "review") return "On which types of requests each policy can be true, and its least level, stand below.";
+  if (command === "review") return "On which requests each policy can be true:";
   if (command === "list") return listed(answer.text.split("\n"));
   return decided(decision);
 }
@@ -74,7 +75,7 @@ function lineOf(span, text) {
   const start = Math.min(span.start, line + text.slice(line).search(/\S|$/));
   const newline = text.indexOf("\n", span.start);
   const end = newline < 0 ? text.length : newline;
-  const from = Math.max(start, span.start - 60);
+  const from = Math.max(start, span.start - BEFORE);
   const to = Math.min(end, Math.max(span.end, span.start) + 60);
   return el("code", { class: "line" },
     el("span", { class: "number" }, `${span.line} `), from > start ? "…" : "", text.slice(from, span.start),
@@ -97,7 +98,7 @@ function item(finding, page) {
   const place = finding.place ? `${finding.place}: ` : "";
   return el("li", { class: `finding ${finding.severity || "error"}` },
     el("p", {}, el("strong", {}, finding.severity || "fault"), " ", kind, place, finding.text),
-    finding.help ? el("p", { class: "help" }, "help: ", finding.help) : null,
+    [finding.help, finding.hint].filter(Boolean).map((text) => el("p", { class: "help" }, "help: ", text)),
     places(spans, page));
 }
 
