@@ -2,6 +2,7 @@
 """What scripts/palvumiose does with Cedar's own files: its --help says more. Called by it, with a command and words of
 which one names a schema."""
 import gc
+import json
 import pathlib
 import sys
 
@@ -10,7 +11,7 @@ SCRIPTS = pathlib.Path(__file__).resolve().parents[1]
 if __name__ == "__main__":
     sys.path[:1] = [str(SCRIPTS), str(SCRIPTS / "lib")]
 
-from script import complain, program_at, run  # noqa: E402
+from script import bytes_of, complain, program_at, run  # noqa: E402
 
 from dataclasses import dataclass  # noqa: E402
 
@@ -18,6 +19,7 @@ import linting  # noqa: E402
 from cedar import cases, directory, documents, explain, files, words  # noqa: E402
 from cedar.command import tell_report  # noqa: E402
 from findings import Broken  # noqa: E402
+from refusals import faults_in  # noqa: E402
 from review import table  # noqa: E402
 from visible import visible  # noqa: E402
 
@@ -67,8 +69,28 @@ def parsed(command, given):
     return asked
 
 
+def review_document(given):
+    """The table of a review of a document, which `review --table` asks for."""
+    asked = words.parsed(given, {}, FLAGS, ("--program",))
+    if len(asked.rest) > 1 or "--plain" in asked.flags:
+        raise words.Usage("expected review --table and the name of a document")
+    data, fault = bytes_of(asked.rest[0] if asked.rest else None)
+    if fault:
+        return complain(fault, 8)
+    text, faults = faults_in(data, "review")
+    if faults:
+        return complain("this is no document for review: scripts/why-not review says where and why", 3)
+    program = program_at(asked.values.get("--program"))
+    if not program:
+        return 125
+    write(table(program, json.loads(text)))
+    return 0
+
+
 def answer(command, given):
     """Answers a command of the program on Cedar's files."""
+    if command == "review" and "--table" in given and not set(words.FRONT) & {word.partition("=")[0] for word in given}:
+        return review_document(given)
     asked = parsed(command, given)
     program = program_at(asked.values.get("--program"))
     if not program:
