@@ -108,7 +108,11 @@ def policies(static, links, report):
         note(p)
         made.append(policy(p, report))
     templates = {p.name: p for p in static if p.slots()}
-    templates.update({p.key: p for p in static if p.slots()})  # in a policy set links go by keys
+    keys = {}  # in a policy set links go by keys
+    for p in (p for p in static if p.slots()):
+        if keys.setdefault(p.key, p) is not p:
+            report.no(p.place, f"two templates have the key `{p.key}`; the other stands at {keys[p.key].place.short()}")
+    templates.update(keys)
     for l in links:
         note(l)
         template = templates.get(l.template)

@@ -10,6 +10,7 @@ from cedar.places import Place, Report, Source
 from cedar.schema import Schema
 
 ENDINGS = {"policies": ".cedar", "entities": ".json"}  # of the files that a folder is taken for
+MOST_OTHERS = 5  # so many other files of a folder are named
 
 
 class Made:
@@ -68,18 +69,36 @@ def names_in(word, given, made):
     for name in given[word] if isinstance(given[word], list) else [given[word]]:
         if isinstance(name, Source) or word not in ENDINGS or not os.path.isdir(name):
             yield name
-            continue
-        found = sorted(files_below(name, ENDINGS[word]))
-        if not found:
-            made.unread = True
-            made.report.no(Place(Source(name, "")), f"no file in this folder ends with {ENDINGS[word]}")
-        yield from found
+        else:
+            yield from files_below(name, ENDINGS[word], made)
 
 
-def files_below(folder, ending):
-    for here, folders, files in os.walk(folder):
+def files_below(folder, ending, made):
+    """The files in a folder and below it, by their names. What can't be looked through is refused, as a forbid may be
+    there; files of other endings are named in a note."""
+
+    def unread(what, why):
+        made.unread = True
+        made.report.no(Place(Source(what, "")), why)
+
+    def failed(fault):
+        unread(fault.filename, f"it can't be read: {fault.strerror}")
+
+    found, others = [], []
+    for here, folders, files in os.walk(folder, onerror=failed):
         folders[:] = [name for name in folders if not name.startswith(".")]
-        yield from (os.path.join(here, name) for name in files if name.endswith(ending) and not name.startswith("."))
+        for name in folders:
+            if os.path.islink(os.path.join(here, name)):
+                unread(os.path.join(here, name), "a link to a folder, which is not followed")
+        for name in files:
+            if not name.startswith("."):
+                (found if name.endswith(ending) else others).append(os.path.join(here, name))
+    if others:
+        told = ", ".join(sorted(others)[:MOST_OTHERS]) + (", .." if len(others) > MOST_OTHERS else "")
+        made.report.dropped(Place(Source(folder, "")), f"files that do not end with {ending}: {told}")
+    if not found:
+        unread(folder, f"no file in this folder ends with {ending}")
+    return sorted(found)
 
 
 def sources(word, given, made):
