@@ -5,7 +5,7 @@ from cedar.objects import extension_call, is_list, members, shown, uid
 
 
 class Values:
-    """Reads values by their types, which stand as in the document; None for a type that is not
+    """Reads values by their types, which stand as in the document, without `optional`; None for a type that is not
     known."""
 
     def __init__(self, report):
@@ -14,7 +14,6 @@ class Values:
     def value(self, v, t, place):
         if isinstance(v, (bool, int)):
             return v
-        t = t["optional"] if isinstance(t, dict) and "optional" in t else t
         if isinstance(v, str):
             return self.extension(FUNCTIONS[t], v, place) if isinstance(t, str) and t in FUNCTIONS else v
         if isinstance(v, list):
@@ -39,10 +38,13 @@ class Values:
 
     def values(self, given, types, place):
         """Values under their names; the types are a table of types, or one function of the name."""
-        of = types if callable(types) else types.get
-        return {
-            name: v if isinstance(v, (bool, int)) else self.value(v, of(name), place[name]) for name, v in given.items()
-        }
+        of, made = types if callable(types) else types.get, {}
+        for name, v in given.items():
+            t = of(name)
+            t = t["optional"] if isinstance(t, dict) and "optional" in t else t
+            is_plain = isinstance(v, (bool, int)) or isinstance(v, str) and (isinstance(t, dict) or t not in FUNCTIONS)
+            made[name] = v if is_plain else self.value(v, t, place[name])
+        return made
 
     def extension(self, function, text, place):
         if not stands_for_value(function, text):

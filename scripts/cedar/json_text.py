@@ -17,6 +17,9 @@ class Object(dict):
     repeated = ()
 
 
+CONTAINERS = frozenset((dict, list, Object))
+
+
 class Number:
     """A number that is no whole number of 64 bits."""
 
@@ -42,11 +45,11 @@ def members(pairs):
 
 def levels(value):
     """The objects and lists of a value, level by level."""
-    left = [value] if isinstance(value, (dict, list)) else []
+    left = [value] if type(value) in CONTAINERS else []
     while left:
         yield left
-        parts = [x.values() if isinstance(x, dict) else x for x in left]
-        left = [y for part in parts for y in part if isinstance(y, (dict, list))]
+        parts = [x if type(x) is list else x.values() for x in left]
+        left = [y for part in parts for y in part if type(y) in CONTAINERS]
 
 
 def load(source, report):
