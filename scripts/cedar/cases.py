@@ -70,7 +70,7 @@ class Coverage:
 class Reader:
     """Reads the tests of Cedar's files."""
 
-    def __init__(self, made, given):
+    def __init__(self, made, given=()):
         self.made, self.report, self.known = made, made.report, {}
         self.schema = Schema(made.report)
         self.schema.types, self.schema.actions = (made.document["schema"][part] for part in ("entityTypes", "actions"))
@@ -140,7 +140,7 @@ def grouped(cases):
     return groups.values()
 
 
-def batch(program, document, cases):
+def batch(program, document, cases, ask=ask):
     """The answers to tests with the same entities, or why there are none."""
     asked = {part: document[part] for part in ("schema", "policies")}
     asked |= {"entities": cases[0].stored, "requests": [case.request for case in cases]}
@@ -152,17 +152,17 @@ def batch(program, document, cases):
     return [json.loads(line) for line in told.split("\n")[:-1]]
 
 
-def run_cases(program, document, cases, coverage):
+def run_cases(program, document, cases, coverage, ask=ask):
     """The results of tests, in their order."""
     results = {}
     for group in grouped(cases):
-        for case, answer in zip(group, batch(program, document, group)):
+        for case, answer in zip(group, batch(program, document, group, ask)):
             coverage.reasons.update(answer.get("reasons", ()))
             results[id(case)] = Result(case.place.source.name, f"{case.place.short()}: {case.name}", judged(case, answer))
     return [results[id(case)] for case in cases]
 
 
-def note_true(program, document, cases, coverage):
+def note_true(program, document, cases, coverage, ask=ask):
     """Finds out which of the policies that were never a reason are true in some test: each is asked alone, as a
     permit."""
     policies = {policy["id"]: policy for policy in document["policies"]}
@@ -170,7 +170,7 @@ def note_true(program, document, cases, coverage):
         own = policies[id_]
         alone = [policies[own["link"]] | {"effect": "permit"}, own] if "link" in own else [own | {"effect": "permit"}]
         for group in () if coverage.reasons[id_] else grouped(cases):
-            answers = batch(program, document | {"policies": alone}, group)
+            answers = batch(program, document | {"policies": alone}, group, ask)
             if any(answer.get("decision") == "Allow" for answer in answers):
                 coverage.true.add(id_)
                 break

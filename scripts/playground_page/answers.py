@@ -8,10 +8,10 @@ from cedar import to_command
 from cedar.to_text import Unsayable
 from findings import Broken, Finding
 
-from playground_page import placing, reading
+from playground_page import placing, reading, trials
 
-COMMANDS = ("check", "level", "review", "request", "manifest", "slice", "decide", "list")
-PAGE = "100"  # so many principals are listed
+COMMANDS = ("check", "level", "review", "request", "manifest", "slice", "decide", "list", "test")
+SHOWN = {"list": ["list", "100"], "test": ["check"]}  # 100 principals are listed; tests are of policies that are accepted
 FORMS = ("text", "json", "document")
 
 
@@ -24,8 +24,8 @@ def checked(job):
     if not isinstance(job, dict) or job.get("form") not in FORMS or not isinstance(job.get("parts"), dict):
         raise BadJob(f"an object is due with `form`, one of {', '.join(FORMS)}, and `parts`, an object")
     for name, text in job["parts"].items():
-        if name not in reading.PARTS + ("document",) or not isinstance(text, str):
-            raise BadJob(f"`parts` has texts: document, {', '.join(reading.PARTS)}")
+        if name not in reading.PARTS + ("document", "tests") or not isinstance(text, str):
+            raise BadJob(f"`parts` has texts: document, tests, {', '.join(reading.PARTS)}")
         try:
             text.encode()
         except UnicodeEncodeError:
@@ -41,8 +41,8 @@ def words_of(job):
     command, level = job.get("command"), job.get("level", 0)
     if command not in COMMANDS:
         raise BadJob(f"`command` is one of {', '.join(COMMANDS)}")
-    if command == "list":
-        return [command, PAGE]
+    if command in SHOWN:
+        return SHOWN[command]
     if command != "level":
         return [command]
     if isinstance(level, bool) or not isinstance(level, int) or not 0 <= level <= 200:
@@ -66,6 +66,8 @@ def answer(job, program):
         told["findings"] = findings_in(ran, words, read, program)
         told["warnings"] = [warned(one, read) for one in habits.habits_of(read.document)[: placing.MOST]]
         told["policies"] = placing.named_policies(ran, words, read)
+        if job["command"] == "test" and ran.status == 0:
+            told["tests"] = trials.tested(read, parts, program, told["faults"])
         if words == ["review"] and ran.status == 0:
             told["review"] = reviewed_table(read, program)
     return told

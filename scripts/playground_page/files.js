@@ -51,7 +51,10 @@ function kindOfText(name, text) {
 }
 
 function kindOfJson(value) {
-  if (Array.isArray(value)) return value.some((one) => one && (one.template_id || one.templateId)) ? "links" : "entities";
+  if (Array.isArray(value)) {
+    if (value.some((one) => one && one.decision && one.request)) return "tests";
+    return value.some((one) => one && (one.template_id || one.templateId)) ? "links" : "entities";
+  }
   if (!value || typeof value !== "object") return "document";
   const has = (...names) => names.every((name) => Object.hasOwn(value, name));
   if (value.playground === 1 && value.parts) return "saved";
@@ -76,7 +79,7 @@ function mayReplace(page, names) {
   });
 }
 
-const CEDAR = ["policies", "schema", "entities", "request", "links"];
+const CEDAR = ["policies", "schema", "entities", "request", "links", "tests"];
 
 function forget(page) {
   page.example = null;

@@ -6,12 +6,13 @@ import { copy, empty, open, saveAll, saveDocument } from "./files.js";
 import { entityGraph } from "./graph.js";
 import { manifestTrees } from "./manifest.js";
 import { reviewTable } from "./review.js";
+import { testList, testSummary } from "./tests.js";
 import { decisionBox, findingList, noteList, summary } from "./told.js";
 import { own, readJson } from "./values.js";
 
 const WAIT = 300;
 const FIRST = "cedar/tinytodo";
-const CEDAR = ["policies", "schema", "entities", "request", "links"];
+const CEDAR = ["policies", "schema", "entities", "request", "links", "tests"];
 const COMMANDS = {
   check: "what is wrong with the policies",
   level: "and whether they read N or more steps from the request",
@@ -21,6 +22,7 @@ const COMMANDS = {
   slice: "the decision, and the entities that are enough for it",
   decide: "the decision on all entities",
   list: "which principals of the entities may do what is asked, 100 at most",
+  test: "whether the tests in the part of this name pass, and which policies they reach",
 };
 
 class Page {
@@ -137,7 +139,7 @@ class Page {
     const reply = await this.send("convert", { form: this.form, parts: this.parts, to });
     if (reply && reply.parts) {
       const { edited } = this;
-      this.fill(to, reply.parts);
+      this.fill(to, { ...reply.parts, tests: this.textOf("tests") });
       this.edited = edited;
       return notice("The same in another form; comments and annotations other than @id are left away.");
     }
@@ -186,7 +188,7 @@ class Page {
     const is = (...names) => answer && !answer.limit && answer.status === 0 && names.includes(command);
     const decision = is("slice", "decide") ? readJson(answer.text) : null;
     const document = is("request", "slice", "manifest") ? readJson(reply.document) : null;
-    const [kind, text] = summary(reply, decision, document, this.about);
+    const [kind, text] = reply.tests ? testSummary(reply.tests) : summary(reply, decision, document, this.about);
     byId("summary").className = `summary ${kind}`;
     byId("summary").textContent = text;
     const told = [
@@ -196,6 +198,7 @@ class Page {
       is("slice") ? entityGraph(entitiesOf(document, decision.slice)) : null,
       is("manifest") ? manifestTrees(readJson(answer.text), document) : null,
       is("review") && reply.review ? reviewTable(reply.review) : null,
+      reply.tests ? testList(reply.tests, this) : null,
       findingList("Likely mistakes, by scripts/lint", reply.warnings, this),
       noteList(reply.notes, this),
     ];
