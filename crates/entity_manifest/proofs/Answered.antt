@@ -8,8 +8,8 @@ use Rattle.policy_set.specs.PolicySet.{PolicySetData}
 use Rattle.schema_core.specs.Schema.{SchemaData}
 use Rattle.typing_spec.specs.Conforms.{RequestConforms}
 use Rattle.entity_loader.specs.State.{LoaderState}
-use Rattle.entity_manifest.specs.declared.EntitySliceError.{EntitySliceError}
-use Rattle.entity_manifest.specs.declared.EntitySliceError.TheVariants as error
+use Rattle.entity_loading.specs.declared.error.EntitySliceError.{EntitySliceError}
+use Rattle.entity_loading.specs.declared.error.EntitySliceError.TheVariants as error
 use Rattle.entity_manifest.specs.Loaded.{AreDecidedAlike, OfKnownStores, WhyNotLoaded}
 use Rattle.entity_manifest.specs.declared.answer.BatchAnswer.{BatchAnswer}
 use Rattle.entity_manifest.specs.Answers.{IsLoaderAnswer}

@@ -7,7 +7,7 @@ use Rattle.policy_set.specs.Data.{PolicyData}
 use Rattle.schema_core.specs.Schema.{SchemaData}
 use Rattle.typing_spec.specs.Conforms.{StoreConforms}
 use Rattle.entity_loader.specs.State.{LoaderState, Continues}
-use Rattle.entity_manifest.specs.declared.EntitySliceError.TheVariants as error
+use Rattle.entity_loading.specs.declared.error.EntitySliceError.TheVariants as error
 use Rattle.entity_manifest.specs.declared.answer.BatchAnswer.{BatchAnswer}
 use Rattle.entity_manifest.specs.declared.answer.BatchAnswer.TheVariants.{Partial, Refused, Loading, Decided}
 use Rattle.entity_manifest.specs.Loaded.{IsReported}

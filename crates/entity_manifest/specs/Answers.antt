@@ -10,8 +10,8 @@ use Rattle.typing_spec.specs.Conforms.{RequestConforms, StoreConforms}
 use Rattle.conformance.specs.RequestRules.{first_request_fault}
 use Rattle.byte_streams.specs.Steps.{RoseBy}
 use Rattle.entity_loader.specs.State.{LoaderState, Continues}
-use Rattle.entity_manifest.specs.declared.EntitySliceError.{EntitySliceError}
-use Rattle.entity_manifest.specs.declared.EntitySliceError.TheVariants as error
+use Rattle.entity_loading.specs.declared.error.EntitySliceError.{EntitySliceError}
+use Rattle.entity_loading.specs.declared.error.EntitySliceError.TheVariants as error
 use Rattle.entity_manifest.specs.Loaded.{OfKnownStores, WhyNotLoaded}
 use Rattle.entity_manifest.specs.declared.answer.BatchAnswer.{BatchAnswer}
 use Rattle.entity_manifest.specs.declared.answer.BatchAnswer.TheVariants.{Partial, Refused, Loading, Decided}

@@ -4,8 +4,8 @@ use Rattle.serde_json.specs.Data.{Data, object, string, member, no_members}
 use Rattle.serde_json.specs.Written.{compact_text}
 use Rattle.json_response.specs.SliceJson.{response_text}
 use Rattle.conformance.specs.Written.{request_message}
-use Rattle.entity_manifest.specs.declared.EntitySliceError.{EntitySliceError}
-use Rattle.entity_manifest.specs.declared.EntitySliceError.TheVariants as error
+use Rattle.entity_loading.specs.declared.error.EntitySliceError.{EntitySliceError}
+use Rattle.entity_loading.specs.declared.error.EntitySliceError.TheVariants as error
 use Rattle.entity_manifest.specs.declared.answer.BatchAnswer.{BatchAnswer}
 use Rattle.entity_manifest.specs.declared.answer.BatchAnswer.TheVariants.{Partial, Refused, Loading, Decided}
 

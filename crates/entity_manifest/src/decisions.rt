@@ -6,7 +6,7 @@ ghost use Rattle.entity_store.specs.Request.{IsWhole};
 ghost use Rattle.typing_spec.specs.Conforms.{RequestConforms};
 ghost use Rattle.entity_manifest.specs.Accepted.{IsAccepted};
 ghost use Rattle.entity_manifest.specs.OfPolicies.{IsManifestOf, WhyNone};
-ghost use Rattle.entity_manifest.specs.declared.EntitySliceError.TheVariants.{OutOfMemory};
+ghost use Rattle.entity_loading.specs.declared.error.EntitySliceError.TheVariants.{OutOfMemory};
 ghost use Rattle.entity_manifest.specs.Answers.{IsLoaderAnswer, AreLoaderAnswers};
 ghost use Rattle.entity_manifest.specs.BatchLoaded.{answer_of};
 
