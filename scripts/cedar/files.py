@@ -10,6 +10,7 @@ from cedar.places import Place, Report, Source
 from cedar.schema import Schema
 
 ENDINGS = {"policies": ".cedar", "entities": ".json"}  # of the files that a folder is taken for
+MARGIN = 10
 MOST_OTHERS = 5  # so many other files of a folder are named
 
 
@@ -222,7 +223,9 @@ def make(given):
 def tell_depth(made):
     """Refuses what would nest deeper than the program reads; policies are cut to fit before."""
     for word in ("schema", "entities", "request", "requests"):
-        part = made.document.get(word)
+        part, texts = made.document.get(word), made.texts.get(word, [])
+        if texts and all(text.depth is not None and 2 * text.depth + MARGIN < documents.NESTED for text in texts):
+            continue  # a record of Cedar's nests twice as deep in the document, at most
         if part is not None and documents.depth(part) + 1 > documents.NESTED and word in made.texts:
             made.report.no(
                 Place(made.source(word)),

@@ -63,16 +63,20 @@ def load(source, report):
         return report.no(Place(source, fault.pos), f"no JSON: {fault.msg}")
     except RecursionError:
         return report.no(top, f"JSON that nests deeper than {DEEPEST}")
-    return value if sound(value, "\\u" in source.text) or tested(value, top, report) else None
+    return value if sound(value, source) or tested(value, top, report) else None
 
 
-def sound(value, escaped):
+def sound(value, source):
     """Whether `tested` has nothing to say, found out without places; halves of characters stand only
     where there are escapes."""
-    for depth, level in enumerate(levels(value), 1):
-        if escaped or depth > DEEPEST or Object in set(map(type, level)):
+    if "\\u" in source.text:
+        return False
+    source.depth = 0
+    for level in levels(value):
+        source.depth += 1
+        if source.depth > DEEPEST or Object in set(map(type, level)):
             return False
-    return not escaped
+    return True
 
 
 def tested(value, top, report):

@@ -18,6 +18,7 @@ class Source:
         self.name, self.text = name, text
         self.finder = None  # of a path's offset: of JSON, or of a schema's text
         self.is_json = False
+        self.depth = None  # how deep its JSON nests, where that is known
         self.base = 0  # how many bytes stand before it, where several texts are one
         self.is_ascii = text.isascii()
         self.lines = self.line_bytes = None

@@ -3,6 +3,8 @@ import json
 import random
 import traceback
 
+import linting
+import reports
 from cedar import explain, to_command
 from cedar.tests.examples import forms
 from cedar.tests.shared import EXAMPLES, make, run, text_of
@@ -53,6 +55,9 @@ def tried(program, given, answered):
     try:
         made = make(given)
         if made.report.refused:
+            found, _ = linting.look_at_files(program, made)
+            reports.sarif(found)
+            str([one for one in found for line in one.lines(True)])
             placed = all(":" in line and line.split(":")[1].isdigit() for line in made.lines)
             return (None if placed else f"a line without a place: {made.lines}"), False
         document = text_of(made)
@@ -61,6 +66,7 @@ def tried(program, given, answered):
         if answered:
             status, answer = run(program, ["check"], document)
             str(explain.run(program, ["check"], made))
+            reports.sarif(linting.look_at_files(program, made)[0])
             if status not in (0, 1) and not answer.startswith(b"document: schema: "):
                 return f"{status} {answer}", True
         return None, True
