@@ -104,11 +104,14 @@ def missing_actions(made, schema, place, report):
 PARTS = ("principal", "action", "resource")
 
 
-def request(value, top, schema, report):
-    if not members(value, top, report, (*PARTS, "context")):
+def request(value, top, schema, report, optional=()):
+    """A request; the parts that are optional may be absent, and are unknown then."""
+    if isinstance(value, list):
+        return report.no(top, "expected one request; a list of them is for `batch`")
+    if not members(value, top, report, [part for part in (*PARTS, "context") if part not in optional], optional):
         return {}
-    made = {part: uid(value[part], top[part], report, text=True) for part in PARTS}
-    made["context"] = context(value["context"], made["action"], top["context"], schema, report)
+    made = {part: uid(value[part], top[part], report, text=True) for part in PARTS if part in value}
+    made["context"] = context(value["context"], made.get("action"), top["context"], schema, report)
     return made
 
 

@@ -160,21 +160,21 @@ def read_entities(given, made, schema):
         for one, place in entities.store(value, top, schema, made.report, known):
             found.append(one)
             made.stored.append(place)
-    if not {"entities", "request", "requests", "principal"} & set(given) or "schema" not in made.texts:
+    if not {"entities", "request", "requests", "action"} & set(given) or "schema" not in made.texts:
         return found
     added = entities.missing_actions(found, schema, Place(made.source("schema")), made.report)
     made.stored += [None] * len(added)
     return found + added
 
 
-def read_request(given, made, schema):
+def read_request(given, made, schema, optional):
     """The request: of its file, or of words with perhaps a file of the context."""
-    if "principal" not in given:
+    if "action" not in given:
         for value, top in values("request", given, made):
-            return entities.request(value, top, schema, made.report)
+            return entities.request(value, top, schema, made.report, optional)
         return None
     found = {}
-    for part in entities.PARTS:
+    for part in (part for part in entities.PARTS if part in given):
         made.entries[part] = Place(Source(f"--{part}", given[part]), 0)
         found[part] = uid_of_text(given[part], made.entries[part], made.report)
     if "context" not in given:
@@ -198,9 +198,9 @@ def read_requests(given, made, schema):
     return found
 
 
-def make(given):
+def make(given, optional=()):
     """The document of the files that are given by their words, each word with a name or a list of names; it stands only
-    where the report refuses nothing."""
+    where the report refuses nothing. Of a request the parts that are optional may be absent."""
     made = Made()
     schema = read_schema(given, made)
     document = {"schema": schema.document()}
@@ -209,7 +209,7 @@ def make(given):
     store = read_entities(given, made, schema)
     if store or "entities" in given:
         document["entities"] = store
-    request = read_request(given, made, schema)
+    request = read_request(given, made, schema, optional)
     if request is not None:
         document["request"] = request
     if "requests" in given:

@@ -49,16 +49,17 @@ COMMANDS = {
 QUIET = ("--quiet", "-q")
 FLAGS = (*QUIET, "--plain", "--table")
 SEVERAL = ("batch",)  # these take several requests
+OPTIONAL = {"list": ("principal",)}  # what of the request may be absent
 
 
 def parsed(command, given):
     """The words of a command; its own stand in `rest`."""
     asked = words.parsed(given, words.FRONT, FLAGS, ("--program",))
     expected = COMMANDS[command]
-    words.check(asked.given)
+    words.check(asked.given, OPTIONAL.get(command, ()))
     if command in SEVERAL and "request" in asked.given:
         asked.given["requests"] = [asked.given.pop("request")]
-    has = set(asked.given) | ({"request"} if {"requests", "principal"} & set(asked.given) else set())
+    has = set(asked.given) | ({"request"} if {"requests", "action"} & set(asked.given) else set())
     missing = [name for part, name in expected.needs if part not in has]
     if command == "request" and not {"entities", "request"} & has:
         missing = [ENTITIES[1], "or", REQUEST[1]]
@@ -95,7 +96,7 @@ def answer(command, given):
     program = program_at(asked.values.get("--program"))
     if not program:
         return 125
-    made, quiet = files.make(asked.given), bool(set(QUIET) & asked.flags)
+    made, quiet = files.make(asked.given, OPTIONAL.get(command, ())), bool(set(QUIET) & asked.flags)
     if made.report.refused:
         return tell_report(made, quiet)
     told = explain.run(program, [command, *asked.rest], made)

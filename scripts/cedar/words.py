@@ -75,14 +75,14 @@ def parsed(words, table, flags=(), valued=(), last=None):
     return made
 
 
-def check(given):
+def check(given, optional=()):
     """What the words of a request need of one another."""
     entries = [word for word in (*ENTRIES, "context") if word in given]
     if "schema" not in given:
         raise Usage("--schema is missing")
     if entries and "request" in given:
         raise Usage(f"--request and --{entries[0]} exclude each other")
-    if entries and not set(ENTRIES) <= set(given):
+    if entries and not set(ENTRIES) - set(optional) <= set(given):
         raise Usage("--principal, --action and --resource are given together")
     names = [name for one in given.values() for name in (one if isinstance(one, list) else [one])]
     if names.count("-") > 1:
