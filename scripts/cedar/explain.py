@@ -3,6 +3,7 @@ import subprocess
 from dataclasses import dataclass, field
 
 import findings
+import hints
 import misfits
 from cedar import documents, located
 from visible import visible
@@ -34,7 +35,7 @@ def run(program, words, made):
     text = ran.stdout.decode(errors="replace")
     if status == 1 or words[0] in LOOKS and status == 0:
         found = findings.findings_of(program, made.document, words if words[0] in LOOKS else ("check",))
-        return Answer(status, lines=finding_lines(found, made))
+        return Answer(status, lines=finding_lines(hints.give(found, made.document["schema"]), made))
     if status in (3, 4, 5, 6, 12):
         return Answer(status, lines=rule_lines(text, status, made))
     return Answer(status, text)

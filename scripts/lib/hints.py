@@ -4,6 +4,7 @@ import re
 from findings import uid
 from misfits import near
 
+MOST = 100  # so many findings have a hint
 LONGEST = 1000  # a longer text has no hint: its names are none that were written by hand
 ATTRIBUTE = re.compile(r", attribute `(.*?)`(?: on entity types? `(.*)`| in context for (.*))? not found", re.DOTALL)
 TYPE = re.compile(r", unrecognized entity type `(.*)`\Z", re.DOTALL)
@@ -18,6 +19,14 @@ FUNCTIONS = (
 ).split()
 
 
+def give(found, schema):
+    """Gives findings their hints, the first of them at least."""
+    hints = Hints(schema)
+    for finding in found[:MOST]:
+        finding.hint = hints.of(finding)
+    return found
+
+
 class Hints:
     """The names of a schema, in which the meant ones are looked up."""
 
@@ -28,6 +37,8 @@ class Hints:
 
     def of(self, finding):
         """`did you mean ..?`, or None."""
+        if finding.kind == "TooDeep":
+            return "in place of many `x == A || x == B` write `[A, B].contains(x)`, which nests no deeper"
         text = finding.text.removeprefix(f"for policy `{finding.policy}`")
         if len(text) > LONGEST:
             return None

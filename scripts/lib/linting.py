@@ -3,13 +3,13 @@ run."""
 import bisect
 import sys
 
+import hints
 import places
 import reports
 from cedar import files, located, words
 from edits import replayed
 from findings import Broken, Finding, conformance_of, findings_of
 from habits import habits_of
-from hints import Hints
 from misfits import misfits_of
 from refusals import faults_in, written
 from script import bytes_of, complain, program_at
@@ -19,7 +19,6 @@ USAGE = (
     "usage: scripts/lint [--deny-warnings] [--json | --sarif] [--program PROGRAM] [FILE], or for Cedar's files "
     "-s SCHEMA -p POLICIES .. in place of FILE; --help says more"
 )
-MOST_HINTS = 100
 FLAGS = ("--deny-warnings", "--json", "--sarif", "--quiet", "-q")
 
 
@@ -28,10 +27,7 @@ def all_findings(program, value, words=("check",)):
     policies it is what `check` finds, or these words."""
     broken = conformance_of(program, value)
     found = findings_of(program, value, words) + broken + values_of(value, broken)
-    hints = Hints(value["schema"])
-    for finding in found[:MOST_HINTS]:
-        finding.hint = hints.of(finding)
-    return found + habits_of(value)
+    return hints.give(found, value["schema"]) + habits_of(value)
 
 
 def values_of(value, broken):
