@@ -3,11 +3,12 @@ use Rattle.std.proofs.Common.{◌≡◌, List, [], Option, None, Result, Ok, Err
 use Rattle.schema_core.specs.Schema.{SchemaData}
 use Rattle.finding_messages.specs.Findings.{Findings}
 use Rattle.policy_set.specs.PolicySet.{IsPolicySet, PolicySetData}
-use Rattle.policy_set.specs.Removal.{without}
+use Rattle.std.specs.Option.{option_map}
+use Rattle.policy_set.specs.Removal.{removal_fault, without}
 use Rattle.policy_set.specs.declared.policy_set.PolicySetError.{PolicySetError}
 use Rattle.policy_validate.specs.Accepted.{IsAccepted}
 use Rattle.policy_validate.specs.Entries.{findings_of_entry}
-use Rattle.live_manifest.specs.Edits.{Edit, made, or_findings, refusal}
+use Rattle.live_manifest.specs.Edits.{Edit, made, not_removed, or_findings, refusal, remove}
 use Rattle.live_manifest.specs.Faults.{IsFaulty}
 use Rattle.live_manifest.specs.Kept.{EditedData, IsMade, IsEditRefused, IsRefusedFor}
 use Rattle.live_manifest.specs.Laws.{EditsKeepAcceptance}
@@ -48,3 +49,10 @@ module _ (keeps : EditsKeepAcceptance) (schema : SchemaData) (s : PolicySetData)
         refused = subst (λ o. IsRefusedFor o error) (sym refusal_is) (findings_refuse fault found no_fault error (subst (λ f. IsFaulty f error) found_is refused));
         unchanged = ap (edited_set schema) n_is;
       })
+
+-- a removal, which may be refused
+pub removed_accepted : {A E : Type 0} → EditsKeepAcceptance → (schema : SchemaData) (s : PolicySetData) → IsPolicySet s → IsAccepted schema s → (id : List ℕ) (n : PolicySetData) (r : Result A E) →
+    OnOk r ((removal_fault s id ≡ None) × (n ≡ without id s)) → OnErr r (n ≡ s) → IsAccepted schema n
+removed_accepted keeps schema s set accepted id n (Ok a) removed same =
+    subst (IsAccepted schema) (sym removed.1) (accepted_made keeps schema s set accepted (remove id) (ap (option_map not_removed) removed.0))
+removed_accepted keeps schema s set accepted id n (Err e) removed same = subst (IsAccepted schema) (sym same) accepted
