@@ -28,14 +28,14 @@ output:
 
 What a file holds tells its form, not its name; - is standard input. --policies, --links and --entities
 may be given several times; a folder stands for the .cedar files (entities: .json) in it and below it, by
-their names, and the policies of all files are numbered on. A request needs entities, if only [].
+their names, and policies are numbered through all files. A request needs entities, if only [].
 
   --explain COMMAND [WORD]  the last words of the call: answers the document by scripts/palvumiose
                    COMMAND, with each finding's place as FILE:LINE:COLUMN, its line and carets
                    underneath; the status is that of the program
 
   --line           the document in one line
-  --quiet          (-q) nothing of what is dropped and added
+  --quiet          (-q) no notes on what is dropped and added
   --program PROGRAM  with --explain, asks this program and not the one that scripts/palvumiose chooses
 
 On standard error stands a line FILE:LINE:COLUMN: .. for what is dropped (annotations; a policy's id is

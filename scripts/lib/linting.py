@@ -45,7 +45,7 @@ def look_at_document(program, data, name, command=None):
 
     def told(finding, part, at):
         line = bisect.bisect_right(starts, at)
-        return reports.Told(finding, name, part, line, at - starts[line - 1] + 1)
+        return reports.LocatedFinding(finding, name, part, line, at - starts[line - 1] + 1)
 
     if faults:
         return [told(Finding("error", "InvalidDocument", what, ()), part, at) for at, part, what in faults], False
@@ -77,8 +77,8 @@ def told_of(finding, place):
 def spotted(finding, spot, made=None):
     """A finding told at a spot; one of no spot at the schema's beginning."""
     if spot is None:
-        return reports.Told(finding, made.source("schema").name, "", 1, 1)
-    return reports.Told(finding, spot.source.name, "", *spot.line_column, spot.end_line_column, spot.excerpt())
+        return reports.LocatedFinding(finding, made.source("schema").name, "", 1, 1)
+    return reports.LocatedFinding(finding, spot.source.name, "", *spot.line_column, spot.end_line_column, spot.excerpt())
 
 
 def main(given):

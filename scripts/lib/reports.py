@@ -43,9 +43,9 @@ RULES = {
 
 
 @dataclass
-class Told:
-    """A finding and where it is told: a file (None of standard input), a part of the document, lines and columns from 1,
-    and of Cedar's files an excerpt."""
+class LocatedFinding:
+    """A finding and its place: a file (None for standard input), a part of the document, lines and columns from 1, and
+    for Cedar's files an excerpt."""
 
     finding: object
     file: object
