@@ -5,7 +5,7 @@ import { ancestorsOf } from "./entities.js";
 import { arrange, pathOf, ranks } from "./layout.js";
 import { clipped, printedId } from "./values.js";
 
-const CHARACTER = 7.3, ROW = 18, PAD = 10, WIDEST = 40, MOST_ROWS = 10, MOST_DRAWN = 60, MOST_LISTED = 500;
+const CHARACTER = 7.3, ROW = 18, PAD = 10, WIDEST = 32, MOST_ROWS = 10, MOST_DRAWN = 60, MOST_LISTED = 500;
 const STATES = {
   kept: ["✓ kept", "kept"],
   ancestor: ["✓ as an ancestor", "as an ancestor alone"],

@@ -16,12 +16,13 @@ function list(title, items) {
 }
 
 export function reviewTable({ actions, rows, never, unreached }) {
-  const heads = ["policy", "effect", ...actions.map(({ action }) => action), "level"];
+  const head = (text, kind) => el("th", { scope: "col", class: kind }, text);
+  const heads = [head("policy"), head("effect"), ...actions.map(({ action }) => head(action, "action")), head("level")];
   const row = ({ policy, effect, counts, level }) => el("tr", {},
     el("th", { scope: "row" }, policy), el("td", {}, effect),
     counts.map((count, i) => cell(count, actions[i].most, actions[i].action)), el("td", {}, level));
   const table = el("table", { id: "review-table" },
-    el("thead", {}, el("tr", {}, heads.map((head) => el("th", { scope: "col" }, head)))),
+    el("thead", {}, el("tr", {}, heads)),
     el("tbody", {}, rows.map(row)));
   return el("section", {},
     el("p", { class: "quiet" }, "✓: it can be true on each type of requests of the action, 1/2: on one of two, ·: on none."),
