@@ -8,10 +8,10 @@ pub returns-clause-ids : goal.returns-clause-ids
 returns-clause-ids c =
     c.in_ok-page.ensures.ids
     ∙ ap (λ q. page_ids c.args.limit (option_copied c.args.after) (allowed_principals c.args.schema.now c.args.policies.now.policies q c.args.entities.now))
-    c.in_ok-asked.ensures
+    c.in_ok-asked.ensures.request
 
 pub returns-clause-more : goal.returns-clause-more
 returns-clause-more c =
     c.in_ok-page.ensures.more
     ∙ ap (λ q. has_more c.args.limit (option_copied c.args.after) (allowed_principals c.args.schema.now c.args.policies.now.policies q c.args.entities.now))
-    c.in_ok-asked.ensures
+    c.in_ok-asked.ensures.request
