@@ -63,11 +63,30 @@ class PolicyReader(ExpressionReader):
         while self.at("when", "unless"):
             kind = self.take().text
             self.expect("{")
-            if self.at("}"):
-                self.due("an expression")
-            found.append((kind, self.expr()))
-            self.expect("}")
+            start = self.index
+            try:
+                if self.at("}"):
+                    self.due("an expression")
+                found.append((kind, self.expr()))
+                self.expect("}")
+            except Stop as stop:
+                if not self.skip_clause(start):
+                    raise
+                self.no(*stop.args)
         return found
+
+    def skip_clause(self, start):
+        """Goes on behind the brace that closes a clause with a fault; whether another clause or the end of the policy
+        follows there."""
+        depth, index = 1, start
+        while depth and self.tokens[index].kind != "end" and self.tokens[index].text != ";":
+            text = self.tokens[index].text
+            depth += 1 if text == "{" else -1 if text == "}" else 0
+            index += 1
+        if depth or self.tokens[index].text not in ("when", "unless", ";"):
+            return False
+        self.index, self.depth = index, 0
+        return True
 
     # The scope.
 

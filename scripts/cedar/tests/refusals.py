@@ -225,6 +225,8 @@ LINKS = (
 )
 # Files with several faults: all are told, and nothing that follows from one of them alone.
 SEVERAL = (
+    ("policies", "permit (principal, action, resource) when { 1 = 2 } unless { principal.in } when { {a: 1}.a == };", 3),
+    ("policies", "permit (principal, action, resource) when { (1 + } when { true };\n" + when("'a'"), 2),
     ("policies", "permit (principal, action, resource) when { ((( };\nallow (principal);\n" + POLICY + "\n" + when("foo(1) && " + "(" * 397 + "true" + ")" * 397 + " && bar(1)"), 4),
     ("schema", "entity User in [Nope] = { a: };\ntype T = Set<;\nentity B { t: T, u: User };\nnamespace N { entity C; action }\nentity D { c: N::C };", 3),
     ("entities", '[{"uid": 1, "attrs": {"a": null}, "parents": [1]}, {"uid": {"type": "User", "id": 1}}]', 6),
