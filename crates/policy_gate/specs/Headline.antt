@@ -89,6 +89,12 @@ abbrev pub ReadsAreEnough : SchemaData → PolicySetData → Type 0
 ReadsAreEnough schema set = (q : ARequest) (s : Store) → KeepRules schema set q s →
     IsEnough set.policies q (slice schema set.policies q s) s
 
+-- at a level at which each template and static policy passes, each policy has on the store cut there the outcome that
+-- it has on the whole store, for each request and store that conform
+abbrev pub LevelsAreEnough : SchemaData → PolicySetData → Type 0
+LevelsAreEnough schema set =
+    (n : ℕ) → AllByRecursion (PassesAt schema n) (written set) → CutIsEnough schema n set
+
 -- the text says that the request and the store conform, and they do; a request that is whole conforms to the
 -- schema
 pub record IsConforming (d : Document) (text : List ℕ) : Type 0 where
@@ -175,16 +181,14 @@ pub record IsBatch (d : Document) (text : List ℕ) : Type 0 where
 
 -- the text has a line for each row and each least level of the review of the document's policies, which are
 -- accepted. Of what a row says never, the policy is true on no request of the row's type and on no store,
--- where both conform; and each level is the least at which the policy passes. At a level at which all pass, each
--- policy has on the store cut there the outcome that it has on the whole store, for each request and store that
--- conform
+-- where both conform; and each level is the least at which the policy passes, and a level at which all pass is
+-- enough
 pub record IsReviewed (d : Document) (text : List ℕ) : Type 0 where
   pub written : text ≡ review_text d
   pub accepted : HasAcceptedPolicies d
   pub never : NeversAreNeverTrue d.schema d.policies
   pub least : LevelsAreLeast d.schema d.policies
-  pub enough : (n : ℕ) → AllByRecursion (PassesAt d.schema n) (written d.policies) →
-      CutIsEnough d.schema n d.policies
+  pub enough : LevelsAreEnough d.schema d.policies
 
 -- none of the document's edits is refused, and the text is the manifest of the policies that they leave,
 -- which are accepted: what they read and ask for in each environment of the schema, which is enough to decide
