@@ -6,6 +6,7 @@
 #include <stdio.h>
 #include <stdlib.h>
 #include <string.h>
+#include <sys/resource.h>
 
 /* The bytes of a stream; never null, also where there are none. */
 static uint8_t *bytes_of(FILE *from, size_t *size) {
@@ -33,7 +34,18 @@ static uint8_t *joined(int count, char **words, size_t *size) {
     return bytes;
 }
 
+/* The deepest documents take half a MiB of stack: the main thread's may grow to 8 MiB, where the hard limit allows it. */
+static void raise_stack(void) {
+    struct rlimit limit;
+    const rlim_t wanted = 8 << 20;
+    if (getrlimit(RLIMIT_STACK, &limit) || limit.rlim_cur == RLIM_INFINITY || limit.rlim_cur >= wanted)
+        return;
+    limit.rlim_cur = limit.rlim_max == RLIM_INFINITY || limit.rlim_max > wanted ? wanted : limit.rlim_max;
+    setrlimit(RLIMIT_STACK, &limit);
+}
+
 int main(int count, char **words) {
+    raise_stack();
     size_t command_size, document_size, room = 1 << 16, size;
     uint8_t *command = joined(count - 1, words + 1, &command_size);
     uint8_t *document = bytes_of(stdin, &document_size);

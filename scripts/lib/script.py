@@ -3,6 +3,7 @@ a reader goes away."""
 import errno
 import os
 import pathlib
+import resource
 import subprocess
 import sys
 
@@ -13,12 +14,14 @@ from visible import visible
 
 TOP = pathlib.Path(__file__).resolve().parents[2]
 RELEASE = TOP / "release/palvumiose-x86_64-linux"
+STACK = 8 << 20
 
 
 def run(main, doc):
     """Ends the process with the status that `main` gives for the words of the command line; -h, --help
     prints the script's own text."""
     words = sys.argv[1:]
+    raise_stack()
     try:
         take_utf8()
         if words[:1] in (["-h"], ["--help"], ["help"]):
@@ -35,6 +38,15 @@ def run(main, doc):
     except KeyboardInterrupt:
         status = 130
     sys.exit(status)
+
+
+def raise_stack():
+    """The stack of the main thread, and of programs that are started, may grow to 8 MiB where the hard limit allows
+    it: the deepest documents take half a MiB of the program."""
+    soft, hard = resource.getrlimit(resource.RLIMIT_STACK)
+    most = STACK if hard == resource.RLIM_INFINITY else min(STACK, hard)
+    if soft != resource.RLIM_INFINITY and soft < most:
+        resource.setrlimit(resource.RLIMIT_STACK, (most, hard))
 
 
 def take_utf8():
