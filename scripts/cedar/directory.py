@@ -1,6 +1,7 @@
 """palvumiose_directory on Cedar's own files."""
 import json
 import os
+import pathlib
 import subprocess
 import sys
 
@@ -15,6 +16,8 @@ NEEDS = {
     "check": (),
     "decide": (("policies", "-p POLICIES"), ("request", "-r REQUESTS")),
 }
+DATABASE = 13  # the status where the file can't be used
+SQLITE = b"SQLite format 3\0"
 
 
 def main(given):
@@ -32,13 +35,35 @@ def main(given):
     program = asked.values.get("--program", str(PROGRAM))
     if not os.access(program, os.X_OK):
         return complain(f"{program} is no program", 125)
+    file = pathlib.Path(asked.rest[1])
+    if file.exists() and not file.is_file():
+        return complain(f"{file} is no ordinary file", DATABASE)  # the program would wait for what a FIFO may bring
     made = files.make(asked.given)
     quiet = bool({"--quiet", "-q"} & asked.flags)
     if made.report.refused:
         return tell_report(made, quiet)
     status = ran(program, asked.rest, lines(command, made.document))
     tell_report(made, quiet)
-    return status
+    hint = hint_for(file) if status == DATABASE else None
+    return complain(hint, status) if hint else status
+
+
+def hint_for(file):
+    """What of a database's header the program does not take, and how to change it."""
+    try:
+        with file.open("rb") as opened:
+            header = opened.read(100)
+    except OSError as fault:
+        return f"{file} can't be read: {fault.strerror}"
+    if not os.access(file, os.W_OK) or not os.access(file.parent, os.W_OK):
+        return f"{file} and its folder have to be writable"
+    if not header.startswith(SQLITE) or len(header) < 100:
+        return None
+    if header[56:60] in (b"\0\0\0\2", b"\0\0\0\3"):
+        return f"{file} has texts in UTF-16: make one with `PRAGMA encoding = 'UTF-8'`, and copy the rows"
+    if any(header[52:56]):
+        return f"{file} has auto_vacuum: `PRAGMA auto_vacuum = NONE; VACUUM` in SQLite's shell takes it away"
+    return None
 
 
 def lines(command, document):
@@ -51,8 +76,12 @@ def lines(command, document):
 
 
 def ran(program, rest, text):
+    """Runs the program, which a limit of file size does not end by a signal: Python ignores that signal, and so does
+    what it starts here."""
     try:
-        answer = subprocess.run([program, *rest], input=text.encode(), stdout=subprocess.PIPE, check=False)
+        answer = subprocess.run(
+            [program, *rest], input=text.encode(), stdout=subprocess.PIPE, check=False, restore_signals=False
+        )
     except OSError as fault:
         raise Broken(125, f"{program} can't be run: {fault.strerror}") from None
     sys.stdout.write(answer.stdout.decode(errors="replace"))
