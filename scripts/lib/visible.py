@@ -8,6 +8,7 @@ HIDDEN = re.compile(
     "[\0-\x1f\x7f-\x9f\u061c\u200b-\u200f\u2028-\u202e\u2060-\u2064\u2066-\u206f\ufeff\ud800-\udfff]"
     r"|(?<=#)#(?=\[|vso\[)"  # `##[` and `##vso[` are commands anywhere in a line
 )
+COMMAND = re.compile(r"(\s*):(?=:)")  # `::` is a command at the beginning of a line
 ESCAPES = {"\n": "\\n", "\r": "\\r", "\t": "\\t", "\0": "\\0"}
 
 
@@ -36,7 +37,8 @@ def main():
     sys.stdout.reconfigure(encoding="utf-8", errors="replace", newline="\n")
     for line in sys.stdin.buffer:
         text = line.decode(errors="replace")
-        print(escape_all(text.rstrip("\n")), end="\n" * text.endswith("\n"), flush=True)
+        shown = escape_all(COMMAND.sub(r"\1\\u{3a}", text.rstrip("\n"), 1) if COMMAND.match(text) else text.rstrip("\n"))
+        print(shown, end="\n" * text.endswith("\n"), flush=True)
 
 
 if __name__ == "__main__":
