@@ -7,7 +7,7 @@ import sys
 
 from cedar import documents, files, words
 from cedar.command import tell_report
-from findings import Broken
+from findings import Broken, checked
 from script import TOP, complain
 
 PROGRAM = TOP / "release/palvumiose_directory-x86_64-linux"
@@ -86,4 +86,4 @@ def ran(program, rest, text):
         raise Broken(125, f"{program} can't be run: {fault.strerror}") from None
     sys.stdout.write(answer.stdout.decode(errors="replace"))
     sys.stdout.flush()
-    return answer.returncode if answer.returncode >= 0 else 128 - answer.returncode
+    return checked(program, answer.returncode)

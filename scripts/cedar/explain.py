@@ -31,7 +31,7 @@ def run(program, words, made):
         ran = subprocess.run([program, *words], input=document, stdout=subprocess.PIPE)
     except OSError as fault:
         raise findings.Broken(125, f"{program} can't be run: {fault.strerror}") from None
-    status = ran.returncode if ran.returncode >= 0 else 128 - ran.returncode
+    status = findings.checked(program, ran.returncode)
     text = ran.stdout.decode(errors="replace")
     if status == 1 or words[0] in LOOKS and status == 0:
         found = findings.findings_of(program, made.document, words if words[0] in LOOKS else ("check",))

@@ -8,6 +8,7 @@ document it is about. So findings that differ in nothing but that part are told 
 import json
 import re
 import secrets
+import signal
 import subprocess
 
 ENTRY = re.compile(r"request: (?:request's )?(principal|action|resource|context) ")
@@ -21,6 +22,14 @@ ESCAPES = str.maketrans({"\\": "\\\\", '"': '\\"', "\n": "\\n", "\r": "\\r", "\t
 
 class Broken(Exception):
     """The status with which the program ended, and why there are no findings."""
+
+
+def checked(program, returncode):
+    """The status of a run; one that a signal has ended has no answer, and is reported."""
+    if returncode < 0:
+        name = signal.Signals(-returncode).name
+        raise Broken(128 - returncode, f"{program} was ended by {name}: out of stack, or a limit was met")
+    return returncode
 
 
 class Finding:
@@ -43,7 +52,7 @@ def ask(program, words, document):
         )
     except OSError as fault:
         raise Broken(125, f"{program} can't be run: {fault.strerror}") from None
-    return ran.returncode, ran.stdout.decode(errors="replace")
+    return checked(program, ran.returncode), ran.stdout.decode(errors="replace")
 
 
 def findings_of(program, document, words=("check",), ask=ask):
