@@ -158,12 +158,16 @@ def put_back(text, token, ids):
 
 
 def conformance_of(program, document):
-    """What `request` says against the requests and the entities of a document: of each at most one finding."""
+    """What `request` says against the requests and the entities of a document: of each request, and of the entities, at
+    most one finding."""
+    rest = {name: part for name, part in document.items() if name not in ("request", "requests", "policies")}
     if "requests" not in document:
-        return one_conformance(program, document, ("request",))
-    rest = {name: part for name, part in document.items() if name not in ("requests", "policies")}
+        found = one_conformance(program, document, ("request",))
+        if found and found[0].kind == "InvalidRequest":  # then nothing is said of the entities yet
+            found += one_conformance(program, rest, ())
+        return found
     found = one_conformance(program, rest, ())  # without a request, what is said is said of an entity
-    if found or not document["requests"]:
+    if not document["requests"]:
         return found
     asked = {"schema": rest["schema"], "requests": document["requests"]}
     status, told = ask(program, ["batch"], asked)

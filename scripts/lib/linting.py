@@ -103,6 +103,8 @@ def looked(asked, form, is_cedar):
     notes, missing = [], 3
     if is_cedar:
         program = program_at(asked.values.get("--program"))
+        if "request" in asked.given:
+            asked.given["requests"] = [asked.given.pop("request")]  # it may be a list of them
         made = files.make(asked.given)
         notes, missing = list(made.report.notes), 8 if made.unread else 3
         found, is_whole = look_at_files(program, made) if program else ([], None)
