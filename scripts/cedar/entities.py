@@ -1,7 +1,7 @@
 """Reads entities and a request in Cedar's JSON; what Cedar lets out by the schema's types is put in."""
 from cedar.extensions import FUNCTIONS, stands_for_value
 from cedar.json_text import Number
-from cedar.objects import extension_call, is_list, members, shown, uid
+from cedar.objects import extension_call, is_list, members, plain_uid, shown, uid
 
 
 class Values:
@@ -29,7 +29,7 @@ class Values:
         if "__expr" in v:
             return self.report.no(place, "`__expr` has no counterpart")
         if "__entity" in v or (isinstance(t, dict) and "entity" in t):
-            return {"id": uid(v, place, self.report)}
+            return {"id": plain_uid(v) or uid(v, place, self.report)}
         if "__extn" in v or (isinstance(t, str) and t in FUNCTIONS):
             call = extension_call(v, place, self.report)
             return self.extension(*call, place) if call else None
@@ -40,9 +40,12 @@ class Values:
         """Values under their names; the types are a table of types, or one function of the name."""
         of, made = types if callable(types) else types.get, {}
         for name, v in given.items():
+            if isinstance(v, (bool, int)):
+                made[name] = v
+                continue
             t = of(name)
             t = t["optional"] if isinstance(t, dict) and "optional" in t else t
-            is_plain = isinstance(v, (bool, int)) or isinstance(v, str) and (isinstance(t, dict) or t not in FUNCTIONS)
+            is_plain = isinstance(v, str) and (isinstance(t, dict) or t not in FUNCTIONS)
             made[name] = v if is_plain else self.value(v, t, place[name])
         return made
 
@@ -56,18 +59,25 @@ def entity(e, place, schema, report):
     members(e, place, report, ("uid", "attrs", "parents"), ("tags",))
     if not isinstance(e, dict) or "uid" not in e:
         return None
-    made = {"id": uid(e["uid"], place["uid"], report)}
+    made = {"id": plain_uid(e["uid"]) or uid(e["uid"], place["uid"], report)}
     kind = made["id"][0] if made["id"] else None
-    tags = schema.tags.get(kind)
-    for member, types in (("attrs", schema.attributes.get(kind, {})), ("tags", lambda name: tags)):
-        given = e.get(member, {})
+    for member in ("attrs", "tags"):
+        given = e.get(member)
+        if given is None and member not in e or given == {}:
+            continue
         if not isinstance(given, dict):
             report.no(place[member], f"expected an object, found {shown(given)}")
-        elif given:
-            made[member] = Values(report).values(given, types, place[member])
+            continue
+        tags = schema.tags.get(kind)
+        types = schema.attributes.get(kind, {}) if member == "attrs" else lambda name: tags  # noqa: B023
+        made[member] = Values(report).values(given, types, place[member])
     parents = e.get("parents", [])
-    if is_list(parents, place["parents"], report, "ids") and parents:
-        made["parents"] = [uid(p, place["parents"][i], report) for i, p in enumerate(parents)]
+    if not isinstance(parents, list):
+        is_list(parents, place["parents"], report, "ids")
+    elif parents:
+        made["parents"] = [
+            plain_uid(p) or uid(p, place["parents"][i], report) for i, p in enumerate(parents)
+        ]
     return made
 
 

@@ -60,14 +60,26 @@ def type_name(name, place, report):
     return name if is_name(name) else report.no(place, f"no name of an entity type: {shown(name)}")
 
 
+def plain_uid(u):
+    """An entity's id where nothing is wrong with it, or None: an object of `type` and `id`, perhaps below `__entity`."""
+    if not isinstance(u, dict):
+        return None
+    if len(u) == 1:
+        u = u.get("__entity")
+    if isinstance(u, dict) and len(u) == 2:
+        kind, eid = u.get("type"), u.get("id")
+        if isinstance(eid, str) and isinstance(kind, str) and is_known_name(kind):
+            return [kind, eid]
+    return None
+
+
 def uid(u, place, report, text=False):
-    """An entity's id: an object of `type` and `id`, perhaps below `__entity`; or also Cedar's text."""
+    """An entity's id, also where something is wrong with it; or also Cedar's text."""
     if text and isinstance(u, str):
         return uid_of_text(u, place, report)
-    plain = u["__entity"] if isinstance(u, dict) and len(u) == 1 and "__entity" in u else u
-    if isinstance(plain, dict) and len(plain) == 2 and isinstance(plain.get("id"), str):
-        if isinstance(plain.get("type"), str) and is_known_name(plain["type"]):
-            return [plain["type"], plain["id"]]
+    plain = plain_uid(u)
+    if plain:
+        return plain
     if isinstance(u, dict) and "__entity" in u:
         if not members(u, place, report, ("__entity",)):
             return None
