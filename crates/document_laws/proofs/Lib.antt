@@ -11,3 +11,4 @@ mod Policies
 mod Read
 mod Store
 mod Text
+mod Settled

@@ -17,7 +17,7 @@ part First Next first next r s (inr (x, f, m)) (inl (q, g, h)) = absurd (cc (fir
 part First Next first next r s (inr (x, f, m)) (inr (y, g, n)) = let same : y ≡ x = cc (first (Ok y) (Ok x) g f) in next x r s m (subst (λ z. Next z s) same n)
 
 -- what is computed, and then the next
-computed : {A B : Type 0} (e : Result A Place) (Next : A → Result B Place → Type 0) → ((x : A) → IsUnique (Next x)) → IsUnique (Then (λ r. r ≡ e) Next)
+pub computed : {A B : Type 0} (e : Result A Place) (Next : A → Result B Place → Type 0) → ((x : A) → IsUnique (Next x)) → IsUnique (Then (λ r. r ≡ e) Next)
 computed e Next = part (λ r. r ≡ e) Next (λ r s f g. f ∙ sym g)
 
 pub unique : ReadingsAreUnique
