@@ -1,0 +1,4 @@
+pub mod Formulas
+pub mod Truth
+pub mod Outlines
+pub mod Outlined
