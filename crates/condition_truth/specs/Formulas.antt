@@ -43,7 +43,8 @@ pub record Truth : Type 0 where
 abbrev pub says : Formula → Formula → Formula → Truth
 says t f v = record { if_true = t; if_false = f; if_value = v }
 
--- of a test that has a value exactly where v holds, and is true where p holds, too; what its type says is known
+-- of a test that has a value exactly where v holds, and is true where p holds, too; what its type says
+-- is known
 abbrev pub noted : Option Ty → Formula → Formula → Truth
 noted (Some true_type) v p = says v (constant false) v
 noted (Some false_type) v p = says (constant false) v v

@@ -1,5 +1,5 @@
--- Propositions of a typed condition in outline: that it is true and that it is false, by its `if`, `&&`, `||` and
--- `!`; of every other part it is asked whether it has a value, and whether it is true.
+-- Propositions of a typed condition in outline: that it is true and that it is false, by its `if`, `&&`,
+-- `||` and `!`; of every other part it is asked whether it has a value, and whether it is true.
 use Rattle.std.specs.Prelude.{Bool, true, false, not, ◌&&◌, ◌||◌, Option, Some}
 use Rattle.schema_types.specs.declared.kinds.Primitive.TheVariants.{Bool as BoolType}
 use Rattle.schema_types.specs.Ty.{Ty, true_type, false_type, primitive}
@@ -18,7 +18,8 @@ is_sure_operator Mul = false
 is_sure_operator GetTag = false
 is_sure_operator o = true
 
--- whether it is a test without `.`, `getTag`, arithmetic and calls of functions, or a part of one: it never errs
+-- whether it is a test without `.`, `getTag`, arithmetic and calls of functions, or a part of one: it
+-- never errs
 abbrev mutual
   pub is_sure : Typed → Bool
   is_sure (lit l m) = true

@@ -24,7 +24,8 @@ either_known (Some false) y = y
 either_known None (Some true) = Some true
 either_known None y = None
 
--- what is known of a part, where the first list says what is known of atoms and the second of the parts before
+-- what is known of a part, where the first list says what is known of atoms and the second of the parts
+-- before
 abbrev pub gate_known : List (Option Bool) → List (Option Bool) → Gate → Option Bool
 gate_known atoms ks (Constant b) = Some b
 gate_known atoms ks (Atom i) = slice_index_or atoms i None

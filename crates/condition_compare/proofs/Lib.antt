@@ -1,0 +1,3 @@
+pub mod Growing
+pub mod Answering
+pub mod Concluding

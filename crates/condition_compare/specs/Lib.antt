@@ -1,0 +1,4 @@
+pub mod Sorts
+pub mod Worlds
+pub mod Outlines
+pub mod Decisions
