@@ -63,6 +63,8 @@ def load(source, report):
         return report.no(Place(source, fault.pos), f"no JSON: {fault.msg}")
     except RecursionError:
         return report.no(top, f"JSON that nests deeper than {DEEPEST}")
+    if value is None:
+        return report.no(top, "`null`, where a value is expected")
     return value if sound(value, source) or tested(value, top, report) else None
 
 

@@ -180,7 +180,9 @@ SCHEMAS = (
     ('{"a b": {}}', '1:9: ["a b"]', "no name of a namespace"),
     ("[]", "1:1", "expected an object"),
 )
+NOTHING = ("null", "1:1", "`null`, where a value is expected")
 ENTITIES = (
+    NOTHING,
     ('[{"uid": {"type": "User", "id": "a"}, "attrs": {"age": 1}}]', "1:2: [0]", "the member `parents` is missing"),
     ('[{"uid": {"type": "User", "id": "a"}, "parents": []}]', "1:2: [0]", "the member `attrs` is missing"),
     ('[{"uid": {"type": "User", "id": "a"}, "attrs": {}, "parents": null}]', "1:63: [0].parents", "a list of ids"),
@@ -204,6 +206,7 @@ ENTITIES = (
 )
 REQUEST = '{"principal": "User::\\"a\\"", "action": "Action::\\"view\\"", "resource": "Doc::\\"d\\"", "context": %s}'
 REQUESTS = (
+    NOTHING,
     ((REQUEST % "{}").replace(', "context": {}', ""), "1:1", "`context` is missing"),
     (REQUEST % "null", "1:97: context", "expected an object"),
     ("{}", "1:1", "`principal` is missing"),
@@ -215,6 +218,7 @@ REQUESTS = (
     ((REQUEST % "{}").replace('"a\\"', '"\\\\q\\"'), "1:15: principal", "as User::"),
 )
 LINKS = (
+    NOTHING,
     ('[{"templateId": "t", "newId": "l", "values": {}}]', "1:2: [0]", "no template with the id `t`"),
     ('[{"templateId": "policy0", "newId": "l", "values": {}}]', "1:2: [0]", "no template"),
     ("{}", "1:1", "a list of links"),
