@@ -11,3 +11,5 @@ pub mod Stores
 mod Written
 pub mod SameLookups
 mod Ordering
+pub mod PartialParents
+pub mod PartialStores

@@ -9,3 +9,4 @@ pub mod RowsState
 pub mod Tables
 pub mod OrderLaws
 pub mod Order
+pub mod Parents

@@ -10,6 +10,7 @@ mod lookups;
 mod memory;
 mod order;
 pub mod order_laws;
+pub mod parent_laws;
 mod rows;
 mod store;
 mod stored;
