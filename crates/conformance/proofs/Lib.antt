@@ -1,5 +1,6 @@
 pub mod Known
 pub mod Lacking
+pub mod Links
 pub mod Listed
 pub mod Members
 pub mod Options

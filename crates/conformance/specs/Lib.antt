@@ -1,6 +1,7 @@
 pub mod Ids
 pub mod Keyed
 pub mod Laws
+pub mod Links
 pub mod Misfits
 pub mod RequestRules
 pub mod StoreRules
