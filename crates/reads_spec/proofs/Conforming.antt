@@ -21,7 +21,9 @@ use Rattle.schema_core.specs.Inside.{are_held}
 use Rattle.schema_core.specs.Kinds.{tags_in}
 use Rattle.schema_core.specs.Schema.{SchemaData, type_at, action_at}
 use Rattle.typing_spec.specs.Conforms.{AreTags, TypedConforms, ActionConforms, ConformsAs, EntityConforms, StoreConforms, Applies, RequestConforms, IsOf}
+use Rattle.reads_spec.specs.Paths.{AccessPath}
 use Rattle.reads_spec.specs.PathTypes.{root_type}
+use Rattle.reads_spec.specs.Restrict.{kept_chain}
 use Rattle.reads_spec.specs.Cover.{IsMemberOf, AreMembersOf, HasTypes, KeepsTypes}
 use Rattle.type_relations.proofs.UnionLaws.{own_text}
 use Rattle.plain_lemmas.proofs.Booleans.{or_left_true}
@@ -37,7 +39,7 @@ at_some : {X : Type 0} (P : X → Type 0) (o : Option X) → IsSomeAnd o P → (
 at_some P None h = absurd h
 at_some P (Some x) h = (x, refl, h)
 
-entity_types : (d : SchemaData) (e : StoredEntity) → EntityConforms d e → HasTypes d e
+pub entity_types : (d : SchemaData) (e : StoredEntity) → EntityConforms d e → HasTypes d e
 entity_types d e h = here (is_action_type e.uid.entity_type) h
   where
     here : (b : Bool) → ConformsAs d b e → HasTypes d e
@@ -54,7 +56,7 @@ entity_types d e h = here (is_action_type e.uid.entity_type) h
           tags = rw t.1 (tags_of (tags_in t.0.kind) e.tags t.2.tags);
         }
 
-store_types : (d : SchemaData) (s : Store) → StoreConforms d s → AllByRecursion (HasTypes d) s
+pub store_types : (d : SchemaData) (s : Store) → StoreConforms d s → AllByRecursion (HasTypes d) s
 store_types d [] h = tt
 store_types d (e ∷ es) h = (entity_types d e h.0, store_types d es h.1)
 
@@ -66,8 +68,8 @@ action_typed d u w e h =
     let a = at_some (λ a. Unit {0}) (action_at d w) h in
     rw a.1 (ap (λ x. x.entity_type) e)
 
-pub keeps_types : (d : SchemaData) → IsSchema d → (g : LinkedEnvironment) (q : Request) → RequestConforms d q → IsOf d q g → (s : Store) → StoreConforms d s → KeepsTypes d (declared_action g) q s
-keeps_types d schema g q request of s store =
+pub keeps_types : (d : SchemaData) → IsSchema d → (g : LinkedEnvironment) (q : Request) → RequestConforms d q → IsOf d q g → (ps : List AccessPath) (s : Store) → AllByRecursion (λ e. kept_chain ps q s e.uid [] ≡ true → HasTypes d e) s → KeepsTypes d (declared_action g) ps q s
+keeps_types d schema g q request of ps s entities =
     let a = at_some (λ a. g.context ≡ a.context) (action_at d g.environment.action) of.context in
     let r = at_some (Applies d q) (action_at d (action_of q)) request.action in
     let same : a.0 ≡ r.0 = some_same (sym a.1 ∙ ap (action_at d) (sym of.action) ∙ r.1) in
@@ -77,7 +79,7 @@ keeps_types d schema g q request of s store =
       valid = schema;
       closed = held;
       entries = λ v. entry (λ _. ctx) (subst (λ o. IsSomeAnd o (λ x. Unit {0})) (sym a.1) tt) v;
-      entities = store_types d s store;
+      entities = entities;
     }
   where
     some_same : {X : Type 0} {x y : X} → Some x ≡ Some y → x ≡ y
@@ -88,3 +90,11 @@ keeps_types d schema g q request of s store =
     entry ctx act Resource = has_itself g.environment.resource (resource_of q).entity_type of.resource
     entry ctx act Action = action_typed d (action_of q) g.environment.action of.action act
     entry ctx act Context = ctx tt
+
+-- of a store that conforms
+pub store_keeps_types : (d : SchemaData) → IsSchema d → (g : LinkedEnvironment) (q : Request) → RequestConforms d q → IsOf d q g → (ps : List AccessPath) (s : Store) → StoreConforms d s → KeepsTypes d (declared_action g) ps q s
+store_keeps_types d schema g q request of ps whole store = keeps_types d schema g q request of ps whole (each whole (store_types d whole store))
+  where
+    each : (s : Store) → AllByRecursion (HasTypes d) s → AllByRecursion (λ e. kept_chain ps q whole e.uid [] ≡ true → HasTypes d e) s
+    each [] h = tt
+    each (e ∷ es) h = (λ k. h.0, each es h.1)

@@ -12,24 +12,26 @@ use Rattle.schema_core.specs.EnvData.{EnvData}
 use Rattle.schema_core.specs.Schema.{SchemaData}
 use Rattle.reads_spec.specs.Paths.{AccessPath, Demand, Shape}
 use Rattle.reads_spec.specs.Reads.{shape_of, reads, reads_of, demands, demands_of, declared_reads, declared_demands}
+use Rattle.reads_spec.specs.PathTypes.{declared_part}
 use Rattle.reads_spec.specs.Restrict.{needed}
 use Rattle.reads_spec.specs.Cover.{KeepsTypes, IsBooleanOrError, IsTypedOn, IsPartOf, restricted, ReadsCover}
-use Rattle.reads_spec.proofs.Fitting.{all_fit, root_fits}
+use Rattle.reads_spec.proofs.Fitting.{root_fits}
 use Rattle.reads_spec.proofs.Relation.{Setting, there, Agree}
 use Rattle.reads_spec.proofs.Tops.{top, rel_top}
 use Rattle.reads_spec.proofs.Within.{Kept}
 use Rattle.reads_spec.proofs.Induction.{Covered, left_part, right_part, agrees}
-use Rattle.reads_spec.proofs.Dropping.{nothing_lost}
+use Rattle.reads_spec.proofs.Dropping.{of_whole, nothing_lost}
+use Rattle.reads_spec.proofs.Demanded.{demands_are_read}
 use Rattle.reads_spec.proofs.Order.{IsBetween, between, needed_well_formed, part_of_itself}
 
-setting_of : (d : SchemaData) (g : EnvData) (q : Request) (whole : Store) → KeepsTypes d g q whole → (ps : List AccessPath) (ds : List Demand) (s : Store) → IsBetween (needed ps ds q whole) whole s → Setting
-setting_of d g q whole types ps ds s b = record {
+setting_of : (d : SchemaData) (g : EnvData) (q : Request) (whole : Store) (ps : List AccessPath) → KeepsTypes d g (map (declared_part d g) ps) q whole → (ds : List Demand) (s : Store) → IsBetween (needed ps ds q whole) whole s → Setting
+setting_of d g q whole ps types ds s b = record {
   schema = d;
   env = g;
   request = q;
   whole = whole;
-  roots = root_fits d g q whole types;
-  entities = all_fit d types.valid whole types.entities;
+  roots = root_fits d g (map (declared_part d g) ps) q whole types;
+  entities = of_whole d g q whole ps types;
   read = ps;
   keep = b.keep;
   enough = b.chains;
@@ -59,15 +61,15 @@ each_same c ds kept (e ∷ cs) h k =
 
 pub covers : {A B : Type 0} → ReadsCover A B
 unfolding setting_of
-covers d g q whole types cs typed s low high =
+covers d g q whole cs types typed s low high =
     let ps = reads_of d g (map (λ e. e.1) cs) in
     let ds = demands_of (map (λ e. e.1) cs) in
-    let b = between (needed ps ds q whole) whole s (needed_well_formed ps ds q whole) (subst (λ z. IsPartOf z s) (nothing_lost d g q whole types ps ds) low) high in
-    let c = setting_of d g q whole types ps ds s b in
+    let b = between (needed ps ds q whole) whole s (needed_well_formed ps ds q whole) (subst (λ z. IsPartOf z s) (nothing_lost d g q whole ps types ds (demands_are_read d g (map (λ e. e.1) cs))) low) high in
+    let c = setting_of d g q whole ps types ds s b in
     ap (λ z. map (λ e. eval e.0 q z) cs) b.is ∙ each_same c ds (record { by = b.ancestors }) cs typed (record { reads = λ p i. i; demands = λ d i. i })
 
 -- so it is on the restricted store itself
-pub restricted_same : {A B : Type 0} (d : SchemaData) (g : EnvData) (q : Request) (whole : Store) → KeepsTypes d g q whole → (cs : List (Tree A × Tree B)) → AllByRecursion (IsTypedOn q whole) cs → map (λ e. eval e.0 q (restricted d g (map (λ e. e.1) cs) q whole)) cs ≡ map (λ e. eval e.0 q whole) cs
-restricted_same d g q whole types cs typed =
+pub restricted_same : {A B : Type 0} (d : SchemaData) (g : EnvData) (q : Request) (whole : Store) (cs : List (Tree A × Tree B)) → KeepsTypes d g (declared_reads d g (map (λ e. e.1) cs)) q whole → AllByRecursion (IsTypedOn q whole) cs → map (λ e. eval e.0 q (restricted d g (map (λ e. e.1) cs) q whole)) cs ≡ map (λ e. eval e.0 q whole) cs
+restricted_same d g q whole cs types typed =
     let ts = map (λ e. e.1) cs in
-    covers d g q whole types cs typed (restricted d g ts q whole) (part_of_itself (restricted d g ts q whole)) (needed (declared_reads d g ts) (declared_demands d g ts) q whole, refl)
+    covers d g q whole cs types typed (restricted d g ts q whole) (part_of_itself (restricted d g ts q whole)) (needed (declared_reads d g ts) (declared_demands d g ts) q whole, refl)

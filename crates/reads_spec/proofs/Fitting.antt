@@ -28,13 +28,13 @@ use Rattle.schema_core.specs.Faults.{IsSchema}
 use Rattle.schema_core.specs.Inside.{is_held, are_held}
 use Rattle.schema_core.specs.Kinds.{Kind, standard, enumerated, attributes_in, tags_in, is_held_kind}
 use Rattle.schema_core.specs.Schema.{SchemaData, TypeData, ActionData, type_at, action_at}
-use Rattle.reads_spec.specs.Paths.{Root, variable, an_id, Step, along, any_tag, Chain}
+use Rattle.reads_spec.specs.Paths.{Root, variable, an_id, Step, along, any_tag, Chain, AccessPath}
 use Rattle.typing_spec.specs.Environment.{declared_attributes, declared_tags}
 use Rattle.reads_spec.specs.PathTypes.{type_along, step_on, types_along, root_type, chains, chains_in}
 use Rattle.reads_spec.specs.Restrict.{cut, cut_fields, root_value, values_in, step_in_entity, step}
 use Rattle.reads_spec.specs.Cover.{IsMemberOf, AreMembersOf, HasTypes, KeepsTypes}
 use Rattle.reads_spec.proofs.Lists.{same_text, IsIn, in_left, in_right, in_map}
-use Rattle.reads_spec.proofs.Cuts.{uid_at, all_at}
+use Rattle.reads_spec.proofs.Cuts.{uid_at}
 
 -- a record's fields are declared and fit their types, and a step from an id is typed as the id's own type has it
 abbrev mutual
@@ -78,18 +78,23 @@ one_fits d None (field m v fs) u h k = absurd h
 one_fits d (Some t) (field m v fs) u h (inl e) = subst (Fits d (Some t)) e h.0
 one_fits d (Some t) (field m v fs) u h (inr k) = one_fits d (Some t) fs u h.1 k
 
+-- the entity at an id, where there is one, fits
+abbrev pub FitsThere : SchemaData → Store → Val → Type 0
+FitsThere d s (id x) = (e : StoredEntity) → entity_at s x ≡ Some e → EntityFits d e
+FitsThere d s v = Unit {0}
+
 -- a value one step on fits the type one step on
-pub step_fits : (d : SchemaData) (s : Store) → AllByRecursion (EntityFits d) s → (o : Option Ty) (v w : Val) (n : Step) → Fits d o v → IsIn w (step s v n) → Fits d (step_on d o n) w
-step_fits d s all o (id x) w n h i = subst (λ p. Fits d p w) (sym (h n)) (here (entity_at s x) refl n i)
+pub step_fits : (d : SchemaData) (s : Store) (o : Option Ty) (v w : Val) (n : Step) → FitsThere d s v → Fits d o v → IsIn w (step s v n) → Fits d (step_on d o n) w
+step_fits d s o (id x) w n all h i = subst (λ p. Fits d p w) (sym (h n)) (here (entity_at s x) refl n i)
   where
     here : (r : Option StoredEntity) → entity_at s x ≡ r → (n : Step) → IsIn w (step_in_entity r n) → Fits d (type_along d (entity (x.entity_type ∷ [])) n) w
     here None e n i = absurd i
-    here (Some e) f (along k) i = subst (λ y. Fits d (type_along d (entity (y.entity_type ∷ [])) (along k)) w) (uid_at s x e f) (field_fits d (or_none (declared_attributes d e.uid.entity_type)) e.attrs k w (all_at (EntityFits d) s x e all f).0 (listed_one (field_at e.attrs k) w i))
-    here (Some e) f any_tag i = subst (λ y. Fits d (declared_tags d y.entity_type) w) (uid_at s x e f) (one_fits d (declared_tags d e.uid.entity_type) e.tags w (all_at (EntityFits d) s x e all f).1 i)
-step_fits d s all (Some (record_of xs p)) (rec fs) w (along k) h i = field_fits d xs fs k w h (listed_one (field_at fs k) w i)
-step_fits d s all o (rec fs) w any_tag h i = absurd i
-step_fits d s all o (rec fs) w (along k) h i = absurd h
-step_fits d s all o v w n h i = absurd i
+    here (Some e) f (along k) i = subst (λ y. Fits d (type_along d (entity (y.entity_type ∷ [])) (along k)) w) (uid_at s x e f) (field_fits d (or_none (declared_attributes d e.uid.entity_type)) e.attrs k w (all e f).0 (listed_one (field_at e.attrs k) w i))
+    here (Some e) f any_tag i = subst (λ y. Fits d (declared_tags d y.entity_type) w) (uid_at s x e f) (one_fits d (declared_tags d e.uid.entity_type) e.tags w (all e f).1 i)
+step_fits d s (Some (record_of xs p)) (rec fs) w (along k) all h i = field_fits d xs fs k w h (listed_one (field_at fs k) w i)
+step_fits d s o (rec fs) w any_tag all h i = absurd i
+step_fits d s o (rec fs) w (along k) all h i = absurd h
+step_fits d s o v w n all h i = absurd i
 
 -- no field has an undeclared key
 pub field_undeclared : (d : SchemaData) (xs : Attrs) (fs : Fields) (n : List ℕ) → FitFields d xs fs → option_map (λ a. a.attr_type) (attr_at xs n) ≡ None → field_at fs n ≡ None
@@ -101,8 +106,8 @@ field_undeclared d xs (field m v fs) n h k = here (is_eq (text_cmp n m)) refl (f
     here false e f = f
 
 -- nothing lies an undeclared step on
-pub step_undeclared : (d : SchemaData) (s : Store) → AllByRecursion (EntityFits d) s → (o : Option Ty) (v : Val) (n : Step) → Fits d o v → step_on d o n ≡ None → step s v n ≡ []
-step_undeclared d s all o (id x) n h k = here (entity_at s x) refl n (sym (h n) ∙ k)
+pub step_undeclared : (d : SchemaData) (s : Store) (o : Option Ty) (v : Val) (n : Step) → FitsThere d s v → Fits d o v → step_on d o n ≡ None → step s v n ≡ []
+step_undeclared d s o (id x) n all h k = here (entity_at s x) refl n (sym (h n) ∙ k)
   where
     no_values : (t : Option Ty) (fs : Fields) → FitAll d t fs → t ≡ None → values_in fs ≡ []
     no_values t no_fields f e = refl
@@ -111,12 +116,12 @@ step_undeclared d s all o (id x) n h k = here (entity_at s x) refl n (sym (h n) 
 
     here : (r : Option StoredEntity) → entity_at s x ≡ r → (n : Step) → type_along d (entity (x.entity_type ∷ [])) n ≡ None → step_in_entity r n ≡ []
     here None e n i = refl
-    here (Some e) f (along k) i = ap option_to_list (field_undeclared d (or_none (declared_attributes d e.uid.entity_type)) e.attrs k (all_at (EntityFits d) s x e all f).0 (ap (λ y. type_along d (entity (y.entity_type ∷ [])) (along k)) (uid_at s x e f) ∙ i))
-    here (Some e) f any_tag i = no_values (declared_tags d e.uid.entity_type) e.tags (all_at (EntityFits d) s x e all f).1 (ap (λ y. declared_tags d y.entity_type) (uid_at s x e f) ∙ i)
-step_undeclared d s all (Some (record_of xs p)) (rec fs) (along m) h k = ap option_to_list (field_undeclared d xs fs m h k)
-step_undeclared d s all o (rec fs) any_tag h k = refl
-step_undeclared d s all o (rec fs) (along m) h k = absurd h
-step_undeclared d s all o v n h k = refl
+    here (Some e) f (along k) i = ap option_to_list (field_undeclared d (or_none (declared_attributes d e.uid.entity_type)) e.attrs k (all e f).0 (ap (λ y. type_along d (entity (y.entity_type ∷ [])) (along k)) (uid_at s x e f) ∙ i))
+    here (Some e) f any_tag i = no_values (declared_tags d e.uid.entity_type) e.tags (all e f).1 (ap (λ y. declared_tags d y.entity_type) (uid_at s x e f) ∙ i)
+step_undeclared d s (Some (record_of xs p)) (rec fs) (along m) all h k = ap option_to_list (field_undeclared d xs fs m h k)
+step_undeclared d s o (rec fs) any_tag all h k = refl
+step_undeclared d s o (rec fs) (along m) all h k = absurd h
+step_undeclared d s o v n all h k = refl
 
 -- steps one after another
 pub types_along-append : (d : SchemaData) (o : Option Ty) (ns ms : List Step) → types_along d o (ns ++ ms) ≡ types_along d (types_along d o ns) ms
@@ -279,17 +284,17 @@ module _ (d : SchemaData) (schema : IsSchema d) where
     tags_fit e.uid.entity_type e.tags h.tags,
   )
 
-pub all_fit : (d : SchemaData) → IsSchema d → (s : Store) → AllByRecursion (HasTypes d) s → AllByRecursion (EntityFits d) s
-all_fit d schema [] h = tt
-all_fit d schema (e ∷ es) h = (entity_fits d schema e h.0, all_fit d schema es h.1)
+pub all_fit : (d : SchemaData) → IsSchema d → (P : EntityUID → Type 0) (s : Store) → AllByRecursion (λ e. P e.uid → HasTypes d e) s → AllByRecursion (λ e. P e.uid → EntityFits d e) s
+all_fit d schema P [] h = tt
+all_fit d schema P (e ∷ es) h = (λ p. entity_fits d schema e (h.0 p), all_fit d schema P es h.1)
 
-pub root_fits : (d : SchemaData) (g : EnvData) (q : Request) (s : Store) → KeepsTypes d g q s → (r : Root) → Fits d (root_type d g r) (root_value q r)
-root_fits d g q s h (an_id u) = literal_fits d h.valid u
-root_fits d (declared_action e) q s h (variable Principal) = ids_fit d (e.environment.principal ∷ []) (principal_of q) refl (h.entries Principal)
-root_fits d (declared_action e) q s h (variable Resource) = ids_fit d (e.environment.resource ∷ []) (resource_of q) refl (h.entries Resource)
-root_fits d (declared_action e) q s h (variable Action) = λ k. literal_fits d h.valid e.environment.action k ∙ ap (λ n. type_along d (entity (n ∷ [])) k) (sym (same_type d h.valid (action_of q) e.environment.action (h.entries Action)))
-root_fits d (declared_action e) q s h (variable Context) = member_fits d (context_type_in (declared_action e)) (variable_value Context q) h.closed (h.entries Context)
-root_fits d undeclared_action q s h (variable v) = absurd (here h.closed)
+pub root_fits : (d : SchemaData) (g : EnvData) (ps : List AccessPath) (q : Request) (s : Store) → KeepsTypes d g ps q s → (r : Root) → Fits d (root_type d g r) (root_value q r)
+root_fits d g ps q s h (an_id u) = literal_fits d h.valid u
+root_fits d (declared_action e) ps q s h (variable Principal) = ids_fit d (e.environment.principal ∷ []) (principal_of q) refl (h.entries Principal)
+root_fits d (declared_action e) ps q s h (variable Resource) = ids_fit d (e.environment.resource ∷ []) (resource_of q) refl (h.entries Resource)
+root_fits d (declared_action e) ps q s h (variable Action) = λ k. literal_fits d h.valid e.environment.action k ∙ ap (λ n. type_along d (entity (n ∷ [])) k) (sym (same_type d h.valid (action_of q) e.environment.action (h.entries Action)))
+root_fits d (declared_action e) ps q s h (variable Context) = member_fits d (context_type_in (declared_action e)) (variable_value Context q) h.closed (h.entries Context)
+root_fits d undeclared_action ps q s h (variable v) = absurd (here h.closed)
   where
     here : false ≡ true → ⊥
     here e = grind arith

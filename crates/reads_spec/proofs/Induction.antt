@@ -45,7 +45,7 @@ module _ (c : Setting) (ds : List Demand) (ps rs : List AccessPath) (es fs : Lis
 
 -- the same, where only one part demands
 module _ (c : Setting) (ds : List Demand) (ps rs : List AccessPath) (es : List Demand) where
-  first_reads : Covered c ds (ps ++ rs) es → Covered c ds ps es
+  pub first_reads : Covered c ds (ps ++ rs) es → Covered c ds ps es
   first_reads h = record { reads = λ p i. h.reads p (in_left p ps rs i); demands = h.demands }
 
   last_reads : Covered c ds (ps ++ rs) es → AllIn c rs

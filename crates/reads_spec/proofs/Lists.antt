@@ -1,18 +1,15 @@
 -- Lists, tests and names.
-use Rattle.std.proofs.Common.{◌≡◌, ℕ, Bool, true, false, ◌||◌, List, [], ◌∷◌, ◌++◌, map, refl, ap, arith, ◌⊎◌, inl, inr}
+use Rattle.std.proofs.Common.{◌≡◌, ℕ, Bool, true, false, List, [], ◌∷◌, ◌++◌, map, refl, ap, ◌⊎◌, inl, inr}
 use Rattle.std.specs.Prelude.{if◌then◌else◌, filter}
 use Rattle.std.specs.List.{list_any, flat_map}
 use Rattle.std.specs.Ordering.{is_eq}
-use Rattle.std.specs.declared.cmp.Ordering.{Ordering}
-use Rattle.std.specs.declared.cmp.Ordering.TheVariants.{Less, Equal, Greater}
 use Rattle.std.proofs.lemmas.Bool.{and_from}
-use Rattle.std.proofs.lemmas.Cmp.{tied_itself, nat_list_cmp_total}
+use Rattle.std.proofs.lemmas.Cmp.{tied_itself}
 use Rattle.std.proofs.lemmas.Map.Lookups.{exact_bytes}
 use Rattle.policy_values.specs.declared.entity_uid.EntityUID.{EntityUID}
 use Rattle.policy_values.specs.Uid.{text_cmp, uid_cmp, uid_cmp_total, exact_uid, uid_eq}
 use Rattle.reads_spec.specs.Paths.{Step, along, any_tag}
 use Rattle.reads_spec.specs.Restrict.{same_step, is_prefix}
-use Rattle.plain_lemmas.proofs.Lists.{append_empty}
 use Rattle.plain_lemmas.proofs.Booleans.{or_left_true, or_right_true}
 use Rattle.policy_values.specs.Ties.{equal_of}
 use Rattle.type_relations.proofs.UnionLaws.{own_text}
@@ -74,7 +71,7 @@ pub is_prefix-append : (cs more : List Step) → is_prefix cs (cs ++ more) ≡ t
 is_prefix-append [] more = refl
 is_prefix-append (c ∷ cs) more = and_from (same_step c c) (is_prefix cs (cs ++ more)) (same_step-self c) (is_prefix-append cs more)
 
-in_append_out : {A : Type 0} (y : A) (xs ys : List A) → IsIn y (xs ++ ys) → IsIn y xs ⊎ IsIn y ys
+pub in_append_out : {A : Type 0} (y : A) (xs ys : List A) → IsIn y (xs ++ ys) → IsIn y xs ⊎ IsIn y ys
 in_append_out y [] ys h = inr h
 in_append_out y (x ∷ xs) ys (inl e) = inl (inl e)
 in_append_out y (x ∷ xs) ys (inr h) = at_rest (in_append_out y xs ys h)

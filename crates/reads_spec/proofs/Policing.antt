@@ -13,6 +13,7 @@ use Rattle.typing_spec.specs.Sound.{TypingIsSound}
 use Rattle.typing_spec.specs.Typing.{Typing}
 use Rattle.reads_spec.specs.Cover.{IsPartOf, restricted}
 use Rattle.reads_spec.specs.Conditions.{HasTyping}
+use Rattle.reads_spec.specs.Reached.{ReachedConforms}
 use Rattle.reads_spec.specs.Policies.{PolicyHasTyping, PoliciesAreCovered}
 use Rattle.reads_spec.proofs.Accepting.{are_covered}
 
@@ -32,7 +33,7 @@ all_typed d g [] h = tt
 all_typed d g (p ∷ ps) h = (h.0, all_typed d g ps h.1)
 
 pub policies_covered : TypingIsSound → PoliciesAreCovered
-policies_covered sound d schema g q request of whole store ps typed s low high =
+policies_covered sound d schema g q request of whole ps typed conforms s low high =
     sym (same_outcomes q s ps)
-    ∙ are_covered sound d schema g q request of whole store (conditions ps) (all_typed d g ps typed) s (subst (λ ts. IsPartOf (restricted d (declared_action g) ts q whole) s) (sym (same_trees ps)) low) high
+    ∙ are_covered sound d schema g q request of whole (conditions ps) (all_typed d g ps typed) (subst (λ ts. ReachedConforms d (declared_action g) ts q whole) (sym (same_trees ps)) conforms) s (subst (λ ts. IsPartOf (restricted d (declared_action g) ts q whole) s) (sym (same_trees ps)) low) high
     ∙ same_outcomes q whole ps

@@ -1,5 +1,5 @@
 -- Coverage: what is read is enough.
-use Rattle.std.specs.Prelude.{◌≡◌, true, false, List, map, Option, Some, None, Ok, IsTrue}
+use Rattle.std.specs.Prelude.{◌≡◌, true, false, List, [], map, Option, Some, None, Ok, IsTrue}
 use Rattle.std.specs.List.{AllByRecursion}
 use Rattle.policy_values.specs.Value.{Val, truth, Fields, no_fields, field}
 use Rattle.entity_store.specs.declared.request.Request.{Request}
@@ -17,11 +17,11 @@ use Rattle.schema_core.specs.EnvData.{EnvData, context_type_in}
 use Rattle.schema_core.specs.Faults.{IsSchema}
 use Rattle.schema_core.specs.Inside.{is_held}
 use Rattle.schema_core.specs.Schema.{SchemaData}
-use Rattle.reads_spec.specs.Paths.{variable}
+use Rattle.reads_spec.specs.Paths.{variable, AccessPath}
 use Rattle.typing_spec.specs.Environment.{declared_attributes, declared_tags}
 use Rattle.reads_spec.specs.PathTypes.{root_type}
 use Rattle.reads_spec.specs.Reads.{declared_reads, declared_demands}
-use Rattle.reads_spec.specs.Restrict.{Keep, part, restrict}
+use Rattle.reads_spec.specs.Restrict.{Keep, part, kept_chain, restrict}
 
 -- there is a type, and the value is a member of it
 abbrev pub IsMemberOf : Option Ty → Val → Type 0
@@ -39,13 +39,14 @@ pub record HasTypes (schema : SchemaData) (e : StoredEntity) : Type 0 where
   pub attributes : Typed ClosedAttributes (or_none (declared_attributes schema e.uid.entity_type)) e.attrs
   pub tags : AreMembersOf (declared_tags schema e.uid.entity_type) e.tags
 
--- what is read of a request and a store is of the types that the schema has for it in an environment; what is
--- required plays no part
-pub record KeepsTypes (schema : SchemaData) (env : EnvData) (q : Request) (s : Store) : Type 0 where
+-- what paths read of a request and a store is of the types that the schema has for it in an environment; what
+-- is required plays no part, and of the entities none but those on which a path stands
+pub record KeepsTypes (schema : SchemaData) (env : EnvData) (ps : List AccessPath)
+    (q : Request) (s : Store) : Type 0 where
   pub valid : IsSchema schema
   pub closed : IsTrue (is_held (context_type_in env))
   pub entries : (v : Var) → IsMemberOf (root_type schema env (variable v)) (variable_value v q)
-  pub entities : AllByRecursion (HasTypes schema) s
+  pub entities : AllByRecursion (λ e. kept_chain ps q s e.uid [] ≡ true → HasTypes schema e) s
 
 module _ (q : Request) (s : Store) {A B : Type 0} where
   -- t is e wherever e is evaluated on the store; where it is not, t may have anything, such as the
@@ -100,11 +101,13 @@ IsPartOf a b = (keep : Keep) × (a ≡ part keep b)
 abbrev pub IsTypedOn : {A B : Type 0} → Request → Store → Tree A × Tree B → Type 0
 IsTypedOn q s c = Prunes q s c.0 c.1 × IsBooleanOrError (eval c.0 q s)
 
--- where request and store keep to the types, each condition has, on each store between the one restricted to
--- what its typed form reads and the whole one, the outcome that it has on the whole one
+-- where what the typed conditions read keeps to the types, each condition has, on each store between the one
+-- restricted to what they read and the whole one, the outcome that it has on the whole one
 abbrev pub ReadsCover : Type 0 → Type 0 → Type 0
 ReadsCover A B =
-    (schema : SchemaData) (env : EnvData) (q : Request) (whole : Store) → KeepsTypes schema env q whole →
-    (cs : List (Tree A × Tree B)) → AllByRecursion (IsTypedOn q whole) cs →
+    (schema : SchemaData) (env : EnvData) (q : Request) (whole : Store) →
+    (cs : List (Tree A × Tree B)) →
+    KeepsTypes schema env (declared_reads schema env (map (λ c. c.1) cs)) q whole →
+    AllByRecursion (IsTypedOn q whole) cs →
     (s : Store) → IsPartOf (restricted schema env (map (λ c. c.1) cs) q whole) s → IsPartOf s whole →
     map (λ c. eval c.0 q s) cs ≡ map (λ c. eval c.0 q whole) cs

@@ -2,6 +2,8 @@ pub mod Paths
 pub mod PathTypes
 pub mod Reads
 pub mod Restrict
+pub mod Reached
+pub mod Writes
 pub mod Among
 pub mod Cover
 pub mod Merge
