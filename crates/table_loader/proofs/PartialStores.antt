@@ -1,6 +1,6 @@
 -- The store of a part of the entities.
 use Rattle.std.proofs.Common.{◌≡◌, ◌↔◌, true, false, Bool, List, [], ◌∷◌, Option, Some, None, Contains, cond, refl, sym, ap, ◌∙◌, subst}
-use Rattle.std.specs.Prelude.{IsSomeAnd, IsSome}
+use Rattle.std.specs.Prelude.{IsSomeAnd}
 use Rattle.std.specs.Option.{option_map}
 use Rattle.std.specs.List.{AllByRecursion}
 use Rattle.std.specs.List.Sorted.{IsStrictlySortedBy}

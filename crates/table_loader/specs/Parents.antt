@@ -32,16 +32,19 @@ abbrev pub PartsAreStores : Type 0
 PartsAreStores =
     (part all : List StoredEntity) → AreSomeOf part all → ((x : EntityUID) → ¬ IsOwnAncestor all x) →
     ((x : EntityUID) → ¬ IsOwnAncestor part x) ×
-    (((x : EntityUID) → ¬ IsRepeated (ids_of part) x) → (e : EntitiesError) → IsRefused part e → e ≡ OutOfMemory)
+    (((x : EntityUID) → ¬ IsRepeated (ids_of part) x) →
+    (e : EntitiesError) → IsRefused part e → e ≡ OutOfMemory)
 
 -- what is given is there, and what is said to be absent is not
-pub record AgreeWith (given : List StoredEntity) (absent : List EntityUID) (all : List StoredEntity) : Type 0 where
+pub record AgreeWith (given : List StoredEntity) (absent : List EntityUID)
+    (all : List StoredEntity) : Type 0 where
   pub there : AreSomeOf given all
   pub not_there : (y : EntityUID) → Contains absent y → entity_at all y ≡ None
 
 -- each parent of what is given is given or said to be absent
 abbrev pub IsClosedOver : List StoredEntity → List EntityUID → Type 0
-IsClosedOver given absent = (x y : EntityUID) → Lists given x y → IsSome (entity_at given y) ⊎ Contains absent y
+IsClosedOver given absent =
+    (x y : EntityUID) → Lists given x y → IsSome (entity_at given y) ⊎ Contains absent y
 
 abbrev pub GivenRowsAreClosed : Type 0
 GivenRowsAreClosed =
@@ -61,8 +64,8 @@ AncestorsAreAll =
     (x : EntityUID) → seen x ≡ true → ((y : EntityUID) → Lists t x y → seen y ≡ true) →
     (y : EntityUID) → Lists t x y ↔ Lists s x y
 
--- where an id was looked up, its entity in the store of what was found is but for its ancestors the one in the
--- store of all entities
+-- where an id was looked up, its entity in the store of what was found is but for its ancestors the one in
+-- the store of all entities
 abbrev pub OthersAreAll : Type 0
 OthersAreAll =
     (seen : EntityUID → Bool) (found all : List StoredEntity) → AreLookedUp seen found all →
@@ -78,8 +81,8 @@ EntitiesAreWhole =
     (x : EntityUID) → seen x ≡ true → ((y : EntityUID) → Lists t x y → seen y ≡ true) →
     entity_at t x ≡ entity_at s x
 
--- ancestors that are taken for parents reach no more: entities that list all of their ancestors may be read as
--- entities with their parents
+-- ancestors that are taken for parents reach no more: entities that list all of their ancestors may be read
+-- as entities with their parents
 abbrev pub ClosedAgain : Type 0
 ClosedAgain =
     (es s : List StoredEntity) → IsFromParents es s → (x y : EntityUID) → Lists s x y ↔ Reaches (Lists s) x y
