@@ -1,6 +1,7 @@
 pub mod Additions
 pub mod Ascending
-mod Covering
+pub mod Covering
+mod Alike
 pub mod Entries
 pub mod Environments
 mod Holding

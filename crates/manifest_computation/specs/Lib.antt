@@ -1,6 +1,7 @@
 pub mod Slice
 pub mod Rules
 pub mod Enough
+pub mod Writes
 pub mod Refused
 pub mod CheckSteps
 pub mod Environments
