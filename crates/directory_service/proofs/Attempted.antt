@@ -12,27 +12,28 @@ use Rattle.entity_loader.specs.State.{LoaderState}
 use Rattle.entity_manifest.specs.declared.EntitySliceError.{EntitySliceError}
 use Rattle.entity_manifest.specs.declared.EntitySliceError.TheVariants as error
 use Rattle.entity_manifest.specs.Loaded.{AreDecidedAlike, OfKnownStores, WhyNotLoaded, IsReported}
+use Rattle.entity_manifest.proofs.Loaded.{conform_where_reached}
 use Rattle.directory_service.specs.declared.attempt.Attempt.{Attempt}
 use Rattle.directory_service.specs.declared.attempt.Attempt.TheVariants.{Decided, Missing, Refused}
 use Rattle.directory_service.specs.Attempts.{IsAttempt, Becomes}
 
 module _ (schema : SchemaData) (policies : PolicySetData) (q : Request) (old new : LoaderState) where
   pub attempted : (result : Result Store EntitySliceError) →
-      OfKnownStores schema old (λ w. IfOk result (λ s. AreDecidedAlike policies.policies q s w)) →
-      IfErr result (λ e. e ≢ error.OutOfMemory → WhyNotLoaded schema old new e) →
+      OfKnownStores schema policies.policies q old (λ w. IfOk result (λ s. AreDecidedAlike policies.policies q s w)) →
+      IfErr result (λ e. e ≢ error.OutOfMemory → WhyNotLoaded schema policies.policies q old new e) →
       (a : Attempt) → Becomes policies.policies q result a → (w : Store) → IsReported old w → StoreConforms schema w → IsAttempt policies.policies q w a
-  attempted (Ok s) alike why a is w told stored = subst (IsAttempt policies.policies q w) (sym is) (alike w told stored).response
+  attempted (Ok s) alike why a is w told stored = subst (IsAttempt policies.policies q w) (sym is) (alike w told (conform_where_reached schema policies.policies q w stored)).response
   attempted (Err error.LoaderFault) alike why a is w told stored = subst (IsAttempt policies.policies q w) (sym is.1) tt
   attempted (Err error.OutOfMemory) alike why a is w told stored = absurd is
-  attempted (Err (error.IncompatibleEntityManifest e)) alike why a is w told stored = absurd (why (λ h. cc) w told stored)
+  attempted (Err (error.IncompatibleEntityManifest e)) alike why a is w told stored = absurd (why (λ h. cc) w told (conform_where_reached schema policies.policies q w stored))
   attempted (Err (error.InconsistentLoader uid kept got)) alike why a is w told stored = absurd (why (λ h. cc) w told)
   attempted (Err (error.WrongNumberOfEntities e)) alike why a is w told stored = absurd ((why (λ h. cc)).1 w told)
   attempted (Err (error.WrongNumberOfAncestors n k)) alike why a is w told stored = absurd ((why (λ h. cc)).1 w told)
   attempted (Err (error.PartialRequest e)) alike why a is w told stored = absurd (why (λ h. cc))
 
   pub attempted_if : {E : Type 0} (result : Result Store EntitySliceError) →
-      OfKnownStores schema old (λ w. IfOk result (λ s. AreDecidedAlike policies.policies q s w)) →
-      IfErr result (λ e. e ≢ error.OutOfMemory → WhyNotLoaded schema old new e) →
+      OfKnownStores schema policies.policies q old (λ w. IfOk result (λ s. AreDecidedAlike policies.policies q s w)) →
+      IfErr result (λ e. e ≢ error.OutOfMemory → WhyNotLoaded schema policies.policies q old new e) →
       (r : Result Attempt E) → IfOk r (Becomes policies.policies q result) → (w : Store) → IsReported old w → StoreConforms schema w →
       IfOk r (IsAttempt policies.policies q w)
   attempted_if result alike why (Ok a) is w told stored = attempted result alike why a is w told stored

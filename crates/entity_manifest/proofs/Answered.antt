@@ -23,8 +23,8 @@ answer_is P a (Err e) is not_memory f = tt
 
 pub answered : (schema : SchemaData) (policies : PolicySetData) (q : Request) → IsWhole q → RequestConforms schema q → (old new : LoaderState) →
     (result : Result Store EntitySliceError) →
-    OfKnownStores schema old (λ w. IfOk result (λ s. AreDecidedAlike policies.policies q s w)) →
-    IfErr result (λ e. e ≢ error.OutOfMemory → WhyNotLoaded schema old new e) → (result ≡ Err error.OutOfMemory → ⊥) →
+    OfKnownStores schema policies.policies q old (λ w. IfOk result (λ s. AreDecidedAlike policies.policies q s w)) →
+    IfErr result (λ e. e ≢ error.OutOfMemory → WhyNotLoaded schema policies.policies q old new e) → (result ≡ Err error.OutOfMemory → ⊥) →
     IsLoaderAnswer schema policies.policies old new q (answer_of policies.policies q result)
 answered schema policies q whole conforms old new (Ok s) alike why not_memory = (whole, conforms, λ w told stored. (alike w told stored).response)
 answered schema policies q whole conforms old new (Err e) alike why not_memory = (whole, conforms, why (λ h. not_memory (ap Err h)))

@@ -11,7 +11,7 @@ use Rattle.access_tries.specs.Table.{Table}
 use Rattle.policy_set.specs.PolicySet.{PolicySetData, IsPolicySet, AreKeyedOnce}
 use Rattle.schema_core.specs.Faults.{IsSchema}
 use Rattle.schema_core.specs.Schema.{SchemaData}
-use Rattle.typing_spec.specs.Conforms.{RequestConforms, StoreConforms}
+use Rattle.typing_spec.specs.Conforms.{RequestConforms}
 use Rattle.manifest_computation.specs.Accepted.{IsAccepted}
 use Rattle.reads_spec.specs.Paths.{AccessPath, Demand}
 use Rattle.reads_spec.specs.Cover.{IsPartOf}
@@ -31,6 +31,7 @@ use Rattle.entity_loading.specs.declared.error.EntitySliceError.{EntitySliceErro
 use Rattle.entity_loading.specs.declared.error.EntitySliceError.TheVariants as error
 use Rattle.manifest_core.specs.Manifest.{Manifest, trie_for}
 use Rattle.manifest_computation.specs.Computed.{IsManifestOf}
+use Rattle.manifest_computation.specs.Rules.{ReachedConform}
 use Rattle.manifest_computation.proofs.RequestTries.{tries_of_reads}
 use Rattle.entity_manifest.specs.Loaded.{LoadedIsEnough, AreDecidedAlike, RefusalsAreFaults, IsFaultOrMemory, IsReported, OfKnownStores, WhyNotLoaded}
 use Rattle.entity_manifest.proofs.Loaded.{tries_there}
@@ -78,8 +79,8 @@ module _ (sticks : Table → Val → Type 0) (covered : LoadedIsEnough) (faults 
       by None h = g h
       by (Some t) h = f t h
 
-  -- where a loader says a store that conforms, it is refused for faults alone
-  refusal : (e : EntitySliceError) → Loads m q old new (Err e) sticks → (w : Store) → IsReported old w → StoreConforms schema w → IsFaultOrMemory old new e
+  -- where a loader says a store that conforms where it is reached, it is refused for faults alone
+  refusal : (e : EntitySliceError) → Loads m q old new (Err e) sticks → (w : Store) → IsReported old w → ReachedConform schema policies.policies q w → IsFaultOrMemory old new e
   refusal e loads w told stored =
       faults schema valid policies.policies m computed q conforms w stored old new e
       record { without = λ h. loads.without whole h; right = λ t h. loads.right whole t h w told.told (record { each = told.order.order }) }
@@ -98,7 +99,7 @@ module _ (sticks : Table → Val → Type 0) (covered : LoadedIsEnough) (faults 
         weaker P error.LoaderFault h = h
         weaker P error.OutOfMemory h = h
 
-    fault_alone : (w : Store) → IsReported old w → StoreConforms schema w → e ≡ error.LoaderFault
+    fault_alone : (w : Store) → IsReported old w → ReachedConform schema policies.policies q w → e ≡ error.LoaderFault
     fault_alone w told stored =
         elim (refusal e loads w told stored) [
           | inl h ↦ h.0
@@ -117,7 +118,7 @@ module _ (sticks : Table → Val → Type 0) (covered : LoadedIsEnough) (faults 
         weaker P error.LoaderFault h = h
         weaker P error.OutOfMemory h = h
 
-  why : (e : EntitySliceError) → Loads m q old new (Err e) sticks → (e ≡ error.OutOfMemory → ⊥) → WhyNotLoaded schema old new e
+  why : (e : EntitySliceError) → Loads m q old new (Err e) sticks → (e ≡ error.OutOfMemory → ⊥) → WhyNotLoaded schema policies.policies q old new e
   why error.LoaderFault loads not_memory = caused error.LoaderFault loads not_memory
   why (error.IncompatibleEntityManifest e) loads not_memory =
       λ w told stored. absurd (let no = fault_alone (error.IncompatibleEntityManifest e) loads not_memory w told stored in cc)
@@ -129,7 +130,7 @@ module _ (sticks : Table → Val → Type 0) (covered : LoadedIsEnough) (faults 
   why (error.PartialRequest e) loads not_memory = caused (error.PartialRequest e) loads not_memory
   why error.OutOfMemory loads not_memory = not_memory refl
 
-  module _ (s : Store) (loads : Loads m q old new (Ok s) sticks) (w : Store) (told : IsReported old w) (stored : StoreConforms schema w) where
+  module _ (s : Store) (loads : Loads m q old new (Ok s) sticks) (w : Store) (told : IsReported old w) (stored : ReachedConform schema policies.policies q w) where
     lies : Lies old.exact (slice schema policies.policies q w) w s
     lies = by_trie with_trie without
       where
@@ -154,17 +155,17 @@ module _ (sticks : Table → Val → Type 0) (covered : LoadedIsEnough) (faults 
 
     alike : AreDecidedAlike policies.policies q s w
     alike =
-        covered schema valid policies set once m computed q w record { whole = whole; request = conforms; store = stored; policies = accepted }
+        covered schema valid policies set once m computed q w record { whole = whole; request = conforms; reached = stored; policies = accepted }
         old.exact s (λ t h reads demands fit. loads.between t h w told.told (record { each = told.order.order }) told.order.ids reads demands fit)
 
   -- what is promised of the result
   pub record Promised (result : Result Store EntitySliceError) : Type 0 where
-    pub enough : OfKnownStores schema old (λ w. IfOk result (λ s. IsPartOf (slice schema policies.policies q w) s))
-    pub part : OfKnownStores schema old (λ w. IfOk result (λ s. IsPartOf s w))
-    pub exact : old.exact ≡ true → OfKnownStores schema old (λ w. IfOk result (λ s. s ≡ slice schema policies.policies q w))
-    pub decided : OfKnownStores schema old (λ w. IfOk result (λ s. AreDecidedAlike policies.policies q s w))
-    pub honest : OfKnownStores schema old (λ w. IfErr result (IsFaultOrMemory old new))
-    pub cause : IfErr result (λ e. e ≢ error.OutOfMemory → WhyNotLoaded schema old new e)
+    pub enough : OfKnownStores schema policies.policies q old (λ w. IfOk result (λ s. IsPartOf (slice schema policies.policies q w) s))
+    pub part : OfKnownStores schema policies.policies q old (λ w. IfOk result (λ s. IsPartOf s w))
+    pub exact : old.exact ≡ true → OfKnownStores schema policies.policies q old (λ w. IfOk result (λ s. s ≡ slice schema policies.policies q w))
+    pub decided : OfKnownStores schema policies.policies q old (λ w. IfOk result (λ s. AreDecidedAlike policies.policies q s w))
+    pub honest : OfKnownStores schema policies.policies q old (λ w. IfErr result (IsFaultOrMemory old new))
+    pub cause : IfErr result (λ e. e ≢ error.OutOfMemory → WhyNotLoaded schema policies.policies q old new e)
 
   pub promised : (result : Result Store EntitySliceError) → Loads m q old new result sticks → Promised result
   promised (Ok s) loads = record {

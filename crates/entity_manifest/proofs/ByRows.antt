@@ -10,10 +10,10 @@ use Rattle.entity_store.specs.Store.{Store}
 use Rattle.policy_set.specs.Data.{PolicyData}
 use Rattle.policy_set.specs.Response.{response}
 use Rattle.schema_core.specs.Schema.{SchemaData}
-use Rattle.typing_spec.specs.Conforms.{StoreConforms}
 use Rattle.entity_loader.specs.State.{LoaderState, Continues}
 use Rattle.entity_loading.specs.declared.error.EntitySliceError.TheVariants as error
 use Rattle.table_loader.specs.Laws.{IsStoreOrdered}
+use Rattle.manifest_computation.specs.Rules.{ReachedConform}
 use Rattle.entity_manifest.specs.declared.answer.BatchAnswer.{BatchAnswer}
 use Rattle.entity_manifest.specs.declared.answer.BatchAnswer.TheVariants.{Partial, Refused, Loading, Decided}
 use Rattle.entity_manifest.specs.Loaded.{IsReported}
@@ -39,13 +39,13 @@ module _ (schema : SchemaData) (ps : List PolicyData) (o : Option Store) (ordere
     row_answer (Refused e) h = h
     row_answer (Decided r) h = (h.0, h.1, by o refl)
       where
-        by : (p : Option Store) → o ≡ p → IfSome p (λ w. StoreConforms schema w → r ≡ response ps q w)
+        by : (p : Option Store) → o ≡ p → IfSome p (λ w. ReachedConform schema ps q w → r ≡ response ps q w)
         by None is = tt
         by (Some w) is = λ stored. h.2 w (told w is) stored
     row_answer (Loading error.LoaderFault) h = (h.0, h.1, tt)
     row_answer (Loading (error.IncompatibleEntityManifest e)) h = (h.0, h.1, by o refl)
       where
-        by : (p : Option Store) → o ≡ p → IfSome p (λ w. ¬ StoreConforms schema w)
+        by : (p : Option Store) → o ≡ p → IfSome p (λ w. ¬ ReachedConform schema ps q w)
         by None is = tt
         by (Some w) is = h.2 w (told w is)
     row_answer (Loading (error.InconsistentLoader uid kept got)) h = (h.0, h.1, by o refl)

@@ -19,7 +19,7 @@ use Rattle.schema_core.specs.EnvData.{EnvData}
 use Rattle.schema_core.specs.Faults.{IsSchema}
 use Rattle.schema_core.specs.Schema.{SchemaData}
 use Rattle.typing_spec.specs.Environment.{declared_attributes, declared_tags}
-use Rattle.reads_spec.specs.Paths.{Root, variable, an_id, Step, along, any_tag, Chain}
+use Rattle.reads_spec.specs.Paths.{Root, variable, an_id, Step, along, any_tag, Chain, AccessPath}
 use Rattle.reads_spec.specs.PathTypes.{type_along, step_on, types_along, root_type}
 use Rattle.reads_spec.specs.Restrict.{cut, cut_fields, root_value, values_in, step_in_entity, step, walk}
 use Rattle.reads_spec.specs.Cover.{IsMemberOf, AreMembersOf, HasTypes, KeepsTypes}
@@ -152,6 +152,6 @@ pub store_has : (d : SchemaData) → IsSchema d → (s : Store) → AllByRecursi
 store_has d valid [] h = tt
 store_has d valid (e ∷ es) h = (entity_has d e (entity_fits d valid e h.0) h.0, store_has d valid es h.1)
 
-pub root_has : (d : SchemaData) (g : EnvData) (q : Request) (s : Store) → KeepsTypes d g q s → (r : Root) → Has d (root_type d g r) (root_value q r)
-root_has d g q s h (an_id u) = root_fits d g q s h (an_id u)
-root_has d g q s h (variable v) = has_root d (root_type d g (variable v)) (root_value q (variable v)) (root_fits d g q s h (variable v)) (h.entries v)
+pub root_has : (d : SchemaData) (g : EnvData) (ps : List AccessPath) (q : Request) (s : Store) → KeepsTypes d g ps q s → (r : Root) → Has d (root_type d g r) (root_value q r)
+root_has d g ps q s h (an_id u) = root_fits d g ps q s h (an_id u)
+root_has d g ps q s h (variable v) = has_root d (root_type d g (variable v)) (root_value q (variable v)) (root_fits d g ps q s h (variable v)) (h.entries v)

@@ -4,6 +4,7 @@ mod Conditions
 mod Having
 mod Sticking
 mod Conforming
+mod There
 pub mod Manifests
 mod HonestLoading
 pub mod ByManifest

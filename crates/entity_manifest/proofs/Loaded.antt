@@ -37,9 +37,10 @@ use Rattle.manifest_computation.specs.Computed.{IsEntryOf, IsManifestOf}
 use Rattle.entity_manifest.specs.Computed.{ComputedManifestsFit}
 use Rattle.manifest_computation.specs.Enough.{SlicesAreEnough, IsEnough}
 use Rattle.manifest_computation.specs.Laws.{IsTrieFor}
-use Rattle.manifest_computation.specs.Rules.{KeepRules}
+use Rattle.manifest_computation.specs.Rules.{KeepReachedRules}
 use Rattle.manifest_computation.specs.Slice.{env_of, slice, slice_in}
 use Rattle.manifest_computation.proofs.Same.{response_same}
+pub use Rattle.manifest_computation.proofs.Covering.{conform_where_reached}
 use Rattle.manifest_computation.proofs.Environments.{are_there}
 use Rattle.manifest_computation.proofs.RequestTries.{tries_of_reads}
 use Rattle.entity_manifest.specs.Loaded.{TriesAreThere, LoadedIsEnough, IsLoadedBy, AreDecidedAlike, IsFaultOrMemory, RefusalsAreFaults}
@@ -77,7 +78,7 @@ tries_there d (p ∷ ps) m is q whole conforms none =
 
 -- ---- what is loaded is enough
 
-module _ (d : SchemaData) (valid : IsSchema d) (policies : PolicySetData) (m : Manifest) (computed : IsManifestOf d policies.policies m) (q : Request) (whole : Store) (rules : KeepRules d policies q whole) (exact : Bool) (s : Store) (loaded : IsLoadedBy exact m q whole s)
+module _ (d : SchemaData) (valid : IsSchema d) (policies : PolicySetData) (m : Manifest) (computed : IsManifestOf d policies.policies m) (q : Request) (whole : Store) (rules : KeepReachedRules d policies q whole) (exact : Bool) (s : Store) (loaded : IsLoadedBy exact m q whole s)
     (enough : IsEnough policies.policies q (slice d policies.policies q whole) whole) where
   alike : outcomes policies.policies q s ≡ outcomes policies.policies q whole → AreDecidedAlike policies.policies q s whole
   alike same = record { outcomes = same; response = response_same policies.policies q s whole same }

@@ -6,25 +6,27 @@ use Rattle.entity_store.specs.Store.{Store}
 use Rattle.policy_set.specs.Data.{PolicyData}
 use Rattle.policy_set.specs.Response.{response}
 use Rattle.schema_core.specs.Schema.{SchemaData}
-use Rattle.typing_spec.specs.Conforms.{RequestConforms, StoreConforms}
+use Rattle.typing_spec.specs.Conforms.{RequestConforms}
 use Rattle.conformance.specs.RequestRules.{first_request_fault}
 use Rattle.byte_streams.specs.Steps.{RoseBy}
 use Rattle.entity_loader.specs.State.{LoaderState, Continues}
 use Rattle.entity_loading.specs.declared.error.EntitySliceError.{EntitySliceError}
 use Rattle.entity_loading.specs.declared.error.EntitySliceError.TheVariants as error
+use Rattle.manifest_computation.specs.Rules.{ReachedConform}
 use Rattle.entity_manifest.specs.Loaded.{OfKnownStores, WhyNotLoaded}
 use Rattle.entity_manifest.specs.declared.answer.BatchAnswer.{BatchAnswer}
 use Rattle.entity_manifest.specs.declared.answer.BatchAnswer.TheVariants.{Partial, Refused, Loading, Decided}
 
 module _ (schema : SchemaData) (ps : List PolicyData) where
-  -- the answer to a request, for which the loader goes from one state to another; where it says a store that
-  -- conforms, the decision is the response on that store
+  -- the answer to a request, for which the loader goes from one state to another; where it says a store in
+  -- which the entities conform that are reached, the decision is the response on that store
   abbrev pub IsLoaderAnswer : LoaderState → LoaderState → Request → BatchAnswer → Type 0
   IsLoaderAnswer old new q Partial = ¬ IsWhole q
   IsLoaderAnswer old new q (Refused e) = IsWhole q × (first_request_fault schema (λ _. true) q ≡ Some e)
-  IsLoaderAnswer old new q (Loading e) = IsWhole q × RequestConforms schema q × WhyNotLoaded schema old new e
+  IsLoaderAnswer old new q (Loading e) =
+      IsWhole q × RequestConforms schema q × WhyNotLoaded schema ps q old new e
   IsLoaderAnswer old new q (Decided r) =
-      IsWhole q × RequestConforms schema q × OfKnownStores schema old (λ w. r ≡ response ps q w)
+      IsWhole q × RequestConforms schema q × OfKnownStores schema ps q old (λ w. r ≡ response ps q w)
 
   -- the answers to requests, one after another
   abbrev pub AreLoaderAnswers : LoaderState → List Request → List BatchAnswer → LoaderState → Type 0
@@ -46,22 +48,23 @@ module _ (schema : SchemaData) (ps : List PolicyData) where
   IsAnswerOrFault w q (Loading e) = IsWhole q × RequestConforms schema q × (e ≡ error.LoaderFault)
   IsAnswerOrFault w q a = IsStoreAnswer w q a
 
-  -- why rows that say this store, or none, do not give what a request reads: they failed, the store does not
-  -- conform, or there is none and answers do not agree
-  abbrev pub WhyNotGiven : Option Store → EntitySliceError → Type 0
-  WhyNotGiven told error.LoaderFault = ⊤
-  WhyNotGiven told (error.IncompatibleEntityManifest e) = IfSome told (λ w. ¬ StoreConforms schema w)
-  WhyNotGiven told (error.InconsistentLoader uid kept got) = told ≡ None
-  WhyNotGiven told e = ⊥
+  -- why rows that say this store, or none, do not give what a request reads: they failed, an entity that is
+  -- reached does not conform, or there is no store and answers do not agree
+  abbrev pub WhyNotGiven : Option Store → Request → EntitySliceError → Type 0
+  WhyNotGiven told q error.LoaderFault = ⊤
+  WhyNotGiven told q (error.IncompatibleEntityManifest e) = IfSome told (λ w. ¬ ReachedConform schema ps q w)
+  WhyNotGiven told q (error.InconsistentLoader uid kept got) = told ≡ None
+  WhyNotGiven told q e = ⊥
 
-  -- the answer to a request by rows that say this store, or none; where the store conforms, a decision is
-  -- the response on it
+  -- the answer to a request by rows that say this store, or none; where the entities conform that are reached,
+  -- a decision is the response on the store
   abbrev pub IsRowAnswer : Option Store → Request → BatchAnswer → Type 0
   IsRowAnswer told q Partial = ¬ IsWhole q
   IsRowAnswer told q (Refused e) = IsWhole q × (first_request_fault schema (λ _. true) q ≡ Some e)
-  IsRowAnswer told q (Loading e) = IsWhole q × RequestConforms schema q × WhyNotGiven told e
+  IsRowAnswer told q (Loading e) = IsWhole q × RequestConforms schema q × WhyNotGiven told q e
   IsRowAnswer told q (Decided r) =
-      IsWhole q × RequestConforms schema q × IfSome told (λ w. StoreConforms schema w → r ≡ response ps q w)
+      IsWhole q × RequestConforms schema q ×
+      IfSome told (λ w. ReachedConform schema ps q w → r ≡ response ps q w)
 
 -- how many answers are faults of the loader
 abbrev pub is_fault : BatchAnswer → ℕ

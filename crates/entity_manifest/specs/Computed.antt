@@ -10,7 +10,7 @@ use Rattle.schema_core.specs.EnvData.{EnvData}
 use Rattle.schema_core.specs.Faults.{IsSchema}
 use Rattle.schema_core.specs.Schema.{SchemaData}
 use Rattle.policy_set.specs.Data.{PolicyData}
-use Rattle.typing_spec.specs.Conforms.{RequestConforms, StoreConforms}
+use Rattle.typing_spec.specs.Conforms.{RequestConforms}
 use Rattle.reads_spec.specs.Reads.{declared_reads, declared_demands}
 use Rattle.manifest_computation.specs.Typed.{typed_conditions}
 use Rattle.entity_loader.specs.State.{LoaderState}
@@ -21,6 +21,7 @@ use Rattle.entity_loading.specs.declared.error.EntitySliceError.TheVariants.{Out
 use Rattle.entity_loading.specs.Blocked.{IsBlocked}
 use Rattle.manifest_core.specs.Manifest.{Manifest, trie_for}
 use Rattle.manifest_computation.specs.Computed.{IsManifestOf}
+use Rattle.manifest_computation.specs.Rules.{ReachedConform}
 use Rattle.entity_manifest.specs.DeclaredPaths.{IsDeclaredTrie}
 
 -- the trie of exactly what typed conditions read and ask for has declared paths alone, and asks only ids for
@@ -31,13 +32,13 @@ ComputedTriesAreDeclared =
     IsLeast (declared_reads schema env (typed_conditions schema env ps))
     (declared_demands schema env (typed_conditions schema env ps)) t → IsDeclaredTrie schema env t
 
--- where the request and the store conform, the trie that the manifest of policies has for the request blocks
--- at no value
+-- where the request conforms, and each entity that the policies reach on it, the trie that their manifest has
+-- for the request blocks at no value
 abbrev pub ComputedManifestsFit : Type 0
 ComputedManifestsFit =
     (schema : SchemaData) → IsSchema schema → (ps : List PolicyData) (m : Manifest) →
     IsManifestOf schema ps m →
-    (q : Request) → RequestConforms schema q → (s : Store) → StoreConforms schema s → (t : Table) →
+    (q : Request) → RequestConforms schema q → (s : Store) → ReachedConform schema ps q s → (t : Table) →
     trie_for m q ≡ Some t → (v : Val) → ¬ BlocksAt t q s v
 
 -- a refusal as loading by the manifest promises it of an honest loader of the store
@@ -51,7 +52,7 @@ abbrev pub HonestLoadingSucceeds : Type 0
 HonestLoadingSucceeds =
     (schema : SchemaData) → IsSchema schema → (ps : List PolicyData) (m : Manifest) →
     IsManifestOf schema ps m →
-    (q : Request) → RequestConforms schema q → (s : Store) → StoreConforms schema s →
+    (q : Request) → RequestConforms schema q → (s : Store) → ReachedConform schema ps q s →
     (old new : LoaderState) → ¬ Rose old.faults new.faults → (e : EntitySliceError) →
     IsRightRefusal m q s old new e → e ≡ OutOfMemory
 
@@ -60,5 +61,5 @@ abbrev pub ComputedSlicesFit : Type 0
 ComputedSlicesFit =
     (schema : SchemaData) → IsSchema schema → (ps : List PolicyData) (m : Manifest) →
     IsManifestOf schema ps m →
-    (q : Request) → RequestConforms schema q → (s : Store) → StoreConforms schema s → (t : Table) →
+    (q : Request) → RequestConforms schema q → (s : Store) → ReachedConform schema ps q s → (t : Table) →
     trie_for m q ≡ Some t → (v : Val) → ¬ IsBlocked t q s v

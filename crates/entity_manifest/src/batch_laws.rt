@@ -2,8 +2,8 @@
 
 ghost use Rattle.entity_manifest.specs.BatchLaws.{AnswersAreWhole, FaultsAreCounted};
 
-/// Where a loader says a store that conforms, each decision is the response on all of it, and each whole
-/// request that conforms is decided or ends with a fault of the loader.
+/// Where a loader says a store, and the entities conform in it that a request reaches, the decision is the
+/// response on all of it, and a whole request that conforms is decided or ends with a fault of the loader.
 pub fn answers_are_whole()
     ensures { AnswersAreWhole }
 {}

@@ -19,18 +19,19 @@ pub fn computed_tries_are_declared()
     ensures { ComputedTriesAreDeclared }
 {}
 
-/// A computed manifest fits each request and store that conform to the schema.
+/// A computed manifest fits each request that conforms to the schema, on each store in which the entities
+/// conform that the policies reach on it.
 pub fn computed_manifests_fit()
     ensures { ComputedManifestsFit }
 {}
 
-/// With a computed manifest, and a request and a store that conform to the schema, loading from an honest
-/// loader whose count of faults does not rise succeeds, or ends for want of memory.
+/// There loading from an honest loader whose count of faults does not rise succeeds, or ends for want of
+/// memory.
 pub fn honest_loading_succeeds()
     ensures { HonestLoadingSucceeds }
 {}
 
-/// With them no path of the manifest's trie is blocked in the store, and slicing along it does not refuse the
+/// There no path of the manifest's trie is blocked in the store, and slicing along it does not refuse the
 /// trie.
 pub fn computed_slices_fit()
     ensures { ComputedSlicesFit }

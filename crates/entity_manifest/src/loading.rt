@@ -5,8 +5,9 @@ ghost use Rattle.access_tries.specs.Table.{Table};
 ghost use Rattle.entity_loading.specs.Begun.{PathsWithin};
 ghost use Rattle.entity_loader.specs.State.{Continues};
 ghost use Rattle.entity_store.specs.Request.{IsWhole};
-ghost use Rattle.typing_spec.specs.Conforms.{RequestConforms, StoreConforms};
+ghost use Rattle.typing_spec.specs.Conforms.{RequestConforms};
 ghost use Rattle.manifest_computation.specs.Accepted.{IsAccepted};
+ghost use Rattle.manifest_computation.specs.Rules.{ReachedConform};
 ghost use Rattle.reads_spec.specs.Cover.{IsPartOf};
 ghost use Rattle.manifest_computation.specs.Slice.{slice};
 ghost use Rattle.manifest_computation.specs.Computed.{IsManifestOf};
@@ -28,16 +29,17 @@ use table_loader::entities_are_ordered;
 
 /// What a request reads, as a loader gives it, by the manifest of accepted policies.
 ///
-/// Where the loader says a store that conforms, what is loaded has at least the slice of that store and at
-/// most the store; each policy has on it the outcome that it has on the whole store, and the response is the
-/// same. A loader that answers just what is asked gives the slice.
+/// Where the loader says a store, and the entities conform in it that the policies reach on the request, what
+/// is loaded has at least the slice of that store and at most the store; each policy has on it the outcome
+/// that it has on the whole store, and the response is the same. A loader that answers just what is asked
+/// gives the slice.
 ///
 /// The loader is asked for entities at most once more than the longest path of the request's trie has steps,
 /// and no more steps are counted; for ancestors once at most. Without a trie it is not asked.
 ///
 /// Errs with `LoaderFault` only where a call of the loader failed, and with `OutOfMemory` where memory runs
 /// out. A loader that says such a store is refused for nothing else: `IncompatibleEntityManifest` comes
-/// where its store does not conform, and the others where it says no store.
+/// where an entity that is reached does not conform, and the others where it says no store.
 pub fn load_for_request<D: EntityLoader, L: Ledger>(
     alloc: Global,
     schema: &ValidatorSchema,
@@ -51,17 +53,20 @@ pub fn load_for_request<D: EntityLoader, L: Ledger>(
     requires manifest { IsManifestOf schema.now policies.now.policies manifest.now }
     requires whole { IsWhole request.now }
     requires conforms { RequestConforms schema.now request.now }
-    ensures enough { OfKnownStores schema.now (D.state loader.old) (λ w.
+    ensures enough { OfKnownStores schema.now policies.now.policies request.now (D.state loader.old) (λ w.
         IfOk result (λ s. IsPartOf (slice schema.now policies.now.policies request.now w) s)) }
-    ensures part { OfKnownStores schema.now (D.state loader.old) (λ w. IfOk result (λ s. IsPartOf s w)) }
-    ensures exact { (D.state loader.old).exact ≡ true → OfKnownStores schema.now (D.state loader.old) (λ w.
+    ensures part { OfKnownStores schema.now policies.now.policies request.now (D.state loader.old) (λ w.
+        IfOk result (λ s. IsPartOf s w)) }
+    ensures exact { (D.state loader.old).exact ≡ true →
+        OfKnownStores schema.now policies.now.policies request.now (D.state loader.old) (λ w.
         IfOk result (λ s. s ≡ slice schema.now policies.now.policies request.now w)) }
-    ensures decided { OfKnownStores schema.now (D.state loader.old) (λ w.
+    ensures decided { OfKnownStores schema.now policies.now.policies request.now (D.state loader.old) (λ w.
         IfOk result (λ s. AreDecidedAlike policies.now.policies request.now s w)) }
-    ensures honest { OfKnownStores schema.now (D.state loader.old) (λ w.
+    ensures honest { OfKnownStores schema.now policies.now.policies request.now (D.state loader.old) (λ w.
         IfErr result (IsFaultOrMemory (D.state loader.old) (D.state loader.new))) }
     ensures cause { IfErr result (λ e. e ≢ OutOfMemory →
-        WhyNotLoaded schema.now (D.state loader.old) (D.state loader.new) e) }
+        WhyNotLoaded schema.now policies.now.policies request.now
+        (D.state loader.old) (D.state loader.new) e) }
     ensures goes_on { Continues (D.state loader.old) (D.state loader.new) }
     ensures rounds { (t : Table) → trie_for manifest.now request.now ≡ Some t → (n : ℕ) →
         PathsWithin t n → (D.state loader.new).rounds ≤ (D.state loader.old).rounds + (n + 1) }
@@ -80,7 +85,8 @@ pub fn load_for_request<D: EntityLoader, L: Ledger>(
     load_entities(alloc, manifest, request, loader, steps)
 }
 
-/// The slice of a store that conforms, by the manifest of accepted policies. Errs only where memory runs out.
+/// The slice of a store, by the manifest of accepted policies; the entities that they reach on the request
+/// conform. Errs only where memory runs out.
 pub fn load_slice<L: Ledger>(
     alloc: Global,
     schema: &ValidatorSchema,
@@ -94,7 +100,7 @@ pub fn load_slice<L: Ledger>(
     requires manifest { IsManifestOf schema.now policies.now.policies manifest.now }
     requires whole { IsWhole request.now }
     requires conforms { RequestConforms schema.now request.now }
-    requires store { StoreConforms schema.now entities.now }
+    requires store { ReachedConform schema.now policies.now.policies request.now entities.now }
     ensures slice { IfOk result (λ s. s ≡
         slice schema.now policies.now.policies request.now entities.now) }
     ensures memory { IfErr result (λ e. e ≡ OutOfMemory) }

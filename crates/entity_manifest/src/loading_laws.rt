@@ -18,7 +18,8 @@ pub fn loaded_is_enough()
     slices_are_enough();
 }
 
-/// An honest loader is refused for a fault that it says or for want of memory alone.
+/// An honest loader of a store that conforms where it is reached is refused for a fault that it says or for
+/// want of memory alone.
 pub fn refusals_are_faults()
     ensures { RefusalsAreFaults }
 {

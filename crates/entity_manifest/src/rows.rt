@@ -15,9 +15,9 @@ use std::alloc::Global;
 use table_loader::laws::known_stores_are_ordered;
 use table_loader::{RowLoader, Rows};
 
-/// The same over rows of tables. Where the rows say a store that conforms, each decision is the response on
-/// all of it, and each whole request that conforms is decided, or the rows failed: at most as often as their
-/// count of faults rose.
+/// The same over rows of tables. Where the rows say a store, and the entities conform in it that a request
+/// reaches, the decision is the response on all of it, and a whole request that conforms is decided, or the
+/// rows failed: at most as often as their count of faults rose.
 pub fn decide_batch_on_rows<R: Rows>(
     alloc: Global,
     schema: &ValidatorSchema,

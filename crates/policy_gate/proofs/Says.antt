@@ -34,6 +34,7 @@ use Rattle.policy_set.specs.Response.{response}
 use Rattle.json_response.specs.SliceJson.{response_text}
 use Rattle.conformance.proofs.Options.{none_first, none_rest, neither, none_inside}
 use Rattle.manifest_computation.specs.Enough.{IsEnough}
+use Rattle.manifest_computation.proofs.Covering.{where_reached}
 use Rattle.std.specs.List.{AllByRecursion}
 use Rattle.policy_set.specs.Data.{TemplateData}
 use Rattle.policy_set.specs.PolicySet.{written}
@@ -286,10 +287,10 @@ module _ (laws : Laws) (d : Document) where
     -- ---- what 0 says
 
     allowed : HasAllowedOutcomes d
-    allowed q s rules = laws.outcomes d.schema made.schema d.policies made.policies made.keys q s rules
+    allowed q s rules = laws.outcomes d.schema made.schema d.policies made.policies made.keys q s (where_reached d.schema d.policies q s rules)
 
     reads_enough : ReadsAreEnough d.schema d.policies
-    reads_enough q s rules = laws.slices d.schema made.schema d.policies made.policies made.keys q s rules
+    reads_enough q s rules = laws.slices d.schema made.schema d.policies made.policies made.keys q s (where_reached d.schema d.policies q s rules)
 
     enough : KeepsRules d → IsEnough d.policies.policies d.request (slice_of d) d.entities
     enough rules = reads_enough d.request d.entities rules
@@ -332,7 +333,7 @@ module _ (laws : Laws) (d : Document) where
       computed = is.computed;
       written = is.written;
       accepted = is.accepted;
-      enough = laws.slices d.schema made.schema (policies_after d) is.set is.keys;
+      enough = λ q s rules. laws.slices d.schema made.schema (policies_after d) is.set is.keys q s (where_reached d.schema (policies_after d) q s rules);
       made = none_inside (λ r. answer status.Edit (edit_text r)) (refused_edit d) none;
     }
     says (Page limit after) text none is =
