@@ -19,6 +19,21 @@ done_from_code OutOfMemory e = absurd (omega (arith, e))
 done_from_code TooLong e = absurd (omega (arith, e))
 done_from_code Edit e = absurd (omega (arith, e))
 
+-- 1 is of `Findings` alone
+pub findings_from_code : (s : Status) → code_of s ≡ 1 → s ≡ Findings
+findings_from_code Findings e = refl
+findings_from_code Done e = absurd (omega (arith, e))
+findings_from_code Usage e = absurd (omega (arith, e))
+findings_from_code Document e = absurd (omega (arith, e))
+findings_from_code Request e = absurd (omega (arith, e))
+findings_from_code Store e = absurd (omega (arith, e))
+findings_from_code PartialRequest e = absurd (omega (arith, e))
+findings_from_code ReadFault e = absurd (omega (arith, e))
+findings_from_code WriteFault e = absurd (omega (arith, e))
+findings_from_code OutOfMemory e = absurd (omega (arith, e))
+findings_from_code TooLong e = absurd (omega (arith, e))
+findings_from_code Edit e = absurd (omega (arith, e))
+
 -- the numbers of the two ends that there are where every rule holds
 pub code_of_either : (s : Status) (n : ℕ) → n ≡ code_of s → (s ≡ Done) ⊎ (s ≡ OutOfMemory) → (n ≡ 0) ⊎ (n ≡ 10)
 code_of_either s n is (inl e) = inl (is ∙ ap code_of e)

@@ -7,12 +7,12 @@ use Rattle.byte_streams.specs.Steps.{IsQuiet, Rose}
 use Rattle.policy_gate.specs.Answer.{IsAnswer}
 use Rattle.policy_gate.specs.Command.{own_document}
 use Rattle.policy_gate.specs.Reply.{Answer, answer}
-use Rattle.policy_gate.specs.Run.{Gives, IsDue, IsDueAfterReading, IsDueFor, IsToReadBy, IsToWorkOn, Reads, Runs}
+use Rattle.policy_gate.specs.Run.{Gives, IsDue, IsDueAfterReading, IsDueFor, IsGivenBy, IsToReadBy, IsToWorkOn, Reads, Runs}
 use Rattle.policy_gate.specs.declared.command.Command.{Command}
 use Rattle.policy_gate.specs.declared.status.Status.{Status}
 use Rattle.policy_gate.specs.declared.status.Status.TheVariants.{OutOfMemory}
 use Rattle.policy_gate.proofs.Runs.{all_taken, longer}
-use Rattle.palvumiose_c.specs.KnownText.{IsDueOn, IsDueTo, IsReported}
+use Rattle.palvumiose_c.specs.KnownText.{IsDueOn, IsDueTo, IsReported, of_own}
 
 -- a count of faults at 0 has not risen
 not_risen : (old new : ℕ) → new ≤ 0 → Rose old new → ⊥
@@ -34,7 +34,12 @@ module _ {document held : List ℕ} {source source' : SourceState} {sink sink' :
   whole : (bytes : List ℕ) → WasRead source source' bytes → document ≡ bytes
   whole bytes (few, (count, front), end) = all_taken document bytes source'.left (at_start bytes front) end
 
-  written : (text : List ℕ) → Appends sink.holds sink'.holds text → held ≡ text
+  -- the bytes that a command was given are those of its document
+  pub given_by : (o : Option (List ℕ)) (bytes : List ℕ) → IsGivenBy o source source' bytes → of_own o document ≡ bytes
+  given_by None bytes read = whole bytes read
+  given_by (Some own) bytes is = sym is.0
+
+  pub written : (text : List ℕ) → Appends sink.holds sink'.holds text → held ≡ text
   written text w = subst (λ o. Appends (Some []) o text) m.full (subst (λ o. Appends o sink'.holds text) m.empty w)
 
   nothing : Keeps sink.holds sink'.holds → held ≡ []

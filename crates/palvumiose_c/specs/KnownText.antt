@@ -6,7 +6,7 @@ use Rattle.byte_streams.specs.Document.{document_limit}
 use Rattle.policy_gate.specs.Answer.{IsAnswer}
 use Rattle.json_document.specs.declared.document.Document.{Document}
 use Rattle.policy_gate.specs.Command.{command_of, own_document, shape_of}
-use Rattle.policy_gate.specs.Headline.{HasDocument, IsDocumentOf, KeepsRulesOf}
+use Rattle.policy_gate.specs.Headline.{HasDocument, HasPoliciesFor, IsDocumentOf, KeepsRulesOf, Says}
 use Rattle.policy_gate.specs.Reply.{Answer, answer}
 use Rattle.policy_gate.specs.Run.{Reads, too_long, usage}
 use Rattle.policy_gate.specs.declared.command.Command.{Command}
@@ -50,6 +50,24 @@ laid_over text bytes = take (length bytes) text ++ drop (length text) bytes
 pub record IsHanded (text : List ℕ) (size : ℕ) (out out' : List ℕ) : Type 0 where
   pub whole : size ≡ length text
   pub front : out' ≡ laid_over text out
+
+-- the document that a command works on: its own, where it has one, or that of the caller
+abbrev pub of_own : Option (List ℕ) → List ℕ → List ℕ
+of_own None document = document
+of_own (Some own) document = own
+
+abbrev pub document_for : Command → List ℕ → List ℕ
+document_for c document = of_own (own_document c) document
+
+-- the command that the words are works on a document, of which the text says what status 0 says
+abbrev pub SaysDone : List ℕ → List ℕ → List ℕ → Type 0
+SaysDone words document text = (c : Command) → command_of (words_in words) ≡ Some c →
+    HasDocument c (document_for c document) (λ d. Says c d text)
+
+-- the words are a command, and the policies of the document that it works on are not accepted, for `level` at the level
+abbrev pub HasFaultyPolicies : List ℕ → List ℕ → Type 0
+HasFaultyPolicies words document = (c : Command) × (command_of (words_in words) ≡ Some c)
+    × HasDocument c (document_for c document) (λ d. ¬ HasPoliciesFor c d)
 
 -- the bytes are a document for the command, and the caller is handed a text that says of it what it should
 abbrev pub HandsOut : Command → (Document → List ℕ → Type 0) → List ℕ → ℕ → List ℕ → List ℕ → Type 0

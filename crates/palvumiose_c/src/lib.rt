@@ -1,13 +1,13 @@
 //! The library for C: the answer to a command on a document, into memory of the caller.
 #![tactic(auto)]
 
-ghost use Rattle.std.specs.Prelude.{◌≡◌, ◌==◌, ◌⊎◌, Some, IfOk, map, string_bytes};
+ghost use Rattle.std.specs.Prelude.{◌≡◌, ◌==◌, ◌⊎◌, ℕ, List, Some, IfOk, map, string_bytes};
 ghost use Rattle.policy_gate.specs.Command.{command_of};
-ghost use Rattle.policy_gate.specs.Headline.{HasDocument, IsDecided, IsSliced};
+ghost use Rattle.policy_gate.specs.Headline.{HasDocument, IsSliced};
 ghost use Rattle.policy_gate.specs.Reply.{Answer, answer};
 ghost use Rattle.policy_gate.specs.Status.{IsUnlessOutOfMemory, code_of};
 ghost use Rattle.std.specs.List.{slice_split};
-ghost use Rattle.palvumiose_c.specs.KnownText.{HandsOut, IsHanded, IsReported, KeepAllRules, laid_over, words_in};
+ghost use Rattle.palvumiose_c.specs.KnownText.{HandsOut, HasFaultyPolicies, IsHanded, IsReported, KeepAllRules, SaysDone, laid_over, words_in};
 
 use byte_streams::{MemorySink, SliceSource};
 use policy_gate::{Command, Status, run};
@@ -56,9 +56,10 @@ fn reply_to(alloc: Global, command: &[u8], document: &[u8]) -> Result<Reply, All
     ensures headline { command_of (words_in command.now) ≡ Some Command.Slice
         → IfOk result (λ r. r.status ≡ Status.Done
         → HasDocument Command.Slice document.now (λ d. IsSliced d r.text.items)) }
-    ensures decided { command_of (words_in command.now) ≡ Some Command.Decide
-        → IfOk result (λ r. r.status ≡ Status.Done
-        → HasDocument Command.Decide document.now (λ d. IsDecided d r.text.items)) }
+    ensures said { IfOk result (λ r.
+        r.status ≡ Status.Done → SaysDone command.now document.now r.text.items) }
+    ensures refused { IfOk result (λ r.
+        r.status ≡ Status.Findings → HasFaultyPolicies command.now document.now) }
     ensures complete { KeepAllRules command.now document.now
         → IfOk result (λ r. IsUnlessOutOfMemory r.status Status.Done) }
 {
@@ -82,8 +83,8 @@ fn answer_to(alloc: Global, command: &[u8], document: &[u8]) -> Reply
         (answer result.status result.text.items) }
     ensures headline { command_of (words_in command.now) ≡ Some Command.Slice → result.status ≡ Status.Done
         → HasDocument Command.Slice document.now (λ d. IsSliced d result.text.items) }
-    ensures decided { command_of (words_in command.now) ≡ Some Command.Decide → result.status ≡ Status.Done
-        → HasDocument Command.Decide document.now (λ d. IsDecided d result.text.items) }
+    ensures said { result.status ≡ Status.Done → SaysDone command.now document.now result.text.items }
+    ensures refused { result.status ≡ Status.Findings → HasFaultyPolicies command.now document.now }
     ensures complete { KeepAllRules command.now document.now
         → IsUnlessOutOfMemory result.status Status.Done }
 {
@@ -144,10 +145,11 @@ pub extern "C" fn palvumiose_c_run(
     ensures headline { command_of (words_in command.now) ≡ Some Command.Slice → result ≡ 0
         → HandsOut Command.Slice IsSliced document.now size.new out.old out.new }
 
-    // Where `decide` answers 0 the document keeps every rule, and the text is the response on its
-    // whole store.
-    ensures decided { command_of (words_in command.now) ≡ Some Command.Decide → result ≡ 0
-        → HandsOut Command.Decide IsDecided document.now size.new out.old out.new }
+    // Where any command answers 0, the text says of its document what `run` says there; and where one answers
+    // 1 the policies are not accepted, for `level` at the level.
+    ensures said { result ≡ 0 → (text : List ℕ) × IsHanded text size.new out.old out.new
+        × SaysDone command.now document.now text }
+    ensures refused { result ≡ 1 → HasFaultyPolicies command.now document.now }
 
     // And 0 comes wherever every rule of the command holds, unless memory runs out.
     ensures complete { KeepAllRules command.now document.now → (result ≡ 0) ⊎ (result ≡ 10) }

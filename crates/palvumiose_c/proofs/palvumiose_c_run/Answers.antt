@@ -1,7 +1,7 @@
 use Rattle.std.proofs.Common.{length, ap, sym, ◌∙◌}
 use Rattle.policy_gate.specs.Reply.{answer}
 use Rattle.palvumiose_c.specs.KnownText.{IsHanded, laid_over}
-use Rattle.palvumiose_c.proofs.Codes.{done_from_code, code_of_either}
+use Rattle.palvumiose_c.proofs.Codes.{done_from_code, findings_from_code, code_of_either}
 use Rattle.palvumiose_c.proofs.palvumiose_c_run.Goals as goal
 
 -- the reply's text is handed out
@@ -18,9 +18,12 @@ pub returns-clause-headline : goal.returns-clause-headline
 returns-clause-headline c is ends =
     (c.answer_to-reply.result.text.items, handed c, c.answer_to-reply.ensures.headline is (done_from_code c.answer_to-reply.result.status (sym c.code.ensures ∙ ends)))
 
-pub returns-clause-decided : goal.returns-clause-decided
-returns-clause-decided c is ends =
-    (c.answer_to-reply.result.text.items, handed c, c.answer_to-reply.ensures.decided is (done_from_code c.answer_to-reply.result.status (sym c.code.ensures ∙ ends)))
+pub returns-clause-said : goal.returns-clause-said
+returns-clause-said c ends =
+    (c.answer_to-reply.result.text.items, handed c, c.answer_to-reply.ensures.said (done_from_code c.answer_to-reply.result.status (sym c.code.ensures ∙ ends)))
+
+pub returns-clause-refused : goal.returns-clause-refused
+returns-clause-refused c ends = c.answer_to-reply.ensures.refused (findings_from_code c.answer_to-reply.result.status (sym c.code.ensures ∙ ends))
 
 pub returns-clause-complete : goal.returns-clause-complete
 returns-clause-complete c k =
