@@ -27,6 +27,27 @@ fn connect<S: Start>(
     }
 }
 
+// Whether there is a file at the path.
+fn is_file(rt: &HostRuntime, path: &str) -> bool {
+    match fs::metadata(rt, path) {
+        Ok(found) => found.is_file(),
+        Err(_) => false,
+    }
+}
+
+// Whether there is something else, as a folder or a pipe.
+fn is_no_file(rt: &HostRuntime, path: &str) -> bool {
+    match fs::metadata(rt, path) {
+        Ok(found) => !found.is_file(),
+        Err(_) => false,
+    }
+}
+
+// That there is no file to open.
+fn no_file(rt: &HostRuntime) -> FileError {
+    database_error(rt.alloc(), Error::SqliteFailure(ErrorCode::CannotOpen))
+}
+
 /// The database in a file that is there, where it has the table of entities and nothing else.
 pub fn open<S: Start>(
     rt: &HostRuntime,
@@ -35,10 +56,9 @@ pub fn open<S: Start>(
 ) -> Result<Connection<FileStore<FileFrom<S>>>, FileError>
     ensures { IfOk result (λ c. IsReady (file_state c)) }
 {
-    // An open would make a file that is not there.
-    if fs::open(rt, path).is_err() {
-        let error = Error::SqliteFailure(ErrorCode::CannotOpen);
-        return Err(database_error(rt.alloc(), error));
+    // An open would make a file that is not there, and wait for what a pipe may bring.
+    if !is_file(rt, path) {
+        return Err(no_file(rt));
     }
     over(connect(rt, path, start)?)
 }
@@ -50,6 +70,9 @@ fn write_into_file<S: Start>(
     start: S,
     entities: &Entities,
 ) -> Result<(), FileError> {
+    if is_no_file(rt, path) {
+        return Err(no_file(rt));
+    }
     let alloc = rt.alloc();
     let mut conn = blank_or_made(alloc, connect(rt, path, start)?)?;
     let written = write_entities(alloc, entities, &mut conn);
