@@ -13,7 +13,9 @@ pub mod loading_laws;
 mod on_store;
 mod rows;
 
-pub use access_tries::{AccessPath, AccessTrie, EntityRoot, RootAccessTrie, RootTrieRef, TrieRef};
+pub use access_tries::{
+    AccessPath, AccessTrie, EntityRoot, RootAccessTrie, RootTrieRef, Step, TrieRef,
+};
 pub use answer::BatchAnswer;
 pub use decisions::decide_batch;
 pub use entity_loader::{
@@ -36,3 +38,4 @@ pub use manifest_core::{
 };
 pub use on_store::decide_batch_on_store;
 pub use rows::decide_batch_on_rows;
+pub use table_loader::RowLoader;

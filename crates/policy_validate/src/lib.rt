@@ -16,8 +16,9 @@ pub mod traits;
 mod validator;
 
 pub use conformance::{
-    ConformanceError, EntityDoesNotConform, RequestValidationError, StoreRule, conforms,
-    validate_request,
+    ConformanceError, EntityDoesNotConform, InvalidContextError, InvalidPrincipalTypeError,
+    InvalidResourceTypeError, RequestValidationError, StoreRule, UndeclaredActionError,
+    UndeclaredPrincipalTypeError, UndeclaredResourceTypeError, conforms, validate_request,
 };
 pub use context_schema::{ContextSchema, context_schema_for_action};
 pub use described::EntityTypeDescription;
