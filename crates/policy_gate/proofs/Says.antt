@@ -306,7 +306,14 @@ module _ (laws : Laws) (d : Document) where
     line_decided q whole conforms = rw (parts_whole q whole, (laws.requests d.schema made.schema q whole).1 conforms) refl
 
     says : (c : Command) (text : List ℕ) → refusal c d ≡ None → IsWork c d text → Says c d text
-    says Check text none is = record { written = is; accepted = accepted none; sound = allowed }
+    says Check text none is =
+        let policies = accepted none in
+        record {
+          written = is;
+          accepted = policies;
+          sound = allowed;
+          impossible = laws.impossible d.schema made.schema d.policies made.policies made.keys policies;
+        }
     says (Level n) text none is =
         let at = accepted_at n none in
         record { written = is; accepted = at; enough = laws.levels d.schema made.schema n d.policies made.policies made.keys at }

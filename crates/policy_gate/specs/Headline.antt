@@ -26,7 +26,7 @@ use Rattle.manifest_computation.specs.Slice.{slice}
 use Rattle.json_response.specs.SliceJson.{slice_text, response_text}
 use Rattle.manifest_core.specs.Manifest.{Manifest as Tries}
 use Rattle.manifest_computation.specs.Computed.{IsManifestOf}
-use Rattle.policy_review.specs.Laws.{NeversAreNeverTrue, LevelsAreLeast}
+use Rattle.policy_review.specs.Laws.{ImpossiblesAreNeverTrue, NeversAreNeverTrue, LevelsAreLeast}
 use Rattle.policy_values.specs.declared.entity_uid.EntityUID.{EntityUID}
 use Rattle.live_manifest.specs.Edits.{Refusal}
 use Rattle.principal_listing.specs.Allowed.{KeepOtherRules, applies_to, asked_by}
@@ -122,11 +122,12 @@ HasPoliciesFor (Level n) d = HasPoliciesAt n d
 HasPoliciesFor c d = HasAcceptedPolicies d
 
 -- the text is the findings on the document's policies, which are accepted: there may be warnings. So each of
--- them has an outcome that is allowed
+-- them has an outcome that is allowed, and what is impossible is never true
 pub record IsChecked (d : Document) (text : List ℕ) : Type 0 where
   pub written : text ≡ findings_text (found_in d)
   pub accepted : HasAcceptedPolicies d
   pub sound : HasAllowedOutcomes d
+  pub impossible : ImpossiblesAreNeverTrue d.schema d.policies
 
 -- the text is the findings on the document's policies, which are accepted at the level. So on the store cut
 -- at the level each of them has the outcome that it has on the whole store, for each request and store that

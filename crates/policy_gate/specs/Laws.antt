@@ -2,7 +2,7 @@
 use Rattle.conformance.specs.Laws.{RequestRulesAreExact, StoreRulesAreExact}
 use Rattle.policy_validate.specs.Laws.{NoErrorsWhereAccepted}
 use Rattle.policy_validate.specs.Levels.{NoErrorsWhereAcceptedAt, AcceptedLevelsAreSound}
-use Rattle.policy_review.specs.Laws.{NeverIsNeverTrue, LeastLevelsAreLeast}
+use Rattle.policy_review.specs.Laws.{NeverIsNeverTrue, ImpossibleIsNeverTrue, LeastLevelsAreLeast}
 use Rattle.principal_listing.specs.Laws.{CandidatesKeepRules}
 use Rattle.manifest_computation.specs.Enough.{OutcomesAreAllowed, SlicesAreEnough}
 
@@ -18,7 +18,8 @@ pub record Laws : Type 0 where
   pub levels : AcceptedLevelsAreSound
   pub slices : SlicesAreEnough
   pub outcomes : OutcomesAreAllowed
-  -- what a review says never of is never true, and its levels are the least
+  -- what is impossible, and what a review says never of, is never true; and its levels are the least
+  pub impossible : ImpossibleIsNeverTrue
   pub never : NeverIsNeverTrue
   pub least : LeastLevelsAreLeast
   -- every rule holds for each principal of the store to which the action applies, where those do that do not

@@ -4,7 +4,7 @@ ghost use Rattle.policy_gate.specs.Laws.{Laws};
 
 use conformance::laws::{request_rules_are_exact, store_rules_are_exact};
 use manifest_computation::slice_laws::{outcomes_are_allowed, slices_are_enough};
-use policy_review::laws::{least_levels_are_least, never_is_never_true};
+use policy_review::laws::{impossible_is_never_true, least_levels_are_least, never_is_never_true};
 use policy_validate::laws::{
     accepted_levels_are_sound, no_errors_where_accepted, no_errors_where_accepted_at,
 };
@@ -21,6 +21,7 @@ pub(crate) fn laws()
     accepted_levels_are_sound();
     slices_are_enough();
     outcomes_are_allowed();
+    impossible_is_never_true();
     never_is_never_true();
     least_levels_are_least();
     candidates_keep_rules();

@@ -164,7 +164,7 @@ pub fn run<S: Source, K: Sink>(
         (run_of S.state K.state words.now source.old source.new sink.old sink.new result) }
 
     // Where `check` ends with 0 the document's policies are accepted, and the text is what is found of them:
-    // warnings alone.
+    // warnings alone. A policy that is impossible, of which there is a warning, is never true.
     ensures checked { DoneSays Command.Check IsChecked
         (run_of S.state K.state words.now source.old source.new sink.old sink.new result) }
 

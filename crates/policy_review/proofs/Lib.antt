@@ -1,4 +1,5 @@
 pub mod Never
+mod Impossible
 pub mod Least
 pub mod Raising
 pub mod Checks

@@ -23,7 +23,7 @@ use Rattle.manifest_computation.specs.Environments.{EnvironmentsAreOfTypes}
 use Rattle.policy_review.specs.Laws.{NeverIsNeverTrue}
 use Rattle.plain_lemmas.proofs.Options.{some_injective}
 
-at_each : {X : Type 0} (P : X → Type 0) (xs : List X) → AllByRecursion P xs → (x : X) → IsIn x xs → P x
+pub at_each : {X : Type 0} (P : X → Type 0) (xs : List X) → AllByRecursion P xs → (x : X) → IsIn x xs → P x
 at_each P [] h x i = absurd i
 at_each P (y ∷ ys) h x (inl e) = subst P e h.0
 at_each P (y ∷ ys) h x (inr i) = at_each P ys h.1 x i

@@ -37,19 +37,24 @@ part_slot i (Eq Slot) = refl
 part_slot i (In Slot) = refl
 part_slot i (IsIn n Slot) = refl
 
+-- a policy has no slot in its scope
+pub without_slots : (p : PolicyData) → IsPolicy p → (asks_slot p.principal ≡ false) × (asks_slot p.resource ≡ false)
+without_slots p policy =
+    let t = written_of p in
+    let plain : has_slot (condition_of t) ≡ false = sym (ap has_slot policy.condition) ∙ policy.no_slot in
+    let whole = or_false_parts ((has_slot (scope_part Principal t.principal) || has_slot (action_part t.action)) || has_slot (scope_part Resource t.resource)) (has_slot t.body) plain in
+    let scope = or_false_parts (has_slot (scope_part Principal t.principal) || has_slot (action_part t.action)) (has_slot (scope_part Resource t.resource)) whole.0 in
+    let principal = or_false_parts (has_slot (scope_part Principal t.principal)) (has_slot (action_part t.action)) scope.0 in
+    (sym (part_slot Principal t.principal) ∙ principal.0, sym (part_slot Resource t.resource) ∙ scope.1)
+
 module _ (schema : SchemaData) where
   abbrev IsTypedPolicy : PolicyData → Type 0
   IsTypedPolicy p = IsTypedIn schema p.condition (unlinked_envs schema)
 
   static_typed : StaticsAreTyped → (p : PolicyData) → IsPolicy p → IsAcceptedTemplate schema (written_of p) → IsTypedPolicy p
   static_typed typed p policy accepted =
-      let t = written_of p in
-      let plain : has_slot (condition_of t) ≡ false = sym (ap has_slot policy.condition) ∙ policy.no_slot in
-      let whole = or_false_parts ((has_slot (scope_part Principal t.principal) || has_slot (action_part t.action)) || has_slot (scope_part Resource t.resource)) (has_slot t.body) plain in
-      let scope = or_false_parts (has_slot (scope_part Principal t.principal) || has_slot (action_part t.action)) (has_slot (scope_part Resource t.resource)) whole.0 in
-      let principal = or_false_parts (has_slot (scope_part Principal t.principal)) (has_slot (action_part t.action)) scope.0 in
-      subst (λ x. IsTypedIn schema x (unlinked_envs schema)) (sym policy.condition)
-      (typed schema t (sym (part_slot Principal t.principal) ∙ principal.0) (sym (part_slot Resource t.resource) ∙ scope.1) accepted)
+      let no = without_slots p policy in
+      subst (λ x. IsTypedIn schema x (unlinked_envs schema)) (sym policy.condition) (typed schema (written_of p) no.0 no.1 accepted)
 
   module _ (linked : LinksAreTyped) (ok : IsSchema schema) (p : PolicyData) (rules : KeepsLinkRules schema p) where
     link_typed : (l : LinkData) → p.link ≡ Some l → (t : TemplateData) → IsToLink t → IsAcceptedTemplate schema t → IsLinkOf p l.values t → IsTypedPolicy p

@@ -9,6 +9,7 @@ returns c = record {
   levels = c.accepted_levels_are_sound.ensures;
   slices = c.slices_are_enough.ensures;
   outcomes = c.outcomes_are_allowed.ensures;
+  impossible = c.impossible_is_never_true.ensures;
   never = c.never_is_never_true.ensures;
   least = c.least_levels_are_least.ensures;
   candidates = c.candidates_keep_rules.ensures;
