@@ -2,11 +2,15 @@
 #![tactic(auto)]
 
 #[cfg(test)]
+mod accesses;
+#[cfg(test)]
 mod asked;
 #[cfg(test)]
 mod batch;
 #[cfg(test)]
 mod calls;
+#[cfg(test)]
+mod environments;
 #[cfg(test)]
 mod errors;
 #[cfg(test)]
@@ -14,7 +18,11 @@ mod expressions;
 #[cfg(test)]
 mod faces;
 #[cfg(test)]
+mod joins;
+#[cfg(test)]
 mod liar;
+#[cfg(test)]
+mod lists;
 #[cfg(test)]
 mod lives;
 #[cfg(test)]
