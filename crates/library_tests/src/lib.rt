@@ -10,6 +10,8 @@ mod batch;
 #[cfg(test)]
 mod calls;
 #[cfg(test)]
+mod described;
+#[cfg(test)]
 mod environments;
 #[cfg(test)]
 mod errors;
