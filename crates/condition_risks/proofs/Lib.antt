@@ -1,0 +1,5 @@
+mod Ends
+mod Operators
+mod Holding
+mod Ending
+mod Expected

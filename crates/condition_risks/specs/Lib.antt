@@ -1,0 +1,4 @@
+pub mod Sides
+pub mod Risks
+pub mod Expected
+pub mod Examples
