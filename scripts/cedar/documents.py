@@ -134,7 +134,7 @@ def depth(value):
 def text_of(document, in_one_line=False):
     """The document's text, with a line for each entity type, action, policy and entity, or in one line."""
 
-    compact = json.JSONEncoder(ensure_ascii=False, separators=(",", ":")).encode
+    compact = json.JSONEncoder(ensure_ascii=False, check_circular=False, separators=(",", ":")).encode
 
     def lines(opening, items, closing):
         return opening + ("\n  " + ",\n  ".join(items) + "\n" if items else "") + closing

@@ -99,12 +99,9 @@ def store(value, top, schema, report, known):
 
 def missing_actions(made, schema, place, report):
     """The entities of actions that the schema puts below others and that are not there: Cedar adds them."""
-    there = {tuple(e["id"]) for e in made}
-    added = [
-        {"id": a["id"], "parents": a["memberOf"]}
-        for a in schema.actions
-        if "memberOf" in a and tuple(a["id"]) not in there
-    ]
+    below = [a for a in schema.actions if "memberOf" in a]
+    there = {tuple(e["id"]) for e in made} if below else ()
+    added = [{"id": a["id"], "parents": a["memberOf"]} for a in below if tuple(a["id"]) not in there]
     if added:
         names = ", ".join(f"{kind}::{shown(eid)}" for kind, eid in (e["id"] for e in added))
         report.added(place, f"the entities of the actions that the schema puts below others: {names}")

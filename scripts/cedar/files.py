@@ -4,7 +4,7 @@ import errno
 import os
 import sys
 
-from cedar import documents, entities, json_text, policy_json, policy_text, schema_text
+from cedar import documents, entities, json_text, plain_store, policy_json, policy_text, schema_text
 from cedar.objects import uid_of_text
 from cedar.places import Place, Report, Source
 from cedar.schema import Schema
@@ -154,12 +154,23 @@ def read_policies(given, made):
     return documents.policies(static, links, made.report)
 
 
+def stored_in(source, made, schema, known):
+    """The entities of a text, and their places."""
+    source.finder, source.is_json = json_text.Finder(), True
+    plain = plain_store.read(source, schema, known)
+    if plain:
+        return plain
+    value = json_text.load(source, made.report)
+    found = [] if value is None else entities.store(value, Place(source), schema, made.report, known)
+    return [one for one, _ in found], [place for _, place in found]
+
+
 def read_entities(given, made, schema):
     known, found = {}, []
-    for value, top in values("entities", given, made):
-        for one, place in entities.store(value, top, schema, made.report, known):
-            found.append(one)
-            made.stored.append(place)
+    for source in sources("entities", given, made):
+        stored, places = stored_in(source, made, schema, known)
+        found += stored
+        made.stored += places
     if not {"entities", "request", "requests", "action"} & set(given) or "schema" not in made.texts:
         return found
     added = entities.missing_actions(found, schema, Place(made.source("schema")), made.report)

@@ -1,0 +1,66 @@
+"""Entities are read with one answer by `plain_store` and by `entities`; the former gives up where anything is refused,
+and reads what is usual itself."""
+from cedar import documents, files, plain_store
+from cedar.places import Source
+from cedar.tests.refusals import ENTITIES
+
+SCHEMA = """entity User in [Group, User] { age?: Long, name?: String, when?: datetime, host?: ipaddr, best?: User,
+  friends?: Set<User>, hosts?: Set<ipaddr>, mail?: { text: String, type?: String, id?: String, when?: datetime } } tags String;
+entity Group tags Set<duration>;"""
+ATTRIBUTES = (
+    "{}",
+    '{"age": -9223372036854775808, "name": "\\u00e9\\ud83e\\udd5d", "x": [], "y": {}}',
+    '{"when": "2023-02-28", "host": {"__extn": {"fn": "ip", "arg": "::1"}}}',
+    '{"when": {"fn": "datetime", "arg": "2023-02-28"}, "x": {"__extn": {"fn": "decimal", "args": ["1.5"]}}}',
+    '{"best": {"type": "User", "id": "b"}, "x": {"__entity": {"id": "b", "type": "Other"}}}',
+    '{"friends": [{"type": "User", "id": "b"}, {"__entity": {"type": "User", "id": "c"}}], "hosts": ["10.0.0.1", "::1"]}',
+    '{"mail": {"type": "User", "id": "b", "text": "-0:", "when": "2023-02-28"}, "x": {"type": "User", "id": "b"}}',
+    '{"x": [[true, 1, "a"], [{"a": [{"when": "no date"}]}]], "when\\u0032": "no date"}',
+)
+TAGS = ("", ', "tags": {}', ', "tags": {"a": "b", "c": "d"}')
+GROUP = '{"parents": [], "attrs": {}, "uid": {"__entity": {"type": "Group", "id": "g"}}, "tags": {"t": ["1h", "2d"]}}'
+
+
+def usual():
+    """Texts of which nothing is refused."""
+    for attributes in ATTRIBUTES:
+        for tags in TAGS:
+            user = f'"attrs": {attributes}, "parents": [{{"type": "Group", "id": "g"}}]{tags}}}'
+            yield f'[{GROUP}, {{"uid": {{"type": "User", "id": "a"}}, {user}, {{"uid": {{"type": "N::Other", "id": "a"}}, {user}]'
+    yield "[]"
+
+
+def answers(texts):
+    """What is made of entities with `plain_store` and without it, and whether that has read each text."""
+    read, took = plain_store.read, []
+
+    def watched(*given):
+        found = read(*given)
+        took.append(found is not None)
+        return found
+
+    def made():
+        given = {"schema": Source("s", SCHEMA), "entities": [Source(str(i), text) for i, text in enumerate(texts)]}
+        found = files.make(given)
+        places = [place.short() for place in found.stored]
+        return found.report.lines() or (documents.text_of(found.document), places)
+
+    try:
+        plain_store.read = watched
+        quick = made()
+        plain_store.read = lambda *_: None
+        return quick, made(), all(took)
+    finally:
+        plain_store.read = read
+
+
+def test(_):
+    good = list(usual())
+    rows = [([text], True) for text in good] + [([text], False) for text, _, _ in ENTITIES if isinstance(text, str)]
+    rows += [([good[0], good[0]], False), ([good[0], "[]"], True)]
+    wrong = []
+    for texts, is_usual in rows:
+        quick, slow, took = answers(texts)
+        if quick != slow or took != is_usual or isinstance(slow, list) == is_usual:
+            wrong.append(f"{texts}: {quick}, and {slow}; read by plain_store: {took}")
+    return len(rows), wrong
