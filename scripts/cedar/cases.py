@@ -96,9 +96,10 @@ class Reader:
             return None
         if value["decision"] not in DECISIONS:
             return self.report.no(place["decision"], "expected `allow` or `deny`")
-        reasons, errors = value.get("reason", value.get("reasons")), value.get("num_errors", 0)
-        if not (reasons is None or isinstance(reasons, list) and all(isinstance(one, str) for one in reasons)):
+        given, errors = [value[part] for part in ("reason", "reasons") if part in value], value.get("num_errors", 0)
+        if not all(isinstance(ids, list) and all(isinstance(one, str) for one in ids) for ids in given):
             return self.report.no(place, "expected `reason` as a list of policies' ids")
+        reasons = given[0] if given else None
         if not isinstance(errors, int) or isinstance(errors, bool):
             return self.report.no(place["num_errors"], "expected a number")
         stored = self.stored
@@ -110,7 +111,7 @@ class Reader:
 
     def store(self, value, place):
         """The entities of a test, with those of actions; equal ones of several tests are one list."""
-        key = json.dumps(value, default=lambda number: number.text)
+        key = json.dumps(value, default=lambda number: {"": {"": number.text}})  # which is no text
         if key not in self.known:
             found = [one for one, _ in entities.store(value, place, self.schema, self.report, {})]
             added = entities.missing_actions(found, self.schema, Place(self.made.source("schema")), self.report)

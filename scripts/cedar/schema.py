@@ -198,7 +198,7 @@ class Schema:
     def record(self, t, space, place, also=()):
         """The attributes of a record type."""
         self.has(t, place, ("type", "attributes"), ("additionalAttributes", *also))
-        if t.get("additionalAttributes"):
+        if t.get("additionalAttributes", False) is not False:
             self.no(place["additionalAttributes"], "records are closed here")
         given, made = t.get("attributes", {}), {}
         if not isinstance(given, dict):
@@ -246,7 +246,7 @@ class Schema:
     def action(self, name, a, space, place):
         if not self.has(a, place, (), ("memberOf", "appliesTo", "attributes")):
             return
-        if a.get("attributes"):
+        if a.get("attributes") not in (None, {}):
             self.no(place["attributes"], "attributes of actions have no counterpart")
         made = {"id": [qualified("Action", space), name]}
         applies, at = a.get("appliesTo"), place["appliesTo"]
@@ -258,7 +258,7 @@ class Schema:
                 if self.contexts[tuple(made["id"])]:
                     made["context"] = self.contexts[tuple(made["id"])]
         above = a.get("memberOf")
-        if above and is_list(above, place["memberOf"], self.report, "actions"):
+        if above is not None and is_list(above, place["memberOf"], self.report, "actions") and above:
             found = [self.above(m, space, place["memberOf"][i]) for i, m in enumerate(above)]
             made["memberOf"] = list({tuple(uid or ()): uid for uid in found}.values())
         self.actions.append(made)

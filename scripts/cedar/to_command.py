@@ -6,6 +6,7 @@ from cedar import to_json, to_text
 from cedar.json_text import load
 from cedar.places import Report, Source
 from cedar.to_text import Unsayable
+from form import SCHEMA, form_faults
 from script import bytes_of, complain
 
 HELP = """usage: scripts/to-cedar PART [--json] < document.json, or with the document's name behind these words
@@ -25,14 +26,25 @@ place in the document, and nothing is written then.
 Status: 0 done; 1 no document, or not sayable; 2 usage; 8 the text can't be read; 9 nothing can be
 written. Nothing of this is proved.
 """
+FORM = SCHEMA["properties"]
+POLICY = FORM["policies"]["items"]
 BAD = (AttributeError, IndexError, KeyError, TypeError, ValueError)
 
 
 def policies(document, as_json):
-    found = document.get("policies", [])
+    found = listed(document, "policies")
     if as_json:
-        return dumped(to_json.policy_set([told(f"policies[{i}]", checked, p) for i, p in enumerate(found)]))
-    return "\n".join(told(f"policies[{i}]", to_text.policy, p) for i, p in enumerate(found) if "link" not in p)
+        return dumped(to_json.policy_set([told(f"policies[{i}]", checked, p, POLICY) for i, p in enumerate(found)]))
+    static = [(i, p) for i, p in enumerate(found) if "link" not in p]
+    return "\n".join(told(f"policies[{i}]", to_text.policy, p, POLICY) for i, p in static)
+
+
+def listed(document, part):
+    """The policies or entities; none where the document has no such part."""
+    found = document.get(part, [])
+    if not isinstance(found, list):
+        raise Unsayable(f"{part}: not of the document's form (docs/FORMAT.md)")
+    return found
 
 
 def checked(p):
@@ -57,29 +69,35 @@ def shadow(declared):
 def schema(document, as_json):
     told("schema", shadow, document["schema"])
     if as_json:
-        return dumped(told("schema", to_json.schema, document["schema"]))
-    return told("schema", lambda s: to_text.SchemaWriter(s).text(), document["schema"])
+        return dumped(told("schema", to_json.schema, document["schema"], FORM["schema"]))
+    return told("schema", lambda s: to_text.SchemaWriter(s).text(), document["schema"], FORM["schema"])
 
 
 def links(document, _):
-    return dumped(told("policies", to_json.links, document.get("policies", [])))
+    return dumped(told("policies", to_json.links, listed(document, "policies"), FORM["policies"]))
 
 
 def entities(document, _):
-    return dumped([told(f"entities[{i}]", to_json.entity, e) for i, e in enumerate(document.get("entities", []))])
+    found = enumerate(listed(document, "entities"))
+    return dumped([told(f"entities[{i}]", to_json.entity, e, FORM["entities"]["items"]) for i, e in found])
 
 
 def request(document, _):
-    return dumped(told("request", to_json.request, document.get("request", {})))
+    return dumped(told("request", to_json.request, document.get("request", {}), FORM["request"]))
 
 
 def dumped(value):
     return json.dumps(value, ensure_ascii=False, indent=2) + "\n"
 
 
-def told(place, write, part):
+def told(place, write, part, form=None):
+    """The part as it is written. What has not its form is not: an object in place of a list of conditions would be
+    written as none."""
     try:
-        return write(part)
+        made = write(part)
+        if form is not None and form_faults(part, form):
+            raise ValueError(part)
+        return made
     except Unsayable as why:
         raise Unsayable(f"{place}: {why}") from None
     except BAD:

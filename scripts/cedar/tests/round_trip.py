@@ -18,6 +18,7 @@ def to_cedar(d, as_json):
     return parts
 
 
+NO_FORM = "{}: not of the document's form"
 # What Cedar has no words for: a part, members of the document, and words of what is told.
 UNSAYABLE = (
     (
@@ -35,6 +36,38 @@ UNSAYABLE = (
         {"policies": [{"id": "p", "effect": "permit"}, {"id": "q"}]},
         "policies[1]: not of the document's form",
     ),
+    ("policies", {"policies": [{"id": "p", "effect": "permit", "body": {}}]}, NO_FORM.format("policies[0]")),
+    ("policies", {"policies": [{"id": "p", "effect": "permit", "body": ""}]}, NO_FORM.format("policies[0]")),
+    ("policies", {"policies": [{"id": "p", "effect": "permit", "body": None}]}, NO_FORM.format("policies[0]")),
+    ("policies", {"policies": [{"id": "p", "effect": "permit", "body": [{}]}]}, NO_FORM.format("policies[0]")),
+    ("policies", {"policies": [{"id": "p", "effect": "permit", "principal": None}]}, NO_FORM.format("policies[0]")),
+    ("policies", {"policies": [{"id": "p", "effect": "permit", "resource": None}]}, NO_FORM.format("policies[0]")),
+    ("policies", {"policies": [{"id": "p", "effect": "permit", "action": None}]}, NO_FORM.format("policies[0]")),
+    ("policies", {"policies": {}}, NO_FORM.format("policies")),
+    ("links", {"policies": {}}, NO_FORM.format("policies")),
+    ("entities", {"entities": {}}, NO_FORM.format("entities")),
+    ("policies", {"policies": ""}, NO_FORM.format("policies")),
+    ("links", {"policies": ""}, NO_FORM.format("policies")),
+    ("entities", {"entities": ""}, NO_FORM.format("entities")),
+    ("policies", {"policies": None}, NO_FORM.format("policies")),
+    ("links", {"policies": None}, NO_FORM.format("policies")),
+    ("entities", {"entities": None}, NO_FORM.format("entities")),
+    ("policies", {"policies": False}, NO_FORM.format("policies")),
+    ("links", {"policies": False}, NO_FORM.format("policies")),
+    ("entities", {"entities": False}, NO_FORM.format("entities")),
+    ("entities", {"entities": [{"id": ["U", "a"], "parents": {}}]}, NO_FORM.format("entities[0]")),
+    ("entities", {"entities": [{"id": ["U", "a"], "parents": ""}]}, NO_FORM.format("entities[0]")),
+    ("entities", {"entities": [{"id": ["U", "a"], "parents": None}]}, NO_FORM.format("entities[0]")),
+    ("entities", {"entities": [{"id": ["U", "a"], "attrs": None}]}, NO_FORM.format("entities[0]")),
+    ("entities", {"entities": [{"id": ["U", "a"], "tags": None}]}, NO_FORM.format("entities[0]")),
+    ("entities", {"entities": [{"id": ["U", "a"], "tags": 0}]}, NO_FORM.format("entities[0]")),
+    ("schema", {"schema": {"entityTypes": {"A": {"memberOf": {}}}, "actions": []}}, NO_FORM.format("schema")),
+    ("schema", {"schema": {"entityTypes": {"A": {"attributes": None}}, "actions": []}}, NO_FORM.format("schema")),
+    ("schema", {"schema": {"entityTypes": {"A": {"memberOf": None}}, "actions": []}}, NO_FORM.format("schema")),
+    ("schema", {"schema": {"entityTypes": {}, "actions": [{"id": ["Action", "x"], "memberOf": {}}]}}, NO_FORM.format("schema")),
+    ("schema", {"schema": {"entityTypes": {}, "actions": [{"id": ["Action", "x"], "memberOf": ""}]}}, NO_FORM.format("schema")),
+    ("schema", {"schema": {"entityTypes": {}, "actions": [{"id": ["Action", "x"], "principals": None}]}}, NO_FORM.format("schema")),
+    ("schema", {"schema": {"entityTypes": {}, "actions": [{"id": ["Action", "x"], "context": None}]}}, NO_FORM.format("schema")),
     ("schema", {"schema": {"actions": [{"id": ["Deed", "a"]}]}}, "Deed"),
     ("schema", {"schema": {"entityTypes": {"A": {}, "Z::A": {}}}}, "the type `Z::A` beside the type `A`"),
     (
