@@ -3,3 +3,4 @@ mod Operators
 mod Holding
 mod Ending
 mod Expected
+mod Merging

@@ -1,4 +1,5 @@
 pub mod Sides
 pub mod Risks
 pub mod Expected
+pub mod Listed
 pub mod Examples
