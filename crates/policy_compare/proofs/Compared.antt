@@ -1,5 +1,5 @@
 -- What is found of conditions holds of decisions.
-use Rattle.std.proofs.Common.{◌≡◌, ℕ, Bool, true, false, not, ◌&&◌, ◌||◌, List, [], ◌∷◌, Option, Some, None, IfSome, IsSomeAnd, ◌⊎◌, inl, inr, cond, find, refl, sym, ap, subst, ◌∙◌, if◌then◌else◌}
+use Rattle.std.proofs.Common.{◌≡◌, Bool, true, false, not, ◌&&◌, ◌||◌, List, [], ◌∷◌, Option, Some, None, IfSome, IsSomeAnd, ◌⊎◌, inl, inr, cond, find, refl, sym, ap, subst, ◌∙◌, if◌then◌else◌}
 use Rattle.std.specs.List.{AllByRecursion}
 use Rattle.std.specs.List.{list_any}
 use Rattle.plain_lemmas.proofs.Booleans.{or_assoc, or_false, or_left_true, or_right_true, or_weaker_right, or_cases, or_false_parts}
@@ -8,7 +8,7 @@ use Rattle.policy_values.specs.Keyed.{has_key}
 use Rattle.policy_values.specs.Uid.{text_cmp}
 use Rattle.entity_store.specs.declared.request.Request.{Request}
 use Rattle.entity_store.specs.Store.{Store}
-use Rattle.schema_core.specs.EnvData.{EnvData, LinkedEnvironment, declared_action}
+use Rattle.schema_core.specs.EnvData.{EnvData, declared_action}
 use Rattle.schema_core.specs.Faults.{IsSchema}
 use Rattle.schema_core.specs.Schema.{SchemaData}
 use Rattle.policy_core.specs.Eval.{eval}
@@ -19,10 +19,9 @@ use Rattle.policy_expressions.specs.Keys.{HasKeysOnce}
 use Rattle.policy_set.specs.Condition.{IsPolicy}
 use Rattle.policy_set.specs.Data.{PolicyData}
 use Rattle.policy_set.specs.PolicySet.{AreKeyedOnce, PolicySetData, policy_at}
-use Rattle.policy_set.specs.Response.{outcome, response}
-use Rattle.policy_set.specs.declared.response.Decision.TheVariants.{Allow}
-use Rattle.typing_spec.specs.Conforms.{RequestConforms, StoreConforms, IsOf}
-use Rattle.typing_spec.specs.Typing.{Typed, Typing, types}
+use Rattle.policy_set.specs.Response.{outcome}
+use Rattle.typing_spec.specs.Conforms.{RequestConforms, StoreConforms}
+use Rattle.typing_spec.specs.Typing.{Typing, types}
 use Rattle.condition_truth.specs.Outlined.{AreSides, OutlineDecides, asked_of}
 use Rattle.condition_truth.specs.Outlines.{outline}
 use Rattle.condition_truth.specs.Truth.{is_yes}

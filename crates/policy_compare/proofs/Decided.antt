@@ -11,7 +11,7 @@ use Rattle.policy_set.specs.Data.{PolicyData}
 use Rattle.policy_set.specs.Response.{outcome, if_true, if_permit, true_permits, true_forbids, failures, decided, response}
 use Rattle.policy_set.specs.declared.constraint.Effect.{Effect}
 use Rattle.policy_set.specs.declared.constraint.Effect.TheVariants.{Permit, Forbid}
-use Rattle.policy_set.specs.declared.response.Decision.TheVariants.{Allow, Deny}
+use Rattle.policy_set.specs.declared.response.Decision.TheVariants.{Allow}
 use Rattle.policy_set.specs.declared.response.PolicyFailure.{PolicyFailure}
 use Rattle.condition_truth.specs.Truth.{is_yes}
 use Rattle.policy_compare.specs.Conditions.{is_permit, permits_there, forbids_there}

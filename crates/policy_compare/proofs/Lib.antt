@@ -1,2 +1,4 @@
 pub mod Decided
 pub mod Compared
+pub mod Owned
+pub mod Typed

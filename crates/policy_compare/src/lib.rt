@@ -1,4 +1,10 @@
 //! What an edit of policies changes: from what is found of conditions to decisions.
 #![tactic(auto)]
 
+mod comparing;
+mod edit;
 pub mod laws;
+
+pub use comparing::compare_in;
+pub use condition_compare::Comparison;
+pub use edit::{Edit, edit_between};
