@@ -34,6 +34,8 @@ mod loaders;
 #[cfg(test)]
 mod manifests;
 #[cfg(test)]
+mod risks;
+#[cfg(test)]
 mod schemas;
 #[cfg(test)]
 mod stores;
