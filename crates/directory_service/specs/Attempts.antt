@@ -9,15 +9,14 @@ use Rattle.policy_set.specs.Data.{PolicyData}
 use Rattle.policy_set.specs.Response.{response}
 use Rattle.schema_core.specs.Schema.{SchemaData}
 use Rattle.typing_spec.specs.Conforms.{StoreConforms}
-use Rattle.table_loader.specs.Laws.{IsStoreOrdered}
 use Rattle.entity_manifest.specs.declared.EntitySliceError.{EntitySliceError}
 use Rattle.entity_manifest.specs.declared.EntitySliceError.TheVariants as error
 use Rattle.directory_service.specs.declared.attempt.Attempt.{Attempt}
 use Rattle.directory_service.specs.declared.attempt.Attempt.TheVariants.{Decided, Missing, Refused}
 
--- it holds of the store that is known, where all ascends in it and it conforms to the schema
+-- it holds of the store that is known, where it conforms to the schema
 abbrev pub OfStore : SchemaData → Option Store → (Store → Type 0) → Type 0
-OfStore schema told P = (w : Store) → told ≡ Some w → IsStoreOrdered w → StoreConforms schema w → P w
+OfStore schema told P = (w : Store) → told ≡ Some w → StoreConforms schema w → P w
 
 -- a decision is the response on the store; ids may be missing, and it is not refused
 abbrev pub IsAttempt : List PolicyData → Request → Store → Attempt → Type 0

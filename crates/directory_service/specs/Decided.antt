@@ -24,9 +24,9 @@ abbrev pub IsReadFirst : Option (List ℕ) → Option (List ℕ) → Result Docu
 IsReadFirst left rest (Ok d) = IsFirstDocument left rest d
 IsReadFirst left rest (Err r) = IsRefusal r
 
--- Each line that is left has its answer, by the store of the rows that are known at the end, and were known at
--- the beginning: where it is in order and conforms to the document's schema, the lines on the responses on
--- it, or on faults. The database can be used again.
+-- Each line that is left has its answer, by the store of the rows that are known at the end, and were known
+-- at the beginning: where it conforms to the document's schema, the lines on the responses on it, or on
+-- faults. The database can be used again.
 abbrev pub AreDecided : Document → State → State → Option (List ℕ) → SinkState → SinkState → Type 0
 AreDecided d first last left sink sink' =
     IsReady last × Continues (known_store first) (known_store last)

@@ -5,5 +5,6 @@ pub mod Status
 pub mod Words
 pub mod Attempts
 pub mod Lines
+pub mod Rows
 pub use Rattle.entity_manifest.specs.Accepted
 pub use Rattle.entity_manifest.specs.OfPolicies

@@ -14,10 +14,10 @@ use Rattle.policy_set.specs.PolicySet.{PolicySetData}
 use Rattle.schema_core.specs.Schema.{SchemaData}
 use Rattle.entity_store.specs.declared.request.Request.{Request}
 use Rattle.entity_store.specs.Store.{Store}
-use Rattle.entity_manifest.specs.Answers.{IsAnswerOrFault, is_fault}
-use Rattle.entity_manifest.specs.Lines.{line_on, refused_line}
-use Rattle.entity_manifest.specs.declared.answer.BatchAnswer.{BatchAnswer}
+use Rattle.entity_manifest.specs.Lines.{refused_line}
 use Rattle.directory_service.specs.Attempts.{OfStore}
+use Rattle.directory_service.specs.Rows.{IsRowAnswer, row_faults, row_line}
+use Rattle.directory_service.specs.declared.row_fault.RowAnswer.{RowAnswer}
 use Rattle.directory_service.specs.declared.requests.LineRequest.{LineRequest}
 use Rattle.directory_service.specs.declared.requests.LineRequest.TheVariants as line
 
@@ -33,7 +33,7 @@ line_request bytes = request_in (json_of bytes)
 -- fault, with which one is counted; or it says that there is no request
 abbrev pub IsRequestLine : SchemaData → List PolicyData → Store → ℕ → LineRequest → List ℕ → Type 0
 IsRequestLine schema ps w faults (line.Request q) text =
-    (a : BatchAnswer) × IsAnswerOrFault schema ps w q a × (faults ≡ is_fault a) × (text ≡ line_on a)
+    (a : RowAnswer) × IsRowAnswer schema ps w q a × (faults ≡ row_faults a) × (text ≡ row_line a)
 IsRequestLine schema ps w faults line.NoRequest text =
     (faults ≡ 0) × (text ≡ refused_line (codes "line: no request"))
 IsRequestLine schema ps w faults line.NoJson text =
@@ -45,24 +45,23 @@ IsLineOn schema ps w faults (Some bytes) text = IsRequestLine schema ps w faults
 IsLineOn schema ps w faults None text =
     (faults ≡ 0) × (text ≡ refused_line (codes "line: more than 16777216 bytes"))
 
--- by the store that is known, where it is in order and conforms, the text is the line on the response to the
--- request, or on a fault; and a count rose by what the answer counts
+-- by the store that is known, where it conforms, the text is the line on the response to the request, or on a
+-- fault; and a count rose by what the answer counts
 abbrev pub IsRequestAnswered :
     SchemaData → List PolicyData → Option Store → Request → ℕ → ℕ → String Global → Type 0
 IsRequestAnswered schema ps told q from to text =
-    (a : BatchAnswer) × OfStore schema told (λ w. IsAnswerOrFault schema ps w q a)
-    × RoseBy (is_fault a) from to × (string_bytes text ≡ line_on a)
+    (a : RowAnswer) × OfStore schema told (λ w. IsRowAnswer schema ps w q a)
+    × RoseBy (row_faults a) from to × (string_bytes text ≡ row_line a)
 
--- by the store that is known, where it is in order and conforms, the text answers what a line is; and a count
--- rose by the faults of the answer
+-- by the store that is known, where it conforms, the text answers what a line is; and a count rose by the
+-- faults of the answer
 abbrev pub IsLineAnswered :
     SchemaData → List PolicyData → Option Store → LineRequest → ℕ → ℕ → String Global → Type 0
 IsLineAnswered schema ps told r from to text =
     (faults : ℕ) × OfStore schema told (λ w. IsRequestLine schema ps w faults r (string_bytes text))
     × RoseBy faults from to
 
--- by the store that is known, where it is in order and conforms, the lines that were left are answered, one
--- after another
+-- by the store that is known, where it conforms, the lines that were left are answered, one after another
 abbrev pub AreLinesAnswered :
     SchemaData → PolicySetData → Option Store → ℕ → ℕ → Option (List ℕ) → SinkState → SinkState → Ended
     → Type 0

@@ -1,6 +1,8 @@
 -- What a run writes, and what it says where it is done.
 use Rattle.std.specs.Prelude.{◌≡◌, ◌⊎◌, ◌≤◌, ℕ, List, ◌++◌, length, take, string_bytes, Option, None, Result, Ok, Err, IfSome, codes, decimal}
 use Rattle.std.specs.declared.alloc.AllocError.{AllocError}
+use Rattle.std.specs.declared.alloc.Global.{Global}
+use Rattle.std.specs.declared.vec.Vec.{Vec}
 use Rattle.std.specs.Io.KnownBytes.{Appends}
 use Rattle.byte_streams.specs.Document.{document_limit}
 use Rattle.byte_streams.specs.State.{SinkState}
@@ -32,13 +34,18 @@ IsDone (Err e) sink sink' = ⊥
 abbrev pub AreAll : Option (List ℕ) → List ℕ → Type 0
 AreAll left bytes = (length bytes ≤ document_limit) × IfSome left (λ all. all ≡ bytes)
 
--- all that is left are the bytes of the document
-abbrev pub IsDocumentLeft : Option (List ℕ) → Document → Type 0
-IsDocumentLeft left d = (bytes : List ℕ) × AreAll left bytes × IsReading bytes (Ok d)
-
 -- the reply says that the work is not done, though there was a command
 abbrev pub IsRefusal : Reply → Type 0
 IsRefusal r = ¬ (r.status ≡ status.Done) × ¬ (r.status ≡ status.Usage)
+
+-- bytes that were read are all that was left; else the work is not done
+abbrev pub AreBytesOf : Option (List ℕ) → Result (Vec ℕ Global) Reply → Type 0
+AreBytesOf left (Ok bytes) = AreAll left bytes.items
+AreBytesOf left (Err r) = IsRefusal r
+
+-- all that is left are the bytes of the document
+abbrev pub IsDocumentLeft : Option (List ℕ) → Document → Type 0
+IsDocumentLeft left d = (bytes : List ℕ) × AreAll left bytes × IsReading bytes (Ok d)
 
 -- a document that was read is that of all that was left; else the work is not done
 abbrev pub IsReadOf : Option (List ℕ) → Result Document Reply → Type 0

@@ -9,8 +9,9 @@ ghost use Rattle.entity_files.specs.Rows.{known_store};
 ghost use Rattle.directory_service.specs.Lines.{IsRequestAnswered, IsLineAnswered, line_request};
 
 use crate::requests::{LineRequest, line_request};
+use crate::row_fault::row_line;
 use crate::{Directory, decide_on};
-use entity_manifest::{EntityManifest, Steps, line_on, refused_line};
+use entity_manifest::{EntityManifest, Steps, refused_line};
 use entity_store::Request;
 use policy_set::PolicySet;
 use schema_core::ValidatorSchema;
@@ -44,15 +45,15 @@ fn answer_request<S: Alter + Drop, L: Ledger>(
     ensures kept { RoseBy 0 directory.old.faults directory.new.faults }
 {
     let answer = decide_on(alloc, schema, policies, manifest, request, directory, steps)?;
-    line_on(alloc, &answer)
+    row_line(alloc, &answer)
 }
 
 /// The line that answers a line of the input, by the manifest of accepted policies: the response on the rows
 /// to the request that the line is, or why there is none.
 ///
 /// Where after the call the database is open and its disk has returned what was written, and the store of its
-/// rows is in order and conforms, the line is that on the response on this whole store, or on a fault, by
-/// which the count of faults rose.
+/// rows conforms, the line is that on the response on this whole store, or on a fault, by which the count of
+/// faults rose.
 pub fn answer_line<S: Alter + Drop, L: Ledger>(
     alloc: Global,
     schema: &ValidatorSchema,

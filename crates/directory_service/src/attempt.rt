@@ -1,28 +1,28 @@
 //! Deciding on what was looked up so far.
 
-ghost use Rattle.std.specs.Prelude.{◌≡◌, ◌≢◌, None, IfOk};
+ghost use Rattle.std.specs.Prelude.{◌≢◌, IfOk};
 ghost use Rattle.sqlite.specs.Held.{state};
 ghost use Rattle.entity_store.specs.Request.{IsWhole};
-ghost use Rattle.entity_store.specs.Store.{entity_at};
+ghost use Rattle.entity_store.specs.FromParents.{IsFromParents};
 ghost use Rattle.typing_spec.specs.Conforms.{RequestConforms};
 ghost use Rattle.entity_manifest.specs.Accepted.{IsAccepted};
 ghost use Rattle.entity_manifest.specs.OfPolicies.{IsManifestOf};
 ghost use Rattle.entity_manifest.specs.declared.EntitySliceError.TheVariants.{LoaderFault};
-ghost use Rattle.conformance.specs.StoreRules.{first_store_fault};
 ghost use Rattle.entity_files.specs.Fetched.{AreFetched};
-ghost use Rattle.entity_files.specs.Rows.{known_store};
+ghost use Rattle.entity_files.specs.Rows.{known_entities, known_store};
 ghost use Rattle.directory_service.specs.Attempts.{OfStore, IsAttempt, Becomes};
 
+use crate::row_fault::{RowError, RowFault};
 use conformance::{ConformanceError, conforms};
 use entity_files::{Fetched, FetchedLoader};
-use entity_loader::LoadError;
 use entity_manifest::{EntityManifest, EntitySliceError, Steps, load_for_request};
 use entity_store::{Entities, EntitiesError, Request};
 use policy_set::{PolicySet, Response, decide};
 use policy_values::EntityUID;
 use schema_core::ValidatorSchema;
 use sqlite::{Alter, Connection};
-use std::alloc::Global;
+use std::alloc::{AllocError, Global};
+use std::collections::BTreeSet;
 use std::sync::ledger::Ledger;
 
 /// What deciding on what was looked up so far comes to.
@@ -36,42 +36,65 @@ pub enum Attempt {
     Refused(EntitySliceError),
 }
 
-// Checks that each entity that was found conforms.
-fn check_entities(schema: &ValidatorSchema, entities: &Entities) -> Result<(), LoadError>
-    ensures { IfOk result (λ _. first_store_fault schema.now entities.now ≡ None) }
-{
+// Checks that each entity that was found conforms, with the ancestors that it has by what was found.
+fn check_entities(schema: &ValidatorSchema, entities: &Entities) -> Result<(), RowError> {
     match conforms(schema, entities) {
         Ok(()) => Ok(()),
-        Err(ConformanceError::OutOfMemory) => Err(LoadError::OutOfMemory),
-        Err(_) => Err(LoadError::Failed),
+        Err(ConformanceError::OutOfMemory) => Err(RowError::OutOfMemory),
+        Err(ConformanceError::EntityDoesNotConform(fault)) => Err(RowError::Row(RowFault::Breaks(
+            fault,
+        ))),
     }
 }
 
-// The store of what was found, which conforms.
-fn store_of(
-    alloc: Global,
-    schema: &ValidatorSchema,
-    fetched: &Fetched,
-) -> Result<Entities, LoadError>
-    ensures found { IfOk result (λ s. (u : EntityUID) → entity_at s u ≡ entity_at fetched.now.found.items u) }
-    ensures conforms { IfOk result (λ s. first_store_fault schema.now s ≡ None) }
+// The store of what was found.
+fn store_of(alloc: Global, fetched: &Fetched) -> Result<Entities, RowError>
+    ensures { IfOk result (IsFromParents fetched.now.found.items) }
 {
     match fetched.entities(alloc) {
-        Ok(entities) => {
-            check_entities(schema, &entities)?;
-            Ok(entities)
-        }
-        Err(EntitiesError::OutOfMemory) => Err(LoadError::OutOfMemory),
-        Err(_) => Err(LoadError::Failed),
+        Ok(entities) => Ok(entities),
+        Err(EntitiesError::Duplicate(uid)) => Err(RowError::Row(RowFault::NoEntity(uid))),
+        Err(EntitiesError::Cycle(uid)) => Err(RowError::Row(RowFault::Cycle(uid))),
+        Err(EntitiesError::OutOfMemory) => Err(RowError::OutOfMemory),
     }
+}
+
+// Adds those of the ids that were not looked up.
+fn add_unseen(
+    seen: &BTreeSet<EntityUID>,
+    unseen: &mut Vec<EntityUID>,
+    ids: &BTreeSet<EntityUID>,
+) -> Result<(), AllocError> {
+    for uid in ids {
+        if !seen.contains(uid) {
+            unseen.push(uid.try_clone()?)?;
+        }
+    }
+    Ok(())
+}
+
+// The ancestors of actions' entities that were not looked up: such an entity conforms with all of its
+// ancestors, and with no others.
+fn unseen_above_actions(
+    alloc: Global,
+    seen: &BTreeSet<EntityUID>,
+    entities: &Entities,
+) -> Result<Vec<EntityUID>, AllocError> {
+    let mut unseen = Vec::new(alloc);
+    for entity in entities.iter() {
+        if entity.uid().is_action() {
+            add_unseen(seen, &mut unseen, entity.ancestors())?;
+        }
+    }
+    Ok(unseen)
 }
 
 /// Decides by the manifest of accepted policies, on a whole request that conforms, with what was looked up so
 /// far.
 ///
 /// Where the database says the store of its rows and that conforms, a decision is the response on all of it,
-/// and nothing is refused. Errs with `Failed` where two entities that were found have one id, or one of them
-/// does not conform.
+/// and nothing is refused. Errs with the row that is at fault: where two entities that were found have one
+/// id, an id is its own ancestor, or an entity does not conform.
 pub(crate) fn try_decide<S: Alter, L: Ledger>(
     alloc: Global,
     schema: &ValidatorSchema,
@@ -81,18 +104,23 @@ pub(crate) fn try_decide<S: Alter, L: Ledger>(
     conn: &Connection<S>,
     fetched: &Fetched,
     steps: &mut Steps<L>,
-) -> Result<Attempt, LoadError>
+) -> Result<Attempt, RowError>
     requires accepted { IsAccepted schema.now policies.now }
     requires manifest { IsManifestOf schema.now policies.now.policies manifest.now }
     requires whole { IsWhole request.now }
     requires conforms { RequestConforms schema.now request.now }
-    requires fetched { AreFetched (known_store (state S.Store conn.now)) fetched.now }
+    requires fetched { AreFetched (known_entities (state S.Store conn.now)) fetched.now }
     ensures right { OfStore schema.now (known_store (state S.Store conn.now)) (λ w.
         IfOk result (IsAttempt policies.now.policies request.now w)) }
     ensures no_fault { IfOk result (λ a. a ≢ Attempt.Refused LoaderFault) }
 {
-    let entities = store_of(alloc, schema, fetched)?;
-    let mut loader = FetchedLoader::new(alloc, conn, &fetched.seen, &entities);
+    let entities = store_of(alloc, fetched)?;
+    let unseen = unseen_above_actions(alloc, &fetched.seen, &entities)?;
+    if !unseen.is_empty() {
+        return Ok(Attempt::Missing(unseen));
+    }
+    check_entities(schema, &entities)?;
+    let mut loader = FetchedLoader::new(alloc, conn, fetched, &entities);
     let loaded = load_for_request(
         alloc,
         schema,
@@ -113,14 +141,14 @@ fn attempt_of(
     request: &Request,
     loaded: Result<Entities, EntitySliceError>,
     missing: Vec<EntityUID>,
-) -> Result<Attempt, LoadError>
+) -> Result<Attempt, RowError>
     requires { IsWhole request.now }
     ensures { IfOk result (Becomes policies.now.policies request.now loaded) }
 {
     match loaded {
         Ok(entities) => Ok(Attempt::Decided(decide(alloc, policies, request, &entities)?)),
         Err(EntitySliceError::LoaderFault) => Ok(Attempt::Missing(missing)),
-        Err(EntitySliceError::OutOfMemory) => Err(LoadError::OutOfMemory),
+        Err(EntitySliceError::OutOfMemory) => Err(RowError::OutOfMemory),
         Err(error) => Ok(Attempt::Refused(error)),
     }
 }

@@ -2,16 +2,19 @@
 ghost use Rattle.std.specs.Prelude.{◌≡◌, ◌++◌, IfOk, string_bytes, codes, decimal};
 ghost use Rattle.directory_service.specs.Run.{SaysConforms, IsImported, IsRightOf};
 
-use crate::document::read_source;
+use crate::document::{entities_in, read_bytes, read_source, source_bytes};
 use crate::reply::{Reply, file_reply, reply_with};
 use crate::status::Status;
 use byte_streams::Source;
-use entity_files::{FileError, check_closed, check_store, import_into_file, read_file};
+use entity_files::{FileError, check_store, import_into_file, read_file};
+use entity_store::Entity;
 use json_document::Document;
 use sqlite::Start;
 use std::alloc::{AllocError, Global};
 
 const CONFORMS: &str = "conforms\n";
+
+const NO_ENTITIES: &str = "document: entities\n";
 
 // The reply that so many entities were written.
 fn imported(alloc: Global, count: usize) -> Result<Reply, AllocError>
@@ -25,19 +28,38 @@ fn imported(alloc: Global, count: usize) -> Result<Reply, AllocError>
     })
 }
 
+// Writes the entities, which are those of the document with their parents.
+fn import_entities<S: Start>(
+    rt: &HostRuntime,
+    path: &str,
+    start: S,
+    document: &Document,
+    entities: &Vec<Entity>,
+) -> Result<Reply, AllocError>
+    ensures done { IfOk result (λ r. r.status ≡ Status.Done → IsImported document.now (string_bytes r.text)) }
+    ensures command { IfOk result (λ r. ¬ (r.status ≡ Status.Usage)) }
+{
+    let store = &document.entities;
+    match import_into_file(rt, path, start, &document.schema, store, entities) {
+        Ok(()) => imported(rt.alloc(), store.len()),
+        Err(error) => file_reply(rt.alloc(), &error),
+    }
+}
+
+// Writes the entities of the document that the bytes are.
 fn import_document<S: Start>(
     rt: &HostRuntime,
     path: &str,
     start: S,
     document: &Document,
+    bytes: &[u8],
 ) -> Result<Reply, AllocError>
     ensures done { IfOk result (λ r. r.status ≡ Status.Done → IsImported document.now (string_bytes r.text)) }
     ensures command { IfOk result (λ r. ¬ (r.status ≡ Status.Usage)) }
 {
-    let entities = &document.entities;
-    match import_into_file(rt, path, start, &document.schema, entities) {
-        Ok(()) => imported(rt.alloc(), entities.len()),
-        Err(error) => file_reply(rt.alloc(), &error),
+    match entities_in(rt.alloc(), bytes)? {
+        Some(entities) => import_entities(rt, path, start, document, &entities),
+        None => reply_with(rt.alloc(), Status::Document, NO_ENTITIES),
     }
 }
 
@@ -51,13 +73,17 @@ pub(crate) fn import_source<S: Start, I: Source>(
     ensures done { IfOk result (IsRightOf IsImported (I.state source.old).left) }
     ensures command { IfOk result (λ r. ¬ (r.status ≡ Status.Usage)) }
 {
-    match read_source(rt.alloc(), source)? {
-        Ok(document) => import_document(rt, path, start, &document),
+    let bytes = match source_bytes(rt.alloc(), source)? {
+        Ok(bytes) => bytes,
+        Err(reply) => return Ok(reply),
+    };
+    match read_bytes(rt.alloc(), bytes.as_slice())? {
+        Ok(document) => import_document(rt, path, start, &document, bytes.as_slice()),
         Err(reply) => Ok(reply),
     }
 }
 
-// Whether the store of all rows of the file conforms, and each row has all ancestors of its ancestors.
+// Whether the store of all rows of the file conforms.
 fn check_rows<S: Start>(
     rt: &HostRuntime,
     path: &str,
@@ -65,8 +91,7 @@ fn check_rows<S: Start>(
     document: &Document,
 ) -> Result<(), FileError> {
     let entities = read_file(rt, path, start)?;
-    check_store(rt.alloc(), &document.schema, &entities)?;
-    check_closed(rt.alloc(), &entities)
+    check_store(rt.alloc(), &document.schema, &entities)
 }
 
 fn check_file<S: Start>(

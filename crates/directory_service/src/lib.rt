@@ -11,6 +11,7 @@ mod lines;
 mod reply;
 mod requests;
 mod row_decisions;
+mod row_fault;
 mod runner;
 mod status;
 mod words;
@@ -22,6 +23,7 @@ pub use entity_manifest::{EntityManifest, EntityManifestError, Steps, compute_en
 pub use lines::{LineDecider, answer_lines};
 pub use reply::Reply;
 pub use row_decisions::{Directory, decide_on};
+pub use row_fault::{RowAnswer, RowFault};
 pub use runner::run;
 pub use status::Status;
 pub use words::{Command, command_of};

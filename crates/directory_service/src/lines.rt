@@ -106,11 +106,10 @@ fn answer_marked<S: Alter + Drop, L: Ledger, I: Source + Drop, K: Sink>(
 /// Answers each line that is left of the source, by the rows of the directory, where these are accepted
 /// policies with their manifest, and writes each answer at once. How it ended, and the directory.
 ///
-/// Where then the database is open and its disk has returned what was written, and the store of its rows is
-/// in order and conforms: what was written are the lines on the responses on this whole store to the requests
-/// of the first lines, in their order, or on faults, of which there are at most as many as the count of
-/// faults rose by, unless that stands at the last value of u64; and where it ended with `Done` no line is
-/// left out.
+/// Where then the database is open and its disk has returned what was written, and the store of its rows
+/// conforms: what was written are the lines on the responses on this whole store to the requests of the first
+/// lines, in their order, or on faults, of which there are at most as many as the count of faults rose by,
+/// unless that stands at the last value of u64; and where it ended with `Done` no line is left out.
 pub fn answer_lines<S: Alter + Drop, I: Source + Drop, K: Sink>(
     alloc: Global,
     schema: &ValidatorSchema,

@@ -1,6 +1,6 @@
 //! Decisions by the rows of a database.
 
-ghost use Rattle.std.specs.Prelude.{◌≢◌, IfOk, OnOk};
+ghost use Rattle.std.specs.Prelude.{◌≡◌, ◌≢◌, IfOk, OnOk};
 ghost use Rattle.byte_streams.specs.Steps.{RoseBy};
 ghost use Rattle.sqlite.specs.Held.{state};
 ghost use Rattle.entity_store.specs.Request.{IsWhole};
@@ -8,16 +8,17 @@ ghost use Rattle.typing_spec.specs.Conforms.{RequestConforms};
 ghost use Rattle.entity_manifest.specs.Accepted.{IsAccepted};
 ghost use Rattle.entity_manifest.specs.OfPolicies.{IsManifestOf};
 ghost use Rattle.entity_manifest.specs.declared.EntitySliceError.TheVariants.{LoaderFault};
-ghost use Rattle.entity_manifest.specs.Answers.{IsAnswerOrFault, is_fault};
+ghost use Rattle.entity_manifest.specs.Answers.{IsAnswerOrFault};
 ghost use Rattle.entity_files.specs.Table.{IsReady, Continues};
 ghost use Rattle.entity_files.specs.Fetched.{AreFetched};
-ghost use Rattle.entity_files.specs.Rows.{known_store};
+ghost use Rattle.entity_files.specs.Rows.{known_entities, known_store};
 ghost use Rattle.directory_service.specs.Attempts.{OfStore};
+ghost use Rattle.directory_service.specs.Rows.{IsRowAnswer, row_faults};
 
 use crate::attempt::{Attempt, try_decide};
+use crate::row_fault::{RowAnswer, RowError, RowFault};
 use conformance::laws::request_rules_are_exact;
 use entity_files::{Fetched, FindError};
-use entity_loader::LoadError;
 use entity_manifest::{
     BatchAnswer, EntityManifest, EntitySliceError, SliceForRequestError, Steps, check_request,
 };
@@ -45,26 +46,34 @@ fn fetch<S: Alter>(
     conn: &mut Connection<S>,
     fetched: &mut Fetched,
     uid: &EntityUID,
-) -> Result<(), LoadError>
+) -> Result<(), RowError>
     requires ready { IsReady (state S.Store conn.old) }
-    requires fetched { AreFetched (known_store (state S.Store conn.old)) fetched.old }
+    requires fetched { AreFetched (known_entities (state S.Store conn.old)) fetched.old }
     ensures ready { IsReady (state S.Store conn.new) }
-    ensures goes_on { Continues (known_store (state S.Store conn.old))
-        (known_store (state S.Store conn.new)) }
-    ensures fetched { OnOk result (AreFetched (known_store (state S.Store conn.new)) fetched.new) }
+    ensures goes_on { Continues (known_entities (state S.Store conn.old))
+        (known_entities (state S.Store conn.new)) }
+    ensures fetched { OnOk result (AreFetched (known_entities (state S.Store conn.new)) fetched.new) }
 {
     match fetched.fetch(alloc, conn, uid) {
         Ok(()) => Ok(()),
-        Err(error) => Err(load_error(error)),
+        Err(error) => Err(row_error(uid, error)),
     }
 }
 
-// Why nothing is loaded, where a look-up failed so.
-fn load_error(error: FindError) -> LoadError {
+// Why the row for the id is not read, where its look-up failed so.
+fn row_error(uid: &EntityUID, error: FindError) -> RowError {
     match error {
-        FindError::OutOfMemory => LoadError::OutOfMemory,
-        FindError::Database(Error::SqliteFailure(ErrorCode::OutOfMemory)) => LoadError::OutOfMemory,
-        _ => LoadError::Failed,
+        FindError::NoEntity => no_entity(uid),
+        FindError::OutOfMemory => RowError::OutOfMemory,
+        FindError::Database(Error::SqliteFailure(ErrorCode::OutOfMemory)) => RowError::OutOfMemory,
+        FindError::Database(_) => RowError::Database,
+    }
+}
+
+fn no_entity(uid: &EntityUID) -> RowError {
+    match uid.try_clone() {
+        Ok(uid) => RowError::Row(RowFault::NoEntity(uid)),
+        Err(_) => RowError::OutOfMemory,
     }
 }
 
@@ -74,13 +83,13 @@ fn fetch_all<S: Alter>(
     conn: &mut Connection<S>,
     fetched: &mut Fetched,
     ids: &Vec<EntityUID>,
-) -> Result<(), LoadError>
+) -> Result<(), RowError>
     requires ready { IsReady (state S.Store conn.old) }
-    requires fetched { AreFetched (known_store (state S.Store conn.old)) fetched.old }
+    requires fetched { AreFetched (known_entities (state S.Store conn.old)) fetched.old }
     ensures ready { IsReady (state S.Store conn.new) }
-    ensures goes_on { Continues (known_store (state S.Store conn.old))
-        (known_store (state S.Store conn.new)) }
-    ensures fetched { OnOk result (AreFetched (known_store (state S.Store conn.new)) fetched.new) }
+    ensures goes_on { Continues (known_entities (state S.Store conn.old))
+        (known_entities (state S.Store conn.new)) }
+    ensures fetched { OnOk result (AreFetched (known_entities (state S.Store conn.new)) fetched.new) }
 {
     for uid in ids {
         fetch(alloc, conn, fetched, uid)?;
@@ -97,15 +106,15 @@ fn decided<S: Alter, L: Ledger>(
     request: &Request,
     conn: &mut Connection<S>,
     steps: &mut Steps<L>,
-) -> Result<BatchAnswer, LoadError>
+) -> Result<BatchAnswer, RowError>
     requires accepted { IsAccepted schema.now policies.now }
     requires manifest { IsManifestOf schema.now policies.now.policies manifest.now }
     requires whole { IsWhole request.now }
     requires conforms { RequestConforms schema.now request.now }
     requires ready { IsReady (state S.Store conn.old) }
     ensures ready { IsReady (state S.Store conn.new) }
-    ensures goes_on { Continues (known_store (state S.Store conn.old))
-        (known_store (state S.Store conn.new)) }
+    ensures goes_on { Continues (known_entities (state S.Store conn.old))
+        (known_entities (state S.Store conn.new)) }
     ensures answer { OfStore schema.now (known_store (state S.Store conn.new)) (λ w.
         IfOk result (IsAnswerOrFault schema.now policies.now.policies w request.now)) }
     ensures no_fault { IfOk result (λ a. a ≢ BatchAnswer.Loading LoaderFault) }
@@ -119,22 +128,35 @@ fn decided<S: Alter, L: Ledger>(
             Attempt::Refused(error) => return Ok(BatchAnswer::Loading(error)),
             Attempt::Missing(ids) => {
                 if ids.is_empty() {
-                    return Err(LoadError::Failed);
+                    return Err(RowError::Database);
                 }
                 fetch_all(alloc, conn, &mut fetched, &ids)?;
             }
         }
     }
-    Err(LoadError::Failed)
+    Err(RowError::Database)
+}
+
+// What is answered where a request is not decided for this reason.
+fn fault_of(error: RowError) -> Result<RowAnswer, AllocError>
+    ensures { IfOk result (λ answer. row_faults answer ≡ 1) }
+{
+    match error {
+        RowError::Row(fault) => Ok(RowAnswer::Row(fault)),
+        RowError::Database => Ok(RowAnswer::Answer(BatchAnswer::Loading(
+            EntitySliceError::LoaderFault,
+        ))),
+        RowError::OutOfMemory => Err(AllocError),
+    }
 }
 
 /// The answer to a request, by the manifest of accepted policies: `Partial` where an entry of it is not
 /// known; else `Refused` where it breaks a rule, with the first one; else the response, or
-/// `Loading(LoaderFault)`, which is counted, where the database failed, or a row that is read is no entity,
-/// does not conform, or lacks an ancestor of its ancestors.
+/// `Loading(LoaderFault)` where the database failed, or `Row` with a row that is read and at fault: both are
+/// counted.
 ///
 /// Where after the call the database is open and its disk has returned what was written, and the store of its
-/// rows is in order and conforms, the answer is that on this whole store, or a fault.
+/// rows conforms, the answer is that on this whole store, or a fault.
 pub fn decide_on<S: Alter + Drop, L: Ledger>(
     alloc: Global,
     schema: &ValidatorSchema,
@@ -143,7 +165,7 @@ pub fn decide_on<S: Alter + Drop, L: Ledger>(
     request: &Request,
     directory: &mut Directory<S>,
     steps: &mut Steps<L>,
-) -> Result<BatchAnswer, AllocError>
+) -> Result<RowAnswer, AllocError>
     requires accepted { IsAccepted schema.now policies.now }
     requires manifest { IsManifestOf schema.now policies.now.policies manifest.now }
     requires ready { IsReady (state S.Store directory.old.conn) }
@@ -151,30 +173,32 @@ pub fn decide_on<S: Alter + Drop, L: Ledger>(
     ensures goes_on { Continues (known_store (state S.Store directory.old.conn))
         (known_store (state S.Store directory.new.conn)) }
     ensures answer { OfStore schema.now (known_store (state S.Store directory.new.conn)) (λ w.
-        IfOk result (IsAnswerOrFault schema.now policies.now.policies w request.now)) }
+        IfOk result (IsRowAnswer schema.now policies.now.policies w request.now)) }
     ensures counted { IfOk result (λ answer.
-        RoseBy (is_fault answer) directory.old.faults directory.new.faults) }
+        RoseBy (row_faults answer) directory.old.faults directory.new.faults) }
     ensures kept { RoseBy 0 directory.old.faults directory.new.faults }
 {
     request_rules_are_exact();
     // for the proof: the names of a schema's actions ascend
     let _actions = schema.action_ids();
     if !request.is_whole() {
-        return Ok(BatchAnswer::Partial);
+        return Ok(RowAnswer::Answer(BatchAnswer::Partial));
     }
     match check_request(alloc, schema, request) {
         Ok(()) => {
             let conn = &mut directory.conn;
             match decided(alloc, schema, policies, manifest, request, conn, steps) {
-                Ok(answer) => Ok(answer),
-                Err(LoadError::OutOfMemory) => Err(AllocError),
-                Err(LoadError::Failed) => {
+                Ok(answer) => Ok(RowAnswer::Answer(answer)),
+                Err(error) => {
+                    let answer = fault_of(error)?;
                     directory.faults = directory.faults.saturating_add(1);
-                    Ok(BatchAnswer::Loading(EntitySliceError::LoaderFault))
+                    Ok(answer)
                 }
             }
         }
-        Err(SliceForRequestError::Request(error)) => Ok(BatchAnswer::Refused(error)),
+        Err(SliceForRequestError::Request(error)) => {
+            Ok(RowAnswer::Answer(BatchAnswer::Refused(error)))
+        }
         Err(_) => Err(AllocError),
     }
 }

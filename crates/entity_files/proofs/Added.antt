@@ -1,5 +1,5 @@
 -- What one look-up adds to what was looked up.
-use Rattle.std.proofs.Common.{◌≡◌, ◌++◌, Bool, true, false, cond, Option, Some, None, refl, sym, ap, ◌∙◌, subst}
+use Rattle.std.proofs.Common.{◌≡◌, ◌++◌, List, Bool, true, false, cond, Option, Some, None, refl, sym, ap, ◌∙◌, subst}
 use Rattle.std.specs.Prelude.{IfSome}
 use Rattle.std.specs.BTreeMap.{is_at}
 use Rattle.std.specs.BTreeSet.{contains}
@@ -8,11 +8,12 @@ use Rattle.std.specs.Ordering.{is_eq}
 use Rattle.std.proofs.lemmas.List.Folds.{find-append}
 use Rattle.policy_values.specs.declared.entity_uid.EntityUID.{EntityUID}
 use Rattle.policy_values.specs.Uid.{uid_cmp}
-use Rattle.entity_store.specs.Store.{StoredEntity, Store, entity_at, is_named}
+use Rattle.entity_store.specs.Store.{StoredEntity, entity_at, is_named}
 use Rattle.entity_files.specs.Table.{Continues}
 use Rattle.entity_files.specs.Fetched.{AreFetched}
 use Rattle.entity_files.specs.declared.fetched.Fetched.{Fetched}
-use Rattle.entity_files.proofs.Stores.{same_id, itself, named}
+use Rattle.entity_files.proofs.Placed.{same_id, itself}
+use Rattle.entity_files.proofs.Stores.{named}
 
 listed : (u : EntityUID) (o : Option StoredEntity) → IfSome o (λ e. e.uid ≡ u) → entity_at (option_to_list o) u ≡ o
 listed u None h = refl
@@ -32,9 +33,9 @@ or_none : {X : Type 0} (o : Option X) → option_or o None ≡ o
 or_none None = refl
 or_none (Some x) = refl
 
-module _ (old new : Option Store) (before after : Fetched) (u : EntityUID) (o : Option StoredEntity)
+module _ (old new : Option (List StoredEntity)) (before after : Fetched) (u : EntityUID) (o : Option StoredEntity)
     (goes_on : Continues old new) (fetched : AreFetched old before) (first : contains uid_cmp before.seen u ≡ false)
-    (id : IfSome o (λ e. e.uid ≡ u)) (honest : (w : Store) → new ≡ Some w → o ≡ entity_at w u)
+    (id : IfSome o (λ e. e.uid ≡ u)) (honest : (es : List StoredEntity) → new ≡ Some es → o ≡ entity_at es u)
     (seen : (q : EntityUID) → contains uid_cmp after.seen q ≡ cond (is_at (uid_cmp u) q) true (contains uid_cmp before.seen q))
     (found : after.found.items ≡ before.found.items ++ option_to_list o) where
   at : (q : EntityUID) → entity_at after.found.items q ≡ option_or (entity_at before.found.items q) (entity_at (option_to_list o) q)
@@ -58,7 +59,7 @@ module _ (old new : Option Store) (before after : Fetched) (u : EntityUID) (o : 
     others = λ q is. others q is (is_at (uid_cmp u) q) refl;
   }
     where
-      same : (w : Store) → new ≡ Some w → (q : EntityUID) → contains uid_cmp after.seen q ≡ true → (b : Bool) → is_at (uid_cmp u) q ≡ b → entity_at after.found.items q ≡ entity_at w q
+      same : (w : List StoredEntity) → new ≡ Some w → (q : EntityUID) → contains uid_cmp after.seen q ≡ true → (b : Bool) → is_at (uid_cmp u) q ≡ b → entity_at after.found.items q ≡ entity_at w q
       same w told q is true at = here q at ∙ honest w told ∙ ap (entity_at w) (same_id u q at)
       same w told q is false at = elsewhere q at ∙ fetched.same w (goes_on w told) q (seen_by q false true is at)
 

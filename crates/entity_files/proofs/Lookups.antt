@@ -24,9 +24,9 @@ use Rattle.sqlite_tied.specs.Compute.{everything}
 use Rattle.sqlite.specs.Listing.{understood, reads_listing}
 use Rattle.sqlite.proofs.Callers.{IsPlain, command_of, reads_as}
 use Rattle.entity_files.specs.Table.{entity, entity_schema, is_of, cell, AreCells, IsConnectionSound, IsReady, RowsStay, known_rows, Continues}
-use Rattle.entity_files.specs.Rows.{rows_store, known_store, IsRowFound}
+use Rattle.entity_files.specs.Rows.{row_entities, known_entities, IsRowFound}
 use Rattle.policy_values.specs.declared.entity_uid.EntityUID.{EntityUID}
-use Rattle.entity_store.specs.Store.{StoredEntity, Store, entity_at}
+use Rattle.entity_store.specs.Store.{StoredEntity, entity_at}
 use Rattle.entity_files.proofs.Stores.{found_is}
 
 abbrev pub select_text : List ℕ
@@ -167,27 +167,27 @@ map_some : {X Y : Type 0} (f : X → Y) (o : Option X) (y : Y) → option_map f 
 map_some f None y h = absurd (cc)
 map_some f (Some x) y h = (x, refl, cc)
 
--- the store that is known is that of the rows, while the connection is open and clean
-sound_of : (s : State) (w : Store) → known_store s ≡ Some w → IsConnectionSound s × (rows_store (s.now.trees 0) ≡ w)
-sound_of s w h =
-    let some = map_some rows_store (known_rows s) w h in
+-- the entities that are known are those of the rows, while the connection is open and clean
+sound_of : (s : State) (es : List StoredEntity) → known_entities s ≡ Some es → IsConnectionSound s × (row_entities (s.now.trees 0) ≡ es)
+sound_of s es h =
+    let some = map_some row_entities (known_rows s) es h in
     let told = reported_of s some.0 some.1 in
-    (told.0, ap rows_store told.1 ∙ some.2)
+    (told.0, ap row_entities told.1 ∙ some.2)
 
-pub store_goes_on : (old new : State) → RowsStay old new → Continues (known_store old) (known_store new)
-store_goes_on old new goes w h =
-    let now = sound_of new w h in
+pub entities_go_on : (old new : State) → RowsStay old new → Continues (known_entities old) (known_entities new)
+entities_go_on old new goes es h =
+    let now = sound_of new es h in
     let was = goes now.0 in
-    rw (is_clean old.is_clean was.0.0, was.0.1) (ap Some (ap rows_store (sym was.1) ∙ now.1))
+    rw (is_clean old.is_clean was.0.0, was.0.1) (ap Some (ap row_entities (sym was.1) ∙ now.1))
 
 found_known : (new : State) (u : EntityUID) (shown : List Row) (o : Option StoredEntity) → (IsConnectionSound new → AreCells (new.now.trees 0) u.entity_type u.eid shown) → IsRowFound shown u o
-    → (w : Store) → known_store new ≡ Some w → o ≡ entity_at w u
-found_known new u shown o cells found w h =
-    let now = sound_of new w h in
+    → (es : List StoredEntity) → known_entities new ≡ Some es → o ≡ entity_at es u
+found_known new u shown o cells found es h =
+    let now = sound_of new es h in
     subst (λ s. o ≡ entity_at s u) now.1 (found_is (new.now.trees 0) u shown o (cells now.0) found)
 
 pub found_if : {E : Type 0} (new : State) (u : EntityUID) (kind eid : List ℕ) (shown : List Row) (r : Result (Option StoredEntity) E) → kind ≡ u.entity_type → eid ≡ u.eid
-    → (IsConnectionSound new → AreCells (new.now.trees 0) kind eid shown) → IfOk r (IsRowFound shown u) → (w : Store) → known_store new ≡ Some w → IfOk r (λ o. o ≡ entity_at w u)
-found_if new u kind eid shown (Ok o) is_kind is_eid cells found w h =
-    found_known new u shown o (λ sound. subst (λ k. AreCells (new.now.trees 0) k u.eid shown) is_kind (subst (λ e. AreCells (new.now.trees 0) kind e shown) is_eid (cells sound))) found w h
-found_if new u kind eid shown (Err e) is_kind is_eid cells found w h = tt
+    → (IsConnectionSound new → AreCells (new.now.trees 0) kind eid shown) → IfOk r (IsRowFound shown u) → (es : List StoredEntity) → known_entities new ≡ Some es → IfOk r (λ o. o ≡ entity_at es u)
+found_if new u kind eid shown (Ok o) is_kind is_eid cells found es h =
+    found_known new u shown o (λ sound. subst (λ k. AreCells (new.now.trees 0) k u.eid shown) is_kind (subst (λ e. AreCells (new.now.trees 0) kind e shown) is_eid (cells sound))) found es h
+found_if new u kind eid shown (Err e) is_kind is_eid cells found es h = tt

@@ -1,62 +1,20 @@
--- The store of the rows, and what a look-up finds in it.
+-- The entities of the rows, and what a look-up finds among them.
 use Rattle.std.proofs.Common.{◌≡◌, List, [], ◌∷◌, map, length, Bool, true, false, cond, if◌then◌else◌, Option, Some, None, refl, sym, ap, ◌∙◌, subst, arith}
 use Rattle.std.specs.Prelude.{filter, IsPermutation, option_and_then, IfSome}
-use Rattle.std.specs.Cmp.{tied_itself}
-use Rattle.std.specs.Ordering.{is_eq, match_ordering}
-use Rattle.std.specs.declared.cmp.Ordering.{Ordering}
-use Rattle.std.specs.declared.cmp.Ordering.TheVariants.{Less, Equal, Greater}
+use Rattle.std.specs.Ordering.{is_eq}
 use Rattle.std.proofs.lemmas.List.Sorted.{length_permutation}
 use Rattle.std.proofs.ByRecursion.{all_shuffled}
 use Rattle.std.specs.List.{AllByRecursion}
 use Rattle.sqlite.specs.Order.{Row, column}
 use Rattle.policy_values.specs.declared.entity_uid.EntityUID.{EntityUID}
-use Rattle.policy_values.specs.Uid.{uid_cmp, uid_cmp_total, exact_uid}
-use Rattle.entity_store.specs.Store.{StoredEntity, Store, entity_at, is_named}
+use Rattle.policy_values.specs.Uid.{uid_cmp}
+use Rattle.entity_store.specs.Store.{StoredEntity, entity_at, is_named}
 use Rattle.entity_files.specs.Table.{is_of, cell, AreCells}
-use Rattle.entity_files.specs.Rows.{cell_entity, row_entity, put, with_row, rows_store, IsRowFound}
-
--- ---- ids
-
-equal_of : (o : Ordering) → is_eq o ≡ true → o ≡ Equal
-equal_of Less h = absurd (cc)
-equal_of Equal h = refl
-equal_of Greater h = absurd (cc)
-
-pub same_id : (x y : EntityUID) → is_eq (uid_cmp x y) ≡ true → x ≡ y
-same_id x y h = exact_uid x y (equal_of (uid_cmp x y) h)
-
-pub itself : (x : EntityUID) → uid_cmp x x ≡ Equal
-itself x = tied_itself uid_cmp_total x
+use Rattle.entity_files.specs.Rows.{cell_entity, row_entity, with_row, row_entities, IsRowFound}
+use Rattle.entity_files.proofs.Placed.{same_id, itself}
 
 pub named : (u : EntityUID) (e : StoredEntity) → e.uid ≡ u → is_named u e ≡ true
 named u e id = ap (λ y. is_eq (uid_cmp u y)) id ∙ ap is_eq (itself u)
-
--- ---- an entity put in its place
-
-absorb : {X : Type 0} (b : Bool) (x y z : X) → cond b x z ≡ cond b x (cond b y z)
-absorb true x y z = refl
-absorb false x y z = refl
-
-pub at_put : (e : StoredEntity) (s : Store) (u : EntityUID) → entity_at (put e s) u ≡ cond (is_named u e) (Some e) (entity_at s u)
-at_put e [] u = refl
-at_put e (x ∷ xs) u = by_order (at_put e xs u) (uid_cmp e.uid x.uid) refl
-  where
-    z : Option StoredEntity
-    z = entity_at xs u
-
-    swap : uid_cmp e.uid x.uid ≡ Greater → (a b : Bool) → is_named u e ≡ a → is_named u x ≡ b → cond b (Some x) (cond a (Some e) z) ≡ cond a (Some e) (cond b (Some x) z)
-    swap is true true p q = let one : e.uid ≡ x.uid = sym (same_id u e.uid p) ∙ same_id u x.uid q in
-        let clash : Greater ≡ Equal = sym is ∙ ap (λ y. uid_cmp e.uid y) (sym one) ∙ itself e.uid in absurd (cc)
-    swap is true false p q = refl
-    swap is false b p q = refl
-
-    by_order : entity_at (put e xs) u ≡ cond (is_named u e) (Some e) z → (o : Ordering) → uid_cmp e.uid x.uid ≡ o
-        → entity_at (match_ordering o (e ∷ x ∷ xs) (e ∷ xs) (x ∷ put e xs)) u ≡ cond (is_named u e) (Some e) (cond (is_named u x) (Some x) z)
-    by_order rest Less is = refl
-    by_order rest Equal is =
-        let same : is_named u e ≡ is_named u x = ap (λ y. is_eq (uid_cmp u y)) (exact_uid e.uid x.uid is) in
-        subst (λ c. cond (is_named u e) (Some e) z ≡ cond (is_named u e) (Some e) (cond c (Some x) z)) same (absorb (is_named u e) (Some e) (Some x) z)
-    by_order rest Greater is = ap (λ o. cond (is_named u x) (Some x) o) rest ∙ swap is (is_named u e) (is_named u x) refl refl
 
 -- ---- rows that are and are not of an id
 
@@ -76,7 +34,7 @@ entity_is r e u spelled id of =
     ap (option_and_then (λ f. if is_of f.uid.entity_type f.uid.eid r then Some f else None)) spelled
     ∙ ap (λ b. if b then Some e else None) (subst (λ v. is_of v.entity_type v.eid r ≡ true) (sym id) of)
 
-skip : (u : EntityUID) (r : Row) → is_of u.entity_type u.eid r ≡ false → (s : Store) → entity_at (with_row (row_entity r) s) u ≡ entity_at s u
+skip : (u : EntityUID) (r : Row) → is_of u.entity_type u.eid r ≡ false → (s : List StoredEntity) → entity_at (with_row (row_entity r) s) u ≡ entity_at s u
 skip u r not s = by_row (row_entity r) refl
   where
     other : (e : StoredEntity) → row_entity r ≡ Some e → (b : Bool) → is_named u e ≡ b → cond b (Some e) (entity_at s u) ≡ entity_at s u
@@ -87,29 +45,29 @@ skip u r not s = by_row (row_entity r) refl
 
     by_row : (o : Option StoredEntity) → row_entity r ≡ o → entity_at (with_row o s) u ≡ entity_at s u
     by_row None is = refl
-    by_row (Some e) is = at_put e s u ∙ other e is (is_named u e) refl
+    by_row (Some e) is = other e is (is_named u e) refl
 
-pub nothing : (u : EntityUID) (rs : List Row) → filter (is_of u.entity_type u.eid) rs ≡ [] → entity_at (rows_store rs) u ≡ None
+pub nothing : (u : EntityUID) (rs : List Row) → filter (is_of u.entity_type u.eid) rs ≡ [] → entity_at (row_entities rs) u ≡ None
 nothing u [] h = refl
 nothing u (r ∷ rs) h = by (is_of u.entity_type u.eid r) refl h (nothing u rs)
   where
     by : (b : Bool) → is_of u.entity_type u.eid r ≡ b → cond b (r ∷ filter (is_of u.entity_type u.eid) rs) (filter (is_of u.entity_type u.eid) rs) ≡ []
-        → (filter (is_of u.entity_type u.eid) rs ≡ [] → entity_at (rows_store rs) u ≡ None) → entity_at (with_row (row_entity r) (rows_store rs)) u ≡ None
+        → (filter (is_of u.entity_type u.eid) rs ≡ [] → entity_at (row_entities rs) u ≡ None) → entity_at (with_row (row_entity r) (row_entities rs)) u ≡ None
     by true is k rest = absurd (cc)
-    by false is k rest = skip u r is (rows_store rs) ∙ rest k
+    by false is k rest = skip u r is (row_entities rs) ∙ rest k
 
 pub one : (u : EntityUID) (rs : List Row) (r : Row) (e : StoredEntity) → filter (is_of u.entity_type u.eid) rs ≡ r ∷ [] → cell_entity (column r 4) ≡ Some e → e.uid ≡ u
-    → entity_at (rows_store rs) u ≡ Some e
+    → entity_at (row_entities rs) u ≡ Some e
 one u [] r e h spelled id = absurd (cc)
 one u (x ∷ xs) r e h spelled id = by (is_of u.entity_type u.eid x) refl h (λ k. one u xs r e k spelled id)
   where
     by : (b : Bool) → is_of u.entity_type u.eid x ≡ b → cond b (x ∷ filter (is_of u.entity_type u.eid) xs) (filter (is_of u.entity_type u.eid) xs) ≡ r ∷ []
-        → (filter (is_of u.entity_type u.eid) xs ≡ r ∷ [] → entity_at (rows_store xs) u ≡ Some e) → entity_at (with_row (row_entity x) (rows_store xs)) u ≡ Some e
+        → (filter (is_of u.entity_type u.eid) xs ≡ r ∷ [] → entity_at (row_entities xs) u ≡ Some e) → entity_at (with_row (row_entity x) (row_entities xs)) u ≡ Some e
     by true is k rest =
         let same : x ≡ r = cc in
         let here : row_entity x ≡ Some e = entity_is x e u (ap (λ y. cell_entity (column y 4)) same ∙ spelled) id is in
-        ap (λ o. entity_at (with_row o (rows_store xs)) u) here ∙ at_put e (rows_store xs) u ∙ ap (λ b. cond b (Some e) (entity_at (rows_store xs) u)) (named u e id)
-    by false is k rest = skip u x is (rows_store xs) ∙ rest k
+        ap (λ o. entity_at (with_row o (row_entities xs)) u) here ∙ ap (λ b. cond b (Some e) (entity_at (row_entities xs) u)) (named u e id)
+    by false is k rest = skip u x is (row_entities xs) ∙ rest k
 
 -- ---- what a look-up shows
 
@@ -125,8 +83,8 @@ one_cell (r ∷ []) shown c p is =
 one_cell (r ∷ x ∷ rs) shown c p is =
     let clash : 1 ≡ length (map cell (r ∷ x ∷ rs)) = ap length (sym is) ∙ length_permutation (map cell (r ∷ x ∷ rs)) shown p in absurd (omega (arith, clash))
 
--- what was found by an id is the entity of the rows' store
-pub found_is : (rs : List Row) (u : EntityUID) (shown : List Row) (o : Option StoredEntity) → AreCells rs u.entity_type u.eid shown → IsRowFound shown u o → o ≡ entity_at (rows_store rs) u
+-- what was found by an id is the entity of the rows
+pub found_is : (rs : List Row) (u : EntityUID) (shown : List Row) (o : Option StoredEntity) → AreCells rs u.entity_type u.eid shown → IsRowFound shown u o → o ≡ entity_at (row_entities rs) u
 found_is rs u shown None p h = sym (nothing u rs (no_cells (filter (is_of u.entity_type u.eid) rs) shown p h))
 found_is rs u shown (Some e) p h =
     let at = one_cell (filter (is_of u.entity_type u.eid) rs) shown h.0 p h.1 in

@@ -1,4 +1,4 @@
--- Entities in JSON, as a slice has them: with all their ancestors.
+-- Entities in JSON, as documents have them: with their parents.
 use Rattle.std.specs.Prelude.{ℕ, List, [], ◌∷◌, if◌then◌else◌, Option, Some, None, option_and_then, codes}
 use Rattle.policy_values.specs.Value.{fields_of}
 use Rattle.entity_store.specs.Store.{StoredEntity}
@@ -10,17 +10,26 @@ use Rattle.json_values.specs.Values.{given_fields_of}
 
 -- the members that an entity may have
 abbrev pub entity_names : List (List ℕ)
-entity_names = codes "id" ∷ codes "attrs" ∷ codes "tags" ∷ codes "ancestors" ∷ []
+entity_names = codes "id" ∷ codes "attrs" ∷ codes "tags" ∷ codes "parents" ∷
+    codes "ancestors" ∷ []
 
--- the entity of the members, of which `attrs` and `tags` alone may be left out
+-- the list of the parents, or the list of all ancestors that rows of earlier releases have; not both
+abbrev pub links_in : Option Data → Option Data → Option Data
+links_in (Some parents) None = Some parents
+links_in None (Some ancestors) = Some ancestors
+links_in None None = None
+links_in (Some parents) (Some ancestors) = None
+
+-- the entity of the members, with its parents in the place of its ancestors: `attrs` and `tags` alone may be
+-- left out
 unfoldable pub given_entity_of : Data → Option StoredEntity
 given_entity_of d = do
   uid ← option_and_then uid_of (get (codes "id") d)
-  list ← get (codes "ancestors") d
-  ancestors ← uid_set_of (Some list)
+  list ← links_in (get (codes "parents") d) (get (codes "ancestors") d)
+  parents ← uid_set_of (Some list)
   attrs ← given_fields_of (get (codes "attrs") d)
   tags ← given_fields_of (get (codes "tags") d)
-  Some (record { uid = uid; attrs = fields_of attrs; ancestors = ancestors; tags = fields_of tags })
+  Some (record { uid = uid; attrs = fields_of attrs; ancestors = parents; tags = fields_of tags })
 
 -- the entity of an object without other members
 abbrev pub entity_of : Data → Option StoredEntity

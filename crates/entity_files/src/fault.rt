@@ -16,8 +16,7 @@ pub enum FileError {
     InTransaction,
     /// A row is not the entity with its type and eid: which row, and why.
     Row(String),
-    /// The store does not conform, or an entity lacks an ancestor of its ancestors: the first rule that is
-    /// broken, on a line.
+    /// The store does not conform, or an entity is its own ancestor: what is wrong first, on a line.
     Refused(String),
     /// There is no memory left.
     OutOfMemory,

@@ -1,14 +1,13 @@
 //! What was looked up so far.
 
-ghost use Rattle.std.specs.Prelude.{◌≡◌, ◌++◌, true, false, cond, IfOk, OnOk};
+ghost use Rattle.std.specs.Prelude.{◌≡◌, ◌++◌, true, cond, IfOk, OnOk, MatchResult};
 ghost use Rattle.std.specs.BTreeMap.{is_at};
 ghost use Rattle.std.specs.BTreeSet.{contains};
 ghost use Rattle.std.specs.Option.{option_to_list};
 ghost use Rattle.policy_values.specs.Uid.{uid_cmp};
 ghost use Rattle.sqlite.specs.Held.{state};
-ghost use Rattle.entity_store.specs.Store.{entity_at};
 ghost use Rattle.entity_files.specs.Table.{IsReady, Continues};
-ghost use Rattle.entity_files.specs.Rows.{known_store};
+ghost use Rattle.entity_files.specs.Rows.{known_entities};
 
 use crate::{FindError, find_entity};
 use entity_store::{Entities, EntitiesError, Entity};
@@ -17,24 +16,25 @@ use sqlite::{Alter, Connection};
 use std::alloc::{AllocError, Global};
 use std::collections::BTreeSet;
 
-/// The ids that were looked up, and the entities that were found.
+/// The ids that were looked up, and the entities that were found, with their parents.
 #[derive(Drop)]
 pub struct Fetched {
     /// The ids that were looked up.
     pub seen: BTreeSet<EntityUID>,
-    /// The entities that were found, in the order of the look-ups.
+    /// The entities that were found, with their parents, in the order of the look-ups.
     pub found: Vec<Entity>,
 }
 
 impl Fetched {
-    ghost use Rattle.std.specs.Prelude.{Option};
-    ghost use Rattle.entity_store.specs.Store.{Store};
+    ghost use Rattle.std.specs.Prelude.{List, Option};
+    ghost use Rattle.entity_store.specs.Store.{StoredEntity};
+    ghost use Rattle.entity_store.specs.FromParents.{IsFromParents, IsRefused};
     ghost use Rattle.policy_values.specs.declared.entity_uid.EntityUID.{EntityUID};
     ghost use Rattle.entity_files.specs.Fetched.{AreFetched};
 
     /// Nothing was looked up.
     pub fn new(alloc: Global) -> Fetched
-        ensures { (told : Option Store) → AreFetched told result }
+        ensures { (told : Option (List StoredEntity)) → AreFetched told result }
     {
         Fetched {
             seen: BTreeSet::new(alloc),
@@ -64,11 +64,11 @@ impl Fetched {
         uid: &EntityUID,
     ) -> Result<(), FindError>
         requires ready { IsReady (state S.Store conn.old) }
-        requires fetched { AreFetched (known_store (state S.Store conn.old)) self.old }
+        requires fetched { AreFetched (known_entities (state S.Store conn.old)) self.old }
         ensures ready { IsReady (state S.Store conn.new) }
-        ensures goes_on { Continues (known_store (state S.Store conn.old))
-            (known_store (state S.Store conn.new)) }
-        ensures fetched { OnOk result (AreFetched (known_store (state S.Store conn.new)) self.new) }
+        ensures goes_on { Continues (known_entities (state S.Store conn.old))
+            (known_entities (state S.Store conn.new)) }
+        ensures fetched { OnOk result (AreFetched (known_entities (state S.Store conn.new)) self.new) }
     {
         if self.seen.contains(uid) {
             return Ok(());
@@ -78,11 +78,12 @@ impl Fetched {
         Ok(())
     }
 
-    /// The store of what was found. Errs where memory runs out, or two of the entities have one id.
+    /// The store of what was found. It is refused where two of the entities have one id, and where an id is
+    /// reached from itself by parents.
     pub fn entities(&self, alloc: Global) -> Result<Entities, EntitiesError>
-        ensures { IfOk result (λ s. (u : EntityUID) → entity_at s u ≡ entity_at self.now.found.items u) }
+        ensures { MatchResult result (IsFromParents self.now.found.items) (IsRefused self.now.found.items) }
     {
-        Entities::from_ancestors(alloc, copies(alloc, &self.found)?)
+        Entities::from_parents(alloc, copies(alloc, &self.found)?)
     }
 }
 

@@ -8,7 +8,7 @@ ghost use Rattle.entity_files.specs.Table.{IsReady};
 use crate::fault::database_error;
 use crate::writing::write_entities;
 use crate::{FileError, all_entities, blank_or_made, check_store, over};
-use entity_store::Entities;
+use entity_store::{Entities, Entity};
 use schema_core::ValidatorSchema;
 use sqlite::{Connection, Error, ErrorCode, FileFrom, FileStore, Start};
 use std::fs;
@@ -68,7 +68,7 @@ fn write_into_file<S: Start>(
     rt: &HostRuntime,
     path: &str,
     start: S,
-    entities: &Entities,
+    entities: &Vec<Entity>,
 ) -> Result<(), FileError> {
     if is_no_file(rt, path) {
         return Err(no_file(rt));
@@ -81,19 +81,20 @@ fn write_into_file<S: Start>(
     written
 }
 
-/// Writes the entities of a store that conforms, with all their ancestors, into a file: all of them or none.
-/// The file is made where there is none; that of a store that does not conform is left alone. Nothing is
-/// written where an entity lacks an ancestor that the row of one of its ancestors has.
+/// Writes entities with their parents, of which a store is made that conforms, into a file: all of them or
+/// none. An entity whose row is there is passed over. The file is made where there is none; it is left alone
+/// where the store does not conform, or the row of one of the ids is another entity.
 pub fn import_into_file<S: Start>(
     rt: &HostRuntime,
     path: &str,
     start: S,
     schema: &ValidatorSchema,
-    entities: &Entities,
+    store: &Entities,
+    entities: &Vec<Entity>,
 ) -> Result<(), FileError>
-    ensures { IfOk result (λ _. first_store_fault schema.now entities.now ≡ None) }
+    ensures { IfOk result (λ _. first_store_fault schema.now store.now ≡ None) }
 {
-    check_store(rt.alloc(), schema, entities)?;
+    check_store(rt.alloc(), schema, store)?;
     write_into_file(rt, path, start, entities)
 }
 

@@ -1,12 +1,12 @@
 //! Entities found by type and eid.
 
-ghost use Rattle.std.specs.Prelude.{◌≡◌, [], ◌∷◌, Some, IfOk, IfErr, IfSome};
+ghost use Rattle.std.specs.Prelude.{◌≡◌, List, [], ◌∷◌, Some, IfOk, IfErr, IfSome};
 ghost use Rattle.sqlite.specs.declared.types.Value.TheVariants.{Text};
 ghost use Rattle.sqlite.specs.Held.{state};
 ghost use Rattle.sqlite.specs.State.{HasCleanDisk, FailsToQuery, Shown, Survives, CommitsShowing};
-ghost use Rattle.entity_store.specs.Store.{Store, entity_at};
+ghost use Rattle.entity_store.specs.Store.{StoredEntity, entity_at};
 ghost use Rattle.entity_files.specs.Table.{AreCells, IsConnectionSound, IsReady, RowsStay, Continues};
-ghost use Rattle.entity_files.specs.Rows.{known_store};
+ghost use Rattle.entity_files.specs.Rows.{known_entities};
 
 use crate::reading::read_found;
 use entity_store::Entity;
@@ -85,8 +85,8 @@ fn look_up<S: Alter>(conn: &mut Connection<S>, kind: &str, eid: &str) -> Result<
     )
 }
 
-/// The entity with the id, where the table has a row for it. While the connection is open and its disk has
-/// returned what was written, it is that of the rows' store.
+/// The entity with the id, with its parents, where the table has a row for it. While the connection is open
+/// and its disk has returned what was written, it is that of the rows.
 ///
 /// Errs with `NoEntity` where two rows have the id, or the row's text does not spell the entity.
 pub fn find_entity<S: Alter>(
@@ -96,11 +96,11 @@ pub fn find_entity<S: Alter>(
 ) -> Result<Option<Entity>, FindError>
     requires { IsReady (state S.Store conn.old) }
     ensures ready { IsReady (state S.Store conn.new) }
-    ensures goes_on { Continues (known_store (state S.Store conn.old))
-        (known_store (state S.Store conn.new)) }
+    ensures goes_on { Continues (known_entities (state S.Store conn.old))
+        (known_entities (state S.Store conn.new)) }
     ensures id { IfOk result (λ o. IfSome o (λ e. e.uid ≡ uid.now)) }
-    ensures honest { (w : Store) → known_store (state S.Store conn.new) ≡ Some w →
-        IfOk result (λ o. o ≡ entity_at w uid.now) }
+    ensures honest { (es : List StoredEntity) → known_entities (state S.Store conn.new) ≡ Some es →
+        IfOk result (λ o. o ≡ entity_at es uid.now) }
 {
     let rows = look_up(conn, uid.entity_type().as_str(), uid.eid().as_str())?;
     read_found(alloc, &rows, uid)

@@ -1,15 +1,15 @@
 //! Databases and files with the table of entities: opened and made, filled, and read whole.
 #![tactic(auto)]
 
-mod above;
-mod closed;
 mod fault;
 mod fetched;
 mod files;
 mod find;
+pub mod laws;
 mod loader;
 mod opening;
 mod reading;
+mod row_text;
 mod rows;
 mod schema;
 mod store;
@@ -23,5 +23,5 @@ pub use loader::FetchedLoader;
 pub use opening::{blank_or_made, is_ready, over};
 pub use rows::all_entities;
 pub use schema::has_entity_table;
-pub use store::{check_closed, check_store};
+pub use store::check_store;
 pub use writing::import;

@@ -1,18 +1,19 @@
 //! What was looked up, as a loader.
 
-ghost use Rattle.std.specs.Prelude.{◌≡◌, IsTrue, true};
+ghost use Rattle.std.specs.Prelude.{◌≡◌};
 ghost use Rattle.std.specs.List.{list_all};
 ghost use Rattle.std.specs.BTreeSet.{contains};
 ghost use Rattle.policy_values.specs.Uid.{uid_cmp};
 ghost use Rattle.sqlite.specs.Held.{state};
-ghost use Rattle.entity_files.specs.Rows.{known_store};
-ghost use Rattle.entity_files.specs.Fetched.{AreFetchedOf, AreFetchedOf-prop};
+ghost use Rattle.entity_store.specs.FromParents.{IsFromParents};
+ghost use Rattle.entity_files.specs.Rows.{known_entities, known_store};
+ghost use Rattle.entity_files.specs.Fetched.{AreFetched, AreKnown, AreKnown-prop, is_whole};
 
-use crate::closed::is_closed;
+use crate::Fetched;
 use entity_loader::{
     AncestorsRequest, EntityAnswer, EntityLoader, EntityRequest, EntitySlicer, LoadError,
 };
-use entity_store::Entities;
+use entity_store::{Entities, Entity};
 use policy_values::EntityUID;
 use sqlite::{Alter, Connection};
 use std::alloc::{AllocError, Global};
@@ -20,8 +21,8 @@ use std::collections::BTreeSet;
 
 /// A loader of what was looked up in a database, which answers just what is asked. A call that asks for an id
 /// that was not looked up fails, is counted, and leaves the id among the missing ones. So does one that asks
-/// for ancestors of an entity whose ancestors were not all looked up. Where they were, and the entity lacks an
-/// ancestor that one of them has, or they run in a circle, the call fails with nothing missing.
+/// for ancestors of an entity, where not all of these were looked up: it leaves those that the entity has by
+/// the parents of what was found.
 ///
 /// It says the store of the database's rows, where the database is open and its disk has returned what was
 /// written.
@@ -31,7 +32,7 @@ pub struct FetchedLoader<'a, S: Alter> {
     pub database: &'a Connection<S>,
     /// The ids that were looked up.
     pub seen: &'a BTreeSet<EntityUID>,
-    /// The entities that were found.
+    /// The store of the entities that were found.
     pub entities: &'a Entities,
     /// The ids that were not looked up: those that were asked for, and ancestors of these.
     pub missing: Vec<EntityUID>,
@@ -41,24 +42,25 @@ pub struct FetchedLoader<'a, S: Alter> {
     pub rounds: u64,
     /// How often ancestors were asked for; at the last value of u64 it stays.
     pub lists: u64,
-    pub ghost found: { AreFetchedOf (known_store (state S.Store database.now)) seen.now entities.now } by { AreFetchedOf-prop (known_store (state S.Store database.now)) seen.now entities.now },
+    pub ghost known: { AreKnown (known_store (state S.Store database.now)) seen.now entities.now } by { AreKnown-prop (known_store (state S.Store database.now)) seen.now entities.now },
 }
 
 impl<'a, S: Alter> FetchedLoader<'a, S> {
-    /// The loader that has not been asked yet.
+    /// The loader that has not been asked yet, over what was looked up and its store.
     pub fn new(
         alloc: Global,
         database: &'a Connection<S>,
-        seen: &'a BTreeSet<EntityUID>,
+        fetched: &'a Fetched,
         entities: &'a Entities,
     ) -> FetchedLoader<'a, S>
-        requires { AreFetchedOf (known_store (state S.Store database.now)) seen.now entities.now }
+        requires fetched { AreFetched (known_entities (state S.Store database.now)) fetched.now }
+        requires made { IsFromParents fetched.now.found.items entities.now }
         ensures database { result.database.now ≡ database.now }
         ensures faults { result.faults ≡ 0 }
     {
         FetchedLoader {
             database,
-            seen,
+            seen: &fetched.seen,
             entities,
             missing: Vec::new(alloc),
             faults: 0,
@@ -85,38 +87,38 @@ fn are_seen(seen: &BTreeSet<EntityUID>, requests: &[EntityRequest<'_>]) -> bool
         .all(|request| seen.contains(&request.entity_id))
 }
 
-fn are_all_seen(seen: &BTreeSet<EntityUID>, requests: &[AncestorsRequest]) -> bool
-    ensures { result ≡ list_all (λ r. contains uid_cmp seen.now r.entity_id) requests.now }
+// Whether all ancestors were looked up that the entity has in the store of what was found.
+fn has_seen_above(seen: &BTreeSet<EntityUID>, entity: &Entity) -> bool
+    ensures { result ≡ list_all (contains uid_cmp seen.now) entity.now.ancestors }
 {
-    requests
-        .iter()
-        .all(|request| seen.contains(&request.entity_id))
+    for above in entity.ancestors() {
+        if !seen.contains(above) {
+            return false;
+        }
+    }
+    true
 }
 
-// Whether all ancestors of the entity were looked up, and have no ancestors but its own.
-fn has_known_ancestors(seen: &BTreeSet<EntityUID>, entities: &Entities, uid: &EntityUID) -> bool {
+// Whether the id was looked up, and all ancestors that its entity has.
+fn is_whole(seen: &BTreeSet<EntityUID>, entities: &Entities, uid: &EntityUID) -> bool
+    ensures { result ≡ is_whole seen.now entities.now uid.now }
+{
+    if !seen.contains(uid) {
+        return false;
+    }
     match entities.entity(uid) {
-        Some(entity) => {
-            entity.ancestors().iter().all(|above| seen.contains(above))
-                && is_closed(entities, entity)
-        }
+        Some(entity) => has_seen_above(seen, entity),
         None => true,
     }
 }
 
-fn have_known_ancestors(
-    seen: &BTreeSet<EntityUID>,
-    entities: &Entities,
-    requests: &[AncestorsRequest],
-) -> bool {
-    requests.iter().all(|request| has_known_ancestors(seen, entities, &request.entity_id))
-}
-
 // Whether the ancestors that are asked for are known.
 fn are_known(seen: &BTreeSet<EntityUID>, entities: &Entities, requests: &[AncestorsRequest]) -> bool
-    ensures { IsTrue result → list_all (λ r. contains uid_cmp seen.now r.entity_id) requests.now ≡ true }
+    ensures { result ≡ list_all (λ r. is_whole seen.now entities.now r.entity_id) requests.now }
 {
-    are_all_seen(seen, requests) && have_known_ancestors(seen, entities, requests)
+    requests
+        .iter()
+        .all(|request| is_whole(seen, entities, &request.entity_id))
 }
 
 // Adds an id that was not looked up to the missing ones.

@@ -1,13 +1,13 @@
 //! Rows as entities.
 
-ghost use Rattle.std.specs.Prelude.{◌≡◌, Some, IfOk, false};
+ghost use Rattle.std.specs.Prelude.{◌≡◌, Some, IfOk, codes, false, option_map};
 ghost use Rattle.std.specs.Option.{option_map_or};
-ghost use Rattle.serde_json.specs.Find.{as_object};
+ghost use Rattle.serde_json.specs.Find.{as_object, get};
 ghost use Rattle.sqlite.specs.Order.{column};
 ghost use Rattle.policy_values.specs.Uid.{uid_eq};
 ghost use Rattle.json_values.specs.Json.{has_only};
 ghost use Rattle.json_trees.specs.Trees.{tree_view};
-ghost use Rattle.entity_files.specs.Entities.{entity_in, entity_names, entity_of, given_entity_of};
+ghost use Rattle.entity_files.specs.Entities.{entity_in, entity_names, entity_of, given_entity_of, links_in};
 ghost use Rattle.entity_files.specs.Rows.{cell_entity, IsRowFound};
 
 use crate::FindError;
@@ -19,7 +19,19 @@ use sqlite::types::ValueRef;
 use std::alloc::{AllocError, Global};
 use std::cmp::Ordering;
 
-// The entity of the members.
+// The list of the parents, or the list of all ancestors that rows of earlier releases have.
+fn links_in<'a, 'b>(tree: &'a Tree<'b>) -> Option<&'a Tree<'b>>
+    ensures { option_map (λ t. tree_view t.now) result ≡
+        links_in (get (codes "parents") (tree_view tree.now)) (get (codes "ancestors") (tree_view tree.now)) }
+{
+    match (get(tree, "parents"), get(tree, "ancestors")) {
+        (Some(parents), None) => Some(parents),
+        (None, Some(ancestors)) => Some(ancestors),
+        _ => None,
+    }
+}
+
+// The entity of the members, with its parents.
 #[tactic(auto, unfolding(crate::specs::Entities::given_entity_of))]
 fn read_given_entity(alloc: Global, tree: &Tree<'_>) -> Result<Option<Entity>, AllocError>
     ensures { IfOk result (λ o. o ≡ given_entity_of (tree_view tree.now)) }
@@ -30,17 +42,17 @@ fn read_given_entity(alloc: Global, tree: &Tree<'_>) -> Result<Option<Entity>, A
     let Some(uid) = read_uid(alloc, id)? else {
         return Ok(None);
     };
-    let Some(list) = get(tree, "ancestors") else {
+    let Some(list) = links_in(tree) else {
         return Ok(None);
     };
-    let Some(ancestors) = read_uid_set(alloc, Some(list), None)? else {
+    let Some(parents) = read_uid_set(alloc, Some(list), None)? else {
         return Ok(None);
     };
     let Some(attrs) = read_fields(alloc, get(tree, "attrs"))? else {
         return Ok(None);
     };
     match read_fields(alloc, get(tree, "tags"))? {
-        Some(tags) => Ok(Some(Entity::new(uid, attrs, ancestors, tags))),
+        Some(tags) => Ok(Some(Entity::new(uid, attrs, parents, tags))),
         None => Ok(None),
     }
 }
@@ -48,7 +60,7 @@ fn read_given_entity(alloc: Global, tree: &Tree<'_>) -> Result<Option<Entity>, A
 fn has_names(tree: &Tree<'_>) -> bool
     ensures { result ≡ option_map_or (has_only entity_names) (as_object (tree_view tree.now)) false }
 {
-    has_only(&["id", "attrs", "tags", "ancestors"], tree)
+    has_only(&["id", "attrs", "tags", "parents", "ancestors"], tree)
 }
 
 // The entity that the tree spells, where it spells one.

@@ -112,20 +112,32 @@ fn read_all<S: Alter>(
     Ok(entities)
 }
 
-/// The store of entities of rows.
-pub(crate) fn store_of(alloc: Global, entities: Vec<Entity>) -> Result<Entities, FileError> {
-    match Entities::from_ancestors(alloc, entities) {
+// That an id is reached from itself by parents.
+fn cycle_text(alloc: Global, uid: &EntityUID) -> Result<String, AllocError> {
+    format!(in alloc; "entity: {uid}: it is its own ancestor\n")
+}
+
+fn cycle(alloc: Global, uid: &EntityUID) -> FileError {
+    match cycle_text(alloc, uid) {
+        Ok(text) => FileError::Refused(text),
+        Err(_) => FileError::OutOfMemory,
+    }
+}
+
+// The store that is made of the entities of rows.
+fn store_of(alloc: Global, entities: Vec<Entity>) -> Result<Entities, FileError> {
+    match Entities::from_parents(alloc, entities) {
         Ok(store) => Ok(store),
-        Err(EntitiesError::Duplicate(uid) | EntitiesError::Cycle(uid)) => Err(no_entity(
-            alloc, &uid,
-        )),
+        Err(EntitiesError::Duplicate(uid)) => Err(no_entity(alloc, &uid)),
+        Err(EntitiesError::Cycle(uid)) => Err(cycle(alloc, &uid)),
         Err(EntitiesError::OutOfMemory) => Err(FileError::OutOfMemory),
     }
 }
 
-/// The store of all rows of the table.
+/// The store that is made of the entities of all rows of the table.
 ///
-/// Errs with `OtherSchema` also where a transaction is open.
+/// Errs with `OtherSchema` also where a transaction is open, and with `Refused` where an id is its own
+/// ancestor, with the least such id.
 pub fn all_entities<S: Alter>(
     alloc: Global,
     conn: &mut Connection<S>,

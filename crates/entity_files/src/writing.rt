@@ -1,13 +1,16 @@
 //! Entities into the table.
 
 ghost use Rattle.std.specs.Prelude.{◌≡◌, None, IfOk};
+ghost use Rattle.sqlite.specs.Held.{state};
 ghost use Rattle.conformance.specs.StoreRules.{first_store_fault};
+ghost use Rattle.entity_files.specs.Table.{IsReady};
 
-use crate::above::check_above;
 use crate::fault::database_error;
+use crate::row_text::row_text;
+use crate::rows::find_row;
 use crate::{FileError, check_store, is_ready};
 use entity_store::{Entities, Entity};
-use json_response::write_entity;
+use policy_values::EntityUID;
 use schema_core::ValidatorSchema;
 use sqlite::{Alter, Connection, Error, Transaction, params};
 use std::alloc::{AllocError, Global};
@@ -22,18 +25,13 @@ fn insert<S: Alter>(tx: &mut Transaction<'_, S>, entity: &Entity, text: &str) ->
     Ok(())
 }
 
-// The JSON of an entity.
-fn entity_json(alloc: Global, entity: &Entity) -> Result<String, AllocError> {
-    write_entity(alloc, entity)?.to_string(alloc)
-}
-
-// Writes a row for an entity.
+// Writes a row for an entity with its parents.
 fn insert_entity<S: Alter>(
     alloc: Global,
     tx: &mut Transaction<'_, S>,
     entity: &Entity,
 ) -> Result<(), FileError> {
-    let text = entity_json(alloc, entity)?;
+    let text = row_text(alloc, entity)?;
     match insert(tx, entity, text.as_str()) {
         Ok(()) => Ok(()),
         Err(error) => Err(database_error(alloc, error)),
@@ -44,10 +42,10 @@ fn insert_entity<S: Alter>(
 fn insert_all<S: Alter>(
     alloc: Global,
     tx: &mut Transaction<'_, S>,
-    entities: &Entities,
+    entities: &Vec<&Entity>,
 ) -> Result<(), FileError> {
-    for entity in entities.iter() {
-        insert_entity(alloc, tx, entity)?;
+    for entity in entities {
+        insert_entity(alloc, tx, *entity)?;
     }
     Ok(())
 }
@@ -63,7 +61,7 @@ fn commit<S: Alter>(alloc: Global, tx: Transaction<'_, S>) -> Result<(), FileErr
 // Writes a row for each entity, in one transaction.
 fn write_rows<S: Alter>(
     alloc: Global,
-    entities: &Entities,
+    entities: &Vec<&Entity>,
     conn: &mut Connection<S>,
 ) -> Result<(), FileError> {
     if !conn.is_autocommit() {
@@ -74,11 +72,66 @@ fn write_rows<S: Alter>(
     commit(alloc, tx)
 }
 
-/// Writes a row for each entity, in one transaction: all of them or none. None is written where an entity
-/// lacks an ancestor that the row of one of its ancestors has.
+fn other_text(alloc: Global, uid: &EntityUID) -> Result<String, AllocError> {
+    format!(in alloc; "entity: {uid}: its row is another entity\n")
+}
+
+// That the row of the id is another entity.
+fn other(alloc: Global, uid: &EntityUID) -> FileError {
+    match other_text(alloc, uid) {
+        Ok(text) => FileError::Refused(text),
+        Err(_) => FileError::OutOfMemory,
+    }
+}
+
+// Whether two entities with their parents are written alike.
+fn are_alike(alloc: Global, one: &Entity, two: &Entity) -> Result<bool, AllocError> {
+    let first = row_text(alloc, one)?;
+    let second = row_text(alloc, two)?;
+    Ok(first.as_str() == second.as_str())
+}
+
+// Whether there is no row for the entity. Errs with `Refused` where its row is another entity.
+fn is_missing<S: Alter>(
+    alloc: Global,
+    conn: &mut Connection<S>,
+    entity: &Entity,
+) -> Result<bool, FileError>
+    requires { IsReady (state S.Store conn.old) }
+    ensures { IsReady (state S.Store conn.new) }
+{
+    let Some(found) = find_row(alloc, conn, entity.uid())? else {
+        return Ok(true);
+    };
+    if are_alike(alloc, &found, entity)? {
+        Ok(false)
+    } else {
+        Err(other(alloc, entity.uid()))
+    }
+}
+
+// The entities without a row, where each row of another one is that entity.
+fn missing_ones<'a, S: Alter>(
+    alloc: Global,
+    conn: &mut Connection<S>,
+    entities: &'a Vec<Entity>,
+) -> Result<Vec<&'a Entity>, FileError>
+    requires { IsReady (state S.Store conn.old) }
+{
+    let mut missing = Vec::new(alloc);
+    for entity in entities {
+        if is_missing(alloc, conn, entity)? && missing.push(entity).is_err() {
+            return Err(FileError::OutOfMemory);
+        }
+    }
+    Ok(missing)
+}
+
+/// Writes a row for each entity with its parents that has none yet, in one transaction: all of them or none.
+/// Errs with `Refused` where the row of one of the ids is another entity.
 pub(crate) fn write_entities<S: Alter>(
     alloc: Global,
-    entities: &Entities,
+    entities: &Vec<Entity>,
     conn: &mut Connection<S>,
 ) -> Result<(), FileError> {
     if !conn.is_autocommit() {
@@ -87,21 +140,22 @@ pub(crate) fn write_entities<S: Alter>(
     if !is_ready(conn) {
         return Err(FileError::OtherSchema);
     }
-    check_above(alloc, entities, conn)?;
-    write_rows(alloc, entities, conn)
+    let missing = missing_ones(alloc, conn, entities)?;
+    write_rows(alloc, &missing, conn)
 }
 
-/// Writes the entities of a store that conforms, with all their ancestors, in one transaction: all of them
-/// or none. Errs with `Refused` also where an entity lacks an ancestor that the row of one of its ancestors
-/// has.
+/// Writes entities with their parents, of which a store is made that conforms, in one transaction: all of
+/// them or none. An entity whose row is there is passed over. Errs with `Refused` where the row of one of the
+/// ids is another entity.
 pub fn import<S: Alter>(
     alloc: Global,
     schema: &ValidatorSchema,
-    entities: &Entities,
+    store: &Entities,
+    entities: &Vec<Entity>,
     conn: &mut Connection<S>,
 ) -> Result<(), FileError>
-    ensures { IfOk result (λ _. first_store_fault schema.now entities.now ≡ None) }
+    ensures { IfOk result (λ _. first_store_fault schema.now store.now ≡ None) }
 {
-    check_store(alloc, schema, entities)?;
+    check_store(alloc, schema, store)?;
     write_entities(alloc, entities, conn)
 }

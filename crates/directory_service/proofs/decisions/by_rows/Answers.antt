@@ -13,7 +13,7 @@ returns-clause-done g c is =
       (
         all.ready,
         all.goes_on,
-        λ w told ordered conforms.
-            (last.faults, answered_all (IsLineOn asked.schema asked.policies.policies w) _ _ _ _ _ _ _ (all.answered w told ordered conforms) ends.0 ends.1),
+        λ w told conforms.
+            (last.faults, answered_all (IsLineOn asked.schema asked.policies.policies w) _ _ _ _ _ _ _ (all.answered w told conforms) ends.0 ends.1),
       ),
     )

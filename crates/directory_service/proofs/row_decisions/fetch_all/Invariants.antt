@@ -1,12 +1,12 @@
 use Rattle.sqlite.specs.Held.{state}
 use Rattle.entity_files.specs.Table.{IsReady, Continues}
 use Rattle.entity_files.specs.Fetched.{AreFetched}
-use Rattle.entity_files.specs.Rows.{known_store}
+use Rattle.entity_files.specs.Rows.{known_entities}
 use Rattle.directory_service.proofs.row_decisions.fetch_all.Given as goal
 
 abbrev pub invariant-loop-uid : goal.invariant-loop-uid
 invariant-loop-uid g l = record {
   ready : IsReady (state g.S.Store l.conn);
-  goes_on : Continues (known_store (state g.S.Store l.initial.conn)) (known_store (state g.S.Store l.conn));
-  fetched : AreFetched (known_store (state g.S.Store l.conn)) l.fetched;
+  goes_on : Continues (known_entities (state g.S.Store l.initial.conn)) (known_entities (state g.S.Store l.conn));
+  fetched : AreFetched (known_entities (state g.S.Store l.conn)) l.fetched;
 }

@@ -1,13 +1,13 @@
 use Rattle.std.proofs.Common.{◌∙◌}
 use Rattle.sqlite.specs.Held.{state}
-use Rattle.entity_files.proofs.Lookups.{store_goes_on, found_if}
+use Rattle.entity_files.proofs.Lookups.{entities_go_on, found_if}
 use Rattle.entity_files.proofs.find.find_entity.Goals as goal
 
 pub returns-in_err-rows-clause-goes_on : goal.returns-in_err-rows-clause-goes_on
-returns-in_err-rows-clause-goes_on g c = store_goes_on (state g.S.Store c.args.conn.now) (state g.S.Store c.look_up.new.conn) c.look_up.ensures.goes_on
+returns-in_err-rows-clause-goes_on g c = entities_go_on (state g.S.Store c.args.conn.now) (state g.S.Store c.look_up.new.conn) c.look_up.ensures.goes_on
 
 pub returns-clause-goes_on : goal.returns-clause-goes_on
-returns-clause-goes_on g c = store_goes_on (state g.S.Store c.args.conn.now) (state g.S.Store c.look_up.new.conn) c.look_up.ensures.goes_on
+returns-clause-goes_on g c = entities_go_on (state g.S.Store c.args.conn.now) (state g.S.Store c.look_up.new.conn) c.look_up.ensures.goes_on
 
 pub returns-clause-honest : goal.returns-clause-honest
 returns-clause-honest g c =

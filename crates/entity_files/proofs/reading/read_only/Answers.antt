@@ -1,6 +1,6 @@
 use Rattle.std.proofs.Common.{◌∙◌, ap, sym}
 use Rattle.policy_values.specs.Uid.{uid_eq}
-use Rattle.entity_files.proofs.Stores.{same_id}
+use Rattle.entity_files.proofs.Placed.{same_id}
 use Rattle.entity_files.proofs.reading.read_only.Goals as goal
 
 pub returns-then-is_same-clause-id : goal.returns-then-is_same-clause-id
