@@ -1,5 +1,5 @@
-"""Rows of the directory: the entities of a document with their closed ancestors, and a file of them, made by the
-ordinary SQLite that Python has."""
+"""Rows of the directory: the entities of a document with their parents, or as earlier releases wrote them with all their
+ancestors, and a file of them, made by the ordinary SQLite that Python has."""
 import contextlib
 import json
 import sqlite3
@@ -28,8 +28,15 @@ def closed(entities):
         yield uid, sorted(seen)
 
 
+def rows_with_parents(entities):
+    """A row for each entity: its type, its eid and its JSON, which is that of the document."""
+    for entity in entities:
+        kind, eid = entity["id"]
+        yield kind, eid, dump({"parents": []} | entity)
+
+
 def rows_of(entities):
-    """A row for each entity: its type, its eid and its JSON."""
+    """A row for each entity with all its ancestors, as in earlier releases: its type, its eid and its JSON."""
     ancestors = dict(closed(entities))
     for entity in entities:
         kind, eid = entity["id"]
