@@ -60,7 +60,8 @@ returns-clause-said c ends (Page limit after) is = read c (Page limit after) (Is
 
 pub returns-clause-refused : goal.returns-clause-refused
 returns-clause-refused c ends =
-    let (k, bytes, on, has) = c.run-status.ensures.refused ends in
+    let (k, worked) = c.run-status.ensures.refused ends in
+    let (bytes, on, has) = worked in
     (k, sym (ap command_of c.in_ok-words.ensures) ∙ on.0, subst (λ b. HasDocument k b (λ d. ¬ HasPoliciesFor k d)) (sym (given_by (in_memory c) (own_document k) bytes on.1)) has)
 
 pub returns-clause-complete : goal.returns-clause-complete
