@@ -2,17 +2,11 @@
 #![tactic(auto)]
 
 #[cfg(test)]
-mod accesses;
-#[cfg(test)]
 mod asked;
 #[cfg(test)]
 mod batch;
 #[cfg(test)]
 mod calls;
-#[cfg(test)]
-mod described;
-#[cfg(test)]
-mod environments;
 #[cfg(test)]
 mod errors;
 #[cfg(test)]
@@ -20,11 +14,7 @@ mod expressions;
 #[cfg(test)]
 mod faces;
 #[cfg(test)]
-mod joins;
-#[cfg(test)]
 mod liar;
-#[cfg(test)]
-mod lists;
 #[cfg(test)]
 mod lives;
 #[cfg(test)]
@@ -33,8 +23,6 @@ mod loaded_manifests;
 mod loaders;
 #[cfg(test)]
 mod manifests;
-#[cfg(test)]
-mod risks;
 #[cfg(test)]
 mod schemas;
 #[cfg(test)]
