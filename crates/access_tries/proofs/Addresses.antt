@@ -5,14 +5,14 @@ use Rattle.std.specs.List.Sorted.{IsPermutation}
 use Rattle.std.proofs.lemmas.List.Sorted.{list_any-IsPermutation}
 use Rattle.access_tries.specs.Edges.{Address}
 use Rattle.access_tries.specs.Table.{Table, leads, is_marked}
-use Rattle.access_tries.specs.Paths.{is_front, is_same, IsUnion, IsLeastOf}
+use Rattle.access_tries.specs.Paths.{is_prefix_of, is_same, IsUnion, IsLeastOf}
 use Rattle.access_tries.specs.Walks.{IsOf}
 use Rattle.plain_lemmas.proofs.Booleans.{or_false}
 
 -- the trie of addresses in one order is that of the same addresses in another
 pub reordered : (xs ys : List Address) (mark : Bool) (t : Table) → IsPermutation xs ys → IsOf ys mark t → IsOf xs mark t
 reordered xs ys mark t p is = record {
-  paths = λ es. is.paths es ∙ sym (list_any-IsPermutation (is_front es) xs ys p);
+  paths = λ es. is.paths es ∙ sym (list_any-IsPermutation (is_prefix_of es) xs ys p);
   marks = λ es. is.marks es ∙ sym (ap (λ b. mark && b) (list_any-IsPermutation (is_same es) xs ys p));
 }
 
@@ -25,7 +25,7 @@ least_of reads demands read demanded t r d u = record {
 -- where nothing is asked for, what is read is all
 pub least_of_reads : (reads : List Address) (t : Table) → IsOf reads false t → IsLeastOf reads [] t
 least_of_reads reads t is = record {
-  paths = λ es. is.paths es ∙ sym (or_false (list_any (is_front es) reads));
+  paths = λ es. is.paths es ∙ sym (or_false (list_any (is_prefix_of es) reads));
   marks = λ es. is.marks es;
 }
 

@@ -6,7 +6,7 @@ use Rattle.access_tries.specs.declared.edge.Edge.{Edge}
 use Rattle.access_tries.specs.declared.table.Link.{Link}
 use Rattle.access_tries.specs.Edges.{Address, edge_eq}
 use Rattle.access_tries.specs.Table.{Table, NodeData, Ascend, at_path, links_at}
-use Rattle.access_tries.specs.Paths.{is_front, is_same}
+use Rattle.access_tries.specs.Paths.{is_prefix_of, is_same}
 use Rattle.access_tries.specs.Tails.{tails, Rise, run}
 use Rattle.access_tries.specs.Walks.{any_link, Keeps}
 use Rattle.access_tries.proofs.Making.{any_more, here_at_end, below_at_end}
@@ -38,7 +38,7 @@ uniting_start old n l = record {
 
 -- whether one of the addresses goes on from these edges, and whether one is these edges and is marked
 abbrev pub any_prefix : Address → List Address → Bool
-any_prefix a ts = list_any (is_front a) ts
+any_prefix a ts = list_any (is_prefix_of a) ts
 
 abbrev pub any_marked : Bool → Address → List Address → Bool
 any_marked mark a ts = mark && list_any (is_same a) ts
@@ -62,8 +62,8 @@ any_grouped p x e es h (t ∷ ts) after =
 pub searches_prefixes : IsSearch any_prefix
 searches_prefixes = record {
   none = λ e es. refl;
-  ends = λ e es ts. same_after_ends is_front e es refl ts;
-  grouped = λ x e es below after. any_grouped is_front x e es (λ t. refl) below after;
+  ends = λ e es ts. same_after_ends is_prefix_of e es refl ts;
+  grouped = λ x e es below after. any_grouped is_prefix_of x e es (λ t. refl) below after;
 }
 
 pub searches_marked : (mark : Bool) → IsSearch (any_marked mark)

@@ -2,7 +2,7 @@ mod Addresses
 mod Alike
 mod Behind
 pub mod Branching
-mod Fronts
+mod Prefixes
 mod Groups
 mod Listing
 pub mod Making

@@ -12,7 +12,7 @@ use Rattle.access_tries.specs.declared.edge.Edge.{Edge}
 use Rattle.access_tries.specs.Edges.{Address, edge_cmp, edge_eq}
 use Rattle.access_tries.specs.EdgeLaws.{edge_total, exact_edge}
 use Rattle.access_tries.specs.SameLaws.{edge_is}
-use Rattle.access_tries.specs.Paths.{is_front, is_same}
+use Rattle.access_tries.specs.Paths.{is_prefix_of, is_same}
 use Rattle.access_tries.specs.Tails.{tails, IsNoSooner, Rise, begins, run}
 use Rattle.access_tries.proofs.Merging.{other_way}
 
@@ -132,9 +132,9 @@ next_turn d e a (b ∷ bs) some is within there r =
 
 pub turn : (d next : ℕ) (e : Edge) (a : Bor Address) (rest group others : List (Bor Address)) (k : ℕ) → 0 < length rest → a ≡ get_or rest 0 a → d < length a.now → e ≡ get_or a.now d e → Rise (tails d rest) →
     next ≡ d + 1 → k ≡ run (Some e) (tails d rest) → group ≡ take k rest → others ≡ drop k rest → IsTurn d next e group others rest
-turn d next e a rest group others k some is within there r after counts front back =
+turn d next e a rest group others k some is within there r after counts prefix back =
     subst (λ n. IsTurn d n e group others rest) (sym after)
-    (subst (λ g. IsTurn d (d + 1) e g others rest) (sym (front ∙ ap (λ n. take n rest) counts))
+    (subst (λ g. IsTurn d (d + 1) e g others rest) (sym (prefix ∙ ap (λ n. take n rest) counts))
     (subst (λ o. IsTurn d (d + 1) e (take (run (Some e) (tails d rest)) rest) o rest) (sym (back ∙ ap (λ n. drop n rest) counts)) (next_turn d e a rest some is within there r)))
 
 -- what is left of a list of addresses in order is in order, before and behind the edge of a group
@@ -153,7 +153,7 @@ after_rises : (e : Edge) (below after : List Address) → Rise (map (λ t. e ∷
 after_rises e [] after r = r
 after_rises e (t ∷ ts) after r = after_rises e ts after r.1
 
-after_all : (P : Address → Type 0) (front after : List Address) → AllByRecursion P (front ++ after) → AllByRecursion P after
+after_all : (P : Address → Type 0) (prefix after : List Address) → AllByRecursion P (prefix ++ after) → AllByRecursion P after
 after_all P [] after h = h
 after_all P (t ∷ ts) after h = after_all P ts after h.1
 
@@ -218,7 +218,7 @@ pub run_in : (o : Option Edge) (d k : ℕ) (rs : List (Bor Address)) → k ≡ r
 run_in o d k rs is = let h = run_within o (tails d rs) in let l = tails_length d rs in omega (arith, h, l, is)
 
 -- one of the addresses goes on from no edges
-pub prefix_of_none : (d : ℕ) (rs : List (Bor Address)) → 0 < length rs → true ≡ list_any (is_front []) (tails d rs)
+pub prefix_of_none : (d : ℕ) (rs : List (Bor Address)) → 0 < length rs → true ≡ list_any (is_prefix_of []) (tails d rs)
 prefix_of_none d [] h = absurd (omega (arith, h))
 prefix_of_none d (r ∷ rs) h = refl
 

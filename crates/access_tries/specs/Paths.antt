@@ -56,11 +56,11 @@ pub record IsUnion (a b t : Table) : Type 0 where
   pub paths : (es : Address) → leads t es ≡ (leads a es || leads b es)
   pub marks : (es : Address) → is_marked t es ≡ (is_marked a es || is_marked b es)
 
--- the edges are a front of others
-abbrev pub is_front : Address → Address → Bool
-is_front [] fs = true
-is_front (e ∷ es) [] = false
-is_front (e ∷ es) (f ∷ fs) = edge_eq f e && is_front es fs
+-- the edges are a prefix of others
+abbrev pub is_prefix_of : Address → Address → Bool
+is_prefix_of [] fs = true
+is_prefix_of (e ∷ es) [] = false
+is_prefix_of (e ∷ es) (f ∷ fs) = edge_eq f e && is_prefix_of es fs
 
 -- the edges are these others
 abbrev pub is_same : Address → Address → Bool
@@ -68,9 +68,9 @@ is_same [] [] = true
 is_same (e ∷ es) (f ∷ fs) = edge_eq f e && is_same es fs
 is_same es fs = false
 
--- exactly these addresses and their fronts, marked exactly at the ends of the demands
+-- exactly these addresses and their prefixes, marked exactly at the ends of the demands
 pub record IsLeastOf (reads demands : List Address) (t : Table) : Type 0 where
-  pub paths : (es : Address) → leads t es ≡ (list_any (is_front es) reads || list_any (is_front es) demands)
+  pub paths : (es : Address) → leads t es ≡ (list_any (is_prefix_of es) reads || list_any (is_prefix_of es) demands)
   pub marks : (es : Address) → is_marked t es ≡ list_any (is_same es) demands
 
 -- exactly what is read and what is asked for

@@ -8,7 +8,7 @@ use Rattle.access_tries.specs.declared.edge.Edge.{Edge}
 use Rattle.access_tries.specs.declared.table.Link.{Link}
 use Rattle.access_tries.specs.Edges.{Address, edge_cmp, edge_eq}
 use Rattle.access_tries.specs.Table.{Table, NodeData, at_path, leads, is_marked}
-use Rattle.access_tries.specs.Paths.{is_front, is_same}
+use Rattle.access_tries.specs.Paths.{is_prefix_of, is_same}
 
 -- the first nodes are as before
 abbrev pub Keeps : ℕ → Table → Table → Type 0
@@ -32,11 +32,11 @@ any_link f ns e es ls = list_any (λ l. edge_eq l.edge e && at_path f ns l.numbe
 abbrev pub addresses_in : List (Vec Edge Global) → List Address
 addresses_in vs = map (λ v. v.items) vs
 
--- the same fronts
+-- the same prefixes
 abbrev pub HaveSamePrefixes : List Address → List Address → Type 0
-HaveSamePrefixes xs ys = (es : Address) → list_any (is_front es) xs ≡ list_any (is_front es) ys
+HaveSamePrefixes xs ys = (es : Address) → list_any (is_prefix_of es) xs ≡ list_any (is_prefix_of es) ys
 
--- a trie with exactly these addresses and their fronts, marked at all their ends or nowhere
+-- a trie with exactly these addresses and their prefixes, marked at all their ends or nowhere
 pub record IsOf (addresses : List Address) (mark : Bool) (t : Table) : Type 0 where
-  pub paths : (es : Address) → leads t es ≡ list_any (is_front es) addresses
+  pub paths : (es : Address) → leads t es ≡ list_any (is_prefix_of es) addresses
   pub marks : (es : Address) → is_marked t es ≡ (mark && list_any (is_same es) addresses)

@@ -6,7 +6,7 @@ ghost use Rattle.std.specs.List.Sorted.{IsPermutation};
 ghost use Rattle.access_tries.specs.Edges.{Address};
 ghost use Rattle.access_tries.specs.Table.{IsClosed, IsTableOrdered, at_path, has_mark};
 ghost use Rattle.access_tries.specs.Walks.{HaveSamePrefixes, Keeps, IsOf, addresses_in};
-ghost use Rattle.access_tries.specs.Paths.{address_of, demand_of, is_front, is_same, IsLeast};
+ghost use Rattle.access_tries.specs.Paths.{address_of, demand_of, is_prefix_of, is_same, IsLeast};
 ghost use Rattle.access_tries.specs.Tails.{tails, Rise, begins, run};
 
 use crate::edge::{AccessPath, Edge};
@@ -26,7 +26,7 @@ impl AccessPath {
     }
 }
 
-/// The trie with exactly the paths that are read and their fronts, and, in the ancestors' trie of the first
+/// The trie with exactly the paths that are read and their prefixes, and, in the ancestors' trie of the first
 /// path of each demand, exactly the second one, marked at its end.
 pub fn least_trie(
     alloc: Global,
@@ -45,7 +45,7 @@ pub fn least_trie(
     read.union(alloc, &demanded)
 }
 
-// The edges of each path from which the next does not go on: the others are fronts of these.
+// The edges of each path from which the next does not go on: the others are prefixes of these.
 fn addresses_of(alloc: Global, paths: &[AccessPath]) -> Result<Vec<Vec<Edge>>, AllocError>
     ensures { IfOk result (λ r. HaveSamePrefixes (addresses_in r.items) (map address_of paths.now)) }
 {
@@ -102,8 +102,8 @@ fn add_edges(edges: &mut Vec<Edge>, path: &AccessPath) -> Result<(), AllocError>
     Ok(())
 }
 
-/// The trie of all these addresses and their fronts, marked at all their ends or nowhere. The addresses are put
-/// in order once, so that those with the same front stand side by side, and each node is made once.
+/// The trie of all these addresses and their prefixes, marked at all their ends or nowhere. The addresses are put
+/// in order once, so that those with the same prefixes stand side by side, and each node is made once.
 pub fn all_of(
     alloc: Global,
     addresses: &[Vec<Edge>],
@@ -158,7 +158,7 @@ fn append_node(
     ensures closed { OnOk result (IsClosed (length nodes.old.items) nodes.new.items) }
     ensures ordered { OnOk result (IsTableOrdered (length nodes.old.items) nodes.new.items) }
     ensures present { IfOk result (λ n. (a : Address) → at_path is_some nodes.new.items n a ≡
-        list_any (is_front a) (tails depth addresses.now)) }
+        list_any (is_prefix_of a) (tails depth addresses.now)) }
     ensures marked { IfOk result (λ n. (a : Address) → at_path has_mark nodes.new.items n a ≡
         (mark && list_any (is_same a) (tails depth addresses.now))) }
 {

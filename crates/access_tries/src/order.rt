@@ -4,7 +4,7 @@ ghost use Rattle.std.specs.Prelude.{◌≡◌, map};
 ghost use Rattle.std.specs.Cmp.Lexicographic.{slice_cmp};
 ghost use Rattle.access_tries.specs.EdgeView.{edge_in};
 ghost use Rattle.access_tries.specs.Edges.{edge_cmp, root_cmp};
-ghost use Rattle.access_tries.specs.Paths.{address_of, edge_of, is_front, path_cmp};
+ghost use Rattle.access_tries.specs.Paths.{address_of, edge_of, is_prefix_of, path_cmp};
 
 use crate::edge::{AccessPath, Edge, EdgeRef, EntityRoot, Step};
 use std::cmp::Ordering;
@@ -86,19 +86,19 @@ fn compare_paths(a: &AccessPath, b: &AccessPath) -> Ordering
 }
 
 /// Whether the path goes on from another, or is that path.
-pub(crate) fn goes_on(path: &AccessPath, front: &AccessPath) -> bool
-    ensures { result ≡ is_front (address_of front.now) (address_of path.now) }
+pub(crate) fn goes_on(path: &AccessPath, prefix: &AccessPath) -> bool
+    ensures { result ≡ is_prefix_of (address_of prefix.now) (address_of path.now) }
 {
-    match compare_roots(path.root(), front.root()) {
-        Ordering::Equal => go_on(path.steps(), front.steps()),
+    match compare_roots(path.root(), prefix.root()) {
+        Ordering::Equal => go_on(path.steps(), prefix.steps()),
         _ => false,
     }
 }
 
-fn go_on(steps: &[Step], front: &[Step]) -> bool
-    ensures { result ≡ is_front (map edge_of front.now) (map edge_of steps.now) }
+fn go_on(steps: &[Step], prefix: &[Step]) -> bool
+    ensures { result ≡ is_prefix_of (map edge_of prefix.now) (map edge_of steps.now) }
 {
-    match front {
+    match prefix {
         [] => true,
         [x, xs @ ..] => match steps {
             [] => false,

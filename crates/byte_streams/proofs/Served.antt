@@ -108,8 +108,8 @@ answers_push P n k (l ∷ ls) (t ∷ ts) line text h a = (h.0, h.1 + k, by h.0 h
 -- the first lines were answered, and these bytes are left behind them
 abbrev pub AreServed : (ℕ → Option (List ℕ) → List ℕ → Type 0) → ℕ → ℕ → Option (List ℕ) → Option (List ℕ) → Option (List ℕ) → Option (List ℕ) → Type 0
 AreServed P from to left rest old new = (bytes : List ℕ) → left ≡ Some bytes →
-    (front : List (List ℕ)) × (texts : List (List ℕ)) × (behind : List ℕ) × (n : ℕ)
-    × (rest ≡ Some behind) × (lines_of bytes ≡ front ++ lines_of behind) × AnswersEach P n front texts × Appends old new (concat texts) × RoseBy n from to
+    (prefix : List (List ℕ)) × (texts : List (List ℕ)) × (behind : List ℕ) × (n : ℕ)
+    × (rest ≡ Some behind) × (lines_of bytes ≡ prefix ++ lines_of behind) × AnswersEach P n prefix texts × Appends old new (concat texts) × RoseBy n from to
 
 -- nothing was asked yet
 pub served_none : (P : ℕ → Option (List ℕ) → List ℕ → Type 0) (from : ℕ) (left old : Option (List ℕ)) → AreServed P from from left left old old

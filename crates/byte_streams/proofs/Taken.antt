@@ -38,12 +38,12 @@ plain_more (x ∷ xs) ys p q = by (λ h. plain_more xs ys h q) (not (eqb x 10)) 
     by rest true h = rest h
     by rest false h = absurd cc
 
--- a front that is not empty, and more
+-- a prefix that is not empty, and more
 pub some_more : (xs ys : List ℕ) → xs ≢ [] → (xs ++ ys) ≢ []
 some_more [] ys some h = some refl
 some_more (x ∷ xs) ys some h = absurd cc
 
--- a front of the line, and then its rest
+-- a prefix of the line, and then its rest
 pub line_more : (a b c : Option (List ℕ)) (xs ys : List ℕ) → is_plain xs ≡ true → xs ≢ [] → Consumes a b xs → TakesRest b c ys → TakesLine a c (xs ++ ys)
 line_more a b c xs ys plain some p q = (plain_more xs ys plain q.0, by q.1)
   where
@@ -104,23 +104,23 @@ pub some_in : (bs : List ℕ) → bs ≢ [] → 0 < length bs
 some_in [] h = absurd (h refl)
 some_in (b ∷ bs) h = omega arith
 
--- a front of a line, and its next byte
-pub prefix_more : (a b c : Option (List ℕ)) (front : List ℕ) (byte : ℕ) → is_plain front ≡ true → Consumes a b front → ¬ (byte ≡ 10) → Consumes b c (byte ∷ [])
-    → (is_plain (front ++ (byte ∷ [])) ≡ true) × Consumes a c (front ++ (byte ∷ []))
-prefix_more a b c front byte plain taken other next = (plain_more front (byte ∷ []) plain (plain_byte byte other), consumes_more a b c front (byte ∷ []) taken next)
+-- a prefix of a line, and its next byte
+pub prefix_more : (a b c : Option (List ℕ)) (prefix : List ℕ) (byte : ℕ) → is_plain prefix ≡ true → Consumes a b prefix → ¬ (byte ≡ 10) → Consumes b c (byte ∷ [])
+    → (is_plain (prefix ++ (byte ∷ [])) ≡ true) × Consumes a c (prefix ++ (byte ∷ []))
+prefix_more a b c prefix byte plain taken other next = (plain_more prefix (byte ∷ []) plain (plain_byte byte other), consumes_more a b c prefix (byte ∷ []) taken next)
 
-pub newline_ends : (a b c : Option (List ℕ)) (front : List ℕ) → is_plain front ≡ true → Consumes a b front → Consumes b c (10 ∷ []) → TakesLine a c front
-newline_ends a b c front plain taken next = (plain, inl (consumes_more a b c front (10 ∷ []) taken next))
+pub newline_ends : (a b c : Option (List ℕ)) (prefix : List ℕ) → is_plain prefix ≡ true → Consumes a b prefix → Consumes b c (10 ∷ []) → TakesLine a c prefix
+newline_ends a b c prefix plain taken next = (plain, inl (consumes_more a b c prefix (10 ∷ []) taken next))
 
-pub rest_ends : (a b c : Option (List ℕ)) (front : List ℕ) → is_plain front ≡ true → Consumes a b front → Consumes b c (10 ∷ []) → TakesRest a c front
-rest_ends a b c front plain taken next = (plain, inl (consumes_more a b c front (10 ∷ []) taken next))
+pub rest_ends : (a b c : Option (List ℕ)) (prefix : List ℕ) → is_plain prefix ≡ true → Consumes a b prefix → Consumes b c (10 ∷ []) → TakesRest a c prefix
+rest_ends a b c prefix plain taken next = (plain, inl (consumes_more a b c prefix (10 ∷ []) taken next))
 
-pub end_ends : (a b c : Option (List ℕ)) (front : List ℕ) → is_plain front ≡ true → Consumes a b front → Keeps b c × IsAtEnd c → TakesRest a c front
-end_ends a b c front plain taken end = (plain, inr (consumes_keeps a b c front taken end.0, end.1))
+pub end_ends : (a b c : Option (List ℕ)) (prefix : List ℕ) → is_plain prefix ≡ true → Consumes a b prefix → Keeps b c × IsAtEnd c → TakesRest a c prefix
+end_ends a b c prefix plain taken end = (plain, inr (consumes_keeps a b c prefix taken end.0, end.1))
 
 -- of a line there is a byte
-line_ends : (a b c : Option (List ℕ)) (front : List ℕ) → is_plain front ≡ true → front ≢ [] → Consumes a b front → Keeps b c × IsAtEnd c → TakesLine a c front
-line_ends a b c front plain some taken end = (plain, inr (consumes_keeps a b c front taken end.0, end.1, some))
+line_ends : (a b c : Option (List ℕ)) (prefix : List ℕ) → is_plain prefix ≡ true → prefix ≢ [] → Consumes a b prefix → Keeps b c × IsAtEnd c → TakesLine a c prefix
+line_ends a b c prefix plain some taken end = (plain, inr (consumes_keeps a b c prefix taken end.0, end.1, some))
 
 -- a byte that was known from a newline
 pub known_byte : (a b : Option (List ℕ)) (byte : ℕ) (r : NextByte) → IsReported byte r → Consumes a b (byte ∷ []) → GivesByte a b r
@@ -131,40 +131,40 @@ known_byte a b byte next.Failed is taken = absurd is
 known_byte a b byte next.OutOfMemory is taken = absurd is
 
 -- a byte more than a line may have, and the rest of the line
-pub rest_behind : (a b c : Option (List ℕ)) (byte : ℕ) (front : List ℕ) (r : Line) → ¬ (byte ≡ 10) → Consumes a b (byte ∷ []) → IsRest b c r → IsEnd a c front r
-rest_behind a b c byte front (line.Text v) other h rest = absurd rest
-rest_behind a b c byte front line.TooLong other h rest = (byte ∷ rest.0, λ e. absurd cc, rest_of a c (byte ∷ rest.0) (line_more a b c (byte ∷ []) rest.0 (plain_byte byte other) (λ e. absurd cc) h rest.1))
-rest_behind a b c byte front line.End other h rest = absurd rest
-rest_behind a b c byte front line.Failed other h rest = tt
-rest_behind a b c byte front line.OutOfMemory other h rest = tt
+pub rest_behind : (a b c : Option (List ℕ)) (byte : ℕ) (prefix : List ℕ) (r : Line) → ¬ (byte ≡ 10) → Consumes a b (byte ∷ []) → IsRest b c r → IsEnd a c prefix r
+rest_behind a b c byte prefix (line.Text v) other h rest = absurd rest
+rest_behind a b c byte prefix line.TooLong other h rest = (byte ∷ rest.0, λ e. absurd cc, rest_of a c (byte ∷ rest.0) (line_more a b c (byte ∷ []) rest.0 (plain_byte byte other) (λ e. absurd cc) h rest.1))
+rest_behind a b c byte prefix line.End other h rest = absurd rest
+rest_behind a b c byte prefix line.Failed other h rest = tt
+rest_behind a b c byte prefix line.OutOfMemory other h rest = tt
 
 -- the end of the source behind the bytes of a line
-pub last_is : (a b c : Option (List ℕ)) (front : List ℕ) (r : Line) → length front ≤ DOCUMENT_LIMIT → is_plain front ≡ true → Consumes a b front → Keeps b c × IsAtEnd c → IsLast front r → IsNext a c r
-last_is a b c front (line.Text v) short plain taken end is =
-    (subst (λ xs. length xs ≤ DOCUMENT_LIMIT) (sym is.0) short, subst (TakesLine a c) (sym is.0) (line_ends a b c front plain is.1 taken end))
-last_is a b c front line.TooLong short plain taken end is = absurd is
-last_is a b c front line.End short plain taken end is = (keeps_none a b c (subst (Consumes a b) is taken) end.0, end.1)
-last_is a b c front line.Failed short plain taken end is = absurd is
-last_is a b c front line.OutOfMemory short plain taken end is = absurd is
+pub last_is : (a b c : Option (List ℕ)) (prefix : List ℕ) (r : Line) → length prefix ≤ DOCUMENT_LIMIT → is_plain prefix ≡ true → Consumes a b prefix → Keeps b c × IsAtEnd c → IsLast prefix r → IsNext a c r
+last_is a b c prefix (line.Text v) short plain taken end is =
+    (subst (λ xs. length xs ≤ DOCUMENT_LIMIT) (sym is.0) short, subst (TakesLine a c) (sym is.0) (line_ends a b c prefix plain is.1 taken end))
+last_is a b c prefix line.TooLong short plain taken end is = absurd is
+last_is a b c prefix line.End short plain taken end is = (keeps_none a b c (subst (Consumes a b) is taken) end.0, end.1)
+last_is a b c prefix line.Failed short plain taken end is = absurd is
+last_is a b c prefix line.OutOfMemory short plain taken end is = absurd is
 
-full_some : (front : List ℕ) → length front ≡ DOCUMENT_LIMIT → front ≢ []
+full_some : (prefix : List ℕ) → length prefix ≡ DOCUMENT_LIMIT → prefix ≢ []
 full_some [] full e = absurd (omega (arith, full))
 full_some (x ∷ xs) full e = absurd cc
 
 -- what comes behind the bytes of a line that is as long as may be
-pub behind : (a b c : Option (List ℕ)) (front : List ℕ) (r : Line) → length front ≡ DOCUMENT_LIMIT → is_plain front ≡ true → Consumes a b front → IsEnd b c front r → IsNext a c r
-behind a b c front (line.Text v) full plain taken is =
+pub behind : (a b c : Option (List ℕ)) (prefix : List ℕ) (r : Line) → length prefix ≡ DOCUMENT_LIMIT → is_plain prefix ≡ true → Consumes a b prefix → IsEnd b c prefix r → IsNext a c r
+behind a b c prefix (line.Text v) full plain taken is =
     (subst (λ xs. length xs ≤ DOCUMENT_LIMIT) (sym is.0) (omega (arith, full)), subst (TakesLine a c) (sym is.0) (by is.1))
   where
-    by : Consumes b c (10 ∷ []) ⊎ (Keeps b c × IsAtEnd c) → TakesLine a c front
-    by (inl h) = newline_ends a b c front plain taken h
-    by (inr h) = line_ends a b c front plain (λ e. full_some front full e) taken h
-behind a b c front line.TooLong full plain taken is =
+    by : Consumes b c (10 ∷ []) ⊎ (Keeps b c × IsAtEnd c) → TakesLine a c prefix
+    by (inl h) = newline_ends a b c prefix plain taken h
+    by (inr h) = line_ends a b c prefix plain (λ e. full_some prefix full e) taken h
+behind a b c prefix line.TooLong full plain taken is =
     let some = some_in is.0 is.1 in
-    (front ++ is.0, simp length-append (omega (arith, full, some)), line_more a b c front is.0 plain (λ e. full_some front full e) taken is.2)
-behind a b c front line.End full plain taken is = absurd is
-behind a b c front line.Failed full plain taken is = tt
-behind a b c front line.OutOfMemory full plain taken is = tt
+    (prefix ++ is.0, simp length-append (omega (arith, full, some)), line_more a b c prefix is.0 plain (λ e. full_some prefix full e) taken is.2)
+behind a b c prefix line.End full plain taken is = absurd is
+behind a b c prefix line.Failed full plain taken is = tt
+behind a b c prefix line.OutOfMemory full plain taken is = tt
 
 -- a push that succeeded
 pub pushed : {X E : Type 0} (r : Result X E) (xs ys : List ℕ) (b : ℕ) → false ≡ is_err r → ys ≡ (if is_ok r then xs ++ (b ∷ []) else xs) → ys ≡ xs ++ (b ∷ [])

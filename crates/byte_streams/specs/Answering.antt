@@ -10,7 +10,7 @@ use Rattle.byte_streams.specs.Lines.{TakesLine}
 use Rattle.byte_streams.specs.declared.answering.Ended.{Ended}
 use Rattle.byte_streams.specs.declared.answering.Ended.TheVariants as ended
 
--- the byte at the front of the first line
+-- the byte at the start of the first line
 abbrev pub with_byte : ℕ → List (List ℕ) → List (List ℕ)
 with_byte b [] = (b ∷ []) ∷ []
 with_byte b (l ∷ ls) = (b ∷ l) ∷ ls
@@ -33,7 +33,7 @@ AnswersEach IsAnswer n (line ∷ lines) (text ∷ texts) =
     (k : ℕ) × (m : ℕ) × (n ≡ k + m) × Answers (IsAnswer k) line text × AnswersEach IsAnswer m lines texts
 AnswersEach IsAnswer n lines texts = ⊥
 
--- what is left unanswered, and written behind the last answer: nothing; or, where a write failed, a front of
+-- what is left unanswered, and written behind the last answer: nothing; or, where a write failed, a prefix of
 -- the next answer
 abbrev pub Remains : (Option (List ℕ) → List ℕ → Type 0) → Ended → List (List ℕ) → List ℕ → Type 0
 Remains IsAnswer ended.Done rest part = (rest ≡ []) × (part ≡ [])
@@ -49,8 +49,8 @@ abbrev pub AreAnswered :
     (ℕ → Option (List ℕ) → List ℕ → Type 0) → ℕ → ℕ → Option (List ℕ) → Option (List ℕ) → Option (List ℕ)
     → Ended → Type 0
 AreAnswered IsAnswer from to left old new e = (bytes : List ℕ) → left ≡ Some bytes →
-    (front : List (List ℕ)) × (rest : List (List ℕ)) × (texts : List (List ℕ)) × (part : List ℕ)
-    × (n : ℕ) × (k : ℕ) × (lines_of bytes ≡ front ++ rest) × AnswersEach IsAnswer n front texts
+    (prefix : List (List ℕ)) × (rest : List (List ℕ)) × (texts : List (List ℕ)) × (part : List ℕ)
+    × (n : ℕ) × (k : ℕ) × (lines_of bytes ≡ prefix ++ rest) × AnswersEach IsAnswer n prefix texts
     × Appends old new (concat texts ++ part) × Remains (IsAnswer k) e rest part × RoseBy (n + k) from to
 
 -- one line was taken and answered, or how that ended

@@ -9,7 +9,7 @@ use Rattle.byte_streams.specs.declared.reading.ReadError.TheVariants as error
 abbrev pub document_limit : ℕ
 document_limit = 16777216
 
--- these bytes were taken and no others, from the front of what was left where the source says it
+-- these bytes were taken and no others, from the start of what was left where the source says it
 abbrev pub Takes : SourceState → SourceState → List ℕ → Type 0
 Takes old new bytes = (new.taken ≡ old.taken + length bytes) × Consumes old.left new.left bytes
 

@@ -66,12 +66,12 @@ IsFilled old new bytes filled.OutOfMemory = ⊤
 
 -- what comes behind the bytes of a line that is as long as may be
 abbrev pub IsEnd : Option (List ℕ) → Option (List ℕ) → List ℕ → Line → Type 0
-IsEnd old new front (line.Text v) =
-    (v.items ≡ front) × (Consumes old new (10 ∷ []) ⊎ (Keeps old new × IsAtEnd new))
-IsEnd old new front line.TooLong = (bytes : List ℕ) × (bytes ≢ []) × TakesRest old new bytes
-IsEnd old new front line.End = ⊥
-IsEnd old new front line.Failed = ⊤
-IsEnd old new front line.OutOfMemory = ⊤
+IsEnd old new prefix (line.Text v) =
+    (v.items ≡ prefix) × (Consumes old new (10 ∷ []) ⊎ (Keeps old new × IsAtEnd new))
+IsEnd old new prefix line.TooLong = (bytes : List ℕ) × (bytes ≢ []) × TakesRest old new bytes
+IsEnd old new prefix line.End = ⊥
+IsEnd old new prefix line.Failed = ⊤
+IsEnd old new prefix line.OutOfMemory = ⊤
 
 -- the end of the source ends a line where it has bytes
 abbrev pub IsLast : List ℕ → Line → Type 0

@@ -90,7 +90,7 @@ fn answer_next<A: AnswersLines, I: Source + Drop, K: Sink>(
 /// Answers each line that is left of the source, and writes each answer at once.
 ///
 /// However it ends, what is written are answers to the first lines, in their order; behind them, where a
-/// write failed, a front of the next answer. At the end of the source no line is left out. The count of
+/// write failed, a prefix of the next answer. At the end of the source no line is left out. The count of
 /// faults rose by those of all these answers at least. A read failed, or memory ran out, in the midst of a
 /// line where these are known.
 pub fn answer_lines<A: AnswersLines, I: Source + Drop, K: Sink>(

@@ -22,7 +22,7 @@ pub use writing::{WriteFault, write_text};
 /// What a read gave.
 #[derive(Clone, Copy, Debug, PartialEq, Eq)]
 pub enum ReadAnswer {
-    /// This many bytes, at least one, at the front of the piece.
+    /// This many bytes, at least one, at the start of the piece.
     Got(usize),
     /// Nothing, since nothing is left.
     End,
@@ -33,7 +33,7 @@ pub enum ReadAnswer {
 /// What a write took.
 #[derive(Clone, Copy, Debug, PartialEq, Eq)]
 pub enum WriteAnswer {
-    /// This many bytes, at least one, from the front of the piece.
+    /// This many bytes, at least one, from the start of the piece.
     Took(usize),
     /// Nothing, since something went wrong.
     Failed,

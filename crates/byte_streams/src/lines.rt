@@ -84,7 +84,7 @@ impl<S: Source + Drop> Lines<S> {
         }
         let byte = self.piece[self.at];
         self.at += 1;
-        told(byte)
+        known(byte)
     }
 
     // Passes over the bytes up to the end of a line that is too long.
@@ -143,7 +143,7 @@ impl<S: Source + Drop> Lines<S> {
     }
 }
 
-fn told(byte: u8) -> NextByte
+fn known(byte: u8) -> NextByte
     ensures { IsReported byte result }
 {
     if byte == b'\n' {

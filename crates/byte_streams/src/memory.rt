@@ -5,7 +5,7 @@ use crate::traits::{Sink, Source};
 use crate::{ReadAnswer, WriteAnswer};
 use std::alloc::Global;
 
-// Copies what fits of `bytes` to the front of `piece`; how many bytes that are.
+// Copies what fits of `bytes` to the start of `piece`; how many bytes that are.
 fn copy_prefix(bytes: &[u8], piece: &mut [u8]) -> usize
     ensures count { result ≡ min (length bytes.now) (length piece.old) }
     ensures copied { take result piece.new ≡ take result bytes.now }

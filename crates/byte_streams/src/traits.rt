@@ -10,7 +10,7 @@ pub trait Source {
     // The bytes that are left, the count of bytes given so far, and the count of faults.
     ghost state: { Self → SourceState };
 
-    /// Gives the next bytes, at the front of `piece`, which may not be empty.
+    /// Gives the next bytes, at the start of `piece`, which may not be empty.
     ///
     /// `End` comes only where nothing is left, and `Failed` only where the count of faults rises;
     /// neither takes a byte.
@@ -29,7 +29,7 @@ pub trait Sink {
     // The bytes that it holds, and the count of faults.
     ghost state: { Self → SinkState };
 
-    /// Takes bytes from the front of `piece`, which may not be empty.
+    /// Takes bytes from the start of `piece`, which may not be empty.
     ///
     /// `Failed` comes only where the count of faults rises, and takes no byte.
     fn write(&mut self, piece: &[u8]) -> WriteAnswer

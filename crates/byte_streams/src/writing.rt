@@ -10,7 +10,7 @@ use crate::traits::Sink;
 #[derive(Clone, Copy, Debug, PartialEq, Eq)]
 pub struct WriteFault;
 
-/// Writes the whole text; after a fault a front of it is written.
+/// Writes the whole text; after a fault a prefix of it is written.
 pub fn write_text<K: Sink>(sink: &mut K, text: &[u8]) -> Result<(), WriteFault>
     ensures ok { OnOk result (Appends (K.state sink.old).holds (K.state sink.new).holds text.now) }
     ensures err { OnErr result ((n : ℕ)

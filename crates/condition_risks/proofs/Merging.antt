@@ -17,15 +17,15 @@ same_shape_tests x y b h =
     let d = same_tree_decides x y in
     equal_by_both_ways b (same_tree x y) (λ e. d.1 (h.0 e)) (λ e. h.1 (d.0 e))
 
--- what is in front decides only as far as it is taken
-pub take_front : (n : ℕ) (xs ys : List Typed) → take n (take n xs ++ ys) ≡ take n (xs ++ ys)
-take_front zero xs ys = refl
-take_front (suc n) [] ys = refl
-take_front (suc n) (x ∷ xs) ys = ap (λ zs. x ∷ zs) (take_front n xs ys)
+-- what is before it decides only as far as it is taken
+pub take_prefix : (n : ℕ) (xs ys : List Typed) → take n (take n xs ++ ys) ≡ take n (xs ++ ys)
+take_prefix zero xs ys = refl
+take_prefix (suc n) [] ys = refl
+take_prefix (suc n) (x ∷ xs) ys = ap (λ zs. x ∷ zs) (take_prefix n xs ys)
 
 take_more : (n : ℕ) (old new more rest : List Typed) → new ≡ take n (old ++ more) → take n (new ++ rest) ≡ take n (old ++ (more ++ rest))
 take_more n old new more rest e =
-    ap (λ zs. take n (zs ++ rest)) e ∙ take_front n (old ++ more) rest ∙ ap (λ zs. take n zs) (append_assoc old more rest)
+    ap (λ zs. take n (zs ++ rest)) e ∙ take_prefix n (old ++ more) rest ∙ ap (λ zs. take n zs) (append_assoc old more rest)
 
 pub nothing_taken : (xs : List Typed) → length xs ≤ remembered → xs ≡ take remembered (xs ++ [])
 nothing_taken xs h = sym (ap (λ zs. take remembered zs) (append_empty xs) ∙ take_all remembered xs h)

@@ -118,7 +118,7 @@ fn is_same(x: &Part, y: &Part) -> bool
 }
 
 /// The first of the one list, and of the other what is not among these.
-#[tactic(auto, using(crate::proofs::Merging::take_front))]
+#[tactic(auto, using(crate::proofs::Merging::take_prefix))]
 pub(crate) fn merged<'a>(
     alloc: Global,
     xs: &Vec<&'a Part>,

@@ -26,7 +26,7 @@ use Rattle.condition_truth.proofs.Outcomes.{Yes, No}
 use Rattle.condition_truth.proofs.Quiet as quiet
 use Rattle.condition_truth.specs.Formulas.{Atom, is_true, has_attr, has_tag, fits, Formula, constant, atom, and, holds, Truth, says, noted, asked, literal_truth, if_truth, and_truth, or_truth, unary_truth, binary_truth, truth, values_all, values_named}
 use Rattle.condition_truth.specs.Truth.{is_yes, is_no, is_value, is_fit, atoms_of, IsSaid}
-use Rattle.condition_truth.proofs.Steps.{NoteHolds, is_ok, yes_value, one_value, one_fit, two_value, two_fit, neg_over, sum_over, call_fit, front_ok, set_yes, set_no, set_ok, record_yes, record_no, record_ok, attr_is, tag_is, has_yes, tagged_yes}
+use Rattle.condition_truth.proofs.Steps.{NoteHolds, is_ok, yes_value, one_value, one_fit, two_value, two_fit, neg_over, sum_over, call_fit, prefix_ok, set_yes, set_no, set_ok, record_yes, record_no, record_ok, attr_is, tag_is, has_yes, tagged_yes}
 use Rattle.condition_truth.proofs.Noted.{IsNoted, Below, AllBelow, NamedBelow}
 
 pub no_truth : (t : Ty) (b : Bool) → is_boolean t ≡ false → Member t (bool b) → ⊥
@@ -274,8 +274,8 @@ module _ (q : Request) (s : Store) where
 
     said_all : (xs : Trees (Mark (Option Ty))) → AllBelow q s xs → is_ok (eval_all xs q s) ≡ holds (atoms_of q s) (values_all xs)
     said_all no_trees b = refl
-    said_all (tree x xs) b = front_ok (λ v. v) (eval x q s) (eval_all xs q s) ∙ (λ i. (said x b.0.0 b.0.1).value i && said_all xs b.1 i)
+    said_all (tree x xs) b = prefix_ok (λ v. v) (eval x q s) (eval_all xs q s) ∙ (λ i. (said x b.0.0 b.0.1).value i && said_all xs b.1 i)
 
     said_named : (xs : Named (Mark (Option Ty))) → NamedBelow q s xs → is_ok (eval_named xs q s) ≡ holds (atoms_of q s) (values_named xs)
     said_named no_named b = refl
-    said_named (named k x xs) b = front_ok (λ v. (k, v)) (eval x q s) (eval_named xs q s) ∙ (λ i. (said x b.0.0 b.0.1).value i && said_named xs b.1 i)
+    said_named (named k x xs) b = prefix_ok (λ v. (k, v)) (eval x q s) (eval_named xs q s) ∙ (λ i. (said x b.0.0 b.0.1).value i && said_named xs b.1 i)

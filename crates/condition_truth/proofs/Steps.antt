@@ -152,10 +152,10 @@ call_fit n f (Ok vs) h = fit_value n (called (function_of f) vs) (called_over (f
 call_fit n f (Err e) h = refl
 
 -- sets and records
-pub front_ok : {X : Type 0} (f : Val → X) (o : Outcome) (r : Result (List X) EvalError) → is_ok (in_prefix f o r) ≡ is_value o && is_ok r
-front_ok f (Error e) r = refl
-front_ok f (Value v) (Ok xs) = refl
-front_ok f (Value v) (Err e) = refl
+pub prefix_ok : {X : Type 0} (f : Val → X) (o : Outcome) (r : Result (List X) EvalError) → is_ok (in_prefix f o r) ≡ is_value o && is_ok r
+prefix_ok f (Error e) r = refl
+prefix_ok f (Value v) (Ok xs) = refl
+prefix_ok f (Value v) (Err e) = refl
 
 pub set_yes : (r : Result (List Val) EvalError) → is_yes (set_outcome r) ≡ false
 set_yes (Ok vs) = refl

@@ -158,8 +158,8 @@ module _ (schema : SchemaData) (s : Store) (least : Option EntityUID) (is_least 
       ]
 
     -- the test by the least id says whether an ancestor is missing in the entity of an action
-    pub told : (r : Bool) → IsTrue r ↔ (least ≡ Some e.uid) → IsTrue (is_action_type e.uid.entity_type) → r ≡ not (has_all_ancestors schema e)
-    told r is act = both_ways r (lacks schema.action_ids s e.uid) (λ t. holds (is.0 t)) (λ h. is.1 (next_is h)) ∙ here ∙ ap (λ t. t && not (has_all_ancestors schema e)) act where
+    pub known : (r : Bool) → IsTrue r ↔ (least ≡ Some e.uid) → IsTrue (is_action_type e.uid.entity_type) → r ≡ not (has_all_ancestors schema e)
+    known r is act = both_ways r (lacks schema.action_ids s e.uid) (λ t. holds (is.0 t)) (λ h. is.1 (next_is h)) ∙ here ∙ ap (λ t. t && not (has_all_ancestors schema e)) act where
       holds : least ≡ Some e.uid → lacks schema.action_ids s e.uid ≡ true
       holds same = let l : IsLeastIfAny uid_cmp (λ q. lacks schema.action_ids s q ≡ true) (Some e.uid) = subst (IsLeastIfAny uid_cmp (λ q. lacks schema.action_ids s q ≡ true)) same is_least in l.holds
 

@@ -75,8 +75,8 @@ pub printed : (other : ℕ) → other < 2 ^ 64 → (us : List Drawn) → AreDraw
     → print (json_tokens (sample_json (decimal other) us)) ≡ sample_schema ++ sample_policies ++ sample_request other ++ codes ",\"entities\":[" ++ join_with_byte 44 (map text_of us) ++ codes "]}"
 unfolding print_from escape_byte sample_schema sample_policies sample_request
 printed other small us h =
-    let front : List ℕ = codes ",\"request\":{\"principal\":[\"User\",\"u0\"],\"action\":[\"Action\",\"view\"],\"resource\":[\"User\",\"u" in
-    let before : List ℕ → List ℕ = λ t. sample_schema ++ (sample_policies ++ (front ++ t)) in
+    let prefix : List ℕ = codes ",\"request\":{\"principal\":[\"User\",\"u0\"],\"action\":[\"Action\",\"view\"],\"resource\":[\"User\",\"u" in
+    let before : List ℕ → List ℕ = λ t. sample_schema ++ (sample_policies ++ (prefix ++ t)) in
     let same = all_printed us h (Token.end_object ∷ []) in
     (λ k. before (quoted_then (decimal other) (plain other small) (codes "],\"context\":{}},\"entities\":[" ++ same k) k))
     ∙ ap before (five (decimal other) (codes "\"],\"context\":{}}") (codes ",\"entities\":[") (join_with_byte 44 (map text_of us)) (codes "]}"))

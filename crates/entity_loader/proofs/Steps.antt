@@ -62,9 +62,9 @@ merged_more (e ∷ es) k v gs up below = by (text_cmp k e.0) refl (merged_more e
   by Equal is later = rw (turned k e.0 Equal is) (first_of e.0 (merge e.1 v) (fields_of es) gs (subst (λ l. IsBelowField l gs) (exact_bytes k e.0 is) below))
   by Greater is later =
       let o = merged_with (lookup (is_at (text_cmp k)) es) v in
-      let front : IsBelowField e.0 gs = below_on e.0 k gs (turned k e.0 Greater is) below in
+      let prefix : IsBelowField e.0 gs = below_on e.0 k gs (turned k e.0 Greater is) below in
       rw (turned k e.0 Greater is) (ap (with_first e.0 (Some e.1)) later ∙ first_later e.0 e.1 o (λ w. merge_fields (put es k w) gs)
-      ∙ ap (λ f. option_and_then f o) (λ i w. sym (first e.0 e.1 (put es k w) gs front) i))
+      ∙ ap (λ f. option_and_then f o) (λ i w. sym (first e.0 e.1 (put es k w) gs prefix) i))
 
 below_rest : (k : List ℕ) (es : List (List ℕ × Val)) → AllByRecursion (λ n. text_cmp k n ≡ Less) (keys_of es) → IsBelowField k (fields_of es)
 below_rest k [] all = tt
@@ -115,15 +115,15 @@ first_below y (z ∷ ys) up = up.0.0
 pub united_more : (xs : List EntityUID) (y : EntityUID) (ys : List EntityUID) → IsStrictlySortedBy uid_cmp (y ∷ ys) → united xs (y ∷ ys) ≡ united (insert_key uid_cmp xs y) ys
 united_more [] y ys up = sym (first_id y [] ys (first_below y ys up))
 united_more (x ∷ xs) y ys up = by (uid_cmp y x) refl (united_more xs y ys up) where
-  front : IsFirst y ys
-  front = first_below y ys up
+  prefix : IsFirst y ys
+  prefix = first_below y ys up
 
   by : (o : Ordering) → uid_cmp y x ≡ o → united xs (y ∷ ys) ≡ united (insert_key uid_cmp xs y) ys
       → united (x ∷ xs) (y ∷ ys) ≡ united (match_ordering o (y ∷ x ∷ xs) (x ∷ xs) (x ∷ insert_key uid_cmp xs y)) ys
-  by Less is later = rw (id_turned x y Less is) (sym (first_id y (x ∷ xs) ys front))
-  by Equal is later = rw (id_turned x y Equal is) (sym (first_id x xs ys (subst (λ z. IsFirst z ys) (exact_uid y x is) front)))
+  by Less is later = rw (id_turned x y Less is) (sym (first_id y (x ∷ xs) ys prefix))
+  by Equal is later = rw (id_turned x y Equal is) (sym (first_id x xs ys (subst (λ z. IsFirst z ys) (exact_uid y x is) prefix)))
   by Greater is later =
-      rw (id_turned x y Greater is) (ap (λ zs. x ∷ zs) later ∙ sym (first_id x (insert_key uid_cmp xs y) ys (id_before x y ys (id_turned x y Greater is) front)))
+      rw (id_turned x y Greater is) (ap (λ zs. x ∷ zs) later ∙ sym (first_id x (insert_key uid_cmp xs y) ys (id_before x y ys (id_turned x y Greater is) prefix)))
 
 pub later_ids : (y : EntityUID) (ys : List EntityUID) → IsStrictlySortedBy uid_cmp (y ∷ ys) → IsStrictlySortedBy uid_cmp ys
 unfolding IsStrictlySortedBy

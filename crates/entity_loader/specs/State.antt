@@ -19,7 +19,7 @@ pub record LoaderState : Type 0 where
 -- a store that is known stays known, and the same; no count falls, and a loader that says its store does
 -- not stray
 pub record Continues (old new : LoaderState) : Type 0 where
-  pub told : (s : Store) → old.store ≡ Some s → new.store ≡ Some s
+  pub known : (s : Store) → old.store ≡ Some s → new.store ≡ Some s
   pub exact : new.exact ≡ old.exact
   pub faults : old.faults ≤ new.faults
   pub strays : old.strays ≤ new.strays

@@ -11,7 +11,7 @@ use entity_store::{Entities, Entity};
 use policy_values::EntityUID;
 use std::alloc::{AllocError, Global};
 
-/// A loader over a store, which answers just what is asked. No call fails but for want of memory.
+/// A loader over a store, which answers just what is asked. A call fails only where memory runs out.
 #[derive(Debug, Drop)]
 pub struct EntitySlicer<'a> {
     /// The store.

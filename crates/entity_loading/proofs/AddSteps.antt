@@ -11,7 +11,7 @@ use Rattle.policy_values.specs.Uid.{uid_cmp, uid_eq}
 use Rattle.entity_store.specs.Store.{StoredEntity}
 use Rattle.reads_spec.proofs.Lists.{same_uid}
 use Rattle.entity_loader.specs.declared.loader.AncestorsRequest.{AncestorsRequest}
-use Rattle.entity_loading.specs.declared.lent.Borrowed.{Borrowed}
+use Rattle.entity_loading.specs.declared.borrowed.Borrowed.{Borrowed}
 use Rattle.entity_loading.specs.Answering.{AreUnderIds}
 use Rattle.entity_store.specs.FromParents.{without_links}
 use Rattle.entity_loading.specs.KeptPart.{AreAlike}

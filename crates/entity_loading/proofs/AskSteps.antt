@@ -13,7 +13,7 @@ use Rattle.access_tries.specs.Table.{Table}
 use Rattle.entity_loading.specs.declared.place.Place.{Place}
 use Rattle.entity_loader.specs.Answers.{IsHonest}
 use Rattle.entity_loader.specs.declared.loader.EntityRequest.{EntityRequest}
-use Rattle.entity_loading.specs.declared.lent.Borrowed.{Borrowed}
+use Rattle.entity_loading.specs.declared.borrowed.Borrowed.{Borrowed}
 use Rattle.entity_loading.specs.Answering.{AreHonest}
 use Rattle.entity_loading.specs.Keeping.{Found}
 use Rattle.entity_loading.specs.Lending.{view_in, borrowed_sees, AreBorrowed, request_of}
@@ -44,20 +44,20 @@ module _ (ns : Table) where
       by true f g ih = absurd (cc)
       by false f g ih = (λ i. swapped x e.0 f i || ih g i)
 
-  pub are_answers : (exact : Bool) (s : Store) (ps : List Place) (lent : BTreeMap EntityUID Borrowed) (rs : List EntityRequest) (found : Found) → AreBorrowed ns ps lent → rs ≡ map (request_of ns) lent.entries → AreHonest exact s rs found → AreHonestAt exact s ns ps found
-  are_answers exact s ps lent rs found l e h = record {
-    each = λ x asked. seen x (get uid_cmp lent x) refl (l.some x ∙ asked);
-    others = λ x not_asked. h.others x (ap (list_any (λ r. uid_eq r.entity_id x)) e ∙ not_requested x lent.entries (none (get uid_cmp lent x) (l.some x ∙ not_asked)));
+  pub are_answers : (exact : Bool) (s : Store) (ps : List Place) (borrowed : BTreeMap EntityUID Borrowed) (rs : List EntityRequest) (found : Found) → AreBorrowed ns ps borrowed → rs ≡ map (request_of ns) borrowed.entries → AreHonest exact s rs found → AreHonestAt exact s ns ps found
+  are_answers exact s ps borrowed rs found l e h = record {
+    each = λ x asked. seen x (get uid_cmp borrowed x) refl (l.some x ∙ asked);
+    others = λ x not_asked. h.others x (ap (list_any (λ r. uid_eq r.entity_id x)) e ∙ not_requested x borrowed.entries (none (get uid_cmp borrowed x) (l.some x ∙ not_asked)));
   }
     where
       none : (o : Option Borrowed) → is_some o ≡ false → o ≡ None
       none None g = refl
       none (Some k) g = absurd (false≢true (sym g))
 
-      seen : (x : EntityUID) (o : Option Borrowed) → get uid_cmp lent x ≡ o → is_some (get uid_cmp lent x) ≡ true → (r : EntityRequest) × AsksFor ns ps x r × IsHonest exact s r (found x)
+      seen : (x : EntityUID) (o : Option Borrowed) → get uid_cmp borrowed x ≡ o → is_some (get uid_cmp borrowed x) ≡ true → (r : EntityRequest) × AsksFor ns ps x r × IsHonest exact s r (found x)
       seen x None f g = absurd (false≢true (ap is_some (sym f) ∙ g))
       seen x (Some k) f g = (
         record { entity_id = x; access_trie = view_in ns k },
         record { id = refl; each = λ b a. ap (λ o. borrowed_sees b ns o a) (sym f) ∙ l.each b x a },
-        request_at (λ r. IsHonest exact s r (found r.entity_id)) x k lent.entries f (subst (AllByRecursion (λ r. IsHonest exact s r (found r.entity_id))) e h.each),
+        request_at (λ r. IsHonest exact s r (found r.entity_id)) x k borrowed.entries f (subst (AllByRecursion (λ r. IsHonest exact s r (found r.entity_id))) e h.each),
       )

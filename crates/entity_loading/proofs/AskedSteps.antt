@@ -20,7 +20,7 @@ use Rattle.plain_lemmas.proofs.Booleans.{or_false, or_left_true, or_right_true}
 use Rattle.entity_loading.specs.Names.{IsNamed}
 use Rattle.entity_loading.specs.declared.place.Place.{Place}
 use Rattle.entity_loader.specs.declared.loader.AncestorsRequest.{AncestorsRequest}
-use Rattle.entity_loading.specs.declared.lent.Borrowed.{Borrowed}
+use Rattle.entity_loading.specs.declared.borrowed.Borrowed.{Borrowed}
 use Rattle.entity_loading.specs.Lending.{view_in, borrowed_sees, AreBorrowed}
 use Rattle.entity_loading.specs.Joining.{lists, asks, IsAskedFor}
 
@@ -56,21 +56,21 @@ module _ (ns : Table) (q : Request) (t : Store) where
   abbrev pub IsAsking : List Place → List AncestorsRequest → List (EntityUID × Borrowed) → Type 0
   IsAsking ps rs es = (x y : EntityUID) → ((asks rs x y ≡ true) ⊎ AreNaming es x y) ↔ IsAskedFor ns q ps t x y
 
-  pub asking_start : (ps : List Place) (lent : BTreeMap EntityUID Borrowed) → IsStrictlySortedBy uid_cmp (keys_of lent.entries) → AreBorrowed ns ps lent → IsAsking ps [] lent.entries
-  asking_start ps lent up a x y = (to, from)
+  pub asking_start : (ps : List Place) (borrowed : BTreeMap EntityUID Borrowed) → IsStrictlySortedBy uid_cmp (keys_of borrowed.entries) → AreBorrowed ns ps borrowed → IsAsking ps [] borrowed.entries
+  asking_start ps borrowed up a x y = (to, from)
     where
-      to : (asks [] x y ≡ true) ⊎ AreNaming lent.entries x y → IsAskedFor ns q ps t x y
+      to : (asks [] x y ≡ true) ⊎ AreNaming borrowed.entries x y → IsAskedFor ns q ps t x y
       to (inl h) = absurd (false≢true h)
       to (inr h) =
-          let r = naming_found lent.entries x y up h in
+          let r = naming_found borrowed.entries x y up h in
           record { path = r.2.path; marked = sym (a.each true x (address_of r.2.path)) ∙ ap (λ o. borrowed_sees true ns o (address_of r.2.path)) r.1 ∙ r.2.marked; named = r.2.named }
 
-      from : IsAskedFor ns q ps t x y → (asks [] x y ≡ true) ⊎ AreNaming lent.entries x y
-      from h = inr (by (get uid_cmp lent x) refl (a.each true x (address_of h.path) ∙ h.marked))
+      from : IsAskedFor ns q ps t x y → (asks [] x y ≡ true) ⊎ AreNaming borrowed.entries x y
+      from h = inr (by (get uid_cmp borrowed x) refl (a.each true x (address_of h.path) ∙ h.marked))
         where
-          by : (o : Option Borrowed) → get uid_cmp lent x ≡ o → borrowed_sees true ns (get uid_cmp lent x) (address_of h.path) ≡ true → AreNaming lent.entries x y
+          by : (o : Option Borrowed) → get uid_cmp borrowed x ≡ o → borrowed_sees true ns (get uid_cmp borrowed x) (address_of h.path) ≡ true → AreNaming borrowed.entries x y
           by None e g = absurd (false≢true (sym (ap (λ o. borrowed_sees true ns o (address_of h.path)) e) ∙ g))
-          by (Some l) e g = naming_from lent.entries x y l e (record { path = h.path; marked = sym (ap (λ o. borrowed_sees true ns o (address_of h.path)) e) ∙ g; named = h.named })
+          by (Some l) e g = naming_from borrowed.entries x y l e (record { path = h.path; marked = sym (ap (λ o. borrowed_sees true ns o (address_of h.path)) e) ∙ g; named = h.named })
 
   module _ (ps : List Place) (rs : List AncestorsRequest) (rest more : List (EntityUID × Borrowed)) (e : EntityUID × Borrowed) (ids : List EntityUID) (s : rest ≡ e ∷ more) (named : (y : EntityUID) → (lists ids y ≡ true) ↔ IsNamed (view_in ns e.1) q t y) (w : IsAsking ps rs rest) where
     all : (x y : EntityUID) → ((asks rs x y ≡ true) ⊎ AreNaming (e ∷ more) x y) ↔ IsAskedFor ns q ps t x y

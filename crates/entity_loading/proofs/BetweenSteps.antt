@@ -27,7 +27,7 @@ use Rattle.plain_lemmas.proofs.Booleans.{equal_by_both_ways, or_left_true, or_ri
 use Rattle.reads_spec.proofs.Order.{cases, part_twice}
 use Rattle.reads_spec.proofs.Words.{any_out, id_of, kept_means}
 use Rattle.entity_loading.specs.Tries.{IsTrieOf}
-use Rattle.entity_loading.specs.Wants.{sees, wants}
+use Rattle.entity_loading.specs.Needs.{sees, needs}
 use Rattle.entity_loading.specs.declared.place.Place.{Place}
 use Rattle.entity_loader.specs.Answers.{HasAncestor}
 use Rattle.entity_loading.specs.Between.{IsBetween}
@@ -155,8 +155,8 @@ module _ (exact : Bool) (ns : Table) (q : Request) (s : Store) (asked : List Pla
   from_reached : (x : EntityUID) (cs : List Step) → IsReached false ns q s x (map edge_of cs) → kept_steps reads q s x cs ≡ true
   from_reached x cs r = (kept_means reads q s x cs).1 (record { path = r.path; reached = r.reached; read = (fit.paths (beyond r.path cs)).0 (ap (sees false (whole ns)) (behind_path r.path cs) ∙ r.passes) })
 
-  wanted_reached : (b : Bool) (x : EntityUID) (a : Address) → wants b ns asked x a ≡ true → IsReached b ns q s x a
-  wanted_reached b x a h = st.sound.reached b x a (or_left_true (wants b ns asked x a) (wants b ns [] x a) h)
+  needed_reached : (b : Bool) (x : EntityUID) (a : Address) → needs b ns asked x a ≡ true → IsReached b ns q s x a
+  needed_reached b x a h = st.sound.reached b x a (or_left_true (needs b ns asked x a) (needs b ns [] x a) h)
 
   chains : (x : EntityUID) (c : Chain) → kept_chain reads q s x c ≡ true → k.chains x c ≡ true
   chains x c h = st.part.chains x c (asked_reached ns q s asked st.complete false x (along c) (to_reached x (steps_of c) h))
@@ -165,10 +165,10 @@ module _ (exact : Bool) (ns : Table) (q : Request) (s : Store) (asked : List Pla
   tags x m c h = st.part.tags x m c (asked_reached ns q s asked st.complete false x (AnyTag ∷ along c) (to_reached x (any_tag ∷ steps_of c) h))
 
   only_chains : exact ≡ true → (x : EntityUID) (c : Chain) → k.chains x c ≡ true → kept_chain reads q s x c ≡ true
-  only_chains e x c h = from_reached x (steps_of c) (wanted_reached false x (along c) (st.part.only_chains e x c h))
+  only_chains e x c h = from_reached x (steps_of c) (needed_reached false x (along c) (st.part.only_chains e x c h))
 
   only_tags : exact ≡ true → (x : EntityUID) (m : List ℕ) (c : Chain) → k.tags x (m ∷ c) ≡ true → kept_tag reads q s x (m ∷ c) ≡ true
-  only_tags e x m c h = from_reached x (any_tag ∷ steps_of c) (wanted_reached false x (AnyTag ∷ along c) (st.part.only_tags e x m c h))
+  only_tags e x m c h = from_reached x (any_tag ∷ steps_of c) (needed_reached false x (AnyTag ∷ along c) (st.part.only_tags e x m c h))
 
   -- ---- ancestors
 
@@ -190,10 +190,10 @@ module _ (exact : Bool) (ns : Table) (q : Request) (s : Store) (asked : List Pla
 
   only_demanded : exact ≡ true → (x y : EntityUID) → IsAskedFor ns q asked (part k s) x y → n.ancestors x y ≡ true
   only_demanded e x y a =
-      let r = wanted_reached true x (address_of a.path) a.marked in
-      let front : IsReached false ns q s x [] = record { path = r.path; reached = r.reached; passes = ap (sees false (whole ns)) (nil_right (address_of r.path)) ∙ prefix_leads true ns 0 (address_of r.path) (address_of a.path) r.passes } in
+      let r = needed_reached true x (address_of a.path) a.marked in
+      let prefix : IsReached false ns q s x [] = record { path = r.path; reached = r.reached; passes = ap (sees false (whole ns)) (nil_right (address_of r.path)) ∙ prefix_leads true ns 0 (address_of r.path) (address_of a.path) r.passes } in
       let d : Demand = (r.path, a.path) in
-      and_from (kept_chain reads q s x []) (kept_ancestor reads demands q s x y) (from_reached x [] front)
+      and_from (kept_chain reads q s x []) (kept_ancestor reads demands q s x y) (from_reached x [] prefix)
       (any_in (asks_for x y) d demands ((fit.asks r.path a.path).0 r.passes)
       (and_from (list_any (is_id x) (reach s q r.path)) (list_any (names_id y) (reach (part (by_paths reads q s) s) q a.path)) (any_in (is_id x) (entity x) (reach s q r.path) r.reached (uid_self x))
       (names_larger k (by_paths reads q s) (only_chains e) (only_tags e) s q a.path y a.named)))

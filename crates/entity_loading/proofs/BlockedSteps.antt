@@ -18,7 +18,7 @@ use Rattle.entity_loading.specs.Answered.{AnswerBlocks, SomeAnswerBlocks}
 use Rattle.entity_loading.specs.Begun.{SomeRootBlocks}
 use Rattle.entity_loading.specs.Places.{node_of}
 use Rattle.entity_loading.specs.CannotGoOn.{Tests, tests_of, behind, GoesOn, Demands, Sticks, FieldsBlock, SomeBlocks, EntityBlocks, CannotStep}
-use Rattle.entity_loading.specs.Wants.{Test, sees}
+use Rattle.entity_loading.specs.Needs.{Test, sees}
 use Rattle.entity_loading.specs.Blocked.{IsBlockedInStore, IsBlocked}
 use Rattle.entity_loading.specs.Reached.{IsReached, AreReachedAsked}
 

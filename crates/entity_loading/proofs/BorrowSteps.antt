@@ -13,10 +13,10 @@ use Rattle.reads_spec.proofs.Lists.{same_uid}
 use Rattle.plain_lemmas.proofs.Booleans.{or_assoc, or_false, or_right_true}
 use Rattle.entity_loading.specs.declared.place.Place.{Place}
 use Rattle.entity_loading.specs.Places.{node_of}
-use Rattle.entity_loading.specs.Wants.{sees, wants}
+use Rattle.entity_loading.specs.Needs.{sees, needs}
 use Rattle.entity_loader.specs.declared.loader.EntityRequest.{EntityRequest}
-use Rattle.entity_loading.specs.declared.lent.Borrowed.{Borrowed}
-use Rattle.entity_loading.specs.declared.lent.Borrowed.TheVariants.{One, Many}
+use Rattle.entity_loading.specs.declared.borrowed.Borrowed.{Borrowed}
+use Rattle.entity_loading.specs.declared.borrowed.Borrowed.TheVariants.{One, Many}
 use Rattle.entity_loading.specs.Lending.{borrowed_sees, AreBorrowed, Borrows, IsUnited, request_of}
 
 -- ---- one place more
@@ -40,24 +40,24 @@ module _ (ns : Table) (p : Place) (old mid new : BTreeMap EntityUID Borrowed) (k
 
 -- ---- all places
 
-pub record IsBorrowing (ns : Table) (all rest : List Place) (lent : BTreeMap EntityUID Borrowed) : Type 0 where
-  pub each : (b : Bool) (x : EntityUID) (a : Address) → (borrowed_sees b ns (get uid_cmp lent x) a || wants b ns rest x a) ≡ wants b ns all x a
-  pub some : (x : EntityUID) → (is_some (get uid_cmp lent x) || list_any (λ p. uid_eq p.uid x) rest) ≡ list_any (λ p. uid_eq p.uid x) all
+pub record IsBorrowing (ns : Table) (all rest : List Place) (borrowed : BTreeMap EntityUID Borrowed) : Type 0 where
+  pub each : (b : Bool) (x : EntityUID) (a : Address) → (borrowed_sees b ns (get uid_cmp borrowed x) a || needs b ns rest x a) ≡ needs b ns all x a
+  pub some : (x : EntityUID) → (is_some (get uid_cmp borrowed x) || list_any (λ p. uid_eq p.uid x) rest) ≡ list_any (λ p. uid_eq p.uid x) all
 
 pub borrowing_more : (ns : Table) (all rest more : List Place) (p : Place) (old new : BTreeMap EntityUID Borrowed) → rest ≡ p ∷ more → IsBorrowing ns all rest old → Borrows ns p old new → IsBorrowing ns all more new
 borrowing_more ns all rest more p old new e t l = record {
   each = λ b x a.
-      ap (λ c. c || wants b ns more x a) (l.each b x a) ∙ or_assoc (borrowed_sees b ns (get uid_cmp old x) a) (uid_eq p.uid x && sees b (node_of ns p) a) (wants b ns more x a)
-      ∙ ap (λ ps. borrowed_sees b ns (get uid_cmp old x) a || wants b ns ps x a) (sym e) ∙ t.each b x a;
+      ap (λ c. c || needs b ns more x a) (l.each b x a) ∙ or_assoc (borrowed_sees b ns (get uid_cmp old x) a) (uid_eq p.uid x && sees b (node_of ns p) a) (needs b ns more x a)
+      ∙ ap (λ ps. borrowed_sees b ns (get uid_cmp old x) a || needs b ns ps x a) (sym e) ∙ t.each b x a;
   some = λ x.
       ap (λ c. c || list_any (λ q. uid_eq q.uid x) more) (l.some x) ∙ or_assoc (is_some (get uid_cmp old x)) (uid_eq p.uid x) (list_any (λ q. uid_eq q.uid x) more)
       ∙ ap (λ ps. is_some (get uid_cmp old x) || list_any (λ q. uid_eq q.uid x) ps) (sym e) ∙ t.some x;
 }
 
-pub borrowing_done : (ns : Table) (all rest : List Place) (lent : BTreeMap EntityUID Borrowed) → rest ≡ [] → IsBorrowing ns all rest lent → AreBorrowed ns all lent
-borrowing_done ns all rest lent e t = record {
-  each = λ b x a. sym (or_false (borrowed_sees b ns (get uid_cmp lent x) a)) ∙ ap (λ ps. borrowed_sees b ns (get uid_cmp lent x) a || wants b ns ps x a) (sym e) ∙ t.each b x a;
-  some = λ x. sym (or_false (is_some (get uid_cmp lent x))) ∙ ap (λ ps. is_some (get uid_cmp lent x) || list_any (λ q. uid_eq q.uid x) ps) (sym e) ∙ t.some x;
+pub borrowing_done : (ns : Table) (all rest : List Place) (borrowed : BTreeMap EntityUID Borrowed) → rest ≡ [] → IsBorrowing ns all rest borrowed → AreBorrowed ns all borrowed
+borrowing_done ns all rest borrowed e t = record {
+  each = λ b x a. sym (or_false (borrowed_sees b ns (get uid_cmp borrowed x) a)) ∙ ap (λ ps. borrowed_sees b ns (get uid_cmp borrowed x) a || needs b ns ps x a) (sym e) ∙ t.each b x a;
+  some = λ x. sym (or_false (is_some (get uid_cmp borrowed x))) ∙ ap (λ ps. is_some (get uid_cmp borrowed x) || list_any (λ q. uid_eq q.uid x) ps) (sym e) ∙ t.some x;
 }
 
 -- ---- unions
@@ -91,9 +91,9 @@ pub request_more : (ns : Table) (all rest more : List (EntityUID × Borrowed)) (
 request_more ns all rest more e old new r s t p q =
     ap (λ rs. rs ++ map (request_of ns) more) p ∙ append_assoc old (r ∷ []) (map (request_of ns) more) ∙ ap (λ z. old ++ z ∷ map (request_of ns) more) q ∙ ap (λ es. old ++ map (request_of ns) es) (sym s) ∙ t
 
-pub borrowing_start : (ns : Table) (all rest : List Place) (lent : BTreeMap EntityUID Borrowed) → rest ≡ all → lent.entries ≡ [] → IsBorrowing ns all rest lent
-borrowing_start ns all rest lent e none = record {
-  each = λ b x a. (λ i. borrowed_sees b ns (lookup (is_at (uid_cmp x)) (none i)) a || wants b ns (e i) x a);
+pub borrowing_start : (ns : Table) (all rest : List Place) (borrowed : BTreeMap EntityUID Borrowed) → rest ≡ all → borrowed.entries ≡ [] → IsBorrowing ns all rest borrowed
+borrowing_start ns all rest borrowed e none = record {
+  each = λ b x a. (λ i. borrowed_sees b ns (lookup (is_at (uid_cmp x)) (none i)) a || needs b ns (e i) x a);
   some = λ x. (λ i. is_some (lookup (is_at (uid_cmp x)) (none i)) || list_any (λ p. uid_eq p.uid x) (e i));
 }
 

@@ -14,7 +14,7 @@ use Rattle.reads_spec.specs.Among.{IsIn, IsPrefixOfRead}
 use Rattle.reads_spec.proofs.Lists.{in_map, in_filter, in_flat_map}
 use Rattle.reads_spec.proofs.Words.{any_out}
 use Rattle.entity_loading.specs.Tries.{IsTrieOf, EveryTrieIsOfSome}
-use Rattle.entity_loading.proofs.Fronts.{prefix_leads}
+use Rattle.entity_loading.proofs.Prefixes.{prefix_leads}
 use Rattle.entity_loading.proofs.LeastSteps.{first_path, behind_first, first_then, rest_then, path_alone, demand, map_append, in_filter_out, whole_path}
 use Rattle.access_tries.specs.SameLaws.{edge_is}
 

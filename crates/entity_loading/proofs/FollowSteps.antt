@@ -14,7 +14,7 @@ use Rattle.entity_loading.specs.declared.place.Place.{Place}
 use Rattle.entity_loading.specs.declared.follow.FollowError.{FollowError}
 use Rattle.entity_loading.specs.declared.follow.FollowError.TheVariants as error
 use Rattle.entity_loading.specs.Places.{IsPlaced, IsAtOrBelow, IsPlaceBelow}
-use Rattle.entity_loading.specs.Wants.{Test, sees, wants, points, Adds}
+use Rattle.entity_loading.specs.Needs.{Test, sees, needs, points, Adds}
 use Rattle.entity_loading.specs.CannotGoOn.{tests_of, behind, RefusedBy}
 use Rattle.entity_loading.proofs.PlacePointSteps.{points_none, any_point_none, no_mark}
 use Rattle.plain_lemmas.proofs.Lists.{within_of_is_some}
@@ -24,32 +24,32 @@ use Rattle.plain_lemmas.proofs.Booleans.{or_assoc, or_false}
 
 module _ (ns : Table) where
   pub adds_nothing : (more : Bool → EntityUID → Test) (ps : List Place) → ((b : Bool) (x : EntityUID) (a : Address) → more b x a ≡ false) → Adds ns more ps ps
-  adds_nothing more ps none = record { each = λ b x a. sym (ap (λ c. wants b ns ps x a || c) (none b x a) ∙ or_false (wants b ns ps x a)) }
+  adds_nothing more ps none = record { each = λ b x a. sym (ap (λ c. needs b ns ps x a || c) (none b x a) ∙ or_false (needs b ns ps x a)) }
 
   pub adds_also : (m n : Bool → EntityUID → Test) (old mid new : List Place) → Adds ns m old mid → Adds ns n mid new → Adds ns (λ b x a. m b x a || n b x a) old new
   adds_also m n old mid new h k = record {
-    each = λ b x a. k.each b x a ∙ ap (λ c. c || n b x a) (h.each b x a) ∙ or_assoc (wants b ns old x a) (m b x a) (n b x a);
+    each = λ b x a. k.each b x a ∙ ap (λ c. c || n b x a) (h.each b x a) ∙ or_assoc (needs b ns old x a) (m b x a) (n b x a);
   }
 
   pub adds_same : (m n : Bool → EntityUID → Test) (old new : List Place) → ((b : Bool) (x : EntityUID) (a : Address) → m b x a ≡ n b x a) → Adds ns m old new → Adds ns n old new
-  adds_same m n old new e h = record { each = λ b x a. h.each b x a ∙ ap (λ c. wants b ns old x a || c) (e b x a) }
+  adds_same m n old new e h = record { each = λ b x a. h.each b x a ∙ ap (λ c. needs b ns old x a || c) (e b x a) }
 
   -- what was to be asked is asked, but for what is left; all places that were added are such
   pub record IsFollowing (all left : Bool → EntityUID → Test) (P : Place → Type 0) (old new : List Place) : Type 0 where
-    pub asked : (b : Bool) (x : EntityUID) (a : Address) → (wants b ns new x a || left b x a) ≡ (wants b ns old x a || all b x a)
+    pub asked : (b : Bool) (x : EntityUID) (a : Address) → (needs b ns new x a || left b x a) ≡ (needs b ns old x a || all b x a)
     pub below : (q : Place) → IsIn q new → IsIn q old ⊎ P q
 
   pub following_start : (all : Bool → EntityUID → Test) (P : Place → Type 0) (ps : List Place) → IsFollowing all all P ps ps
   following_start all P ps = record { asked = λ b x a. refl; below = λ q h. inl h }
 
   pub following_same : (all left : Bool → EntityUID → Test) (P : Place → Type 0) (ps : List Place) → ((b : Bool) (x : EntityUID) (a : Address) → left b x a ≡ all b x a) → IsFollowing all left P ps ps
-  following_same all left P ps same = record { asked = λ b x a. ap (λ c. wants b ns ps x a || c) (same b x a); below = λ q h. inl h }
+  following_same all left P ps same = record { asked = λ b x a. ap (λ c. needs b ns ps x a || c) (same b x a); below = λ q h. inl h }
 
   module _ (all left : Bool → EntityUID → Test) (P : Place → Type 0) (old mid : List Place) (t : IsFollowing all left P old mid) where
     pub following_more : (this rest : Bool → EntityUID → Test) (new : List Place) → ((b : Bool) (x : EntityUID) (a : Address) → left b x a ≡ (this b x a || rest b x a))
         → Adds ns this mid new → ((q : Place) → IsIn q new → IsIn q mid ⊎ P q) → IsFollowing all rest P old new
     following_more this rest new split one below = record {
-      asked = λ b x a. ap (λ c. c || rest b x a) (one.each b x a) ∙ or_assoc (wants b ns mid x a) (this b x a) (rest b x a) ∙ ap (λ c. wants b ns mid x a || c) (sym (split b x a)) ∙ t.asked b x a;
+      asked = λ b x a. ap (λ c. c || rest b x a) (one.each b x a) ∙ or_assoc (needs b ns mid x a) (this b x a) (rest b x a) ∙ ap (λ c. needs b ns mid x a || c) (sym (split b x a)) ∙ t.asked b x a;
       below = λ q h. elim (below q h) [
         | inl before ↦ t.below q before
         | inr p ↦ inr p
@@ -57,10 +57,10 @@ module _ (ns : Table) where
     }
 
     pub following_skip : (rest : Bool → EntityUID → Test) → ((b : Bool) (x : EntityUID) (a : Address) → left b x a ≡ rest b x a) → IsFollowing all rest P old mid
-    following_skip rest same = record { asked = λ b x a. ap (λ c. wants b ns mid x a || c) (sym (same b x a)) ∙ t.asked b x a; below = t.below }
+    following_skip rest same = record { asked = λ b x a. ap (λ c. needs b ns mid x a || c) (sym (same b x a)) ∙ t.asked b x a; below = t.below }
 
     pub following_done : ((b : Bool) (x : EntityUID) (a : Address) → left b x a ≡ false) → Adds ns all old mid
-    following_done none = record { each = λ b x a. sym (ap (λ c. wants b ns mid x a || c) (none b x a) ∙ or_false (wants b ns mid x a)) ∙ t.asked b x a }
+    following_done none = record { each = λ b x a. sym (ap (λ c. needs b ns mid x a || c) (none b x a) ∙ or_false (needs b ns mid x a)) ∙ t.asked b x a }
 
 -- ---- behind an edge
 

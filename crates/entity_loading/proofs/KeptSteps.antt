@@ -24,7 +24,7 @@ use Rattle.entity_loading.proofs.ReachSteps.{prefix_leads}
 use Rattle.plain_lemmas.proofs.Lists.{any_weaker, is_some_within}
 use Rattle.reads_spec.proofs.Merging.{merge_entities-cut}
 use Rattle.reads_spec.proofs.Order.{IsClosed, cases, cut_fields-same, either_keep, IsWellFormed}
-use Rattle.entity_loading.specs.Wants.{sees, wants}
+use Rattle.entity_loading.specs.Needs.{sees, needs}
 use Rattle.entity_loading.specs.declared.place.Place.{Place}
 use Rattle.entity_loader.specs.Answers.{IsHonest}
 use Rattle.entity_loader.specs.Asked.{asked}
@@ -33,7 +33,7 @@ use Rattle.entity_loading.specs.Keeping.{Found, kept_and}
 use Rattle.entity_loading.specs.KeptPart.{left, along, IsKeptPart}
 use Rattle.entity_loading.specs.Rounds.{AsksFor, AreHonestAt}
 
--- ---- a choice with each front of its chains
+-- ---- a choice with each prefix of its chains
 
 pub down : (Chain → Bool) → Chain → Bool
 down k [] = true
@@ -56,7 +56,7 @@ unfolding down
 down_less k n [] h = (and_parts (k (n ∷ [])) true h).0
 down_less k n (m ∷ c) h = down_less (λ d. k (n ∷ d)) m c (and_parts (k (n ∷ [])) (down (λ d. k (n ∷ d)) (m ∷ c)) h).1
 
--- chains whose fronts are all chosen
+-- chains whose prefixes are all chosen
 down_from : (k : Chain → Bool) (c : Chain) → ((n : List ℕ) (d rest : Chain) → c ≡ (n ∷ d) ++ rest → k (n ∷ d) ≡ true) → down k c ≡ true
 unfolding down
 down_from k [] h = refl
@@ -90,10 +90,10 @@ mutual
 pub record Mask (exact : Bool) (s : Store) (ns : Table) (ps : List Place) (x : EntityUID) (o : Option StoredEntity) : Type 0 where
   pub keep : Keep
   pub is : o ≡ option_map (cut_entity keep) (entity_at s x)
-  pub chains : (c : Chain) → wants false ns ps x (along c) ≡ true → keep.chains x c ≡ true
-  pub tags : (n : List ℕ) (c : Chain) → wants false ns ps x (AnyTag ∷ along c) ≡ true → keep.tags x (n ∷ c) ≡ true
-  pub only_chains : exact ≡ true → (c : Chain) → keep.chains x c ≡ true → wants false ns ps x (along c) ≡ true
-  pub only_tags : exact ≡ true → (n : List ℕ) (c : Chain) → keep.tags x (n ∷ c) ≡ true → wants false ns ps x (AnyTag ∷ along c) ≡ true
+  pub chains : (c : Chain) → needs false ns ps x (along c) ≡ true → keep.chains x c ≡ true
+  pub tags : (n : List ℕ) (c : Chain) → needs false ns ps x (AnyTag ∷ along c) ≡ true → keep.tags x (n ∷ c) ≡ true
+  pub only_chains : exact ≡ true → (c : Chain) → keep.chains x c ≡ true → needs false ns ps x (along c) ≡ true
+  pub only_tags : exact ≡ true → (n : List ℕ) (c : Chain) → keep.tags x (n ∷ c) ≡ true → needs false ns ps x (AnyTag ∷ along c) ≡ true
   pub bare : exact ≡ true → (y : EntityUID) → keep.ancestors x y ≡ false
 
 module _ (s : Store) (ns : Table) (ps : List Place) (x : EntityUID) (r : EntityRequest) (a : AsksFor ns ps x r) where
@@ -177,12 +177,12 @@ record Extra : Type 0 where
 abbrev nothing : Extra
 nothing = record { chains = λ c. false; tags = λ c. false; ancestors = λ y. false }
 
-any_asked : (ns : Table) (ps : List Place) (x : EntityUID) (a : Address) → wants false ns ps x a ≡ true → list_any (λ p. uid_eq p.uid x) ps ≡ true
+any_asked : (ns : Table) (ps : List Place) (x : EntityUID) (a : Address) → needs false ns ps x a ≡ true → list_any (λ p. uid_eq p.uid x) ps ≡ true
 any_asked ns ps x a h = any_weaker (λ p. uid_eq p.uid x && sees false (node_of ns p) a) (λ p. uid_eq p.uid x) ps (λ p g. (and_parts (uid_eq p.uid x) (sees false (node_of ns p) a) g).0) h
 
--- a front of what is asked for is asked for
-wants_prefix : (ns : Table) (ps : List Place) (x : EntityUID) (es a : Address) → wants false ns ps x (es ++ a) ≡ true → wants false ns ps x es ≡ true
-wants_prefix ns ps x es a h =
+-- a prefix of what is asked for is asked for
+needs_prefix : (ns : Table) (ps : List Place) (x : EntityUID) (es a : Address) → needs false ns ps x (es ++ a) ≡ true → needs false ns ps x es ≡ true
+needs_prefix ns ps x es a h =
     any_weaker (λ p. uid_eq p.uid x && sees false (node_of ns p) (es ++ a)) (λ p. uid_eq p.uid x && sees false (node_of ns p) es) ps
     (λ p g. let b = and_parts (uid_eq p.uid x) (sees false (node_of ns p) (es ++ a)) g in and_from (uid_eq p.uid x) (sees false (node_of ns p) es) b.0 (prefix_leads false ns p.number es a b.1)) h
 
@@ -191,7 +191,7 @@ along_append [] rest = refl
 along_append (n ∷ c) rest = ap (λ es. Field n ∷ es) (along_append c rest)
 
 -- a place that is there asks for the entity itself
-asked_itself : (ns : Table) (ps : List Place) (x : EntityUID) → ((q : Place) → IsIn q ps → q.number < length ns) → list_any (λ p. uid_eq p.uid x) ps ≡ true → wants false ns ps x [] ≡ true
+asked_itself : (ns : Table) (ps : List Place) (x : EntityUID) → ((q : Place) → IsIn q ps → q.number < length ns) → list_any (λ p. uid_eq p.uid x) ps ≡ true → needs false ns ps x [] ≡ true
 asked_itself ns ps x there h =
     let r = any_out (λ p. uid_eq p.uid x) ps h in
     any_in (λ p. uid_eq p.uid x && sees false (node_of ns p) []) r.0 ps r.1 (and_from (uid_eq r.0.uid x) (sees false (node_of ns r.0) []) r.2 (is_some_within ns r.0.number (there r.0 r.1)))
@@ -280,25 +280,25 @@ module _ (exact : Bool) (s : Store) (ns : Table) (ps : List Place) (found : Foun
           })
   found_at x false e h = absurd (false≢true h)
 
-  enough_chains : (x : EntityUID) (b : Bool) (e : list_any (λ p. uid_eq p.uid x) ps ≡ b) → b ≡ true → (c : Chain) → wants false ns ps x (along c) ≡ true → (extra_at x b e).chains c ≡ true
+  enough_chains : (x : EntityUID) (b : Bool) (e : list_any (λ p. uid_eq p.uid x) ps ≡ b) → b ≡ true → (c : Chain) → needs false ns ps x (along c) ≡ true → (extra_at x b e).chains c ≡ true
   enough_chains x true e h c w = down_from ((mask x e).keep.chains x) c (λ n d rest f. (mask x e).chains (n ∷ d)
-      (wants_prefix ns ps x (along (n ∷ d)) (along rest) (subst (λ es. wants false ns ps x es ≡ true) (ap along f ∙ along_append (n ∷ d) rest) w)))
+      (needs_prefix ns ps x (along (n ∷ d)) (along rest) (subst (λ es. needs false ns ps x es ≡ true) (ap along f ∙ along_append (n ∷ d) rest) w)))
   enough_chains x false e h c w = absurd (false≢true h)
 
-  enough_tags : (x : EntityUID) (b : Bool) (e : list_any (λ p. uid_eq p.uid x) ps ≡ b) → b ≡ true → (m : List ℕ) (c : Chain) → wants false ns ps x (AnyTag ∷ along c) ≡ true → (extra_at x b e).tags (m ∷ c) ≡ true
+  enough_tags : (x : EntityUID) (b : Bool) (e : list_any (λ p. uid_eq p.uid x) ps ≡ b) → b ≡ true → (m : List ℕ) (c : Chain) → needs false ns ps x (AnyTag ∷ along c) ≡ true → (extra_at x b e).tags (m ∷ c) ≡ true
   enough_tags x true e h m c w = down_from ((mask x e).keep.tags x) (m ∷ c) (λ n d rest f. (mask x e).tags n d
-      (wants_prefix ns ps x (AnyTag ∷ along d) (along rest) (subst (λ es. wants false ns ps x (AnyTag ∷ es) ≡ true) (ap along (tail_same m n c (d ++ rest) f) ∙ along_append d rest) w)))
+      (needs_prefix ns ps x (AnyTag ∷ along d) (along rest) (subst (λ es. needs false ns ps x (AnyTag ∷ es) ≡ true) (ap along (tail_same m n c (d ++ rest) f) ∙ along_append d rest) w)))
     where
       tail_same : (p q : List ℕ) (ds es : Chain) → p ∷ ds ≡ q ∷ es → ds ≡ es
       tail_same p q ds es g = cc
   enough_tags x false e h m c w = absurd (false≢true h)
 
-  only_chains_at : exact ≡ true → (x : EntityUID) (b : Bool) (e : list_any (λ p. uid_eq p.uid x) ps ≡ b) (c : Chain) → (extra_at x b e).chains c ≡ true → wants false ns ps x (along c) ≡ true
+  only_chains_at : exact ≡ true → (x : EntityUID) (b : Bool) (e : list_any (λ p. uid_eq p.uid x) ps ≡ b) (c : Chain) → (extra_at x b e).chains c ≡ true → needs false ns ps x (along c) ≡ true
   only_chains_at f x true e [] h = asked_itself ns ps x there e
   only_chains_at f x true e (n ∷ c) h = (mask x e).only_chains f (n ∷ c) (down_less ((mask x e).keep.chains x) n c h)
   only_chains_at f x false e c h = absurd (false≢true h)
 
-  only_tags_at : exact ≡ true → (x : EntityUID) (b : Bool) (e : list_any (λ p. uid_eq p.uid x) ps ≡ b) (n : List ℕ) (c : Chain) → (extra_at x b e).tags (n ∷ c) ≡ true → wants false ns ps x (AnyTag ∷ along c) ≡ true
+  only_tags_at : exact ≡ true → (x : EntityUID) (b : Bool) (e : list_any (λ p. uid_eq p.uid x) ps ≡ b) (n : List ℕ) (c : Chain) → (extra_at x b e).tags (n ∷ c) ≡ true → needs false ns ps x (AnyTag ∷ along c) ≡ true
   only_tags_at f x true e n c h = (mask x e).only_tags f n c (down_less ((mask x e).keep.tags x) n c h)
   only_tags_at f x false e n c h = absurd (false≢true h)
 
@@ -384,26 +384,26 @@ module _ (exact : Bool) (s : Store) (ns : Table) (ps : List Place) (found : Foun
         on (inl i) = by i (entity_at s u) refl
         on (inr i) = let gone = t.others u i in absurd (cc (gone, fg))
 
-    pub kept_more : (new : Found) (after : List Place) → ((x : EntityUID) → new x ≡ kept_and (old x) (found x)) → ((b : Bool) (x : EntityUID) (a : Address) → wants b ns after x a ≡ (wants b ns before x a || wants b ns ps x a)) → IsKeptPart exact s ns after new
+    pub kept_more : (new : Found) (after : List Place) → ((x : EntityUID) → new x ≡ kept_and (old x) (found x)) → ((b : Bool) (x : EntityUID) (a : Address) → needs b ns after x a ≡ (needs b ns before x a || needs b ns ps x a)) → IsKeptPart exact s ns after new
     kept_more new after kept noted = record {
       choice = joined;
       formed = joined_formed;
       is = λ x. kept x ∙ joined_is x;
-      chains = λ x c h. elim (or_cases (wants false ns before x (along c)) (wants false ns ps x (along c)) (sym (noted false x (along c)) ∙ h)) [
+      chains = λ x c h. elim (or_cases (needs false ns before x (along c)) (needs false ns ps x (along c)) (sym (noted false x (along c)) ∙ h)) [
         | inl i ↦ or_left_true (k.choice.chains x c) ((extra x).chains c) (k.chains x c i)
         | inr i ↦ or_right_true (k.choice.chains x c) ((extra x).chains c) (enough_chains x (is_asked x) refl (any_asked ns ps x (along c) i) c i)
       ];
-      tags = λ x n c h. elim (or_cases (wants false ns before x (AnyTag ∷ along c)) (wants false ns ps x (AnyTag ∷ along c)) (sym (noted false x (AnyTag ∷ along c)) ∙ h)) [
+      tags = λ x n c h. elim (or_cases (needs false ns before x (AnyTag ∷ along c)) (needs false ns ps x (AnyTag ∷ along c)) (sym (noted false x (AnyTag ∷ along c)) ∙ h)) [
         | inl i ↦ or_left_true (k.choice.tags x (n ∷ c)) ((extra x).tags (n ∷ c)) (k.tags x n c i)
         | inr i ↦ or_right_true (k.choice.tags x (n ∷ c)) ((extra x).tags (n ∷ c)) (enough_tags x (is_asked x) refl (any_asked ns ps x (AnyTag ∷ along c) i) n c i)
       ];
       only_chains = λ f x c h. noted false x (along c) ∙ elim (or_cases (k.choice.chains x c) ((extra x).chains c) h) [
-        | inl i ↦ or_left_true (wants false ns before x (along c)) (wants false ns ps x (along c)) (k.only_chains f x c i)
-        | inr i ↦ or_right_true (wants false ns before x (along c)) (wants false ns ps x (along c)) (only_chains_at f x (is_asked x) refl c i)
+        | inl i ↦ or_left_true (needs false ns before x (along c)) (needs false ns ps x (along c)) (k.only_chains f x c i)
+        | inr i ↦ or_right_true (needs false ns before x (along c)) (needs false ns ps x (along c)) (only_chains_at f x (is_asked x) refl c i)
       ];
       only_tags = λ f x n c h. noted false x (AnyTag ∷ along c) ∙ elim (or_cases (k.choice.tags x (n ∷ c)) ((extra x).tags (n ∷ c)) h) [
-        | inl i ↦ or_left_true (wants false ns before x (AnyTag ∷ along c)) (wants false ns ps x (AnyTag ∷ along c)) (k.only_tags f x n c i)
-        | inr i ↦ or_right_true (wants false ns before x (AnyTag ∷ along c)) (wants false ns ps x (AnyTag ∷ along c)) (only_tags_at f x (is_asked x) refl n c i)
+        | inl i ↦ or_left_true (needs false ns before x (AnyTag ∷ along c)) (needs false ns ps x (AnyTag ∷ along c)) (k.only_tags f x n c i)
+        | inr i ↦ or_right_true (needs false ns before x (AnyTag ∷ along c)) (needs false ns ps x (AnyTag ∷ along c)) (only_tags_at f x (is_asked x) refl n c i)
       ];
       bare = λ f x y. (λ i. k.bare f x y i || bare_at f x (is_asked x) refl y i);
     }

@@ -16,7 +16,7 @@ use Rattle.access_tries.specs.declared.edge.Edge.TheVariants.{Field, AnyTag, Roo
 use Rattle.access_tries.specs.declared.edge.EntityRoot.{EntityRoot}
 use Rattle.access_tries.specs.declared.edge.EntityRoot.TheVariants.{Var}
 use Rattle.access_tries.specs.Edges.{Address, rank, first_text, second_text, edge_eq}
-use Rattle.access_tries.specs.Paths.{edge_of, address_of, demand_of, has_path, asks, is_front, is_same, IsLeast}
+use Rattle.access_tries.specs.Paths.{edge_of, address_of, demand_of, has_path, asks, is_prefix_of, is_same, IsLeast}
 use Rattle.access_tries.specs.Table.{Table}
 use Rattle.reads_spec.specs.Paths.{Step, along, any_tag, AccessPath, Demand, Shape, beyond, paths}
 use Rattle.reads_spec.specs.PathTypes.{is_declared_path}
@@ -47,9 +47,9 @@ address_self : (es : Address) → is_same es es ≡ true
 address_self [] = refl
 address_self (e ∷ es) = and_from (edge_eq e e) (is_same es es) (edge_self e) (address_self es)
 
-prefix_self : (es fs : Address) → is_front es (es ++ fs) ≡ true
+prefix_self : (es fs : Address) → is_prefix_of es (es ++ fs) ≡ true
 prefix_self [] fs = refl
-prefix_self (e ∷ es) fs = and_from (edge_eq e e) (is_front es (es ++ fs)) (edge_self e) (prefix_self es fs)
+prefix_self (e ∷ es) fs = and_from (edge_eq e e) (is_prefix_of es (es ++ fs)) (edge_self e) (prefix_self es fs)
 
 -- the steps before the next root, and what comes behind them
 abbrev steps_in : Address → List Step
@@ -106,7 +106,7 @@ same_demand p r d same =
     let second : r ≡ d.1 = sym (path_alone r) ∙ ap first_path rest ∙ path_alone d.1 in
     λ i. (sym first i, sym second i)
 
--- ---- fronts of paths
+-- ---- prefixes of paths
 
 edge_step : (m n : Step) → edge_of m ≡ edge_of n → m ≡ n
 edge_step (along m) (along n) h = let same : m ≡ n = cc in ap along same
@@ -118,40 +118,40 @@ no_step_root : (m : Step) (r : EntityRoot) → Root r ≡ edge_of m → ⊥
 no_step_root (along m) r h = cc
 no_step_root any_tag r h = cc
 
-prefix_alone : (ms ns : List Step) → is_front (map edge_of ms) (map edge_of ns) ≡ true → (rest : List Step) × (ns ≡ ms ++ rest)
+prefix_alone : (ms ns : List Step) → is_prefix_of (map edge_of ms) (map edge_of ns) ≡ true → (rest : List Step) × (ns ≡ ms ++ rest)
 prefix_alone [] ns h = (ns, refl)
 prefix_alone (m ∷ ms) [] h = absurd (cc)
 prefix_alone (m ∷ ms) (n ∷ ns) h =
-    let b = and_parts (edge_eq (edge_of n) (edge_of m)) (is_front (map edge_of ms) (map edge_of ns)) h in
+    let b = and_parts (edge_eq (edge_of n) (edge_of m)) (is_prefix_of (map edge_of ms) (map edge_of ns)) h in
     let r = prefix_alone ms ns b.1 in
     (r.0, λ i. edge_step n m (edge_is (edge_of n) (edge_of m) b.0) i ∷ r.1 i)
 
-prefix_before : (ms ns : List Step) (r : AccessPath) → is_front (map edge_of ms) (map edge_of ns ++ address_of r) ≡ true → (rest : List Step) × (ns ≡ ms ++ rest)
+prefix_before : (ms ns : List Step) (r : AccessPath) → is_prefix_of (map edge_of ms) (map edge_of ns ++ address_of r) ≡ true → (rest : List Step) × (ns ≡ ms ++ rest)
 prefix_before [] ns r h = (ns, refl)
 prefix_before (m ∷ ms) [] r h =
-    let b = and_parts (edge_eq (Root r.root) (edge_of m)) (is_front (map edge_of ms) (map edge_of r.steps)) h in
+    let b = and_parts (edge_eq (Root r.root) (edge_of m)) (is_prefix_of (map edge_of ms) (map edge_of r.steps)) h in
     absurd (no_step_root m r.root (edge_is (Root r.root) (edge_of m) b.0))
 prefix_before (m ∷ ms) (n ∷ ns) r h =
-    let b = and_parts (edge_eq (edge_of n) (edge_of m)) (is_front (map edge_of ms) (map edge_of ns ++ address_of r)) h in
+    let b = and_parts (edge_eq (edge_of n) (edge_of m)) (is_prefix_of (map edge_of ms) (map edge_of ns ++ address_of r)) h in
     let k = prefix_before ms ns r b.1 in
     (k.0, λ i. edge_step n m (edge_is (edge_of n) (edge_of m) b.0) i ∷ k.1 i)
 
 root_same : (r k : EntityRoot) → edge_eq (Root k) (Root r) ≡ true → k ≡ r
 root_same r k h = let same = edge_is (Root k) (Root r) h in cc
 
--- the path is a front of the other
+-- the path is a prefix of the other
 abbrev Front : AccessPath → AccessPath → Type 0
 Front p z = (rest : List Step) × (z ≡ beyond p rest)
 
-path_prefix : (p z : AccessPath) → is_front (address_of p) (address_of z) ≡ true → Front p z
+path_prefix : (p z : AccessPath) → is_prefix_of (address_of p) (address_of z) ≡ true → Front p z
 path_prefix p z h =
-    let b = and_parts (edge_eq (Root z.root) (Root p.root)) (is_front (map edge_of p.steps) (map edge_of z.steps)) h in
+    let b = and_parts (edge_eq (Root z.root) (Root p.root)) (is_prefix_of (map edge_of p.steps) (map edge_of z.steps)) h in
     let r = prefix_alone p.steps z.steps b.1 in
     (r.0, λ i. record { root = root_same p.root z.root b.0 i; steps = r.1 i })
 
-demand_prefix : (p : AccessPath) (d : Demand) → is_front (address_of p) (demand_of d) ≡ true → Front p d.0
+demand_prefix : (p : AccessPath) (d : Demand) → is_prefix_of (address_of p) (demand_of d) ≡ true → Front p d.0
 demand_prefix p d h =
-    let b = and_parts (edge_eq (Root d.0.root) (Root p.root)) (is_front (map edge_of p.steps) (map edge_of d.0.steps ++ address_of d.1)) h in
+    let b = and_parts (edge_eq (Root d.0.root) (Root p.root)) (is_prefix_of (map edge_of p.steps) (map edge_of d.0.steps ++ address_of d.1)) h in
     let r = prefix_before p.steps d.0.steps d.1 b.1 in
     (r.0, λ i. record { root = root_same p.root d.0.root b.0 i; steps = r.1 i })
 
@@ -159,39 +159,39 @@ pub map_append : (ms ns : List Step) → map edge_of (ms ++ ns) ≡ map edge_of 
 map_append [] ns = refl
 map_append (m ∷ ms) ns = ap (λ es. edge_of m ∷ es) (map_append ms ns)
 
-prefix_beyond : (p : AccessPath) (rest : List Step) → is_front (address_of p) (address_of (beyond p rest)) ≡ true
-prefix_beyond p rest = subst (λ es. is_front (address_of p) (Root p.root ∷ es) ≡ true) (sym (map_append p.steps rest)) (prefix_self (address_of p) (map edge_of rest))
+prefix_beyond : (p : AccessPath) (rest : List Step) → is_prefix_of (address_of p) (address_of (beyond p rest)) ≡ true
+prefix_beyond p rest = subst (λ es. is_prefix_of (address_of p) (Root p.root ∷ es) ≡ true) (sym (map_append p.steps rest)) (prefix_self (address_of p) (map edge_of rest))
 
 longer : (p z : AccessPath) (more rest : List Step) → z ≡ beyond p more → beyond z rest ≡ beyond p (more ++ rest)
 longer p z more rest is = ap (λ y. beyond y rest) is ∙ (λ i. record { root = p.root; steps = append_assoc p.steps more rest i })
 
 module _ (rs : List AccessPath) (ds : List Demand) (t : Table) (read : (d : Demand) → IsIn d ds → IsPrefixOfRead rs d.0) (l : IsLeast rs ds t) where
-  read_part : (p : AccessPath) → list_any (is_front (address_of p)) (map address_of rs) ≡ true → IsPrefixOfRead rs p
+  read_part : (p : AccessPath) → list_any (is_prefix_of (address_of p)) (map address_of rs) ≡ true → IsPrefixOfRead rs p
   read_part p h =
-      let a = any_out (is_front (address_of p)) (map address_of rs) h in
+      let a = any_out (is_prefix_of (address_of p)) (map address_of rs) h in
       let z = in_map_out address_of a.0 rs a.1 in
-      let f = path_prefix p z.0 (ap (is_front (address_of p)) z.2 ∙ a.2) in
+      let f = path_prefix p z.0 (ap (is_prefix_of (address_of p)) z.2 ∙ a.2) in
       record { rest = f.0; among = subst (λ y. IsIn y rs) f.1 z.1 }
 
-  demanded_part : (p : AccessPath) → list_any (is_front (address_of p)) (map demand_of ds) ≡ true → IsPrefixOfRead rs p
+  demanded_part : (p : AccessPath) → list_any (is_prefix_of (address_of p)) (map demand_of ds) ≡ true → IsPrefixOfRead rs p
   demanded_part p h =
-      let a = any_out (is_front (address_of p)) (map demand_of ds) h in
+      let a = any_out (is_prefix_of (address_of p)) (map demand_of ds) h in
       let d = in_map_out demand_of a.0 ds a.1 in
-      let f = demand_prefix p d.0 (ap (is_front (address_of p)) d.2 ∙ a.2) in
+      let f = demand_prefix p d.0 (ap (is_prefix_of (address_of p)) d.2 ∙ a.2) in
       let r = read d.0 d.1 in
       record { rest = f.0 ++ r.rest; among = subst (λ y. IsIn y rs) (longer p d.0.0 f.0 r.rest f.1) r.among }
 
   to_read : (p : AccessPath) → has_path t p ≡ true → IsPrefixOfRead rs p
-  to_read p h = by (or_cases (list_any (is_front (address_of p)) (map address_of rs)) (list_any (is_front (address_of p)) (map demand_of ds)) (sym (l.paths (address_of p)) ∙ h))
+  to_read p h = by (or_cases (list_any (is_prefix_of (address_of p)) (map address_of rs)) (list_any (is_prefix_of (address_of p)) (map demand_of ds)) (sym (l.paths (address_of p)) ∙ h))
     where
-      by : (list_any (is_front (address_of p)) (map address_of rs) ≡ true) ⊎ (list_any (is_front (address_of p)) (map demand_of ds) ≡ true) → IsPrefixOfRead rs p
+      by : (list_any (is_prefix_of (address_of p)) (map address_of rs) ≡ true) ⊎ (list_any (is_prefix_of (address_of p)) (map demand_of ds) ≡ true) → IsPrefixOfRead rs p
       by (inl i) = read_part p i
       by (inr i) = demanded_part p i
 
   from_read : (p : AccessPath) → IsPrefixOfRead rs p → has_path t p ≡ true
   from_read p r =
-      l.paths (address_of p) ∙ or_left_true (list_any (is_front (address_of p)) (map address_of rs)) (list_any (is_front (address_of p)) (map demand_of ds))
-      (any_in (is_front (address_of p)) (address_of (beyond p r.rest)) (map address_of rs) (in_map address_of (beyond p r.rest) rs r.among) (prefix_beyond p r.rest))
+      l.paths (address_of p) ∙ or_left_true (list_any (is_prefix_of (address_of p)) (map address_of rs)) (list_any (is_prefix_of (address_of p)) (map demand_of ds))
+      (any_in (is_prefix_of (address_of p)) (address_of (beyond p r.rest)) (map address_of rs) (in_map address_of (beyond p r.rest) rs r.among) (prefix_beyond p r.rest))
 
   to_demand : (p r : AccessPath) → asks t p r ≡ true → IsIn (demand p r) ds
   to_demand p r h =

@@ -25,7 +25,7 @@ use Rattle.reads_spec.proofs.Lists.{IsIn, same_uid, in_flat_map}
 use Rattle.type_relations.proofs.UnionLaws.{own_text}
 use Rattle.entity_loading.specs.Begun.{root_points}
 use Rattle.entity_loading.specs.Leads.{Leads, FieldsLead, EntityLeads, SomeLeads, RootLeads, IsLed, IsEdgeLed}
-use Rattle.entity_loading.specs.Wants.{Test, sees, points, fields_point, entity_points}
+use Rattle.entity_loading.specs.Needs.{Test, sees, points, fields_point, entity_points}
 use Rattle.entity_loading.proofs.FollowSteps.{sees_behind, points_behind, points_nothing, any_behind, any_nothing}
 
 -- ---- values under their keys

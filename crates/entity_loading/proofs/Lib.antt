@@ -32,5 +32,5 @@ mod SliceKeptSteps
 mod PartSteps
 mod PickSteps
 mod BlockedSteps
-pub mod Fronts
+pub mod Prefixes
 mod Enumerating

@@ -11,7 +11,7 @@ use Rattle.plain_lemmas.proofs.Booleans.{and_false, false_by_weaker}
 use Rattle.policy_values.specs.declared.entity_uid.EntityUID.{EntityUID}
 use Rattle.policy_values.specs.Uid.{uid_eq}
 use Rattle.policy_values.specs.Value.{Val, entity, rec, Fields, no_fields, field, fields_of}
-use Rattle.entity_loading.specs.Wants.{points, fields_point}
+use Rattle.entity_loading.specs.Needs.{points, fields_point}
 use Rattle.plain_lemmas.proofs.Lists.{any_weaker}
 
 -- nowhere, where no address passes

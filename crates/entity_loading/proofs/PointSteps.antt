@@ -18,7 +18,7 @@ use Rattle.plain_lemmas.proofs.Booleans.{and_over_or, or_exchange, or_left_true,
 use Rattle.reads_spec.proofs.Order.{cases}
 use Rattle.reads_spec.proofs.Words.{any_out}
 use Rattle.entity_loading.proofs.PlacePointSteps.{fields_point_none, any_point_none}
-use Rattle.entity_loading.specs.Wants.{Test, points, fields_point, entity_points}
+use Rattle.entity_loading.specs.Needs.{Test, points, fields_point, entity_points}
 
 -- ---- either test
 

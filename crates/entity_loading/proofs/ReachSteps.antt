@@ -29,17 +29,17 @@ use Rattle.plain_lemmas.proofs.Booleans.{or_left_true, or_right_true}
 use Rattle.reads_spec.proofs.Words.{any_out}
 use Rattle.entity_loading.specs.Begun.{root_points, roots_point}
 use Rattle.entity_loading.specs.Leads.{RootLeads}
-use Rattle.entity_loading.specs.Wants.{Test, sees, wants, points, fields_point, entity_points}
+use Rattle.entity_loading.specs.Needs.{Test, sees, needs, points, fields_point, entity_points}
 use Rattle.entity_loading.specs.declared.place.Place.{Place}
 use Rattle.entity_loading.specs.Reached.{IsReached}
-use Rattle.entity_loading.proofs.Fronts.{prefix_leads as prefix_there}
+use Rattle.entity_loading.proofs.Prefixes.{prefix_leads as prefix_there}
 use Rattle.entity_loading.proofs.PointSteps.{points_more, in_fields}
 use Rattle.entity_loading.proofs.LeastSteps.{map_append}
 use Rattle.access_tries.specs.SameLaws.{edge_is}
 
 -- ---- addresses
 
--- a front of what is seen leads somewhere
+-- a prefix of what is seen leads somewhere
 pub prefix_leads : (b : Bool) (ns : Table) (i : ℕ) (es a : Address) → sees b (record { nodes = ns; number = i }) (es ++ a) ≡ true → sees false (record { nodes = ns; number = i }) es ≡ true
 prefix_leads true ns i es a h = prefix_there has_mark refl ns es a i h
 prefix_leads false ns i es a h = prefix_there is_some refl ns es a i h
@@ -162,8 +162,8 @@ further_reached b ns q s y x t a l f =
 -- ---- what is reached is asked for
 
 module _ (b : Bool) (ns : Table) (q : Request) (s : Store) (asked : List Place)
-    (followed : (y : EntityUID) (e : StoredEntity) → entity_at s y ≡ Some e → (x : EntityUID) (a : Address) → entity_points e (wants b ns asked y) x a ≡ true → wants b ns asked x a ≡ true) where
-  walked : (ms : List Step) (v : Val) (t : Test) → ((x : EntityUID) (a : Address) → points v t x a ≡ true → wants b ns asked x a ≡ true) → (x : EntityUID) (a : Address) → IsIn (entity x) (walk s v ms) → t (map edge_of ms ++ a) ≡ true → wants b ns asked x a ≡ true
+    (followed : (y : EntityUID) (e : StoredEntity) → entity_at s y ≡ Some e → (x : EntityUID) (a : Address) → entity_points e (needs b ns asked y) x a ≡ true → needs b ns asked x a ≡ true) where
+  walked : (ms : List Step) (v : Val) (t : Test) → ((x : EntityUID) (a : Address) → points v t x a ≡ true → needs b ns asked x a ≡ true) → (x : EntityUID) (a : Address) → IsIn (entity x) (walk s v ms) → t (map edge_of ms ++ a) ≡ true → needs b ns asked x a ≡ true
   walked [] v t all x a (inl e) h = all x a (subst (λ u. points u t x a ≡ true) (sym e) (and_from (uid_eq x x) (t a) (uid_self x) h))
   walked [] v t all x a (inr i) h = absurd i
   walked (n ∷ ms) v t all x a i h =
@@ -175,18 +175,18 @@ module _ (b : Bool) (ns : Table) (q : Request) (s : Store) (asked : List Place)
       listed (Some u) w (inl e) = ap Some e
       listed (Some u) w (inr k) = absurd k
 
-      in_entity : (y : EntityUID) (u : Test) → ((c : Address) → u c ≡ true → wants b ns asked y c ≡ true) → (k : Step) (w : Val) (o : Option StoredEntity) → entity_at s y ≡ o → IsIn w (step s (entity y) k) → (z : EntityUID) (c : Address) → points w (λ d. u (edge_of k ∷ d)) z c ≡ true → wants b ns asked z c ≡ true
+      in_entity : (y : EntityUID) (u : Test) → ((c : Address) → u c ≡ true → needs b ns asked y c ≡ true) → (k : Step) (w : Val) (o : Option StoredEntity) → entity_at s y ≡ o → IsIn w (step s (entity y) k) → (z : EntityUID) (c : Address) → points w (λ d. u (edge_of k ∷ d)) z c ≡ true → needs b ns asked z c ≡ true
       in_entity y u f (along m) w None e k z c g = absurd (rw e at k)
       in_entity y u f any_tag w None e k z c g = absurd (rw e at k)
       in_entity y u f (along m) w (Some d) e k z c g =
           let there = listed (field_at d.attrs m) w (rw e at k) in
-          followed y d e z c (or_left_true (fields_point d.attrs (wants b ns asked y) z c) (list_any (λ j. points j (λ l. wants b ns asked y (AnyTag ∷ l)) z c) (values_in d.tags))
-          (in_fields z c d.attrs (wants b ns asked y) m w there (points_more z c w (λ l. u (Field m ∷ l)) (λ l. wants b ns asked y (Field m ∷ l)) (λ l. f (Field m ∷ l)) g)))
+          followed y d e z c (or_left_true (fields_point d.attrs (needs b ns asked y) z c) (list_any (λ j. points j (λ l. needs b ns asked y (AnyTag ∷ l)) z c) (values_in d.tags))
+          (in_fields z c d.attrs (needs b ns asked y) m w there (points_more z c w (λ l. u (Field m ∷ l)) (λ l. needs b ns asked y (Field m ∷ l)) (λ l. f (Field m ∷ l)) g)))
       in_entity y u f any_tag w (Some d) e k z c g =
-          followed y d e z c (or_right_true (fields_point d.attrs (wants b ns asked y) z c) (list_any (λ j. points j (λ l. wants b ns asked y (AnyTag ∷ l)) z c) (values_in d.tags))
-          (any_in (λ j. points j (λ l. wants b ns asked y (AnyTag ∷ l)) z c) w (values_in d.tags) (rw e at k) (points_more z c w (λ l. u (AnyTag ∷ l)) (λ l. wants b ns asked y (AnyTag ∷ l)) (λ l. f (AnyTag ∷ l)) g)))
+          followed y d e z c (or_right_true (fields_point d.attrs (needs b ns asked y) z c) (list_any (λ j. points j (λ l. needs b ns asked y (AnyTag ∷ l)) z c) (values_in d.tags))
+          (any_in (λ j. points j (λ l. needs b ns asked y (AnyTag ∷ l)) z c) w (values_in d.tags) (rw e at k) (points_more z c w (λ l. u (AnyTag ∷ l)) (λ l. needs b ns asked y (AnyTag ∷ l)) (λ l. f (AnyTag ∷ l)) g)))
 
-      next : (u : Val) (p : Test) → ((z : EntityUID) (c : Address) → points u p z c ≡ true → wants b ns asked z c ≡ true) → (k : Step) (w : Val) → IsIn w (step s u k) → (z : EntityUID) (c : Address) → points w (λ d. p (edge_of k ∷ d)) z c ≡ true → wants b ns asked z c ≡ true
+      next : (u : Val) (p : Test) → ((z : EntityUID) (c : Address) → points u p z c ≡ true → needs b ns asked z c ≡ true) → (k : Step) (w : Val) → IsIn w (step s u k) → (z : EntityUID) (c : Address) → points w (λ d. p (edge_of k ∷ d)) z c ≡ true → needs b ns asked z c ≡ true
       next (entity y) p f k w j z c g = in_entity y p (λ d h2. f y d (and_from (uid_eq y y) (p d) (uid_self y) h2)) k w (entity_at s y) refl j z c g
       next (rec fs) p f (along m) w j z c g = f z c (in_fields z c fs p m w (listed (field_at fs m) w j) g)
       next (rec fs) p f any_tag w j z c g = absurd j
@@ -200,7 +200,7 @@ module _ (b : Bool) (ns : Table) (q : Request) (s : Store) (asked : List Place)
       next (duration d) p f k w j z c g = absurd j
 
   -- where the roots' values lead is asked for
-  pub reached_asked : ((x : EntityUID) (a : Address) → roots_point ns q b x a ≡ true → wants b ns asked x a ≡ true) → (x : EntityUID) (a : Address) → IsReached b ns q s x a → wants b ns asked x a ≡ true
+  pub reached_asked : ((x : EntityUID) (a : Address) → roots_point ns q b x a ≡ true → needs b ns asked x a ≡ true) → (x : EntityUID) (a : Address) → IsReached b ns q s x a → needs b ns asked x a ≡ true
   reached_asked begun x a r =
       let d = begins b ns (Root r.path.root) (map edge_of r.path.steps ++ a) r.passes in
       walked r.path.steps (root_value q r.path.root) (sees b (record { nodes = ns; number = d.link.number }))

@@ -1,4 +1,4 @@
--- An honest loader is refused for a path that blocks, for a fault, or for want of memory.
+-- An honest loader is refused for a path that blocks, for a fault, or for lack of memory.
 use Rattle.std.proofs.Common.{◌≡◌, ◌<◌, length, Bool, ◌&&◌, List, Option, Some, None, sym, ap, ◌∙◌, subst}
 use Rattle.std.specs.Prelude.{IsSomeAnd}
 use Rattle.policy_values.specs.Uid.{uid_eq}
@@ -13,7 +13,7 @@ use Rattle.std.proofs.lemmas.Bool.{and_from}
 use Rattle.entity_loading.specs.Answered.{AnswerBlocks, SomeAnswerBlocks}
 use Rattle.entity_loading.specs.Places.{node_of}
 use Rattle.entity_loading.specs.CannotGoOn.{tests_of, EntityBlocks, RefusedBy}
-use Rattle.entity_loading.specs.Wants.{sees, wants}
+use Rattle.entity_loading.specs.Needs.{sees, needs}
 use Rattle.entity_loading.specs.declared.follow.FollowError.{FollowError}
 use Rattle.entity_loading.specs.declared.follow.FollowError.TheVariants as follow
 use Rattle.entity_loading.specs.declared.place.Place.{Place}
@@ -63,8 +63,8 @@ follow_right P Q old new f (follow.Incompatible v) h = f v h
 follow_right P Q old new f follow.OutOfMemory h = tt
 
 module _ (exact : Bool) (ns : Table) (q : Request) (s : Store) (asked ps : List Place) (kept : Found) (t : IsState exact ns q s asked ps kept) (order : HasOrder s) (there : (p : Place) → IsIn p ps → p.number < length ns) where
-  stuck : (found : Found) → AreHonestAt exact s ns ps found → (v : Val) → SomeAnswerBlocks ns found ps v → CannotStep ns q s v
-  stuck found a v h =
+  blocked : (found : Found) → AreHonestAt exact s ns ps found → (v : Val) → SomeAnswerBlocks ns found ps v → CannotStep ns q s v
+  blocked found a v h =
       let r = a.each h.place.uid (any_in (λ p. uid_eq p.uid h.place.uid) h.place ps h.among (uid_self h.place.uid)) in
       by r.0 r.1 (found h.place.uid) r.2 h.sticks
     where
@@ -76,13 +76,13 @@ module _ (exact : Bool) (ns : Table) (q : Request) (s : Store) (asked ps : List 
         at = ap (entity_at s) (sym asks.id) ∙ g.at;
         keep = g.keep;
         below = λ b. sees b (node_of ns h.place);
-        reached = λ b c j. t.sound.reached b h.place.uid c (or_right_true (wants b ns asked h.place.uid c) (wants b ns ps h.place.uid c)
+        reached = λ b c j. t.sound.reached b h.place.uid c (or_right_true (needs b ns asked h.place.uid c) (needs b ns ps h.place.uid c)
             (any_in (λ p. uid_eq p.uid h.place.uid && sees b (node_of ns p) c) h.place ps h.among (and_from (uid_eq h.place.uid h.place.uid) (sees b (node_of ns h.place) c) (uid_self h.place.uid) j)));
         sticks = subst (λ z. EntityBlocks z (tests_of (node_of ns h.place)) v) g.is k;
       }
 
   pub refused_right : (old mid new : LoaderState) → Continues old mid → (e : EntitySliceError) → IsRoundError exact s ns ps kept mid new e → IsRight (CannotStep ns q s) old new e
-  refused_right old mid new g (error.IncompatibleEntityManifest e) h = stuck h.0 h.1 e.value h.2
+  refused_right old mid new g (error.IncompatibleEntityManifest e) h = blocked h.0 h.1 e.value h.2
   refused_right old mid new g (error.InconsistentLoader u k d) h = by k h.2
     where
       by : (o : Option StoredEntity) → (h.0 u ≡ Some d) × IsSomeAnd o (λ j. (kept u ≡ Some j) × (merge_entities j d ≡ None)) → ⊥

@@ -69,15 +69,15 @@ cause_weaker P Q old new f error.OutOfMemory h = tt
 
 pub goes_later : (old mid new : LoaderState) → Continues old mid → Continues mid new → Continues old new
 goes_later old mid new a b = record {
-  told = λ s h. b.told s (a.told s h);
+  known = λ s h. b.known s (a.known s h);
   exact = b.exact ∙ a.exact;
   faults = let f = a.faults in let g = b.faults in omega (arith, f, g);
   strays = let f = a.strays in let g = b.strays in omega (arith, f, g);
-  honest = λ s h. b.honest s (a.told s h) ∙ a.honest s h;
+  honest = λ s h. b.honest s (a.known s h) ∙ a.honest s h;
 }
 
 pub goes_on_here : (old : LoaderState) → Continues old old
-goes_on_here old = record { told = λ s h. h; exact = refl; faults = omega arith; strays = omega arith; honest = λ s h. refl }
+goes_on_here old = record { known = λ s h. h; exact = refl; faults = omega arith; strays = omega arith; honest = λ s h. refl }
 
 -- what is not kept, with its cause
 pub not_taken : (ns : Table) (ps : List Place) (old new : LoaderState) (kept found : Found) → ((x : EntityUID) (e : StoredEntity) → kept x ≡ Some e → e.uid ≡ x) → ((x : EntityUID) (e : StoredEntity) → found x ≡ Some e → e.uid ≡ x)

@@ -26,7 +26,7 @@ use Rattle.plain_lemmas.proofs.Booleans.{equal_by_both_ways, or_assoc, or_false,
 use Rattle.entity_loading.specs.Names.{IsKept}
 use Rattle.entity_loading.specs.declared.place.Place.{Place}
 use Rattle.entity_loading.specs.Places.{node_of}
-use Rattle.entity_loading.specs.Wants.{wants}
+use Rattle.entity_loading.specs.Needs.{needs}
 use Rattle.entity_loader.specs.Asked.{some_asks}
 use Rattle.entity_loading.specs.Tries.{IsTrieOf}
 use Rattle.entity_loading.specs.Reached.{AreReachedAsked, AreThere}
@@ -96,18 +96,18 @@ behind_path : (p : AccessPath) (ns : List Step) → address_of (beyond p ns) ≡
 behind_path p ns = ap (λ es. Root p.root ∷ es) (map-append edge_of p.steps ns)
 
 module _ (reads : List AccessPath) (demands : List Demand) (t : Table) (fit : IsTrieOf reads demands t) (q : Request) (s : Store) (ps : List Place) (found : AreReachedAsked t q s ps) (m : Numbers) (g : IsGrouped ps m) where
-  wanted : (x : EntityUID) (cs : List Step) → some_asks t (numbers_at m x) cs ≡ wants false t ps x (map edge_of cs)
-  wanted x cs = g.tests (λ i. view_leads (record { nodes = t; number = i }) (map edge_of cs)) x
+  is_needed : (x : EntityUID) (cs : List Step) → some_asks t (numbers_at m x) cs ≡ needs false t ps x (map edge_of cs)
+  is_needed x cs = g.tests (λ i. view_leads (record { nodes = t; number = i }) (map edge_of cs)) x
 
   kept_is : (x : EntityUID) (cs : List Step) → kept_steps reads q s x cs ≡ some_asks t (numbers_at m x) cs
-  kept_is x cs = equal_by_both_ways (kept_steps reads q s x cs) (wants false t ps x (map edge_of cs)) to from ∙ sym (wanted x cs)
+  kept_is x cs = equal_by_both_ways (kept_steps reads q s x cs) (needs false t ps x (map edge_of cs)) to from ∙ sym (is_needed x cs)
     where
-      to : kept_steps reads q s x cs ≡ true → wants false t ps x (map edge_of cs) ≡ true
+      to : kept_steps reads q s x cs ≡ true → needs false t ps x (map edge_of cs) ≡ true
       to h =
           let r = (kept_means reads q s x cs).0 h in
           (found false x (map edge_of cs)).1 (record { path = r.path; reached = r.reached; passes = ap (view_leads (whole t)) (sym (behind_path r.path cs)) ∙ (fit.paths (beyond r.path cs)).1 r.read })
 
-      from : wants false t ps x (map edge_of cs) ≡ true → kept_steps reads q s x cs ≡ true
+      from : needs false t ps x (map edge_of cs) ≡ true → kept_steps reads q s x cs ≡ true
       from h =
           let r = (found false x (map edge_of cs)).0 h in
           (kept_means reads q s x cs).1 (record { path = r.path; reached = r.reached; read = (fit.paths (beyond r.path cs)).0 (ap (view_leads (whole t)) (behind_path r.path cs) ∙ r.passes) })
@@ -132,7 +132,7 @@ module _ (reads : List AccessPath) (demands : List Demand) (t : Table) (fit : Is
     -- whether the entity is kept where it has a node
     has_place : (x : EntityUID) (p : Place) → IsIn p ps → uid_eq p.uid x ≡ true → kept_chain reads q s x [] ≡ true
     has_place x p i same =
-        kept_is x [] ∙ wanted x [] ∙ any_in (λ z. uid_eq z.uid x && view_leads (node_of t z) []) p ps i (and_from (uid_eq p.uid x) (view_leads (node_of t p) []) same (is_some_within t p.number (there p i)))
+        kept_is x [] ∙ is_needed x [] ∙ any_in (λ z. uid_eq z.uid x && view_leads (node_of t z) []) p ps i (and_from (uid_eq p.uid x) (view_leads (node_of t p) []) same (is_some_within t p.number (there p i)))
 
     id_in : (x : EntityUID) (p : AccessPath) → list_any (is_id x) (reach s q p) ≡ true → IsIn (entity x) (reach s q p)
     id_in x p h = let a = any_out (is_id x) (reach s q p) h in subst (λ v. IsIn v (reach s q p)) (id_of a.0 x a.2) a.1

@@ -13,7 +13,7 @@ use Rattle.reads_spec.proofs.Lists.{same_text}
 use Rattle.plain_lemmas.proofs.Booleans.{and_over_or, or_exchange, or_left_true, or_right_true, or_weaker}
 use Rattle.std.specs.Prelude.{ℕ, Some, if◌then◌else◌}
 use Rattle.std.specs.Ordering.{is_eq}
-use Rattle.entity_loading.specs.Wants.{Test, points, fields_point, entity_points}
+use Rattle.entity_loading.specs.Needs.{Test, points, fields_point, entity_points}
 use Rattle.entity_loading.proofs.PlacePointSteps.{points_none, fields_point_none, any_point_none}
 
 -- ---- more addresses pass

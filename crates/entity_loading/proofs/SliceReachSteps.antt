@@ -35,8 +35,8 @@ use Rattle.std.specs.Ordering.{is_eq}
 use Rattle.std.specs.BTreeSet.{BTreeSet, contains}
 use Rattle.entity_loading.proofs.PlaceSteps.{exact_place}
 use Rattle.entity_loading.specs.Places.{place_cmp, IsPlaced, IsBelowSome, node_of}
-use Rattle.entity_loading.specs.Wants.{Test, sees, wants, points, fields_point, entity_points, Adds}
-use Rattle.entity_loading.specs.Reached.{IsReached, either_wants, IsExplored, IsAnswerLed, AreReachedAsked, AreThere}
+use Rattle.entity_loading.specs.Needs.{Test, sees, needs, points, fields_point, entity_points, Adds}
+use Rattle.entity_loading.specs.Reached.{IsReached, either_needs, IsExplored, IsAnswerLed, AreReachedAsked, AreThere}
 use Rattle.entity_loading.proofs.SlicePointSteps.{points_more, points_any, field_points, entity_points_or, entity_points_none, entity_points_when}
 
 -- the edges behind a path
@@ -45,7 +45,7 @@ behind_path p ns a = ap (λ es. Root p.root ∷ (es ++ a)) (map-append edge_of p
 
 -- nothing is added where the store has no such entity
 pub adds_none : (ns : Table) (p : Place) (o : Option StoredEntity) → None ≡ o → (ps : List Place) → Adds ns (answer_points o (node_of ns p)) ps ps
-adds_none ns p o none ps = subst (λ z. Adds ns (answer_points z (node_of ns p)) ps ps) none (record { each = λ b x a. sym (or_false (wants b ns ps x a)) })
+adds_none ns p o none ps = subst (λ z. Adds ns (answer_points z (node_of ns p)) ps ps) none (record { each = λ b x a. sym (or_false (needs b ns ps x a)) })
 
 -- ---- one place
 
@@ -67,99 +67,99 @@ module _ (ns : Table) (q : Request) (s : Store) where
       }
 
   module _ (reached rest next : List Place) (p : Place) (t : IsExplored ns q s reached ((p ∷ rest) ++ next)) where
-    of_place : (b : Bool) (x : EntityUID) (a : Address) → (uid_eq p.uid x && sees b (node_of ns p) a) ≡ true → either_wants b ns reached ((p ∷ rest) ++ next) x a ≡ true
-    of_place b x a h = or_right_true (wants b ns reached x a) (wants b ns ((p ∷ rest) ++ next) x a) (or_left_true (uid_eq p.uid x && sees b (node_of ns p) a) (wants b ns (rest ++ next) x a) h)
+    of_place : (b : Bool) (x : EntityUID) (a : Address) → (uid_eq p.uid x && sees b (node_of ns p) a) ≡ true → either_needs b ns reached ((p ∷ rest) ++ next) x a ≡ true
+    of_place b x a h = or_right_true (needs b ns reached x a) (needs b ns ((p ∷ rest) ++ next) x a) (or_left_true (uid_eq p.uid x && sees b (node_of ns p) a) (needs b ns (rest ++ next) x a) h)
 
-    of_rest : (b : Bool) (x : EntityUID) (a : Address) → wants b ns (rest ++ next) x a ≡ true → either_wants b ns reached ((p ∷ rest) ++ next) x a ≡ true
-    of_rest b x a h = or_right_true (wants b ns reached x a) (wants b ns ((p ∷ rest) ++ next) x a) (or_right_true (uid_eq p.uid x && sees b (node_of ns p) a) (wants b ns (rest ++ next) x a) h)
+    of_rest : (b : Bool) (x : EntityUID) (a : Address) → needs b ns (rest ++ next) x a ≡ true → either_needs b ns reached ((p ∷ rest) ++ next) x a ≡ true
+    of_rest b x a h = or_right_true (needs b ns reached x a) (needs b ns ((p ∷ rest) ++ next) x a) (or_right_true (uid_eq p.uid x && sees b (node_of ns p) a) (needs b ns (rest ++ next) x a) h)
 
     -- a place that was reached before
     pub explored_again : IsIn p reached → IsExplored ns q s reached (rest ++ next)
     explored_again there = record {
       begun = λ b r x a h. still b x a (t.begun b r x a h);
       followed = λ b y e at x a h. still b x a (t.followed b y e at x a h);
-      sound = λ b x a h. t.sound b x a (or_weaker (wants b ns reached x a) (wants b ns (rest ++ next) x a) (wants b ns reached x a) (wants b ns ((p ∷ rest) ++ next) x a) (λ i. i) (or_right_true (uid_eq p.uid x && sees b (node_of ns p) a) (wants b ns (rest ++ next) x a)) h);
+      sound = λ b x a h. t.sound b x a (or_weaker (needs b ns reached x a) (needs b ns (rest ++ next) x a) (needs b ns reached x a) (needs b ns ((p ∷ rest) ++ next) x a) (λ i. i) (or_right_true (uid_eq p.uid x && sees b (node_of ns p) a) (needs b ns (rest ++ next) x a)) h);
     }
       where
-        by : (b : Bool) (x : EntityUID) (a : Address) → ((uid_eq p.uid x && sees b (node_of ns p) a) ≡ true) ⊎ (wants b ns (rest ++ next) x a ≡ true) → either_wants b ns reached (rest ++ next) x a ≡ true
-        by b x a (inl i) = or_left_true (wants b ns reached x a) (wants b ns (rest ++ next) x a) (any_in (λ r. uid_eq r.uid x && sees b (node_of ns r) a) p reached there i)
-        by b x a (inr i) = or_right_true (wants b ns reached x a) (wants b ns (rest ++ next) x a) i
+        by : (b : Bool) (x : EntityUID) (a : Address) → ((uid_eq p.uid x && sees b (node_of ns p) a) ≡ true) ⊎ (needs b ns (rest ++ next) x a ≡ true) → either_needs b ns reached (rest ++ next) x a ≡ true
+        by b x a (inl i) = or_left_true (needs b ns reached x a) (needs b ns (rest ++ next) x a) (any_in (λ r. uid_eq r.uid x && sees b (node_of ns r) a) p reached there i)
+        by b x a (inr i) = or_right_true (needs b ns reached x a) (needs b ns (rest ++ next) x a) i
 
-        either : (b : Bool) (x : EntityUID) (a : Address) → (wants b ns reached x a ≡ true) ⊎ (wants b ns ((p ∷ rest) ++ next) x a ≡ true) → either_wants b ns reached (rest ++ next) x a ≡ true
-        either b x a (inl i) = or_left_true (wants b ns reached x a) (wants b ns (rest ++ next) x a) i
-        either b x a (inr i) = by b x a (or_cases (uid_eq p.uid x && sees b (node_of ns p) a) (wants b ns (rest ++ next) x a) i)
+        either : (b : Bool) (x : EntityUID) (a : Address) → (needs b ns reached x a ≡ true) ⊎ (needs b ns ((p ∷ rest) ++ next) x a ≡ true) → either_needs b ns reached (rest ++ next) x a ≡ true
+        either b x a (inl i) = or_left_true (needs b ns reached x a) (needs b ns (rest ++ next) x a) i
+        either b x a (inr i) = by b x a (or_cases (uid_eq p.uid x && sees b (node_of ns p) a) (needs b ns (rest ++ next) x a) i)
 
-        still : (b : Bool) (x : EntityUID) (a : Address) → either_wants b ns reached ((p ∷ rest) ++ next) x a ≡ true → either_wants b ns reached (rest ++ next) x a ≡ true
-        still b x a h = either b x a (or_cases (wants b ns reached x a) (wants b ns ((p ∷ rest) ++ next) x a) h)
+        still : (b : Bool) (x : EntityUID) (a : Address) → either_needs b ns reached ((p ∷ rest) ++ next) x a ≡ true → either_needs b ns reached (rest ++ next) x a ≡ true
+        still b x a h = either b x a (or_cases (needs b ns reached x a) (needs b ns ((p ∷ rest) ++ next) x a) h)
 
     -- a place that is followed
     module _ (reached' next' : List Place) (placed : IsPlaced p reached reached') (adds : Adds ns (answer_points (entity_at s p.uid) (node_of ns p)) next next') (led : IsAnswerLed (node_of ns p) (entity_at s p.uid)) where
-      of_next : (b : Bool) (x : EntityUID) (a : Address) → wants b ns next' x a ≡ true → either_wants b ns reached' (rest ++ next') x a ≡ true
-      of_next b x a h = or_right_true (wants b ns reached' x a) (wants b ns (rest ++ next') x a) (list_any-append (λ r. uid_eq r.uid x && sees b (node_of ns r) a) rest next' ∙ or_right_true (wants b ns rest x a) (wants b ns next' x a) h)
+      of_next : (b : Bool) (x : EntityUID) (a : Address) → needs b ns next' x a ≡ true → either_needs b ns reached' (rest ++ next') x a ≡ true
+      of_next b x a h = or_right_true (needs b ns reached' x a) (needs b ns (rest ++ next') x a) (list_any-append (λ r. uid_eq r.uid x && sees b (node_of ns r) a) rest next' ∙ or_right_true (needs b ns rest x a) (needs b ns next' x a) h)
 
-      of_old : (b : Bool) (x : EntityUID) (a : Address) → wants b ns rest x a ≡ true → either_wants b ns reached' (rest ++ next') x a ≡ true
-      of_old b x a h = or_right_true (wants b ns reached' x a) (wants b ns (rest ++ next') x a) (list_any-append (λ r. uid_eq r.uid x && sees b (node_of ns r) a) rest next' ∙ or_left_true (wants b ns rest x a) (wants b ns next' x a) h)
+      of_old : (b : Bool) (x : EntityUID) (a : Address) → needs b ns rest x a ≡ true → either_needs b ns reached' (rest ++ next') x a ≡ true
+      of_old b x a h = or_right_true (needs b ns reached' x a) (needs b ns (rest ++ next') x a) (list_any-append (λ r. uid_eq r.uid x && sees b (node_of ns r) a) rest next' ∙ or_left_true (needs b ns rest x a) (needs b ns next' x a) h)
 
-      wants_now : (b : Bool) (x : EntityUID) (a : Address) → wants b ns reached' x a ≡ (wants b ns reached x a || (uid_eq p.uid x && sees b (node_of ns p) a))
-      wants_now b x a = placed.tests (λ r. uid_eq r.uid x && sees b (node_of ns r) a)
+      needs_now : (b : Bool) (x : EntityUID) (a : Address) → needs b ns reached' x a ≡ (needs b ns reached x a || (uid_eq p.uid x && sees b (node_of ns p) a))
+      needs_now b x a = placed.tests (λ r. uid_eq r.uid x && sees b (node_of ns r) a)
 
-      reached_still : (b : Bool) (x : EntityUID) (a : Address) → ((wants b ns reached x a || (uid_eq p.uid x && sees b (node_of ns p) a)) ≡ true) → either_wants b ns reached' (rest ++ next') x a ≡ true
-      reached_still b x a h = or_left_true (wants b ns reached' x a) (wants b ns (rest ++ next') x a) (wants_now b x a ∙ h)
+      reached_still : (b : Bool) (x : EntityUID) (a : Address) → ((needs b ns reached x a || (uid_eq p.uid x && sees b (node_of ns p) a)) ≡ true) → either_needs b ns reached' (rest ++ next') x a ≡ true
+      reached_still b x a h = or_left_true (needs b ns reached' x a) (needs b ns (rest ++ next') x a) (needs_now b x a ∙ h)
 
-      rest_still : (b : Bool) (x : EntityUID) (a : Address) → (wants b ns rest x a ≡ true) ⊎ (wants b ns next x a ≡ true) → either_wants b ns reached' (rest ++ next') x a ≡ true
+      rest_still : (b : Bool) (x : EntityUID) (a : Address) → (needs b ns rest x a ≡ true) ⊎ (needs b ns next x a ≡ true) → either_needs b ns reached' (rest ++ next') x a ≡ true
       rest_still b x a (inl i) = of_old b x a i
-      rest_still b x a (inr i) = of_next b x a (adds.each b x a ∙ or_left_true (wants b ns next x a) (answer_points (entity_at s p.uid) (node_of ns p) b x a) i)
+      rest_still b x a (inr i) = of_next b x a (adds.each b x a ∙ or_left_true (needs b ns next x a) (answer_points (entity_at s p.uid) (node_of ns p) b x a) i)
 
-      pending_still : (b : Bool) (x : EntityUID) (a : Address) → ((uid_eq p.uid x && sees b (node_of ns p) a) ≡ true) ⊎ (wants b ns (rest ++ next) x a ≡ true) → either_wants b ns reached' (rest ++ next') x a ≡ true
-      pending_still b x a (inl i) = reached_still b x a (or_right_true (wants b ns reached x a) (uid_eq p.uid x && sees b (node_of ns p) a) i)
-      pending_still b x a (inr i) = rest_still b x a (or_cases (wants b ns rest x a) (wants b ns next x a) (sym (list_any-append (λ r. uid_eq r.uid x && sees b (node_of ns r) a) rest next) ∙ i))
+      pending_still : (b : Bool) (x : EntityUID) (a : Address) → ((uid_eq p.uid x && sees b (node_of ns p) a) ≡ true) ⊎ (needs b ns (rest ++ next) x a ≡ true) → either_needs b ns reached' (rest ++ next') x a ≡ true
+      pending_still b x a (inl i) = reached_still b x a (or_right_true (needs b ns reached x a) (uid_eq p.uid x && sees b (node_of ns p) a) i)
+      pending_still b x a (inr i) = rest_still b x a (or_cases (needs b ns rest x a) (needs b ns next x a) (sym (list_any-append (λ r. uid_eq r.uid x && sees b (node_of ns r) a) rest next) ∙ i))
 
-      more : (b : Bool) (x : EntityUID) (a : Address) → (wants b ns reached x a ≡ true) ⊎ (wants b ns ((p ∷ rest) ++ next) x a ≡ true) → either_wants b ns reached' (rest ++ next') x a ≡ true
-      more b x a (inl i) = reached_still b x a (or_left_true (wants b ns reached x a) (uid_eq p.uid x && sees b (node_of ns p) a) i)
-      more b x a (inr i) = pending_still b x a (or_cases (uid_eq p.uid x && sees b (node_of ns p) a) (wants b ns (rest ++ next) x a) i)
+      more : (b : Bool) (x : EntityUID) (a : Address) → (needs b ns reached x a ≡ true) ⊎ (needs b ns ((p ∷ rest) ++ next) x a ≡ true) → either_needs b ns reached' (rest ++ next') x a ≡ true
+      more b x a (inl i) = reached_still b x a (or_left_true (needs b ns reached x a) (uid_eq p.uid x && sees b (node_of ns p) a) i)
+      more b x a (inr i) = pending_still b x a (or_cases (uid_eq p.uid x && sees b (node_of ns p) a) (needs b ns (rest ++ next) x a) i)
 
-      still : (b : Bool) (x : EntityUID) (a : Address) → either_wants b ns reached ((p ∷ rest) ++ next) x a ≡ true → either_wants b ns reached' (rest ++ next') x a ≡ true
-      still b x a h = more b x a (or_cases (wants b ns reached x a) (wants b ns ((p ∷ rest) ++ next) x a) h)
+      still : (b : Bool) (x : EntityUID) (a : Address) → either_needs b ns reached ((p ∷ rest) ++ next) x a ≡ true → either_needs b ns reached' (rest ++ next') x a ≡ true
+      still b x a h = more b x a (or_cases (needs b ns reached x a) (needs b ns ((p ∷ rest) ++ next) x a) h)
 
       -- what entities lead to that are reached now
-      split : (b : Bool) (y : EntityUID) (e : StoredEntity) (x : EntityUID) (a : Address) → entity_points e (wants b ns reached' y) x a ≡ (entity_points e (wants b ns reached y) x a || (uid_eq p.uid y && entity_points e (sees b (node_of ns p)) x a))
+      split : (b : Bool) (y : EntityUID) (e : StoredEntity) (x : EntityUID) (a : Address) → entity_points e (needs b ns reached' y) x a ≡ (entity_points e (needs b ns reached y) x a || (uid_eq p.uid y && entity_points e (sees b (node_of ns p)) x a))
       split b y e x a =
-          ap (λ f. entity_points e f x a) (λ i c. wants_now b y c i)
-          ∙ entity_points_or e (wants b ns reached y) (λ c. uid_eq p.uid y && sees b (node_of ns p) c) x a
-          ∙ ap (λ c. entity_points e (wants b ns reached y) x a || c) (entity_points_when (uid_eq p.uid y) e (sees b (node_of ns p)) x a)
+          ap (λ f. entity_points e f x a) (λ i c. needs_now b y c i)
+          ∙ entity_points_or e (needs b ns reached y) (λ c. uid_eq p.uid y && sees b (node_of ns p) c) x a
+          ∙ ap (λ c. entity_points e (needs b ns reached y) x a || c) (entity_points_when (uid_eq p.uid y) e (sees b (node_of ns p)) x a)
 
-      new_followed : (b : Bool) (y : EntityUID) (e : StoredEntity) → entity_at s y ≡ Some e → (x : EntityUID) (a : Address) → (uid_eq p.uid y && entity_points e (sees b (node_of ns p)) x a) ≡ true → either_wants b ns reached' (rest ++ next') x a ≡ true
+      new_followed : (b : Bool) (y : EntityUID) (e : StoredEntity) → entity_at s y ≡ Some e → (x : EntityUID) (a : Address) → (uid_eq p.uid y && entity_points e (sees b (node_of ns p)) x a) ≡ true → either_needs b ns reached' (rest ++ next') x a ≡ true
       new_followed b y e at x a h =
           let c = and_parts (uid_eq p.uid y) (entity_points e (sees b (node_of ns p)) x a) h in
           let here : entity_at s p.uid ≡ Some e = ap (entity_at s) (same_uid p.uid y c.0) ∙ at in
-          of_next b x a (adds.each b x a ∙ or_right_true (wants b ns next x a) (answer_points (entity_at s p.uid) (node_of ns p) b x a) (ap (λ o. answer_points o (node_of ns p) b x a) here ∙ c.1))
+          of_next b x a (adds.each b x a ∙ or_right_true (needs b ns next x a) (answer_points (entity_at s p.uid) (node_of ns p) b x a) (ap (λ o. answer_points o (node_of ns p) b x a) here ∙ c.1))
 
-      followed_now : (b : Bool) (y : EntityUID) (e : StoredEntity) → entity_at s y ≡ Some e → (x : EntityUID) (a : Address) → (entity_points e (wants b ns reached y) x a ≡ true) ⊎ ((uid_eq p.uid y && entity_points e (sees b (node_of ns p)) x a) ≡ true) → either_wants b ns reached' (rest ++ next') x a ≡ true
+      followed_now : (b : Bool) (y : EntityUID) (e : StoredEntity) → entity_at s y ≡ Some e → (x : EntityUID) (a : Address) → (entity_points e (needs b ns reached y) x a ≡ true) ⊎ ((uid_eq p.uid y && entity_points e (sees b (node_of ns p)) x a) ≡ true) → either_needs b ns reached' (rest ++ next') x a ≡ true
       followed_now b y e at x a (inl i) = still b x a (t.followed b y e at x a i)
       followed_now b y e at x a (inr i) = new_followed b y e at x a i
 
       -- whatever is asked for now is reached
-      new_sound : (b : Bool) (x : EntityUID) (a : Address) → (wants b ns next x a ≡ true) ⊎ (answer_points (entity_at s p.uid) (node_of ns p) b x a ≡ true) → IsReached b ns q s x a
-      new_sound b x a (inl i) = t.sound b x a (of_rest b x a (list_any-append (λ r. uid_eq r.uid x && sees b (node_of ns r) a) rest next ∙ or_right_true (wants b ns rest x a) (wants b ns next x a) i))
+      new_sound : (b : Bool) (x : EntityUID) (a : Address) → (needs b ns next x a ≡ true) ⊎ (answer_points (entity_at s p.uid) (node_of ns p) b x a ≡ true) → IsReached b ns q s x a
+      new_sound b x a (inl i) = t.sound b x a (of_rest b x a (list_any-append (λ r. uid_eq r.uid x && sees b (node_of ns r) a) rest next ∙ or_right_true (needs b ns rest x a) (needs b ns next x a) i))
       new_sound b x a (inr i) = reached_further p b x a (λ c j. t.sound b p.uid c (of_place b p.uid c (and_from (uid_eq p.uid p.uid) (sees b (node_of ns p) c) (uid_self p.uid) j))) (entity_at s p.uid) refl led i
 
-      rest_sound : (b : Bool) (x : EntityUID) (a : Address) → (wants b ns rest x a ≡ true) ⊎ (wants b ns next' x a ≡ true) → IsReached b ns q s x a
-      rest_sound b x a (inl i) = t.sound b x a (of_rest b x a (list_any-append (λ r. uid_eq r.uid x && sees b (node_of ns r) a) rest next ∙ or_left_true (wants b ns rest x a) (wants b ns next x a) i))
-      rest_sound b x a (inr i) = new_sound b x a (or_cases (wants b ns next x a) (answer_points (entity_at s p.uid) (node_of ns p) b x a) (sym (adds.each b x a) ∙ i))
+      rest_sound : (b : Bool) (x : EntityUID) (a : Address) → (needs b ns rest x a ≡ true) ⊎ (needs b ns next' x a ≡ true) → IsReached b ns q s x a
+      rest_sound b x a (inl i) = t.sound b x a (of_rest b x a (list_any-append (λ r. uid_eq r.uid x && sees b (node_of ns r) a) rest next ∙ or_left_true (needs b ns rest x a) (needs b ns next x a) i))
+      rest_sound b x a (inr i) = new_sound b x a (or_cases (needs b ns next x a) (answer_points (entity_at s p.uid) (node_of ns p) b x a) (sym (adds.each b x a) ∙ i))
 
-      reached_sound : (b : Bool) (x : EntityUID) (a : Address) → (wants b ns reached x a ≡ true) ⊎ ((uid_eq p.uid x && sees b (node_of ns p) a) ≡ true) → IsReached b ns q s x a
-      reached_sound b x a (inl i) = t.sound b x a (or_left_true (wants b ns reached x a) (wants b ns ((p ∷ rest) ++ next) x a) i)
+      reached_sound : (b : Bool) (x : EntityUID) (a : Address) → (needs b ns reached x a ≡ true) ⊎ ((uid_eq p.uid x && sees b (node_of ns p) a) ≡ true) → IsReached b ns q s x a
+      reached_sound b x a (inl i) = t.sound b x a (or_left_true (needs b ns reached x a) (needs b ns ((p ∷ rest) ++ next) x a) i)
       reached_sound b x a (inr i) = t.sound b x a (of_place b x a i)
 
-      sound_now : (b : Bool) (x : EntityUID) (a : Address) → (wants b ns reached' x a ≡ true) ⊎ (wants b ns (rest ++ next') x a ≡ true) → IsReached b ns q s x a
-      sound_now b x a (inl i) = reached_sound b x a (or_cases (wants b ns reached x a) (uid_eq p.uid x && sees b (node_of ns p) a) (sym (wants_now b x a) ∙ i))
-      sound_now b x a (inr i) = rest_sound b x a (or_cases (wants b ns rest x a) (wants b ns next' x a) (sym (list_any-append (λ r. uid_eq r.uid x && sees b (node_of ns r) a) rest next') ∙ i))
+      sound_now : (b : Bool) (x : EntityUID) (a : Address) → (needs b ns reached' x a ≡ true) ⊎ (needs b ns (rest ++ next') x a ≡ true) → IsReached b ns q s x a
+      sound_now b x a (inl i) = reached_sound b x a (or_cases (needs b ns reached x a) (uid_eq p.uid x && sees b (node_of ns p) a) (sym (needs_now b x a) ∙ i))
+      sound_now b x a (inr i) = rest_sound b x a (or_cases (needs b ns rest x a) (needs b ns next' x a) (sym (list_any-append (λ r. uid_eq r.uid x && sees b (node_of ns r) a) rest next') ∙ i))
 
       pub explored_more : IsExplored ns q s reached' (rest ++ next')
       explored_more = record {
         begun = λ b r x a h. still b x a (t.begun b r x a h);
-        followed = λ b y e at x a h. followed_now b y e at x a (or_cases (entity_points e (wants b ns reached y) x a) (uid_eq p.uid y && entity_points e (sees b (node_of ns p)) x a) (sym (split b y e x a) ∙ h));
-        sound = λ b x a h. sound_now b x a (or_cases (wants b ns reached' x a) (wants b ns (rest ++ next') x a) h);
+        followed = λ b y e at x a h. followed_now b y e at x a (or_cases (entity_points e (needs b ns reached y) x a) (uid_eq p.uid y && entity_points e (sees b (node_of ns p)) x a) (sym (split b y e x a) ∙ h));
+        sound = λ b x a h. sound_now b x a (or_cases (needs b ns reached' x a) (needs b ns (rest ++ next') x a) h);
       }
 
   -- ---- the start
@@ -190,8 +190,8 @@ module _ (ns : Table) (q : Request) (s : Store) where
   -- ---- the end
 
   module _ (reached : List Place) (t : IsExplored ns q s reached []) where
-    at_last : (b : Bool) (x : EntityUID) (a : Address) → either_wants b ns reached [] x a ≡ true → wants b ns reached x a ≡ true
-    at_last b x a h = true_of_or_false (wants b ns reached x a) h
+    at_last : (b : Bool) (x : EntityUID) (a : Address) → either_needs b ns reached [] x a ≡ true → needs b ns reached x a ≡ true
+    at_last b x a h = true_of_or_false (needs b ns reached x a) h
 
     in_field : (b : Bool) (fs : Fields) (n : Step) (w : Val) (u : Test) → IsIn w (step_in_record fs n) → (x : EntityUID) (a : Address) → points w (λ c. u (edge_of n ∷ c)) x a ≡ true → fields_point fs u x a ≡ true
     in_field b fs any_tag w u h x a p = absurd h
@@ -207,20 +207,20 @@ module _ (ns : Table) (q : Request) (s : Store) where
     in_entity b e any_tag w u h x a p = or_right_true (fields_point e.attrs u x a) (list_any (λ v. points v (λ c. u (AnyTag ∷ c)) x a) (values_in e.tags)) (any_in (λ v. points v (λ c. u (AnyTag ∷ c)) x a) w (values_in e.tags) h p)
 
     -- all to which a value points was asked for, and so is all to which a value points that is one step on
-    one_step : (b : Bool) (v : Val) (u : Test) → ((x : EntityUID) (a : Address) → points v u x a ≡ true → wants b ns reached x a ≡ true) → (n : Step) (w : Val) → IsIn w (step s v n)
-        → (x : EntityUID) (a : Address) → points w (λ c. u (edge_of n ∷ c)) x a ≡ true → wants b ns reached x a ≡ true
+    one_step : (b : Bool) (v : Val) (u : Test) → ((x : EntityUID) (a : Address) → points v u x a ≡ true → needs b ns reached x a ≡ true) → (n : Step) (w : Val) → IsIn w (step s v n)
+        → (x : EntityUID) (a : Address) → points w (λ c. u (edge_of n ∷ c)) x a ≡ true → needs b ns reached x a ≡ true
     one_step b (rec fs) u f n w h x a p = f x a (in_field b fs n w u h x a p)
     one_step b (entity y) u f n w h x a p = by (entity_at s y) refl h
       where
-        by : (o : Option StoredEntity) → entity_at s y ≡ o → IsIn w (step_in_entity o n) → wants b ns reached x a ≡ true
+        by : (o : Option StoredEntity) → entity_at s y ≡ o → IsIn w (step_in_entity o n) → needs b ns reached x a ≡ true
         by None at i = absurd i
         by (Some e) at i =
-            at_last b x a (t.followed b y e at x a (in_entity b e n w (wants b ns reached y) i x a
-            (points_more w (λ c. u (edge_of n ∷ c)) (λ c. wants b ns reached y (edge_of n ∷ c)) (λ c j. f y (edge_of n ∷ c) (and_from (uid_eq y y) (u (edge_of n ∷ c)) (uid_self y) j)) x a p)))
+            at_last b x a (t.followed b y e at x a (in_entity b e n w (needs b ns reached y) i x a
+            (points_more w (λ c. u (edge_of n ∷ c)) (λ c. needs b ns reached y (edge_of n ∷ c)) (λ c j. f y (edge_of n ∷ c) (and_from (uid_eq y y) (u (edge_of n ∷ c)) (uid_self y) j)) x a p)))
     one_step b v u f n w h x a p = absurd h
 
-    walked : (b : Bool) (ms : List Step) (v : Val) (u : Test) → ((x : EntityUID) (a : Address) → points v u x a ≡ true → wants b ns reached x a ≡ true)
-        → (x : EntityUID) (a : Address) → IsIn (entity x) (walk s v ms) → u (map edge_of ms ++ a) ≡ true → wants b ns reached x a ≡ true
+    walked : (b : Bool) (ms : List Step) (v : Val) (u : Test) → ((x : EntityUID) (a : Address) → points v u x a ≡ true → needs b ns reached x a ≡ true)
+        → (x : EntityUID) (a : Address) → IsIn (entity x) (walk s v ms) → u (map edge_of ms ++ a) ≡ true → needs b ns reached x a ≡ true
     walked b [] v u f x a (inl same) p = f x a (rw same (and_from (uid_eq x x) (u a) (uid_self x) p))
     walked b [] v u f x a (inr h) p = absurd h
     walked b (n ∷ ms) v u f x a h p =
@@ -229,7 +229,7 @@ module _ (ns : Table) (q : Request) (s : Store) where
 
     pub all_reached : AreReachedAsked ns q s reached
     all_reached b x a = (
-      λ h. t.sound b x a (or_left_true (wants b ns reached x a) false h),
+      λ h. t.sound b x a (or_left_true (needs b ns reached x a) false h),
       λ r. walked b r.path.steps (root_value q r.path.root) (λ c. sees b (whole ns) (Root r.path.root ∷ c)) (λ y c h. at_last b y c (t.begun b r.path.root y c h)) x a r.reached r.passes,
     )
 

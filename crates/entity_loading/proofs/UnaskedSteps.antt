@@ -26,7 +26,7 @@ use Rattle.entity_loading.specs.Begun.{IsFirst, roots_point}
 use Rattle.entity_loading.specs.Leads.{RootLeads}
 use Rattle.entity_loading.specs.Names.{IsKept}
 use Rattle.entity_loading.specs.Places.{node_of}
-use Rattle.entity_loading.specs.Wants.{Adds, sees, wants}
+use Rattle.entity_loading.specs.Needs.{Adds, sees, needs}
 use Rattle.entity_loading.specs.declared.place.Place.{Place}
 use Rattle.entity_loader.specs.declared.loader.AncestorsRequest.{AncestorsRequest}
 use Rattle.entity_loading.specs.Answering.{AreUnderIds}
@@ -52,15 +52,15 @@ module _ (ns : Table) (q : Request) (start : List Place) (adds : Adds ns (roots_
       by (p ∷ ps) is =
           let there = is_some_within ns p.number (first p (subst (IsIn p) (sym is) (inl refl))).there in
           let own = and_from (uid_eq p.uid p.uid) (view_leads (node_of ns p) []) (uid_self p.uid) there in
-          let asked : wants false ns (p ∷ ps) p.uid [] ≡ true = or_left_true (uid_eq p.uid p.uid && view_leads (node_of ns p) []) (wants false ns ps p.uid []) own in
-          let l = led false p.uid [] (sym (adds.each false p.uid []) ∙ ap (λ z. wants false ns z p.uid []) is ∙ asked) in
+          let asked : needs false ns (p ∷ ps) p.uid [] ≡ true = or_left_true (uid_eq p.uid p.uid && view_leads (node_of ns p) []) (needs false ns ps p.uid []) own in
+          let l = led false p.uid [] (sym (adds.each false p.uid []) ∙ ap (λ z. needs false ns z p.uid []) is ∙ asked) in
           let has : leads ns (Root l.root ∷ map edge_of l.rest.steps) ≡ true = subst (λ es. leads ns (Root l.root ∷ es) ≡ true) (append-nil (map edge_of l.rest.steps)) l.rest.passes in
           absurd (false≢true (sym (none (record { root = l.root; steps = l.rest.steps })) ∙ has))
 
   pub undemanding_begun : DemandsNothing ns → DemandNothing ns start
-  undemanding_begun none x ms r = by (cases (wants true ns start x (map edge_of ms ++ address_of r)))
+  undemanding_begun none x ms r = by (cases (needs true ns start x (map edge_of ms ++ address_of r)))
     where
-      by : (wants true ns start x (map edge_of ms ++ address_of r) ≡ true) ⊎ (wants true ns start x (map edge_of ms ++ address_of r) ≡ false) → wants true ns start x (map edge_of ms ++ address_of r) ≡ false
+      by : (needs true ns start x (map edge_of ms ++ address_of r) ≡ true) ⊎ (needs true ns start x (map edge_of ms ++ address_of r) ≡ false) → needs true ns start x (map edge_of ms ++ address_of r) ≡ false
       by (inr h) = h
       by (inl h) =
           let l = led true x (map edge_of ms ++ address_of r) (sym (adds.each true x (map edge_of ms ++ address_of r)) ∙ h) in
@@ -71,7 +71,7 @@ module _ (ns : Table) (q : Request) (start : List Place) (adds : Adds ns (roots_
 
 module _ (ns : Table) (found : Found) (ps next : List Place) (adds : Adds ns (answers_point ns found ps) [] next) (none : DemandNothing ns ps) where
   pub undemanding_next : DemandNothing ns next
-  undemanding_next x ms r = by (cases (wants true ns next x (map edge_of ms ++ address_of r)))
+  undemanding_next x ms r = by (cases (needs true ns next x (map edge_of ms ++ address_of r)))
     where
       answer : (p : Place) → IsIn p ps → (o : Option StoredEntity) → answer_points o (node_of ns p) true x (map edge_of ms ++ address_of r) ≡ true → ⊥
       answer p i None h = false≢true h
@@ -82,7 +82,7 @@ module _ (ns : Table) (found : Found) (ps next : List Place) (adds : Adds ns (an
           (and_from (uid_eq p.uid p.uid) (sees true (node_of ns p) (map edge_of (s.0 ++ ms) ++ address_of r)) (uid_self p.uid) marked) in
           false≢true (sym (none p.uid (s.0 ++ ms) r) ∙ asked)
 
-      by : (wants true ns next x (map edge_of ms ++ address_of r) ≡ true) ⊎ (wants true ns next x (map edge_of ms ++ address_of r) ≡ false) → wants true ns next x (map edge_of ms ++ address_of r) ≡ false
+      by : (needs true ns next x (map edge_of ms ++ address_of r) ≡ true) ⊎ (needs true ns next x (map edge_of ms ++ address_of r) ≡ false) → needs true ns next x (map edge_of ms ++ address_of r) ≡ false
       by (inr h) = h
       by (inl h) =
           let p = any_out (λ p. answer_points (found p.uid) (node_of ns p) true x (map edge_of ms ++ address_of r)) ps (sym (adds.each true x (map edge_of ms ++ address_of r)) ∙ h) in

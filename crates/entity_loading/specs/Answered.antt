@@ -10,7 +10,7 @@ use Rattle.reads_spec.specs.Among.{IsIn}
 use Rattle.entity_loading.specs.declared.place.Place.{Place}
 use Rattle.entity_loading.specs.Places.{node_of}
 use Rattle.entity_loading.specs.CannotGoOn.{Tests, tests_of, EntityBlocks}
-use Rattle.entity_loading.specs.Wants.{Test, sees, entity_points}
+use Rattle.entity_loading.specs.Needs.{Test, sees, entity_points}
 
 -- where an answer leads from a node; an absent one leads nowhere
 abbrev pub answer_points : Option StoredEntity → ViewData → Bool → EntityUID → Test

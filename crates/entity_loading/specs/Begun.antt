@@ -14,7 +14,7 @@ use Rattle.reads_spec.specs.Paths.{Step}
 use Rattle.reads_spec.specs.Restrict.{root_value}
 use Rattle.entity_loading.specs.declared.place.Place.{Place}
 use Rattle.entity_loading.specs.Places.{Allows}
-use Rattle.entity_loading.specs.Wants.{Test, sees, points}
+use Rattle.entity_loading.specs.Needs.{Test, sees, points}
 use Rattle.entity_loading.specs.CannotGoOn.{Tests, tests_of, behind, Sticks}
 
 -- where the value of a root leads from the node behind it

@@ -8,7 +8,7 @@ use Rattle.access_tries.specs.Edges.{Address}
 use Rattle.access_tries.specs.Table.{Table}
 use Rattle.entity_loading.specs.Begun.{SomeRootBlocks}
 use Rattle.entity_loading.specs.CannotGoOn.{EntityBlocks}
-use Rattle.entity_loading.specs.Wants.{Test}
+use Rattle.entity_loading.specs.Needs.{Test}
 use Rattle.entity_loading.specs.Reached.{IsReached}
 
 -- in an entity of the store a value stands from which paths that reach the entity cannot go on

@@ -11,7 +11,7 @@ use Rattle.reads_spec.specs.Paths.{Step}
 use Rattle.reads_spec.specs.Restrict.{values_in}
 use Rattle.entity_loading.specs.declared.follow.FollowError.{FollowError}
 use Rattle.entity_loading.specs.declared.follow.FollowError.TheVariants as error
-use Rattle.entity_loading.specs.Wants.{Test}
+use Rattle.entity_loading.specs.Needs.{Test}
 
 -- where a node leads, and what it marks
 pub record Tests : Type 0 where

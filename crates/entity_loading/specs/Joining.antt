@@ -13,7 +13,7 @@ use Rattle.entity_store.specs.Store.{StoredEntity, Store}
 use Rattle.access_tries.specs.Paths.{AccessPath, address_of}
 use Rattle.access_tries.specs.Table.{Table}
 use Rattle.reads_spec.specs.Restrict.{names_id, reach}
-use Rattle.entity_loading.specs.Wants.{wants}
+use Rattle.entity_loading.specs.Needs.{needs}
 use Rattle.entity_loading.specs.declared.place.Place.{Place}
 use Rattle.entity_loader.specs.Answers.{HasAncestor}
 use Rattle.entity_loader.specs.declared.loader.AncestorsRequest.{AncestorsRequest}
@@ -38,7 +38,7 @@ brings (r ∷ rs) (l ∷ ls) x y = (uid_eq r.entity_id x && lists l.items y) || 
 pub record IsAskedFor (ns : Table) (q : Request) (asked : List Place)
     (t : Store) (x y : EntityUID) : Type 0 where
   pub path : AccessPath
-  pub marked : wants true ns asked x (address_of path) ≡ true
+  pub marked : needs true ns asked x (address_of path) ≡ true
   pub named : list_any (names_id y) (reach t q path) ≡ true
 
 -- ancestors ascend

@@ -14,7 +14,7 @@ use Rattle.reads_spec.specs.Restrict.{Keep, cut_entity}
 use Rattle.reads_spec.specs.Among.{IsWellFormed}
 use Rattle.entity_loading.specs.Begun.{roots_point}
 use Rattle.entity_loading.specs.Leads.{RootLeads}
-use Rattle.entity_loading.specs.Wants.{Adds, wants}
+use Rattle.entity_loading.specs.Needs.{Adds, needs}
 use Rattle.entity_loading.specs.declared.place.Place.{Place}
 use Rattle.entity_loader.specs.State.{LoaderState}
 use Rattle.entity_loading.specs.Keeping.{Found}
@@ -36,14 +36,14 @@ pub record IsKeptPart (exact : Bool) (s : Store) (ns : Table)
   pub choice : Keep
   pub formed : IsWellFormed choice
   pub is : (x : EntityUID) → kept x ≡ left choice x (entity_at s x)
-  pub chains : (x : EntityUID) (c : Chain) → wants false ns asked x (along c) ≡ true →
+  pub chains : (x : EntityUID) (c : Chain) → needs false ns asked x (along c) ≡ true →
       choice.chains x c ≡ true
   pub tags : (x : EntityUID) (n : List ℕ) (c : Chain) →
-      wants false ns asked x (AnyTag ∷ along c) ≡ true → choice.tags x (n ∷ c) ≡ true
+      needs false ns asked x (AnyTag ∷ along c) ≡ true → choice.tags x (n ∷ c) ≡ true
   pub only_chains : exact ≡ true → (x : EntityUID) (c : Chain) → choice.chains x c ≡ true →
-      wants false ns asked x (along c) ≡ true
+      needs false ns asked x (along c) ≡ true
   pub only_tags : exact ≡ true → (x : EntityUID) (n : List ℕ) (c : Chain) →
-      choice.tags x (n ∷ c) ≡ true → wants false ns asked x (AnyTag ∷ along c) ≡ true
+      choice.tags x (n ∷ c) ≡ true → needs false ns asked x (AnyTag ∷ along c) ≡ true
   pub bare : exact ≡ true → (x y : EntityUID) → choice.ancestors x y ≡ false
 
 -- after some rounds, where the loader says its store

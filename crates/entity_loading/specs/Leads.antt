@@ -14,7 +14,7 @@ use Rattle.access_tries.specs.Views.{ViewData, whole}
 use Rattle.reads_spec.specs.Paths.{Step}
 use Rattle.reads_spec.specs.Restrict.{step_in_entity, step_in_record, walk, root_value}
 use Rattle.reads_spec.specs.Among.{IsIn}
-use Rattle.entity_loading.specs.Wants.{Test, sees, points}
+use Rattle.entity_loading.specs.Needs.{Test, sees, points}
 
 -- from the value steps lead to the entity, whatever the store, and with this address behind them they pass
 -- the test

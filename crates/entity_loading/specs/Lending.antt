@@ -9,10 +9,10 @@ use Rattle.access_tries.specs.Table.{Table}
 use Rattle.access_tries.specs.Views.{ViewData, whole}
 use Rattle.entity_loading.specs.declared.place.Place.{Place}
 use Rattle.entity_loading.specs.Places.{node_of}
-use Rattle.entity_loading.specs.Wants.{Test, sees, wants}
+use Rattle.entity_loading.specs.Needs.{Test, sees, needs}
 use Rattle.entity_loader.specs.declared.loader.EntityRequest.{EntityRequest}
-use Rattle.entity_loading.specs.declared.lent.Borrowed.{Borrowed}
-use Rattle.entity_loading.specs.declared.lent.Borrowed.TheVariants.{One, Many}
+use Rattle.entity_loading.specs.declared.borrowed.Borrowed.{Borrowed}
+use Rattle.entity_loading.specs.declared.borrowed.Borrowed.TheVariants.{One, Many}
 
 -- the trie that is borrowed
 abbrev pub view_in : Table → Borrowed → ViewData
@@ -25,10 +25,10 @@ borrowed_sees b ns (Some l) a = sees b (view_in ns l) a
 
 -- of each entity is asked what some place asks of it, and nothing else; none is asked for but those of
 -- the places
-pub record AreBorrowed (ns : Table) (ps : List Place) (lent : BTreeMap EntityUID Borrowed) : Type 0 where
+pub record AreBorrowed (ns : Table) (ps : List Place) (borrowed : BTreeMap EntityUID Borrowed) : Type 0 where
   pub each : (b : Bool) (x : EntityUID) (a : Address) →
-      borrowed_sees b ns (get uid_cmp lent x) a ≡ wants b ns ps x a
-  pub some : (x : EntityUID) → is_some (get uid_cmp lent x) ≡ list_any (λ p. uid_eq p.uid x) ps
+      borrowed_sees b ns (get uid_cmp borrowed x) a ≡ needs b ns ps x a
+  pub some : (x : EntityUID) → is_some (get uid_cmp borrowed x) ≡ list_any (λ p. uid_eq p.uid x) ps
 
 -- the same with one place more
 pub record Borrows (ns : Table) (p : Place) (old new : BTreeMap EntityUID Borrowed) : Type 0 where

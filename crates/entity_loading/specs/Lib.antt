@@ -11,7 +11,7 @@ pub mod Joining
 pub mod Between
 pub mod Sliced
 pub mod Places
-pub mod Wants
+pub mod Needs
 pub mod Leads
 pub mod CannotGoOn
 pub mod Begun

@@ -15,7 +15,7 @@ use Rattle.reads_spec.specs.Restrict.{reach, root_value}
 use Rattle.reads_spec.specs.Among.{IsIn}
 use Rattle.entity_loading.specs.declared.place.Place.{Place}
 use Rattle.entity_loading.specs.Leads.{EntityLeads, IsLed}
-use Rattle.entity_loading.specs.Wants.{sees, wants, points, entity_points}
+use Rattle.entity_loading.specs.Needs.{sees, needs, points, entity_points}
 
 -- a path leads to the entity, and the trie goes on from its end with the address, to a marked node if that
 -- is asked
@@ -26,20 +26,20 @@ pub record IsReached (b : Bool) (ns : Table) (q : Request)
   pub passes : sees b (whole ns) (address_of path ++ a) ≡ true
 
 -- asked for at some place of either list
-abbrev pub either_wants : Bool → Table → List Place → List Place → EntityUID → Address → Bool
-either_wants b ns reached pending x a = wants b ns reached x a || wants b ns pending x a
+abbrev pub either_needs : Bool → Table → List Place → List Place → EntityUID → Address → Bool
+either_needs b ns reached pending x a = needs b ns reached x a || needs b ns pending x a
 
 -- the roots' values, and the entities that were reached, lead to nothing but what was reached or is pending;
 -- all that is reached by a path of the trie
 pub record IsExplored (ns : Table) (q : Request) (s : Store) (reached pending : List Place) : Type 0 where
   pub begun : (b : Bool) (r : EntityRoot) (x : EntityUID) (a : Address) →
       points (root_value q r) (λ c. sees b (whole ns) (Root r ∷ c)) x a ≡ true →
-      either_wants b ns reached pending x a ≡ true
+      either_needs b ns reached pending x a ≡ true
   pub followed : (b : Bool) (y : EntityUID) (e : StoredEntity) → entity_at s y ≡ Some e →
-      (x : EntityUID) (a : Address) → entity_points e (wants b ns reached y) x a ≡ true →
-      either_wants b ns reached pending x a ≡ true
+      (x : EntityUID) (a : Address) → entity_points e (needs b ns reached y) x a ≡ true →
+      either_needs b ns reached pending x a ≡ true
   pub sound : (b : Bool) (x : EntityUID) (a : Address) →
-      either_wants b ns reached pending x a ≡ true → IsReached b ns q s x a
+      either_needs b ns reached pending x a ≡ true → IsReached b ns q s x a
 
 -- the steps along which an answer points lead there
 abbrev pub IsAnswerLed : ViewData → Option StoredEntity → Type 0
@@ -49,7 +49,7 @@ IsAnswerLed v (Some e) = IsLed v (entity_points e) (EntityLeads e)
 -- exactly what paths of the trie reach is asked for at some place
 abbrev pub AreReachedAsked : Table → Request → Store → List Place → Type 0
 AreReachedAsked ns q s ps =
-    (b : Bool) (x : EntityUID) (a : Address) → (wants b ns ps x a ≡ true) ↔ IsReached b ns q s x a
+    (b : Bool) (x : EntityUID) (a : Address) → (needs b ns ps x a ≡ true) ↔ IsReached b ns q s x a
 
 -- each place is at a node
 abbrev pub AreThere : Table → List Place → Type 0

@@ -11,7 +11,7 @@ use Rattle.reads_spec.specs.Restrict.{Keep, cut_entity}
 use Rattle.entity_loading.specs.Answered.{SomeAnswerBlocks}
 use Rattle.entity_loading.specs.Begun.{SomeRootBlocks}
 use Rattle.entity_loading.specs.CannotGoOn.{EntityBlocks}
-use Rattle.entity_loading.specs.Wants.{Test}
+use Rattle.entity_loading.specs.Needs.{Test}
 use Rattle.entity_loading.specs.declared.place.Place.{Place}
 use Rattle.entity_loader.specs.State.{LoaderState}
 use Rattle.entity_loading.specs.Causes.{IsRight}

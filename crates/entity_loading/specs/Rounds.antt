@@ -11,7 +11,7 @@ use Rattle.access_tries.specs.Table.{Table}
 use Rattle.entity_loading.specs.Answered.{answers_point}
 use Rattle.entity_loading.specs.CannotGoOn.{tests_of, EntityBlocks}
 use Rattle.entity_loading.specs.Begun.{roots_point}
-use Rattle.entity_loading.specs.Wants.{Adds, sees, wants, entity_points}
+use Rattle.entity_loading.specs.Needs.{Adds, sees, needs, entity_points}
 use Rattle.entity_loading.specs.declared.place.Place.{Place}
 use Rattle.entity_loader.specs.Answers.{IsHonest}
 use Rattle.entity_loader.specs.declared.loader.EntityRequest.{EntityRequest}
@@ -27,7 +27,7 @@ pub record Sticks (ns : Table) (u : Val) : Type 0 where
 -- the request asks the entity for all that the places do, and for nothing else
 pub record AsksFor (ns : Table) (ps : List Place) (x : EntityUID) (r : EntityRequest) : Type 0 where
   pub id : r.entity_id ≡ x
-  pub each : (b : Bool) (a : Address) → sees b r.access_trie a ≡ wants b ns ps x a
+  pub each : (b : Bool) (a : Address) → sees b r.access_trie a ≡ needs b ns ps x a
 
 -- for each id of the places an honest answer, and nothing else
 pub record AreHonestAt (exact : Bool) (s : Store) (ns : Table)
@@ -51,12 +51,12 @@ pub record AreNoted (ps old new : List Place) : Type 0 where
 -- all that is needed is asked for, or pending: of the roots' values, and of the entities that were asked for
 pub record IsComplete (ns : Table) (q : Request) (s : Store) (asked pending : List Place) : Type 0 where
   pub begun : (b : Bool) (x : EntityUID) (a : Address) → roots_point ns q b x a ≡ true →
-      (wants b ns asked x a || wants b ns pending x a) ≡ true
+      (needs b ns asked x a || needs b ns pending x a) ≡ true
   pub followed : (b : Bool) (y : EntityUID) (e : StoredEntity) → entity_at s y ≡ Some e →
-      (x : EntityUID) (a : Address) → entity_points e (wants b ns asked y) x a ≡ true →
-      (wants b ns asked x a || wants b ns pending x a) ≡ true
+      (x : EntityUID) (a : Address) → entity_points e (needs b ns asked y) x a ≡ true →
+      (needs b ns asked x a || needs b ns pending x a) ≡ true
 
 -- whatever is asked for or pending is reached
 pub record IsSound (ns : Table) (q : Request) (s : Store) (asked pending : List Place) : Type 0 where
   pub reached : (b : Bool) (x : EntityUID) (a : Address) →
-      (wants b ns asked x a || wants b ns pending x a) ≡ true → IsReached b ns q s x a
+      (needs b ns asked x a || needs b ns pending x a) ≡ true → IsReached b ns q s x a

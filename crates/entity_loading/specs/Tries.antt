@@ -5,7 +5,7 @@ use Rattle.access_tries.specs.Paths.{has_path, asks, IsLeast}
 use Rattle.reads_spec.specs.Paths.{AccessPath, Demand}
 use Rattle.reads_spec.specs.Among.{IsIn, IsPrefixOfRead}
 
--- a trie with exactly the paths that are read and their fronts, which asks exactly what is demanded
+-- a trie with exactly the paths that are read and their prefixes, which asks exactly what is demanded
 pub record IsTrieOf (reads : List AccessPath) (demands : List Demand) (t : Table) : Type 0 where
   pub paths : (p : AccessPath) → (has_path t p ≡ true) ↔ IsPrefixOfRead reads p
   pub asks : (p r : AccessPath) → (asks t p r ≡ true) ↔ IsIn (let d : Demand = (p, r) in d) demands

@@ -21,8 +21,8 @@ ghost use Rattle.entity_loading.specs.KeptPart.{AreAlike};
 ghost use Rattle.entity_loading.specs.Ordered.{WhereKnown};
 ghost use Rattle.entity_loading.specs.Unasked.{DemandNothing, AsksForSome};
 
+use crate::borrowed::borrowed_tries;
 use crate::error::EntitySliceError;
-use crate::lent::borrowed_tries;
 use crate::rounds::Loaded;
 use crate::{Place, named_ids};
 use access_tries::Node;
@@ -85,10 +85,10 @@ fn ancestors_requests(
     ensures asked { IfOk result (λ requests. (t : Store) → IsKept kept.now t → (x y : EntityUID) →
         (asks requests.items x y ≡ true) ↔ IsAskedFor nodes.now request.now asked.now.keys t x y) }
 {
-    let lent = borrowed_tries(alloc, nodes, asked)?;
+    let borrowed = borrowed_tries(alloc, nodes, asked)?;
     let mut requests = Vec::new(alloc);
-    for (uid, lent) in lent.iter() {
-        let ids = named_ids(alloc, request, kept, &lent.trie(nodes))?;
+    for (uid, borrowed) in borrowed.iter() {
+        let ids = named_ids(alloc, request, kept, &borrowed.trie(nodes))?;
         if !ids.is_empty() {
             requests.push(AncestorsRequest {
                 entity_id: uid.try_clone()?,

@@ -13,11 +13,11 @@ ghost use Rattle.entity_loading.specs.Begun.{root_points, roots_point, IsFirst, 
 ghost use Rattle.entity_loading.specs.Leads.{Leads, RootLeads, IsLed, IsEdgeLed};
 ghost use Rattle.entity_loading.specs.Places.{IsAtOrBelow};
 ghost use Rattle.entity_loading.specs.CannotGoOn.{RefusedBy};
-ghost use Rattle.entity_loading.specs.Wants.{Adds, sees, points};
+ghost use Rattle.entity_loading.specs.Needs.{Adds, sees, points};
 
+use crate::blocking::blocked_in_context;
 use crate::follow::{FollowError, follow_fields};
 use crate::place::{Place, ask};
-use crate::stuck::blocked_in_context;
 use access_tries::{Edge, EntityRoot, RootAccessTrie, TrieRef, links_of};
 use entity_store::{Context, Request};
 use policy_expressions::Var;

@@ -8,7 +8,7 @@ ghost use Rattle.reads_spec.specs.Restrict.{values_in};
 ghost use Rattle.policy_values.specs.Value.{fields_of};
 ghost use Rattle.entity_loading.specs.declared.place.Place.{Place};
 ghost use Rattle.entity_loading.specs.Places.{IsAtOrBelow, IsPlaceBelow};
-ghost use Rattle.entity_loading.specs.Wants.{Adds, sees, points, fields_point, entity_points};
+ghost use Rattle.entity_loading.specs.Needs.{Adds, sees, points, fields_point, entity_points};
 ghost use Rattle.entity_loading.specs.Leads.{Leads, FieldsLead, SomeLeads, EntityLeads, IsLed};
 
 use crate::place::{Place, ask};

@@ -5,7 +5,7 @@ ghost use Rattle.std.specs.BTreeMap.{get};
 ghost use Rattle.access_tries.specs.Table.{IsTable};
 ghost use Rattle.entity_loading.specs.Answered.{answers_point};
 ghost use Rattle.entity_loading.specs.Places.{IsBelowSome};
-ghost use Rattle.entity_loading.specs.Wants.{Adds};
+ghost use Rattle.entity_loading.specs.Needs.{Adds};
 ghost use Rattle.entity_loading.specs.declared.place.Place.{Place};
 ghost use Rattle.entity_loader.specs.Kept.{kept_with};
 ghost use Rattle.policy_values.specs.Uid.{uid_cmp, uid_eq};

@@ -5,13 +5,14 @@ mod ancestors;
 mod answers;
 mod begin;
 mod blocked;
+mod blocking;
+mod borrowed;
 mod demand;
 mod error;
 mod follow;
 mod keeping;
 mod kept_ancestors;
 pub mod laws;
-mod lent;
 mod load;
 mod manifest;
 mod names;
@@ -24,10 +25,10 @@ mod restricted;
 mod roots;
 mod rounds;
 mod slice;
-mod stuck;
 
 pub use begin::{first_places, root_places};
 pub use blocked::blocked_value;
+pub use blocking::{blocked_in_context, blocked_in_entity};
 pub use error::{
     EntitySliceError, IncompatibleEntityManifestError, PartialRequestError,
     WrongNumberOfEntitiesError,
@@ -41,4 +42,3 @@ pub use plain_lemmas::Steps;
 pub use restricted::restricted_store;
 pub use roots::named_ids;
 pub use slice::slice_entities;
-pub use stuck::{blocked_in_context, blocked_in_entity};

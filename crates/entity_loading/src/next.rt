@@ -10,11 +10,11 @@ ghost use Rattle.entity_loading.specs.declared.place.Place.{Place};
 ghost use Rattle.entity_loading.specs.Places.{IsPlaceBelow, IsBelowSome, node_of};
 ghost use Rattle.entity_loading.specs.CannotGoOn.{tests_of, RefusedBy};
 ghost use Rattle.entity_loading.specs.Answered.{answer_points, answers_point, AnswerBlocks, SomeAnswerBlocks};
-ghost use Rattle.entity_loading.specs.Wants.{Adds};
+ghost use Rattle.entity_loading.specs.Needs.{Adds};
 
+use crate::blocking::blocked_in_entity;
 use crate::follow::{FollowError, follow_entity};
 use crate::place::Place;
-use crate::stuck::blocked_in_entity;
 use access_tries::{Node, TrieRef};
 use entity_store::Entity;
 use policy_values::EntityUID;

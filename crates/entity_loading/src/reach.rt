@@ -9,7 +9,7 @@ ghost use Rattle.entity_store.specs.declared.request.Request.{Request};
 ghost use Rattle.entity_loading.specs.declared.place.Place.{Place};
 ghost use Rattle.entity_loading.specs.Answered.{answer_points};
 ghost use Rattle.entity_loading.specs.Places.{IsPlaceBelow, IsBelowSome, node_of};
-ghost use Rattle.entity_loading.specs.Wants.{Adds};
+ghost use Rattle.entity_loading.specs.Needs.{Adds};
 ghost use Rattle.entity_loading.specs.Reached.{IsExplored, IsAnswerLed, AreReachedAsked, AreThere};
 
 use crate::{Place, ask, follow_entity, root_places};

@@ -18,9 +18,9 @@ ghost use Rattle.entity_loading.specs.Rounds.{AreHonestAt, IsRound, Sticks, AreN
 ghost use Rattle.entity_loading.specs.Unasked.{DemandNothing};
 
 use crate::answers::answers_for;
+use crate::borrowed::{borrowed_tries, requests_of};
 use crate::error::EntitySliceError;
 use crate::keeping::take_answers;
-use crate::lent::{borrowed_tries, requests_of};
 use crate::{Place, ask};
 use access_tries::Node;
 use entity_loader::EntityLoader;
@@ -58,8 +58,8 @@ fn answers_at<D: EntityLoader>(
     ensures right { WhereKnown (D.state loader.old) (λ s.
         IfErr result (IsRight (λ v. ⊥) (D.state loader.old) (D.state loader.new))) }
 {
-    let lent = borrowed_tries(alloc, nodes, pending)?;
-    let requests = requests_of(alloc, nodes, &lent)?;
+    let borrowed = borrowed_tries(alloc, nodes, pending)?;
+    let requests = requests_of(alloc, nodes, &borrowed)?;
     answers_for(alloc, &requests, loader)
 }
 

@@ -26,5 +26,5 @@ pub answered : (schema : SchemaData) (policies : PolicySetData) (q : Request) �
     OfKnownStores schema policies.policies q old (λ w. IfOk result (λ s. AreDecidedAlike policies.policies q s w)) →
     IfErr result (λ e. e ≢ error.OutOfMemory → WhyNotLoaded schema policies.policies q old new e) → (result ≡ Err error.OutOfMemory → ⊥) →
     IsLoaderAnswer schema policies.policies old new q (answer_of policies.policies q result)
-answered schema policies q whole conforms old new (Ok s) alike why not_memory = (whole, conforms, λ w told stored. (alike w told stored).response)
+answered schema policies q whole conforms old new (Ok s) alike why not_memory = (whole, conforms, λ w known stored. (alike w known stored).response)
 answered schema policies q whole conforms old new (Err e) alike why not_memory = (whole, conforms, why (λ h. not_memory (ap Err h)))

@@ -81,14 +81,14 @@ module _ (sticks : Table → Val → Type 0) (covered : LoadedIsEnough) (faults 
 
   -- where a loader says a store that conforms where it is reached, it is refused for faults alone
   refusal : (e : EntitySliceError) → Loads m q old new (Err e) sticks → (w : Store) → IsReported old w → ReachedConform schema policies.policies q w → IsFaultOrMemory old new e
-  refusal e loads w told stored =
+  refusal e loads w known stored =
       faults schema valid policies.policies m computed q conforms w stored old new e
-      record { without = λ h. loads.without whole h; right = λ t h. loads.right whole t h w told.told (record { each = told.order.order }) }
+      record { without = λ h. loads.without whole h; right = λ t h. loads.right whole t h w known.known (record { each = known.order.order }) }
 
   module _ (e : EntitySliceError) (loads : Loads m q old new (Err e) sticks) (not_memory : e ≡ error.OutOfMemory → ⊥) where
     -- a loader that says its store is refused for none of its answers
     righted : (w : Store) → IsReported old w → IsRight (λ v. Unit {0}) old new e
-    righted w told = by_trie (λ t h. weaker (BlocksAt t q w) e (loads.right whole t h w told.told (record { each = told.order.order }))) (λ h. absurd (not_memory (loads.without whole h)))
+    righted w known = by_trie (λ t h. weaker (BlocksAt t q w) e (loads.right whole t h w known.known (record { each = known.order.order }))) (λ h. absurd (not_memory (loads.without whole h)))
       where
         weaker : (P : Val → Type 0) (d : EntitySliceError) → IsRight P old new d → IsRight (λ v. Unit {0}) old new d
         weaker P (error.PartialRequest d) h = h
@@ -100,8 +100,8 @@ module _ (sticks : Table → Val → Type 0) (covered : LoadedIsEnough) (faults 
         weaker P error.OutOfMemory h = h
 
     fault_alone : (w : Store) → IsReported old w → ReachedConform schema policies.policies q w → e ≡ error.LoaderFault
-    fault_alone w told stored =
-        elim (refusal e loads w told stored) [
+    fault_alone w known stored =
+        elim (refusal e loads w known stored) [
           | inl h ↦ h.0
           | inr h ↦ absurd (not_memory h)
         ]
@@ -121,16 +121,16 @@ module _ (sticks : Table → Val → Type 0) (covered : LoadedIsEnough) (faults 
   why : (e : EntitySliceError) → Loads m q old new (Err e) sticks → (e ≡ error.OutOfMemory → ⊥) → WhyNotLoaded schema policies.policies q old new e
   why error.LoaderFault loads not_memory = caused error.LoaderFault loads not_memory
   why (error.IncompatibleEntityManifest e) loads not_memory =
-      λ w told stored. absurd (let no = fault_alone (error.IncompatibleEntityManifest e) loads not_memory w told stored in cc)
-  why (error.InconsistentLoader uid kept got) loads not_memory = λ w told. righted (error.InconsistentLoader uid kept got) loads not_memory w told
+      λ w known stored. absurd (let no = fault_alone (error.IncompatibleEntityManifest e) loads not_memory w known stored in cc)
+  why (error.InconsistentLoader uid kept got) loads not_memory = λ w known. righted (error.InconsistentLoader uid kept got) loads not_memory w known
   why (error.WrongNumberOfEntities e) loads not_memory =
-      ((caused (error.WrongNumberOfEntities e) loads not_memory).1, λ w told. righted (error.WrongNumberOfEntities e) loads not_memory w told)
+      ((caused (error.WrongNumberOfEntities e) loads not_memory).1, λ w known. righted (error.WrongNumberOfEntities e) loads not_memory w known)
   why (error.WrongNumberOfAncestors n k) loads not_memory =
-      ((caused (error.WrongNumberOfAncestors n k) loads not_memory).1, λ w told. righted (error.WrongNumberOfAncestors n k) loads not_memory w told)
+      ((caused (error.WrongNumberOfAncestors n k) loads not_memory).1, λ w known. righted (error.WrongNumberOfAncestors n k) loads not_memory w known)
   why (error.PartialRequest e) loads not_memory = caused (error.PartialRequest e) loads not_memory
   why error.OutOfMemory loads not_memory = not_memory refl
 
-  module _ (s : Store) (loads : Loads m q old new (Ok s) sticks) (w : Store) (told : IsReported old w) (stored : ReachedConform schema policies.policies q w) where
+  module _ (s : Store) (loads : Loads m q old new (Ok s) sticks) (w : Store) (known : IsReported old w) (stored : ReachedConform schema policies.policies q w) where
     lies : Lies old.exact (slice schema policies.policies q w) w s
     lies = by_trie with_trie without
       where
@@ -138,7 +138,7 @@ module _ (sticks : Table → Val → Type 0) (covered : LoadedIsEnough) (faults 
         with_trie t at =
             let is = tries_of_reads schema valid policies.policies m computed q t at in
             let ts = typed_conditions schema is.env policies.policies in
-            let between = loads.between t at w told.told (record { each = told.order.order }) told.order.ids (declared_reads schema is.env ts) (declared_demands schema is.env ts) (declared_trie schema is.env ts t is.trie) in
+            let between = loads.between t at w known.known (record { each = known.order.order }) known.order.ids (declared_reads schema is.env ts) (declared_demands schema is.env ts) (declared_trie schema is.env ts t is.trie) in
             let same : restrict (declared_reads schema is.env ts) (declared_demands schema is.env ts) q w ≡ slice schema policies.policies q w = sym (ap (slice_in schema policies.policies q w) is.is) in
             record { enough = subst (λ r. IsPartOf r s) same between.enough; part = between.part; exactly = λ e. between.exactly e ∙ same }
 
@@ -156,7 +156,7 @@ module _ (sticks : Table → Val → Type 0) (covered : LoadedIsEnough) (faults 
     alike : AreDecidedAlike policies.policies q s w
     alike =
         covered schema valid policies set once m computed q w record { whole = whole; request = conforms; reached = stored; policies = accepted }
-        old.exact s (λ t h reads demands fit. loads.between t h w told.told (record { each = told.order.order }) told.order.ids reads demands fit)
+        old.exact s (λ t h reads demands fit. loads.between t h w known.known (record { each = known.order.order }) known.order.ids reads demands fit)
 
   -- what is promised of the result
   pub record Promised (result : Result Store EntitySliceError) : Type 0 where
@@ -169,18 +169,18 @@ module _ (sticks : Table → Val → Type 0) (covered : LoadedIsEnough) (faults 
 
   pub promised : (result : Result Store EntitySliceError) → Loads m q old new result sticks → Promised result
   promised (Ok s) loads = record {
-    enough = λ w told stored. (lies s loads w told stored).enough;
-    part = λ w told stored. (lies s loads w told stored).part;
-    exact = λ e w told stored. (lies s loads w told stored).exactly e;
-    decided = λ w told stored. alike s loads w told stored;
-    honest = λ w told stored. tt;
+    enough = λ w known stored. (lies s loads w known stored).enough;
+    part = λ w known stored. (lies s loads w known stored).part;
+    exact = λ e w known stored. (lies s loads w known stored).exactly e;
+    decided = λ w known stored. alike s loads w known stored;
+    honest = λ w known stored. tt;
     cause = tt;
   }
   promised (Err e) loads = record {
-    enough = λ w told stored. tt;
-    part = λ w told stored. tt;
-    exact = λ x w told stored. tt;
-    decided = λ w told stored. tt;
-    honest = λ w told stored. refusal e loads w told stored;
+    enough = λ w known stored. tt;
+    part = λ w known stored. tt;
+    exact = λ x w known stored. tt;
+    decided = λ w known stored. tt;
+    honest = λ w known stored. refusal e loads w known stored;
     cause = λ not_memory. why e loads not_memory;
   }

@@ -31,8 +31,8 @@ module _ (schema : SchemaData) (ps : List PolicyData) (o : Option Store) (ordere
   Reports l = (w : Store) → o ≡ Some w → l.store ≡ Some w
 
   module _ (old mid new : LoaderState) (tells : Reports old) (none : new.strays ≡ 0) (on : Continues mid new) (q : Request) where
-    told : (w : Store) → o ≡ Some w → IsReported old w
-    told w is = record { told = tells w is; order = ordered w is }
+    known : (w : Store) → o ≡ Some w → IsReported old w
+    known w is = record { known = tells w is; order = ordered w is }
 
     row_answer : (a : BatchAnswer) → IsLoaderAnswer schema ps old mid q a → IsRowAnswer schema ps o q a
     row_answer Partial h = h
@@ -41,18 +41,18 @@ module _ (schema : SchemaData) (ps : List PolicyData) (o : Option Store) (ordere
       where
         by : (p : Option Store) → o ≡ p → IfSome p (λ w. ReachedConform schema ps q w → r ≡ response ps q w)
         by None is = tt
-        by (Some w) is = λ stored. h.2 w (told w is) stored
+        by (Some w) is = λ stored. h.2 w (known w is) stored
     row_answer (Loading error.LoaderFault) h = (h.0, h.1, tt)
     row_answer (Loading (error.IncompatibleEntityManifest e)) h = (h.0, h.1, by o refl)
       where
         by : (p : Option Store) → o ≡ p → IfSome p (λ w. ¬ ReachedConform schema ps q w)
         by None is = tt
-        by (Some w) is = h.2 w (told w is)
+        by (Some w) is = h.2 w (known w is)
     row_answer (Loading (error.InconsistentLoader uid kept got)) h = (h.0, h.1, by o refl)
       where
         by : (p : Option Store) → o ≡ p → o ≡ None
         by None is = is
-        by (Some w) is = absurd (h.2 w (told w is))
+        by (Some w) is = absurd (h.2 w (known w is))
     row_answer (Loading (error.WrongNumberOfEntities e)) h = no_stray old.strays mid.strays new.strays none on.strays h.2.0
     row_answer (Loading (error.WrongNumberOfAncestors n k)) h = no_stray old.strays mid.strays new.strays none on.strays h.2.0
     row_answer (Loading (error.PartialRequest e)) h = absurd h.2
@@ -63,7 +63,7 @@ module _ (schema : SchemaData) (ps : List PolicyData) (o : Option Store) (ordere
   row_answers old new [] [] tells none h = tt
   row_answers old new (q ∷ qs) (a ∷ answers) tells none h = (
     row_answer old h.0 new tells none (goes_on schema ps h.0 new qs answers h.3) q a h.2,
-    row_answers h.0 new qs answers (λ w is. h.1.told w (tells w is)) none h.3,
+    row_answers h.0 new qs answers (λ w is. h.1.known w (tells w is)) none h.3,
   )
   row_answers old new [] (a ∷ answers) tells none h = absurd h
   row_answers old new (q ∷ qs) [] tells none h = absurd h

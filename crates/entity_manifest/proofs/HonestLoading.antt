@@ -1,4 +1,4 @@
--- Loading by computed manifests is refused for want of memory, and for faults alone.
+-- Loading by computed manifests is refused for lack of memory, and for faults alone.
 use Rattle.std.proofs.Common.{◌≡◌, List, Option, Some, None, refl}
 use Rattle.byte_streams.specs.Steps.{Rose}
 use Rattle.policy_values.specs.Value.{Val}

@@ -29,7 +29,7 @@ none_rose : Rose 0 0 → ⊥
 none_rose (inl h) = absurd (omega (arith, h))
 none_rose (inr h) = absurd (omega (arith, h))
 
--- a loader that counts no faults is refused for want of memory alone
+-- a loader that counts no faults is refused only where memory runs out
 pub memory_alone : (old new : LoaderState) → old.faults ≡ 0 → new.faults ≡ 0 → (r : Result Store EntitySliceError) →
     IfErr r (IsFaultOrMemory old new) → IfErr r (λ e. e ≡ error.OutOfMemory)
 memory_alone old new x y (Ok s) h = tt

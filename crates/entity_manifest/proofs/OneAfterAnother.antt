@@ -19,15 +19,15 @@ zip_push R [] (b ∷ ys) x y h r = absurd h
 zip_push R (a ∷ xs) [] x y h r = absurd h
 
 pub goes_on_here : (l : LoaderState) → Continues l l
-goes_on_here l = record { told = λ s h. h; exact = refl; faults = omega arith; strays = omega arith; honest = λ s h. refl }
+goes_on_here l = record { known = λ s h. h; exact = refl; faults = omega arith; strays = omega arith; honest = λ s h. refl }
 
 pub goes_on_later : (a b c : LoaderState) → Continues a b → Continues b c → Continues a c
 goes_on_later a b c f g = record {
-  told = λ s h. g.told s (f.told s h);
+  known = λ s h. g.known s (f.known s h);
   exact = g.exact ∙ f.exact;
   faults = omega (arith, f.faults, g.faults);
   strays = omega (arith, f.strays, g.strays);
-  honest = λ s h. g.honest s (f.told s h) ∙ f.honest s h;
+  honest = λ s h. g.honest s (f.known s h) ∙ f.honest s h;
 }
 
 module _ (schema : SchemaData) (ps : List PolicyData) where

@@ -33,7 +33,7 @@ use Rattle.reads_spec.proofs.Fitting.{types_along-append}
 use Rattle.reads_spec.proofs.Lists.{IsIn}
 use Rattle.entity_loading.specs.Begun.{SomeRootBlocks}
 use Rattle.entity_loading.specs.CannotGoOn.{Tests, tests_of, behind, GoesOn, Demands, Sticks, FieldsBlock, SomeBlocks, EntityBlocks}
-use Rattle.entity_loading.specs.Wants.{Test}
+use Rattle.entity_loading.specs.Needs.{Test}
 use Rattle.entity_loading.specs.Reached.{IsReached}
 use Rattle.entity_loading.specs.Right.{CannotStep}
 use Rattle.entity_loading.specs.Blocked.{IsBlockedInStore}
@@ -201,8 +201,8 @@ module _ (d : SchemaData) (g : EnvData) (ns : Table) (trie : IsDeclaredTrie d g 
         TestsFit d (Some (entity (e.uid.entity_type ∷ []))) (record { leads = below false; marks = below true })
     stored_tests x e i below reached = subst (λ y. TestsFit d (Some (entity (y.entity_type ∷ []))) (record { leads = below false; marks = below true })) (sym (uid_at s x e i)) (reached_tests x below reached)
 
-    pub none_stuck : (u : Val) → CannotStep ns q s u → ⊥
-    none_stuck u k =
+    pub none_stops : (u : Val) → CannotStep ns q s u → ⊥
+    none_stops u k =
         entity_never d k.stored k.keep (record { leads = k.below false; marks = k.below true }) u (all_at (EntityHas d) s k.id k.stored all k.at)
         (stored_tests k.id k.stored k.at k.below k.reached) k.sticks
 

@@ -23,8 +23,8 @@ use Rattle.entity_loading.specs.CannotGoOn.{Tests, behind, GoesOn, Demands, Stic
 use Rattle.entity_loading.specs.Reached.{IsReached}
 use Rattle.entity_loading.specs.Right.{CannotStep, BlocksAt}
 use Rattle.entity_loading.specs.Tries.{IsTrieOf}
-use Rattle.entity_loading.specs.Wants.{Test, sees}
-use Rattle.entity_loading.proofs.Fronts.{prefix_leads}
+use Rattle.entity_loading.specs.Needs.{Test, sees}
+use Rattle.entity_loading.proofs.Prefixes.{prefix_leads}
 
 -- ---- where a value blocks, some address passes the tests
 

@@ -51,20 +51,20 @@ module _ (schema : SchemaData) (ps : List PolicyData) where
   -- why rows that say this store, or none, do not give what a request reads: they failed, an entity that is
   -- reached does not conform, or there is no store and answers do not agree
   abbrev pub WhyNotGiven : Option Store → Request → EntitySliceError → Type 0
-  WhyNotGiven told q error.LoaderFault = ⊤
-  WhyNotGiven told q (error.IncompatibleEntityManifest e) = IfSome told (λ w. ¬ ReachedConform schema ps q w)
-  WhyNotGiven told q (error.InconsistentLoader uid kept got) = told ≡ None
-  WhyNotGiven told q e = ⊥
+  WhyNotGiven known q error.LoaderFault = ⊤
+  WhyNotGiven known q (error.IncompatibleEntityManifest e) = IfSome known (λ w. ¬ ReachedConform schema ps q w)
+  WhyNotGiven known q (error.InconsistentLoader uid kept got) = known ≡ None
+  WhyNotGiven known q e = ⊥
 
   -- the answer to a request by rows that say this store, or none; where the entities conform that are reached,
   -- a decision is the response on the store
   abbrev pub IsRowAnswer : Option Store → Request → BatchAnswer → Type 0
-  IsRowAnswer told q Partial = ¬ IsWhole q
-  IsRowAnswer told q (Refused e) = IsWhole q × (first_request_fault schema (λ _. true) q ≡ Some e)
-  IsRowAnswer told q (Loading e) = IsWhole q × RequestConforms schema q × WhyNotGiven told q e
-  IsRowAnswer told q (Decided r) =
+  IsRowAnswer known q Partial = ¬ IsWhole q
+  IsRowAnswer known q (Refused e) = IsWhole q × (first_request_fault schema (λ _. true) q ≡ Some e)
+  IsRowAnswer known q (Loading e) = IsWhole q × RequestConforms schema q × WhyNotGiven known q e
+  IsRowAnswer known q (Decided r) =
       IsWhole q × RequestConforms schema q ×
-      IfSome told (λ w. ReachedConform schema ps q w → r ≡ response ps q w)
+      IfSome known (λ w. ReachedConform schema ps q w → r ≡ response ps q w)
 
 -- how many answers are faults of the loader
 abbrev pub is_fault : BatchAnswer → ℕ

@@ -47,7 +47,7 @@ pub record IsRightRefusal (m : Manifest) (q : Request) (s : Store)
   pub without : trie_for m q ≡ None → e ≡ OutOfMemory
   pub right : (t : Table) → trie_for m q ≡ Some t → IsRight (BlocksAt t q s) old new e
 
--- there an honest loader whose count of faults did not rise is refused for want of memory alone
+-- there an honest loader whose count of faults did not rise is refused only where memory runs out
 abbrev pub HonestLoadingSucceeds : Type 0
 HonestLoadingSucceeds =
     (schema : SchemaData) → IsSchema schema → (ps : List PolicyData) (m : Manifest) →

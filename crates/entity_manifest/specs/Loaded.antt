@@ -47,12 +47,12 @@ LoadedIsEnough =
     (q : Request) (whole : Store) → KeepReachedRules schema policies q whole →
     (exact : Bool) (s : Store) → IsLoadedBy exact m q whole s → AreDecidedAlike policies.policies q s whole
 
--- nothing is loaded, for a call that failed and was counted or for want of memory
+-- nothing is loaded, for a call that failed and was counted or for lack of memory
 abbrev pub IsFaultOrMemory : LoaderState → LoaderState → EntitySliceError → Type 0
 IsFaultOrMemory old new e = ((e ≡ error.LoaderFault) × Rose old.faults new.faults) ⊎ (e ≡ error.OutOfMemory)
 
 -- with such a manifest an honest loader of a store that conforms where it is reached is refused, on a request
--- that conforms, for a fault that rose or for want of memory
+-- that conforms, for a fault that rose or for lack of memory
 abbrev pub RefusalsAreFaults : Type 0
 RefusalsAreFaults =
     (schema : SchemaData) → IsSchema schema → (ps : List PolicyData) (m : Manifest) →
@@ -63,7 +63,7 @@ RefusalsAreFaults =
 
 -- a store in order that a loader says
 pub record IsReported (l : LoaderState) (w : Store) : Type 0 where
-  pub told : l.store ≡ Some w
+  pub known : l.store ≡ Some w
   pub order : IsStoreOrdered w
 
 module _ (schema : SchemaData) (ps : List PolicyData) (q : Request) where

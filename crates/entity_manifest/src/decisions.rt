@@ -137,7 +137,7 @@ fn loaded_answer<D: EntityLoader, L: Ledger>(
     answer_of(alloc, policies, request, loaded)
 }
 
-// The decision on what is loaded, or why it is not; for want of memory there is no answer.
+// The decision on what is loaded, or why it is not; for lack of memory there is no answer.
 fn answer_of(
     alloc: Global,
     policies: &PolicySet,

@@ -25,7 +25,7 @@ pub fn computed_manifests_fit()
     ensures { ComputedManifestsFit }
 {}
 
-/// There loading from an honest loader whose count of faults does not rise succeeds, or ends for want of
+/// There loading from an honest loader whose count of faults does not rise succeeds, or ends because of a lack of
 /// memory.
 pub fn honest_loading_succeeds()
     ensures { HonestLoadingSucceeds }

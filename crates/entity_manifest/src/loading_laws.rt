@@ -19,7 +19,7 @@ pub fn loaded_is_enough()
 }
 
 /// An honest loader of a store that conforms where it is reached is refused for a fault that it says or for
-/// want of memory alone.
+/// lack of memory alone.
 pub fn refusals_are_faults()
     ensures { RefusalsAreFaults }
 {

@@ -178,11 +178,11 @@ pub fn listed(alloc: Global, ids: &[Eid]) -> Result<String, AllocError>
 }
 
 // Adds an id as a string literal behind a text.
-fn add_id(text: &mut String, front: &str, id: &Eid) -> Result<(), AllocError>
+fn add_id(text: &mut String, prefix: &str, id: &Eid) -> Result<(), AllocError>
     ensures { OnOk result
-        (string_bytes text.new ≡ string_bytes text.old ++ (front.now ++ string_text id.now)) }
+        (string_bytes text.new ≡ string_bytes text.old ++ (prefix.now ++ string_text id.now)) }
 {
     let literal = StringLiteral(id.as_text());
-    write!(text, "{front}{literal}")?;
+    write!(text, "{prefix}{literal}")?;
     Ok(())
 }

@@ -46,21 +46,21 @@ none_before None = refl
 none_before (Some ys) = refl
 
 module _ {A : Type 0} (f : A → A → A → A) where
-  else_of-last : (front : List A) (t e a : A) → else_of f (front ++ t ∷ e ∷ a ∷ []) ≡ else_of f (front ++ f t e a ∷ [])
+  else_of-last : (prefix : List A) (t e a : A) → else_of f (prefix ++ t ∷ e ∷ a ∷ []) ≡ else_of f (prefix ++ f t e a ∷ [])
   else_of-last [] t e a = refl
   else_of-last (x ∷ []) t e a = refl
-  else_of-last (x ∷ y ∷ front) t e a = ap (option_map (f x y)) (else_of-last front t e a)
+  else_of-last (x ∷ y ∷ prefix) t e a = ap (option_map (f x y)) (else_of-last prefix t e a)
 
   -- a test and its branch, taken from the end, stand before what there is
-  pub else_of-step : (front mid old : List A) (t e a m : A) (whole : Option A) → old ≡ mid ++ e ∷ [] → mid ≡ front ++ t ∷ [] → m ≡ f t e a
-      → else_of f (old ++ a ∷ []) ≡ whole → else_of f (front ++ m ∷ []) ≡ whole
-  else_of-step front mid old t e a m whole last before made all =
-      let seam : old ++ a ∷ [] ≡ front ++ t ∷ e ∷ a ∷ [] =
+  pub else_of-step : (prefix mid old : List A) (t e a m : A) (whole : Option A) → old ≡ mid ++ e ∷ [] → mid ≡ prefix ++ t ∷ [] → m ≡ f t e a
+      → else_of f (old ++ a ∷ []) ≡ whole → else_of f (prefix ++ m ∷ []) ≡ whole
+  else_of-step prefix mid old t e a m whole last before made all =
+      let seam : old ++ a ∷ [] ≡ prefix ++ t ∷ e ∷ a ∷ [] =
       ap (λ xs. xs ++ a ∷ []) (last ∙ ap (λ xs. xs ++ e ∷ []) before)
-      ∙ append_assoc (front ++ t ∷ []) (e ∷ []) (a ∷ [])
-      ∙ append_assoc front (t ∷ []) (e ∷ a ∷ []) in
-      ap (λ x. else_of f (front ++ x ∷ [])) made
-      ∙ sym (else_of-last front t e a)
+      ∙ append_assoc (prefix ++ t ∷ []) (e ∷ []) (a ∷ [])
+      ∙ append_assoc prefix (t ∷ []) (e ∷ a ∷ []) in
+      ap (λ x. else_of f (prefix ++ x ∷ [])) made
+      ∙ sym (else_of-last prefix t e a)
       ∙ sym (ap (else_of f) seam)
       ∙ all
 

@@ -16,23 +16,23 @@ answer_data decision errors reasons rest =
     object (member (codes "decision") decision (member (codes "errors") errors (member (codes "reasons") reasons rest)))
 
 -- the text of the first three, as it is appended
-abbrev front : Data → Data → Data → List ℕ
-front decision errors reasons =
+abbrev prefix : Data → Data → Data → List ℕ
+prefix decision errors reasons =
     ((((codes "{\"decision\":" ++ compact_text decision) ++ codes ",\"errors\":") ++ compact_text errors) ++ codes ",\"reasons\":") ++ compact_text reasons
 
-prefix_closed : (decision errors reasons : Data) → front decision errors reasons ++ codes "}" ≡ compact_text (answer_data decision errors reasons no_members)
+prefix_closed : (decision errors reasons : Data) → prefix decision errors reasons ++ codes "}" ≡ compact_text (answer_data decision errors reasons no_members)
 unfolding serde_json_on_literals
 prefix_closed decision errors reasons = simp append_assoc
 
 prefix_followed : (decision errors reasons entities : Data)
-    → ((front decision errors reasons ++ codes ",\"slice\":") ++ compact_text entities) ++ codes "}\n"
+    → ((prefix decision errors reasons ++ codes ",\"slice\":") ++ compact_text entities) ++ codes "}\n"
     ≡ compact_text (answer_data decision errors reasons (member (codes "slice") entities no_members)) ++ codes "\n"
 unfolding serde_json_on_literals
 prefix_followed decision errors reasons entities = simp append_assoc
 
 pub response_pieces : (r : ResponseData) (decision errors reasons : Data) → decision ≡ string (decision_text r.decision)
     → errors ≡ array (items_of (map failure_data r.errors)) → reasons ≡ array (items_of (map string r.reasons))
-    → front decision errors reasons ++ codes "}" ≡ compact_text (response_data r)
+    → prefix decision errors reasons ++ codes "}" ≡ compact_text (response_data r)
 response_pieces r decision errors reasons d e s =
     let same : answer_data decision errors reasons no_members ≡ response_data r = rw (d, e, s) refl in
     prefix_closed decision errors reasons ∙ ap compact_text same
@@ -45,5 +45,5 @@ slice_pieces r s text h =
     let decision = string (decision_text r.decision) in
     let errors = array (items_of (map failure_data r.errors)) in
     let reasons = array (items_of (map string r.reasons)) in
-    let same = append_cancel_right text (front decision errors reasons) (codes "}") (h ∙ sym (prefix_closed decision errors reasons)) in
+    let same = append_cancel_right text (prefix decision errors reasons) (codes "}") (h ∙ sym (prefix_closed decision errors reasons)) in
     rw same (prefix_followed decision errors reasons (array (items_of (map entity_data s))))

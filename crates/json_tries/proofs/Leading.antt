@@ -4,7 +4,7 @@ use Rattle.std.specs.List.{list_any}
 use Rattle.std.proofs.lemmas.List.Folds.{list_any-append}
 use Rattle.access_tries.specs.declared.edge.Edge.{Edge}
 use Rattle.access_tries.specs.Edges.{Address, edge_eq}
-use Rattle.access_tries.specs.Paths.{is_front, is_same}
+use Rattle.access_tries.specs.Paths.{is_prefix_of, is_same}
 use Rattle.access_tries.specs.Trees.{Branch, branch, Branches, no_branches, leading, passes, some_passes}
 use Rattle.json_tries.specs.Places.{Place, behind, places_of, places_in}
 use Rattle.json_tries.specs.Laws.{PlacesLead}
@@ -12,7 +12,7 @@ use Rattle.plain_lemmas.proofs.Booleans.{and_exchange, or_false}
 
 -- whether the test passes for one of the places
 abbrev prefix_of : Address → Place → Bool
-prefix_of es p = is_front es p.0
+prefix_of es p = is_prefix_of es p.0
 
 abbrev same_of : Address → Place → Bool
 same_of es p = p.1 && is_same es p.0
@@ -22,8 +22,8 @@ prefix_behind x e es ps = by (edge_eq x e) refl ps where
   by : (b : Bool) → edge_eq x e ≡ b → (qs : List Place) → list_any (prefix_of (e ∷ es)) (map (behind x) qs) ≡ (b && list_any (prefix_of es) qs)
   by true h [] = refl
   by false h [] = refl
-  by true h (q ∷ qs) = ap (λ b. (b && is_front es q.0) || list_any (prefix_of (e ∷ es)) (map (behind x) qs)) h ∙ ap (λ b. is_front es q.0 || b) (by true h qs)
-  by false h (q ∷ qs) = ap (λ b. (b && is_front es q.0) || list_any (prefix_of (e ∷ es)) (map (behind x) qs)) h ∙ by false h qs
+  by true h (q ∷ qs) = ap (λ b. (b && is_prefix_of es q.0) || list_any (prefix_of (e ∷ es)) (map (behind x) qs)) h ∙ ap (λ b. is_prefix_of es q.0 || b) (by true h qs)
+  by false h (q ∷ qs) = ap (λ b. (b && is_prefix_of es q.0) || list_any (prefix_of (e ∷ es)) (map (behind x) qs)) h ∙ by false h qs
 
 same_behind : (x e : Edge) (es : Address) (ps : List Place) → list_any (same_of (e ∷ es)) (map (behind x) ps) ≡ (edge_eq x e && list_any (same_of es) ps)
 same_behind x e es ps = by (edge_eq x e) refl ps where
@@ -55,15 +55,15 @@ abbrev own : Bool → Bool
 own m = m
 
 mutual
-  fronts : (b : Branch) (es : Address) → list_any (prefix_of es) (places_of b) ≡ passes any b es
-  fronts (branch m bs) [] = refl
-  fronts (branch m bs) (e ∷ es) = prefixes_in bs e es
+  prefixes : (b : Branch) (es : Address) → list_any (prefix_of es) (places_of b) ≡ passes any b es
+  prefixes (branch m bs) [] = refl
+  prefixes (branch m bs) (e ∷ es) = prefixes_in bs e es
 
   prefixes_in : (bs : Branches) (e : Edge) (es : Address) → list_any (prefix_of (e ∷ es)) (places_in bs) ≡ some_passes any bs e es
   prefixes_in no_branches e es = refl
   prefixes_in (leading x b bs) e es =
       list_any-append (prefix_of (e ∷ es)) (map (behind x) (places_of b)) (places_in bs)
-      ∙ ap (λ c. c || list_any (prefix_of (e ∷ es)) (places_in bs)) (prefix_behind x e es (places_of b) ∙ ap (λ c. edge_eq x e && c) (fronts b es))
+      ∙ ap (λ c. c || list_any (prefix_of (e ∷ es)) (places_in bs)) (prefix_behind x e es (places_of b) ∙ ap (λ c. edge_eq x e && c) (prefixes b es))
       ∙ ap (λ c. (edge_eq x e && passes any b es) || c) (prefixes_in bs e es)
 
 mutual

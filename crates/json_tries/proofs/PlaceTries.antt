@@ -3,7 +3,7 @@ use Rattle.std.proofs.Common.{◌≡◌, Bool, true, false, ◌&&◌, ◌||◌, 
 use Rattle.std.specs.List.{list_any}
 use Rattle.access_tries.specs.Edges.{Address}
 use Rattle.access_tries.specs.Table.{Table}
-use Rattle.access_tries.specs.Paths.{is_front, is_same, IsUnion}
+use Rattle.access_tries.specs.Paths.{is_prefix_of, is_same, IsUnion}
 use Rattle.access_tries.specs.Walks.{IsOf}
 use Rattle.json_tries.specs.Places.{Place, IsOfPlaces}
 
@@ -29,7 +29,7 @@ pub of_places : (ps : List Place) (read marked t : Table) → IsOf (map (λ p. p
 of_places ps read marked t r m u = record {
   paths = λ es.
       u.paths es ∙ (λ i. r.paths es i || m.paths es i)
-      ∙ (λ i. any_address (is_front es) ps i || any_marked (is_front es) ps i)
-      ∙ none_more (is_front es) ps;
+      ∙ (λ i. any_address (is_prefix_of es) ps i || any_marked (is_prefix_of es) ps i)
+      ∙ none_more (is_prefix_of es) ps;
   marks = λ es. u.marks es ∙ (λ i. r.marks es i || m.marks es i) ∙ any_marked (is_same es) ps;
 }

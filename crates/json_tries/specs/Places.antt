@@ -6,7 +6,7 @@ use Rattle.access_tries.specs.declared.edge.Edge.{Edge}
 use Rattle.access_tries.specs.contracts.edge.Edge.{the_row as edge_row}
 use Rattle.access_tries.specs.Edges.{Address}
 use Rattle.access_tries.specs.Table.{Table, leads, is_marked}
-use Rattle.access_tries.specs.Paths.{is_front, is_same}
+use Rattle.access_tries.specs.Paths.{is_prefix_of, is_same}
 use Rattle.access_tries.specs.Trees.{Branch, branch, Branches, no_branches, leading}
 
 -- where a node stands, and whether it is marked
@@ -31,5 +31,5 @@ abbrev mutual
 
 -- the trie of these places: it leads to them and on the way to them, and is marked at those that are marked
 pub record IsOfPlaces (ps : List Place) (t : Table) : Type 0 where
-  pub paths : (es : Address) → leads t es ≡ list_any (λ p. is_front es p.0) ps
+  pub paths : (es : Address) → leads t es ≡ list_any (λ p. is_prefix_of es p.0) ps
   pub marks : (es : Address) → is_marked t es ≡ list_any (λ p. p.1 && is_same es p.0) ps

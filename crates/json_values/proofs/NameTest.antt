@@ -35,8 +35,8 @@ component_known cs = Decides-like (is_component cs)
     (λ c. (c.long, (c.head, (c.each, c.allowed))))
     (Decides-and _ _ (λ e. grind (arith, nat_tests), λ h. grind (arith, nat_tests)) (Decides-and _ _ (head_known (slice_index cs 0)) (Decides-and _ _ (tails cs, tails_from cs) (Decides-not _ (bytes_eq-Decides cs (codes "__cedar"))))))
 
-front : (word left : List ℕ) → list_all is_tail word ≡ true → (0 < length left → IsTail (slice_index left 0) → ⊥) → IsPrefix (word ++ left) word left
-front word left t e = record { whole = refl; each = tails word t; end = e }
+prefix : (word left : List ℕ) → list_all is_tail word ≡ true → (0 < length left → IsTail (slice_index left 0) → ⊥) → IsPrefix (word ++ left) word left
+prefix word left t e = record { whole = refl; each = tails word t; end = e }
 
 none_left : 0 < length {A = ℕ} [] → IsTail (slice_index [] 0) → ⊥
 none_left h t = omega arith
@@ -44,13 +44,13 @@ none_left h t = omega arith
 -- a text of letters, digits and `_` alone is a name where it is a component
 word_known : (word : List ℕ) → list_all is_tail word ≡ true → Decides (is_component word) (IsName word)
 word_known word t = Decides-like (is_component word) (λ c. last word c)
-    (λ n. (name_prefix (word ++ []) word [] (front word [] t none_left) (subst IsName (sym (append-nil word)) n)).0)
+    (λ n. (name_prefix (word ++ []) word [] (prefix word [] t none_left) (subst IsName (sym (append-nil word)) n)).0)
     (component_known word)
 
 -- no name has another byte behind its first letters, but for two colons
 stray : (word : List ℕ) (c : ℕ) (rest : List ℕ) → list_all is_tail word ≡ true → is_tail c ≡ false → ((next : List ℕ) → c ∷ rest ≢ codes "::" ++ next) → ¬ IsName (word ++ c ∷ rest)
 stray word c rest t s n = name_stops (word ++ c ∷ rest) word (c ∷ rest)
-    (front word (c ∷ rest) t (λ h i. grind (arith, (tail_known c).1 i)))
+    (prefix word (c ∷ rest) t (λ h i. grind (arith, (tail_known c).1 i)))
     (λ e. cc) n
 
 grown : (word : List ℕ) (c : ℕ) → list_all is_tail word ≡ true → is_tail c ≡ true → list_all is_tail (word ++ c ∷ []) ≡ true
@@ -69,7 +69,7 @@ either_false : (b x y : Bool) → x ≡ false → y ≡ false → (if b then x e
 either_false true x y e f = e
 either_false false x y e f = f
 
--- where another byte stands in the word in front, there is no name
+-- where another byte stands in the word before it, there is no name
 bad : (word text : List ℕ) → list_all is_tail word ≡ false → is_name_after word text ≡ false
 unfolding is_name_after
 bad word [] e = no_component word e
@@ -95,7 +95,7 @@ colons_known word rest b t h = Decides-like (is_component word && b) (λ p. (the
     (Decides-and (is_component word) b (component_known word) h)
   where
     f : IsPrefix (word ++ 58 ∷ 58 ∷ rest) word (58 ∷ 58 ∷ rest)
-    f = front word (58 ∷ 58 ∷ rest) t (colons_end rest)
+    f = prefix word (58 ∷ 58 ∷ rest) t (colons_end rest)
 
 other_known : (word : List ℕ) (c d : ℕ) (rest : List ℕ) → list_all is_tail word ≡ true → (c == 58 && d == 58) ≡ false
     → (list_all is_tail (word ++ c ∷ []) ≡ true → Decides (is_name_after (word ++ c ∷ []) (d ∷ rest)) (IsName ((word ++ c ∷ []) ++ d ∷ rest)))

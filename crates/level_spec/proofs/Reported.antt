@@ -141,32 +141,32 @@ module _ (n : ℕ) where
 
   module _ (v : Option EntityUID) where
     mutual
-      pub told : (e : Typed) → Reported (dereferences v e) (level_faults v n e)
-      told (lit l a) = tt
-      told (var i a) = tt
-      told (slot i a) = tt
-      told (ite x y z a) =
-          both_reported (dereferences v x) (dereferences v y ++ dereferences v z) (level_faults v n x) (level_faults v n y ++ level_faults v n z) (told x)
-          (both_reported (dereferences v y) (dereferences v z) (level_faults v n y) (level_faults v n z) (told y) (told z))
-      told (conj x y a) = both_reported (dereferences v x) (dereferences v y) (level_faults v n x) (level_faults v n y) (told x) (told y)
-      told (disj x y a) = both_reported (dereferences v x) (dereferences v y) (level_faults v n x) (level_faults v n y) (told x) (told y)
-      told (unary o x a) = told x
-      told (binary o x y a) = op_reported (asks_store o) (level v x []) a.loc (dereferences v x) (dereferences v y) (target_faults v n x []) (level_faults v n x) (level_faults v n y) (reported_target x []) (told x) (told y)
-      told (attr x k a) = access_reported (gives_entity x) (level v x []) a.loc (dereferences v x) (target_faults v n x []) (level_faults v n x) (reported_target x []) (told x)
-      told (has x k a) = access_reported (gives_entity x) (level v x []) a.loc (dereferences v x) (target_faults v n x []) (level_faults v n x) (reported_target x []) (told x)
-      told (like x p a) = told x
-      told (is_type x t a) = told x
-      told (call f xs a) = reported_all xs
-      told (set xs a) = reported_all xs
-      told (rec xs a) = reported_named xs
+      pub reported : (e : Typed) → Reported (dereferences v e) (level_faults v n e)
+      reported (lit l a) = tt
+      reported (var i a) = tt
+      reported (slot i a) = tt
+      reported (ite x y z a) =
+          both_reported (dereferences v x) (dereferences v y ++ dereferences v z) (level_faults v n x) (level_faults v n y ++ level_faults v n z) (reported x)
+          (both_reported (dereferences v y) (dereferences v z) (level_faults v n y) (level_faults v n z) (reported y) (reported z))
+      reported (conj x y a) = both_reported (dereferences v x) (dereferences v y) (level_faults v n x) (level_faults v n y) (reported x) (reported y)
+      reported (disj x y a) = both_reported (dereferences v x) (dereferences v y) (level_faults v n x) (level_faults v n y) (reported x) (reported y)
+      reported (unary o x a) = reported x
+      reported (binary o x y a) = op_reported (asks_store o) (level v x []) a.loc (dereferences v x) (dereferences v y) (target_faults v n x []) (level_faults v n x) (level_faults v n y) (reported_target x []) (reported x) (reported y)
+      reported (attr x k a) = access_reported (gives_entity x) (level v x []) a.loc (dereferences v x) (target_faults v n x []) (level_faults v n x) (reported_target x []) (reported x)
+      reported (has x k a) = access_reported (gives_entity x) (level v x []) a.loc (dereferences v x) (target_faults v n x []) (level_faults v n x) (reported_target x []) (reported x)
+      reported (like x p a) = reported x
+      reported (is_type x t a) = reported x
+      reported (call f xs a) = reported_all xs
+      reported (set xs a) = reported_all xs
+      reported (rec xs a) = reported_named xs
 
       reported_all : (xs : Trees (Mark (Option Ty))) → Reported (dereferences_all v xs) (faults_all v n xs)
       reported_all no_trees = tt
-      reported_all (tree x xs) = both_reported (dereferences v x) (dereferences_all v xs) (level_faults v n x) (faults_all v n xs) (told x) (reported_all xs)
+      reported_all (tree x xs) = both_reported (dereferences v x) (dereferences_all v xs) (level_faults v n x) (faults_all v n xs) (reported x) (reported_all xs)
 
       reported_named : (xs : Named (Mark (Option Ty))) → Reported (dereferences_named v xs) (faults_named v n xs)
       reported_named no_named = tt
-      reported_named (named k x xs) = both_reported (dereferences v x) (dereferences_named v xs) (level_faults v n x) (faults_named v n xs) (told x) (reported_named xs)
+      reported_named (named k x xs) = both_reported (dereferences v x) (dereferences_named v xs) (level_faults v n x) (faults_named v n xs) (reported x) (reported_named xs)
 
       reported_target : (e : Typed) (fs : List (List ℕ)) → TargetReported (level v e fs) (dereferences v e) (target_faults v n e fs)
       reported_target (lit l a) fs = target_reported (literal_level v l) a.loc
@@ -176,13 +176,13 @@ module _ (n : ℕ) where
           let o = if_level (is_reached y) (is_reached z) (level v y fs) (level v z fs) in
           let ys = cond (is_reached y) (target_faults v n y fs) (level_faults v n y) in
           let zs = cond (is_reached z) (target_faults v n z fs) (level_faults v n z) in
-          both_all (ReportedAt n o os) (level_faults v n x) (ys ++ zs) (in_target o (dereferences v x) os (λ w i. in_left w (dereferences v x) (dereferences v y ++ dereferences v z) i) (level_faults v n x) (told x))
+          both_all (ReportedAt n o os) (level_faults v n x) (ys ++ zs) (in_target o (dereferences v x) os (λ w i. in_left w (dereferences v x) (dereferences v y ++ dereferences v z) i) (level_faults v n x) (reported x))
           (both_all (ReportedAt n o os) ys zs
           (left_reported (is_reached y) (is_reached z) (level v y fs) (level v z fs) (dereferences v y) os (target_faults v n y fs) (level_faults v n y)
-          (λ w i. in_right w (dereferences v x) (dereferences v y ++ dereferences v z) (in_left w (dereferences v y) (dereferences v z) i)) (reported_target y fs) (told y))
+          (λ w i. in_right w (dereferences v x) (dereferences v y ++ dereferences v z) (in_left w (dereferences v y) (dereferences v z) i)) (reported_target y fs) (reported y))
           (right_reported (is_reached y) (is_reached z) (level v y fs) (level v z fs) (dereferences v z) os (target_faults v n z fs) (level_faults v n z)
-          (λ w i. in_right w (dereferences v x) (dereferences v y ++ dereferences v z) (in_right w (dereferences v y) (dereferences v z) i)) (reported_target z fs) (told z)))
-      reported_target (binary o x y a) fs = binary_reported o (level v x []) a.loc (dereferences v x) (dereferences v y) (target_faults v n x []) (level_faults v n y) (reported_target x []) (told y)
+          (λ w i. in_right w (dereferences v x) (dereferences v y ++ dereferences v z) (in_right w (dereferences v y) (dereferences v z) i)) (reported_target z fs) (reported z)))
+      reported_target (binary o x y a) fs = binary_reported o (level v x []) a.loc (dereferences v x) (dereferences v y) (target_faults v n x []) (level_faults v n y) (reported_target x []) (reported y)
       reported_target (attr x k a) fs = attr_reported (gives_entity x) (level v x []) (level v x (k ∷ fs)) (dereferences v x) (target_faults v n x []) (target_faults v n x (k ∷ fs)) (reported_target x []) (reported_target x (k ∷ fs))
       reported_target (rec xs a) fs = reported_targets a.loc xs fs
       reported_target e fs = (inl refl, tt)
@@ -192,7 +192,7 @@ module _ (n : ℕ) where
       reported_targets l (named k x xs) [] = (inl refl, tt)
       reported_targets l (named k x xs) (f ∷ fs) =
           field_reported (is_eq (text_cmp f k)) (level v x fs) (level_under v xs (f ∷ fs)) (dereferences v x) (dereferences_named v xs)
-          (target_faults v n x fs) (level_faults v n x) (named_targets v n l xs (f ∷ fs)) (faults_named v n xs) (reported_target x fs) (told x) (reported_targets l xs (f ∷ fs)) (reported_named xs)
+          (target_faults v n x fs) (level_faults v n x) (named_targets v n l xs (f ∷ fs)) (faults_named v n xs) (reported_target x fs) (reported x) (reported_targets l xs (f ∷ fs)) (reported_named xs)
 
   -- where all are below, nothing is reported
   both_true : (a b : Bool) → (a && b) ≡ true → (a ≡ true) × (b ≡ true)
@@ -210,4 +210,4 @@ module _ (n : ℕ) where
   none_reported os h (literal_target l ∷ fs) t = let e : false ≡ true = one_below None os t.0 h in absurd (cc)
 
 pub faults_are_exact : LevelFaultsAreExact
-faults_are_exact v n e = (((λ h. clean n v e h), (λ h. none_reported n (dereferences v e) h (level_faults v n e) (told n v e))), told n v e)
+faults_are_exact v n e = (((λ h. clean n v e h), (λ h. none_reported n (dereferences v e) h (level_faults v n e) (reported n v e))), reported n v e)

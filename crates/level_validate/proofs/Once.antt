@@ -34,7 +34,7 @@ parts_back (Some k) l = refl
 -- what is kept so far, with what is left, makes the whole, and the set has what is kept
 pub record IsOnce (seen : BTreeSet Parts) (left whole found : List LevelFault) : Type 0 where
   pub rest : fold (with_new fault_cmp) found left ≡ whole
-  pub told : HasSeen seen found
+  pub reported : HasSeen seen found
 
 new_reported : (e s : Bool) → (s || (e || false)) ≡ cond e true s
 new_reported true true = refl
@@ -47,10 +47,10 @@ module _ (o : Option ℕ) (l : Option Loc) (seen seen2 : BTreeSet Parts) (left w
   pub once_new : (found2 : List LevelFault) → contains parts_cmp seen (o, l) ≡ false → ((q : Parts) → contains parts_cmp seen2 q ≡ cond (is_eq (parts_cmp (o, l) q)) true (contains parts_cmp seen q))
       → found2 ≡ found ++ fault_at o l ∷ [] → IsOnce seen2 left whole found2
   once_new found2 absent updates pushed = rw pushed record {
-    rest = subst (λ b. fold (with_new fault_cmp) (cond b found (found ++ fault_at o l ∷ [])) left ≡ whole) (h.told (fault_at o l) ∙ ap (contains parts_cmp seen) (parts_back o l) ∙ absent) h.rest;
-    told = λ f.
+    rest = subst (λ b. fold (with_new fault_cmp) (cond b found (found ++ fault_at o l ∷ [])) left ≡ whole) (h.reported (fault_at o l) ∙ ap (contains parts_cmp seen) (parts_back o l) ∙ absent) h.rest;
+    reported = λ f.
         list_any-append (λ x. is_eq (fault_cmp f x)) found (fault_at o l ∷ [])
-        ∙ (λ i. h.told f i || (is_eq (parts_cmp (parts_of f) (parts_back o l i)) || false))
+        ∙ (λ i. h.reported f i || (is_eq (parts_cmp (parts_of f) (parts_back o l i)) || false))
         ∙ new_reported (is_eq (parts_cmp (parts_of f) (o, l))) (contains parts_cmp seen (parts_of f))
         ∙ ap (λ b. cond b true (contains parts_cmp seen (parts_of f))) ((eq_by_cmp_equiv parts_total).symm (parts_of f) (o, l))
         ∙ sym (updates (parts_of f));
@@ -59,8 +59,8 @@ module _ (o : Option ℕ) (l : Option Loc) (seen seen2 : BTreeSet Parts) (left w
   -- what is there already
   pub once_old : contains parts_cmp seen (o, l) ≡ true → seen2.keys ≡ seen.keys → IsOnce seen2 left whole found
   once_old there same = record {
-    rest = subst (λ b. fold (with_new fault_cmp) (cond b found (found ++ fault_at o l ∷ [])) left ≡ whole) (h.told (fault_at o l) ∙ ap (contains parts_cmp seen) (parts_back o l) ∙ there) h.rest;
-    told = λ f. h.told f ∙ ap (list_any (λ k. is_eq (parts_cmp (parts_of f) k))) (sym same);
+    rest = subst (λ b. fold (with_new fault_cmp) (cond b found (found ++ fault_at o l ∷ [])) left ≡ whole) (h.reported (fault_at o l) ∙ ap (contains parts_cmp seen) (parts_back o l) ∙ there) h.rest;
+    reported = λ f. h.reported f ∙ ap (list_any (λ k. is_eq (parts_cmp (parts_of f) k))) (sym same);
   }
 
 -- one list after another

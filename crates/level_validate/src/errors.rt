@@ -37,7 +37,7 @@ pub fn level_errors(
         level_errors_in policy_id.now max_level (map condition_in conditions.now.items)) }
     ensures none { IfOk result (λ errors. (errors.items ≡ []) ↔
         AllByRecursion (PassesIn max_level) (map condition_in conditions.now.items)) }
-    ensures told { IfOk result
+    ensures reported { IfOk result
         (λ errors. AllByRecursion
         (IsReportedOf policy_id.now max_level
         (flat_map dereferences_in (map condition_in conditions.now.items))) errors.items) }

@@ -64,5 +64,5 @@ actions_declared schema t = to_each Q (linked_envs_of schema t) schema.action_id
         R e = AllByRecursion Q (linked_envs_at schema t a e)
 
 pub refusals_reported : RefusalIsReported → RefusalsAreReported
-refusals_reported told schema t names =
-    all_more (λ env. IsSome (action_type_in schema env)) (λ env. SaysWhy (checked schema env (condition_of t))) (λ env h. told schema env h (condition_of t) names) (linked_envs schema t) (actions_declared schema t)
+refusals_reported reported schema t names =
+    all_more (λ env. IsSome (action_type_in schema env)) (λ env. SaysWhy (checked schema env (condition_of t))) (λ env h. reported schema env h (condition_of t) names) (linked_envs schema t) (actions_declared schema t)

@@ -18,21 +18,21 @@ none_refused o found h k = ap (λ p. or_findings p found) h ∙ ap (λ es. refus
 pub set_refuses : (o : Option PolicySetError) (found : Findings) (e : PolicySetError) → IsNotAdded o e → (error : LiveManifestError) → IsNotAddedFor e error → IsRefusedFor (or_findings o found) error
 set_refuses o found e h error k = by e h k
   where
-    told : (f : PolicySetError) → o ≡ Some f → error ≡ refused.PolicySet f → IsRefusedFor (or_findings o found) error
-    told f h k = subst (IsRefusedFor (or_findings o found)) (sym k) (ap (λ p. or_findings p found) h)
+    reported : (f : PolicySetError) → o ≡ Some f → error ≡ refused.PolicySet f → IsRefusedFor (or_findings o found) error
+    reported f h k = subst (IsRefusedFor (or_findings o found)) (sym k) (ap (λ p. or_findings p found) h)
 
     by : (f : PolicySetError) → IsNotAdded o f → IsNotAddedFor f error → IsRefusedFor (or_findings o found) error
     by OutOfMemory h k = subst (IsRefusedFor (or_findings o found)) (sym k) tt
-    by (DuplicateId id) h k = told (DuplicateId id) h k
-    by (UnknownTemplate id) h k = told (UnknownTemplate id) h k
-    by (SlotMissing i) h k = told (SlotMissing i) h k
-    by (SlotExtra i) h k = told (SlotExtra i) h k
+    by (DuplicateId id) h k = reported (DuplicateId id) h k
+    by (UnknownTemplate id) h k = reported (UnknownTemplate id) h k
+    by (SlotMissing i) h k = reported (SlotMissing i) h k
+    by (SlotExtra i) h k = reported (SlotExtra i) h k
 
 -- with errors in what is added
 pub findings_refuse : (o : Option PolicySetError) (found : Findings) → o ≡ None → (error : LiveManifestError) → IsFaulty found error → IsRefusedFor (or_findings o found) error
 findings_refuse o found h (refused.PolicySet fault) k = absurd k
 findings_refuse o found h refused.OutOfMemory k = tt
-findings_refuse o found h (refused.Validation told) k = ap (λ p. or_findings p found) h ∙ by found.errors k.1 ∙ ap (λ f. Some (errors f)) (sym k.0)
+findings_refuse o found h (refused.Validation reported) k = ap (λ p. or_findings p found) h ∙ by found.errors k.1 ∙ ap (λ f. Some (errors f)) (sym k.0)
   where
     by : (es : List ValidationError) → ¬ (es ≡ []) → refused_with es found ≡ Some (errors found)
     by [] n = absurd (n refl)

@@ -9,7 +9,7 @@ use Rattle.live_manifest.specs.declared.error.LiveManifestError.TheVariants as r
 -- there are errors among the findings, or there was no memory
 abbrev pub IsFaulty : Findings → LiveManifestError → Type 0
 IsFaulty found (refused.PolicySet fault) = ⊥
-IsFaulty found (refused.Validation told) = (told ≡ found) × ¬ (found.errors ≡ [])
+IsFaulty found (refused.Validation reported) = (reported ≡ found) × ¬ (found.errors ≡ [])
 IsFaulty found refused.OutOfMemory = ⊤
 
 -- the error of the set, where it is not that there was no memory

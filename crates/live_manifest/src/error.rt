@@ -8,7 +8,7 @@ use thiserror::Error;
 /// Why an entry is not added.
 #[derive(Debug, Drop, Error)]
 pub enum LiveManifestError {
-    /// The set does not take it; never for want of memory.
+    /// The set does not take it; never for lack of memory.
     #[error(transparent)]
     PolicySet(PolicySetError),
     /// There are errors in it: what was found of it.

@@ -81,10 +81,10 @@ fn union_at(
         [] => Ok(RootAccessTrie::new(alloc)),
         [own] => trie_at(alloc, number, own),
         _ => {
-            let (front, back) = tries.split_at(tries.len() / 2);
-            let front = union_at(alloc, number, front)?;
+            let (prefix, back) = tries.split_at(tries.len() / 2);
+            let prefix = union_at(alloc, number, prefix)?;
             let back = union_at(alloc, number, back)?;
-            front.union(alloc, &back)
+            prefix.union(alloc, &back)
         }
     }
 }

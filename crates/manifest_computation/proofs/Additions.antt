@@ -6,7 +6,7 @@ use Rattle.std.proofs.lemmas.List.{map-append}
 use Rattle.std.proofs.lemmas.List.Elements.{filter-append}
 use Rattle.std.proofs.lemmas.List.Folds.{list_any-append}
 use Rattle.access_tries.specs.Edges.{Address}
-use Rattle.access_tries.specs.Paths.{address_of, demand_of, is_front, is_same, IsLeast, IsUnion}
+use Rattle.access_tries.specs.Paths.{address_of, demand_of, is_prefix_of, is_same, IsLeast, IsUnion}
 use Rattle.access_tries.specs.Table.{Table, leads, is_marked}
 use Rattle.schema_core.specs.EnvData.{EnvData}
 use Rattle.schema_core.specs.Schema.{SchemaData}
@@ -59,9 +59,9 @@ module _ (schema : SchemaData) (env : EnvData) where
 
   pub goes_append : (es : Address) (ts us : List Typed) → goes_along schema env (ts ++ us) es ≡ (goes_along schema env ts es || goes_along schema env us es)
   goes_append es ts us =
-      (λ i. any_read (is_front es) ts us i || any_demand (is_front es) ts us i)
-      ∙ or_exchange (list_any (is_front es) (map address_of (declared_reads schema env ts))) (list_any (is_front es) (map address_of (declared_reads schema env us)))
-      (list_any (is_front es) (map demand_of (declared_demands schema env ts))) (list_any (is_front es) (map demand_of (declared_demands schema env us)))
+      (λ i. any_read (is_prefix_of es) ts us i || any_demand (is_prefix_of es) ts us i)
+      ∙ or_exchange (list_any (is_prefix_of es) (map address_of (declared_reads schema env ts))) (list_any (is_prefix_of es) (map address_of (declared_reads schema env us)))
+      (list_any (is_prefix_of es) (map demand_of (declared_demands schema env ts))) (list_any (is_prefix_of es) (map demand_of (declared_demands schema env us)))
 
   -- conditions whose trie is united with another may be let go of
   pub added : (ts : List Typed) (t more u : Table) → IsLeast (declared_reads schema env ts) (declared_demands schema env ts) more → IsUnion t more u → (us : List Typed) → HoldSame schema env u us t (ts ++ us)

@@ -19,7 +19,7 @@ use Rattle.policy_values.specs.Uid.{text_cmp}
 use Rattle.policy_expressions.specs.Plain.{Plain}
 use Rattle.policy_expressions.specs.Tree.{conj, depth_of, Mark}
 use Rattle.access_tries.specs.Edges.{Address}
-use Rattle.access_tries.specs.Paths.{address_of, demand_of, is_front, is_same}
+use Rattle.access_tries.specs.Paths.{address_of, demand_of, is_prefix_of, is_same}
 use Rattle.access_tries.specs.Table.{Table, leads, is_marked}
 use Rattle.schema_types.specs.Ty.{Ty}
 use Rattle.schema_core.specs.EnvData.{EnvData}
@@ -33,7 +33,7 @@ use Rattle.typecheck_rules.specs.Check.{Check, Success, Irrelevant, Fail, TooDee
 use Rattle.policy_validate.specs.AcceptanceLaws.{LeavesAll}
 use Rattle.policy_validate.specs.Found.{condition_in, found_conditions}
 use Rattle.typecheck_walk.specs.Answer.{Reports}
-use Rattle.typecheck_walk.specs.declared.policy_check.PolicyCheck.TheVariants as told
+use Rattle.typecheck_walk.specs.declared.policy_check.PolicyCheck.TheVariants as known
 use Rattle.manifest_computation.specs.Gathered.{goes_along, asks_along, part_in, HoldSame, IsHeld, AreHeld, IsTaken}
 use Rattle.manifest_computation.proofs.Additions.{goes_append, any_demand, and_then, one_taken, left_next}
 use Rattle.manifest_computation.proofs.Splits.{IsSplit}
@@ -115,16 +115,16 @@ module _ (schema : SchemaData) (env : EnvData) where
   -- `&&` reads and asks for what its sides do
   conj_goes : (es : Address) (s b : Typed) (m : Mark (Option Ty)) (ts : List Typed) → goes_along schema env (conj s b m ∷ ts) es ≡ goes_along schema env (s ∷ b ∷ ts) es
   conj_goes es s b m ts =
-      λ i. list_any (is_front es) (map address_of (map (declared_part schema env) (append_assoc (reads schema env s) (reads schema env b) (reads_of schema env ts) i)))
-      || list_any (is_front es) (map demand_of (filter (are_declared schema env) (append_assoc (demands s) (demands b) (demands_of ts) i)))
+      λ i. list_any (is_prefix_of es) (map address_of (map (declared_part schema env) (append_assoc (reads schema env s) (reads schema env b) (reads_of schema env ts) i)))
+      || list_any (is_prefix_of es) (map demand_of (filter (are_declared schema env) (append_assoc (demands s) (demands b) (demands_of ts) i)))
 
   conj_asks : (es : Address) (s b : Typed) (m : Mark (Option Ty)) (ts : List Typed) → asks_along schema env (conj s b m ∷ ts) es ≡ asks_along schema env (s ∷ b ∷ ts) es
   conj_asks es s b m ts = λ i. list_any (is_same es) (map demand_of (filter (are_declared schema env) (append_assoc (demands s) (demands b) (demands_of ts) i)))
 
   left_goes : (es : Address) (s : Typed) (m : Mark (Option Ty)) (ts : List Typed) → goes_along schema env (conj s unreached m ∷ ts) es ≡ goes_along schema env (s ∷ ts) es
   left_goes es s m ts =
-      λ i. list_any (is_front es) (map address_of (map (declared_part schema env) (append-nil (reads schema env s) i ++ reads_of schema env ts)))
-      || list_any (is_front es) (map demand_of (filter (are_declared schema env) (append-nil (demands s) i ++ demands_of ts)))
+      λ i. list_any (is_prefix_of es) (map address_of (map (declared_part schema env) (append-nil (reads schema env s) i ++ reads_of schema env ts)))
+      || list_any (is_prefix_of es) (map demand_of (filter (are_declared schema env) (append-nil (demands s) i ++ demands_of ts)))
 
   left_asks : (es : Address) (s : Typed) (m : Mark (Option Ty)) (ts : List Typed) → asks_along schema env (conj s unreached m ∷ ts) es ≡ asks_along schema env (s ∷ ts) es
   left_asks es s m ts = λ i. list_any (is_same es) (map demand_of (filter (are_declared schema env) (append-nil (demands s) i ++ demands_of ts)))
@@ -148,13 +148,13 @@ module _ (schema : SchemaData) (env : EnvData) where
       (behind_same t ts (s ∷ more) (conj s unreached m ∷ more) (λ es. left_goes es s m more) (λ es. left_asks es s m more))
 
   -- a scope that is not met, one that fails, and one behind which the body fails or is taken
-  pub unmet_taken : (id : List ℕ) (c : Check) (s : Typed) → Reports id c (told.Irrelevant s) → (b o : Option Typed) → IsSplit c b o → (t u : Table) (ts us : List Typed) → IsTaken schema env u us t ts s →
+  pub unmet_taken : (id : List ℕ) (c : Check) (s : Typed) → Reports id c (known.Irrelevant s) → (b o : Option Typed) → IsSplit c b o → (t u : Table) (ts us : List Typed) → IsTaken schema env u us t ts s →
       IsSomeAnd o (IsTaken schema env u us t ts)
   unmet_taken id (Irrelevant r) s h b o split t u ts us took =
       subst (λ z. IsSomeAnd z (IsTaken schema env u us t ts)) (sym split.1) (left_taken t u ts us r split.0 (subst (IsTaken schema env u us t ts) h took))
   unmet_taken id c s h b o split t u ts us took = absurd h
 
-  pub met_taken : (id : List ℕ) (c : Check) (s : Typed) → Reports id c (told.Success s) → (b o : Option Typed) → IsSplit c b o → (t u v : Table) (ts us vs : List Typed) → IsTaken schema env u us t ts s →
+  pub met_taken : (id : List ℕ) (c : Check) (s : Typed) → Reports id c (known.Success s) → (b o : Option Typed) → IsSplit c b o → (t u v : Table) (ts us vs : List Typed) → IsTaken schema env u us t ts s →
       IsSomeAnd b (IsTaken schema env v vs u us) → IsSomeAnd o (IsTaken schema env v vs t ts)
   met_taken id (Success r) s h None o split t u v ts us vs took more = absurd more
   met_taken id (Success r) s h (Some b) o split t u v ts us vs took more =
@@ -231,12 +231,12 @@ module _ (schema : SchemaData) (env : EnvData) where
       by (Some c) e h = (one_taken schema env it rest p is c e t u old new all same h, left_next schema env it rest p is c e ps left)
 
 -- where its scope fails, or its body does behind one that may be met, nothing is left of a condition
-pub scope_fails : (id : List ℕ) (c : Check) (es : Vec ValidationError Global) → Reports id c (told.Fail es) → (b o : Option Typed) → IsSplit c b o → o ≡ None
+pub scope_fails : (id : List ℕ) (c : Check) (es : Vec ValidationError Global) → Reports id c (known.Fail es) → (b o : Option Typed) → IsSplit c b o → o ≡ None
 scope_fails id (Fail fs) es h b o split = split
 scope_fails id TooDeep es h b o split = split
 scope_fails id c es h b o split = absurd h
 
-pub body_fails : (id : List ℕ) (c : Check) (s : Typed) → Reports id c (told.Success s) → (b o : Option Typed) → b ≡ None → IsSplit c b o → o ≡ None
+pub body_fails : (id : List ℕ) (c : Check) (s : Typed) → Reports id c (known.Success s) → (b o : Option Typed) → b ≡ None → IsSplit c b o → o ≡ None
 body_fails id (Success r) s h None o none split = split
 body_fails id (Success r) s h (Some b) o none split = absurd (cc none)
 body_fails id c s h b o none split = absurd h

@@ -1,4 +1,4 @@
--- Where every rule holds, nothing but want of memory is a reason for no slice.
+-- Where every rule holds, nothing but lack of memory is a reason for no slice.
 use Rattle.std.proofs.Common.{◌≡◌, None, Some, sym, ◌∙◌, refl}
 use Rattle.entity_store.specs.declared.request.Request.{Request}
 use Rattle.entity_store.specs.Store.{Store}

@@ -223,21 +223,21 @@ module _ (l : Option Loc) (m : Mark (Unit {0})) where
   failed : (o : Option Typing) (t : Typed) (fs : List Finding) → left_of (ended false o t fs) ≡ None
   failed (Some a) t fs = fails a.tree fs
     where
-      lent : (o : Option Ty) (t : Typed) (fs : List Finding) → condition_in (check_walked (expect_given a_boolean l o t fs)) ≡ None
-      lent None t fs = refl
-      lent (Some u) t fs = by (is_boolean u)
+      borrowed : (o : Option Ty) (t : Typed) (fs : List Finding) → condition_in (check_walked (expect_given a_boolean l o t fs)) ≡ None
+      borrowed None t fs = refl
+      borrowed (Some u) t fs = by (is_boolean u)
         where
           by : (b : Bool) → condition_in (check_walked (cond b (Fail t fs) (Fail (untyped t) (fs ++ unexpected a_boolean l u)))) ≡ None
           by true = refl
           by false = refl
 
       fails : (t : Typed) (fs : List Finding) → left_of (Fail t fs) ≡ None
-      fails t fs = lent (mark_of t).note t fs
-  failed None t fs = lent (mark_of t).note
+      fails t fs = borrowed (mark_of t).note t fs
+  failed None t fs = borrowed (mark_of t).note
     where
-      lent : (o : Option Ty) → condition_in (check_walked (expect_given a_boolean l o t fs)) ≡ None
-      lent None = refl
-      lent (Some u) = by (is_boolean u)
+      borrowed : (o : Option Ty) → condition_in (check_walked (expect_given a_boolean l o t fs)) ≡ None
+      borrowed None = refl
+      borrowed (Some u) = by (is_boolean u)
         where
           by : (b : Bool) → condition_in (check_walked (cond b (Fail t fs) (Fail (untyped t) (fs ++ unexpected a_boolean l u)))) ≡ None
           by true = refl

@@ -5,7 +5,7 @@ use Rattle.std.specs.List.{list_any}
 use Rattle.policy_values.specs.Uid.{text_cmp}
 use Rattle.policy_expressions.specs.Plain.{Plain}
 use Rattle.access_tries.specs.Edges.{Address}
-use Rattle.access_tries.specs.Paths.{address_of, demand_of, is_front, is_same, IsLeast}
+use Rattle.access_tries.specs.Paths.{address_of, demand_of, is_prefix_of, is_same, IsLeast}
 use Rattle.access_tries.specs.Table.{Table, leads, is_marked}
 use Rattle.schema_core.specs.EnvData.{EnvData}
 use Rattle.schema_core.specs.Schema.{SchemaData}
@@ -18,10 +18,10 @@ use Rattle.policy_validate.specs.AcceptanceLaws.{LeavesAll}
 use Rattle.policy_validate.specs.Found.{condition_in, found_conditions}
 
 module _ (schema : SchemaData) (env : EnvData) where
-  -- whether the edges are a front of what conditions read or ask for
+  -- whether the edges are a prefix of what conditions read or ask for
   abbrev pub goes_along : List Typed → Address → Bool
-  goes_along ts es = list_any (is_front es) (map address_of (declared_reads schema env ts))
-      || list_any (is_front es) (map demand_of (declared_demands schema env ts))
+  goes_along ts es = list_any (is_prefix_of es) (map address_of (declared_reads schema env ts))
+      || list_any (is_prefix_of es) (map demand_of (declared_demands schema env ts))
 
   -- whether they are what one of them asks for
   abbrev pub asks_along : List Typed → Address → Bool

@@ -24,7 +24,7 @@ use std::alloc::Global;
 /// value, a missing entity or an overflow.
 ///
 /// Errs with the first of these that does not hold: the request is whole, it conforms to the schema, so does
-/// the store, and the policies are accepted; a warning does not matter. Where all hold, it errs for want of
+/// the store, and the policies are accepted; a warning does not matter. Where all hold, it errs for lack of
 /// memory alone.
 pub fn slice_for_request(
     alloc: Global,
@@ -52,7 +52,7 @@ pub fn slice_for_request(
     }
 }
 
-// Where every rule holds, nothing but want of memory is a reason for no slice.
+// Where every rule holds, nothing but lack of memory is a reason for no slice.
 fn wants_memory_alone(
     schema: &ValidatorSchema,
     policies: &PolicySet,

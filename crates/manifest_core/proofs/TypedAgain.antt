@@ -94,11 +94,11 @@ module _ (s : SchemaData) (t : RequestType) where
 
   fits_again : (a b : Table) → IsTable a → IsTable b → trie_fault s t a ≡ None → KeepsDeclared s t a b → trie_fault s t b ≡ None
   fits_again a b ka kb none typed =
-      none_of (branches_of b) never (λ e es p. none_among (branches_of a) never none e es (sym (leads_is a ka e es) ∙ front (leads a (e ∷ es)) _ (sym (typed.paths (e ∷ es)) ∙ leads_is b kb e es ∙ p)))
+      none_of (branches_of b) never (λ e es p. none_among (branches_of a) never none e es (sym (leads_is a ka e es) ∙ prefix (leads a (e ∷ es)) _ (sym (typed.paths (e ∷ es)) ∙ leads_is b kb e es ∙ p)))
     where
-      front : (p q : Bool) → (p && q) ≡ true → p ≡ true
-      front true q h = refl
-      front false q h = h
+      prefix : (p q : Bool) → (p && q) ≡ true → p ≡ true
+      prefix true q h = refl
+      prefix false q h = h
 
   again : (p q : Bool) → (p && q) ≡ ((p && q) && q)
   again true true = refl

@@ -8,7 +8,7 @@ use Rattle.policy_values.specs.Reaches.{at}
 use Rattle.schema_types.specs.Ty.{never}
 use Rattle.schema_core.specs.Schema.{SchemaData}
 use Rattle.access_tries.specs.Edges.{Address}
-use Rattle.access_tries.specs.Paths.{is_front, is_same}
+use Rattle.access_tries.specs.Paths.{is_prefix_of, is_same}
 use Rattle.access_tries.specs.Table.{Table, leads, is_marked}
 use Rattle.json_tries.specs.Places.{Place}
 use Rattle.manifest_core.specs.declared.error.EntityManifestFromJsonError.{EntityManifestFromJsonError}
@@ -22,7 +22,7 @@ module _ (s : SchemaData) where
   -- exactly the declared paths to these nodes and on the way to them, with the marks of the nodes
   pub record IsTypedOf (t : RequestType) (ps : List Place) (a : Table) : Type 0 where
     pub paths : (es : Address) →
-        leads a es ≡ (list_any (λ p. is_front es p.0) ps && is_declared_address s t never es)
+        leads a es ≡ (list_any (λ p. is_prefix_of es p.0) ps && is_declared_address s t never es)
     pub marks : (es : Address) → is_marked a es ≡
         (list_any (λ p. p.1 && is_same es p.0) ps && is_declared_address s t never es)
 

@@ -7,12 +7,12 @@ use Rattle.byte_streams.specs.Steps.{IsQuiet, Rose}
 use Rattle.policy_gate.specs.Answer.{IsAnswer}
 use Rattle.policy_gate.specs.Command.{own_document}
 use Rattle.policy_gate.specs.Reply.{Answer, answer}
-use Rattle.policy_gate.specs.Run.{Gives, IsDue, IsDueAfterReading, IsDueFor, IsGivenBy, IsToReadBy, IsToWorkOn, Reads, Runs}
+use Rattle.policy_gate.specs.Run.{Gives, IsExpected, IsExpectedAfterReading, IsExpectedFor, IsGivenBy, IsToReadBy, IsToWorkOn, Reads, Runs}
 use Rattle.policy_gate.specs.declared.command.Command.{Command}
 use Rattle.policy_gate.specs.declared.status.Status.{Status}
 use Rattle.policy_gate.specs.declared.status.Status.TheVariants.{OutOfMemory}
 use Rattle.policy_gate.proofs.Runs.{all_taken, longer}
-use Rattle.palvumiose_c.specs.KnownText.{IsDueOn, IsDueTo, IsReported, of_own}
+use Rattle.palvumiose_c.specs.KnownText.{IsExpectedOn, IsExpectedTo, IsReported, of_own}
 
 -- a count of faults at 0 has not risen
 not_risen : (old new : ℕ) → new ≤ 0 → Rose old new → ⊥
@@ -32,7 +32,7 @@ module _ {document held : List ℕ} {source source' : SourceState} {sink sink' :
   at_start taken = subst (λ l. Consumes l source'.left taken) m.left
 
   whole : (bytes : List ℕ) → WasRead source source' bytes → document ≡ bytes
-  whole bytes (few, (count, front), end) = all_taken document bytes source'.left (at_start bytes front) end
+  whole bytes (few, (count, prefix), end) = all_taken document bytes source'.left (at_start bytes prefix) end
 
   -- the bytes that a command was given are those of its document
   pub given_by : (o : Option (List ℕ)) (bytes : List ℕ) → IsGivenBy o source source' bytes → of_own o document ≡ bytes
@@ -45,27 +45,27 @@ module _ {document held : List ℕ} {source source' : SourceState} {sink sink' :
   nothing : Keeps sink.holds sink'.holds → held ≡ []
   nothing k = subst (λ o. Keeps (Some []) o) m.full (subst (λ o. Keeps o sink'.holds) m.empty k)
 
-  after_reading : (c : Command) (a : Answer) → IsDueAfterReading c source source' a → IsDueOn None c document a
+  after_reading : (c : Command) (a : Answer) → IsExpectedAfterReading c source source' a → IsExpectedOn None c document a
   after_reading c a (inl (bytes, read, is)) = inl (subst (λ b. (length b ≤ document_limit) × IsAnswer c b a) (sym (whole bytes read)) (read.0, is))
   after_reading c a (inr (inl d)) = absurd (not_risen source.faults source'.faults m.sound d.1)
-  after_reading c a (inr (inr (is, (taken, many, (count, front))))) = let most = longer document taken source'.left (at_start taken front) in inr (omega (arith, most), is)
+  after_reading c a (inr (inr (is, (taken, many, (count, prefix))))) = let most = longer document taken source'.left (at_start taken prefix) in inr (omega (arith, most), is)
 
-  due_for : (o : Option (List ℕ)) (c : Command) (a : Answer) → IsDueFor o c source source' a → IsDueOn o c document a
-  due_for None c a d = after_reading c a d
-  due_for (Some own) c a d = d.1
+  expected_for : (o : Option (List ℕ)) (c : Command) (a : Answer) → IsExpectedFor o c source source' a → IsExpectedOn o c document a
+  expected_for None c a d = after_reading c a d
+  expected_for (Some own) c a d = d.1
 
-  due : (command : Option Command) (a : Answer) → IsDue command source source' a → IsDueTo command document a
-  due None a d = d.0
-  due (Some c) a d = due_for (own_document c) c a d
+  expected : (command : Option Command) (a : Answer) → IsExpected command source source' a → IsExpectedTo command document a
+  expected None a d = d.0
+  expected (Some c) a d = expected_for (own_document c) c a d
 
-  given : (command : Option Command) (status : Status) (a : Answer) → IsDueTo command document a → Gives a sink sink' status → IsReported command document (answer status held)
-  given command status a d (inl g) = inl (subst (λ t. IsDueTo command document (answer status t)) (sym (written a.text g.1)) (subst (λ s. IsDueTo command document (answer s a.text)) (sym g.0) d))
+  given : (command : Option Command) (status : Status) (a : Answer) → IsExpectedTo command document a → Gives a sink sink' status → IsReported command document (answer status held)
+  given command status a d (inl g) = inl (subst (λ t. IsExpectedTo command document (answer status t)) (sym (written a.text g.1)) (subst (λ s. IsExpectedTo command document (answer s a.text)) (sym g.0) d))
   given command status a d (inr g) = absurd (not_risen sink.faults sink'.faults m.took g.0)
 
-  -- the answer that is due, or that memory ran out
+  -- the answer that is expected, or that memory ran out
   pub known_from_runs : (command : Option Command) (status : Status) → Runs command source source' sink sink' status → IsReported command document (answer status held)
   known_from_runs command status (inl d) = inr (ap (λ s. answer s held) d.1 ∙ ap (answer OutOfMemory) (nothing d.2))
-  known_from_runs command status (inr (a, d, g)) = given command status a (due command a d) g
+  known_from_runs command status (inr (a, d, g)) = given command status a (expected command a d) g
 
   -- what is said of the bytes that were read and of the text that was written
   pub said_of_both : (Says : List ℕ → List ℕ → Type 0)

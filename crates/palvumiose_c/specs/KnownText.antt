@@ -16,20 +16,20 @@ use Rattle.policy_gate.specs.declared.status.Status.TheVariants as status
 abbrev pub words_in : List ℕ → List (List ℕ)
 words_in bytes = if is_utf8 bytes then slice_split (λ b. b == 0) bytes else []
 
--- what is due for a command that has a document of its own; and for the others, which read the caller's
-abbrev pub IsDueOn : Option (List ℕ) → Command → List ℕ → Answer → Type 0
-IsDueOn (Some own) command document a = IsAnswer command own a
-IsDueOn None command document a = ((length document ≤ document_limit) × IsAnswer command document a)
+-- what is expected for a command that has a document of its own; and for the others, which read the caller's
+abbrev pub IsExpectedOn : Option (List ℕ) → Command → List ℕ → Answer → Type 0
+IsExpectedOn (Some own) command document a = IsAnswer command own a
+IsExpectedOn None command document a = ((length document ≤ document_limit) × IsAnswer command document a)
     ⊎ ((document_limit < length document) × (a ≡ too_long))
 
--- what is due for words that are no command, and for those that are one
-abbrev pub IsDueTo : Option Command → List ℕ → Answer → Type 0
-IsDueTo None document a = a ≡ usage
-IsDueTo (Some command) document a = IsDueOn (own_document command) command document a
+-- what is expected for words that are no command, and for those that are one
+abbrev pub IsExpectedTo : Option Command → List ℕ → Answer → Type 0
+IsExpectedTo None document a = a ≡ usage
+IsExpectedTo (Some command) document a = IsExpectedOn (own_document command) command document a
 
--- a call says what is due; or that memory ran out, with no text
+-- a call says what is expected; or that memory ran out, with no text
 abbrev pub IsReported : Option Command → List ℕ → Answer → Type 0
-IsReported command document a = IsDueTo command document a ⊎ (a ≡ answer status.OutOfMemory [])
+IsReported command document a = IsExpectedTo command document a ⊎ (a ≡ answer status.OutOfMemory [])
 
 -- the words are a command that reads the caller's document, and that is no longer than one may be, and keeps
 -- every rule of the command
@@ -42,14 +42,14 @@ pub record KeepAllRules (words document : List ℕ) : Type 0 where
   pub of : IsDocumentOf (shape_of command) document read
   pub rules : KeepsRulesOf command read
 
--- a text over the front of other bytes: as much of it as there is room for, and behind it what was there
+-- a text over the start of other bytes: as much of it as there is room for, and behind it what was there
 abbrev pub laid_over : List ℕ → List ℕ → List ℕ
 laid_over text bytes = take (length bytes) text ++ drop (length text) bytes
 
 -- the caller is handed a text: its size, and as much of it as `out` has room for
 pub record IsHanded (text : List ℕ) (size : ℕ) (out out' : List ℕ) : Type 0 where
   pub whole : size ≡ length text
-  pub front : out' ≡ laid_over text out
+  pub prefix : out' ≡ laid_over text out
 
 -- the document that a command works on: its own, where it has one, or that of the caller
 abbrev pub of_own : Option (List ℕ) → List ℕ → List ℕ

@@ -49,9 +49,9 @@ fn own(alloc: Global, texts: &[&str]) -> Result<Vec<String>, AllocError>
     Ok(words)
 }
 
-// What `run` answers where both document and text are in memory. The sink fails only for want of memory.
+// What `run` answers where both document and text are in memory. The sink fails only where memory runs out.
 fn reply_to(alloc: Global, command: &[u8], document: &[u8]) -> Result<Reply, AllocError>
-    ensures told { IfOk result (λ r.
+    ensures reported { IfOk result (λ r.
         IsReported (command_of (words_in command.now)) document.now (answer r.status r.text.items)) }
     ensures headline { command_of (words_in command.now) ≡ Some Command.Slice
         → IfOk result (λ r. r.status ≡ Status.Done
@@ -79,7 +79,7 @@ fn reply_to(alloc: Global, command: &[u8], document: &[u8]) -> Result<Reply, All
 
 // The same, with no text where memory ran out.
 fn answer_to(alloc: Global, command: &[u8], document: &[u8]) -> Reply
-    ensures told { IsReported (command_of (words_in command.now)) document.now
+    ensures reported { IsReported (command_of (words_in command.now)) document.now
         (answer result.status result.text.items) }
     ensures headline { command_of (words_in command.now) ≡ Some Command.Slice → result.status ≡ Status.Done
         → HasDocument Command.Slice document.now (λ d. IsSliced d result.text.items) }
@@ -97,7 +97,7 @@ fn answer_to(alloc: Global, command: &[u8], document: &[u8]) -> Reply
     }
 }
 
-// Copies as much of the text to the front of `out` as there is room for.
+// Copies as much of the text to the start of `out` as there is room for.
 fn lay_over(text: &[u8], out: &mut [u8])
     ensures { out.new ≡ laid_over text.now out.old }
 {
@@ -109,7 +109,7 @@ fn lay_over(text: &[u8], out: &mut [u8])
 ///
 /// `command` is the words that would stand behind the program's name, with a zero byte between two of them,
 /// as `decide`, or `level`, a zero byte and `2`. `document` is the bytes that the program would read. `out`
-/// gets the text, or its front where `out` is shorter; behind the text `out` stays as it was. `size` gets the
+/// gets the text, or its prefix where `out` is shorter; behind the text `out` stays as it was. `size` gets the
 /// size of the whole text: where it is more than `out` has room for, call again with that much room. The
 /// result is the program's status. It is never 8 or 9, since nothing is read or written outside; 10 says that
 /// memory ran out, and then there is no text.
@@ -134,9 +134,9 @@ pub extern "C" fn palvumiose_c_run(
     out: &mut [u8],
     size: &mut usize,
 ) -> u8
-    // The answer that is due for the words and the document, or that memory ran out: its status is the
+    // The answer that is expected for the words and the document, or that memory ran out: its status is the
     // result, its text is in `out` as far as there is room, and `size` is the text's size.
-    ensures told { (a : Answer) × IsReported (command_of (words_in command.now)) document.now a
+    ensures reported { (a : Answer) × IsReported (command_of (words_in command.now)) document.now a
         × (result ≡ code_of a.status) × IsHanded a.text size.new out.old out.new }
 
     // The headline: where `slice` answers 0 the document keeps every rule, and the text is its store

@@ -8,7 +8,7 @@ use Rattle.std.specs.BTreeSet.{insert_key}
 use Rattle.std.proofs.lemmas.Map.Lookups.{CmpEqualImpliesEq}
 use Rattle.access_tries.specs.Edges.{Address}
 use Rattle.access_tries.specs.Table.{Table}
-use Rattle.access_tries.specs.Paths.{AccessPath, IsLeastOf, address_of, is_front, is_same}
+use Rattle.access_tries.specs.Paths.{AccessPath, IsLeastOf, address_of, is_prefix_of, is_same}
 use Rattle.path_analysis.specs.Covers.{covers}
 use Rattle.plain_lemmas.proofs.Booleans.{or_again}
 
@@ -75,6 +75,6 @@ module _ {X : Type 0} (p : X → Bool) where
 -- a least trie has no more to do with how often something is read or asked for, nor with paths from which others go on
 pub least_alike : (ps qs : List AccessPath) (ds es : List Address) (t : Table) → ((a : Address) → covers ps a ≡ covers qs a) → Alike ds es → IsLeastOf (map address_of ps) ds t → IsLeastOf (map address_of qs) es t
 least_alike ps qs ds es t reads demands h = record {
-  paths = λ a. h.paths a ∙ (λ i. (mapped address_of (is_front a) ps ∙ reads a ∙ sym (mapped address_of (is_front a) qs)) i || demands (is_front a) i);
+  paths = λ a. h.paths a ∙ (λ i. (mapped address_of (is_prefix_of a) ps ∙ reads a ∙ sym (mapped address_of (is_prefix_of a) qs)) i || demands (is_prefix_of a) i);
   marks = λ a. h.marks a ∙ demands (is_same a);
 }

@@ -45,7 +45,7 @@ exact_demand = exact_pairs path_cmp path_cmp exact_path exact_path
 -- what is read and demanded matters, and not how often
 module _ (schema : SchemaData) (env : EnvData) {A : Type 0} (ts : List (Tree A)) where
   reads_alike : (ps : List AccessPath) → Adds [] (reads_of schema env ts) ps [] → (es : Address) → covers (map (declared_part schema env) ps) es ≡ covers (declared_reads schema env ts) es
-  reads_alike ps h es = same_declared schema env ps (reads_of schema env ts) es (sym (or_false (covers ps es)) ∙ h.fronts es)
+  reads_alike ps h es = same_declared schema env ps (reads_of schema env ts) es (sym (or_false (covers ps es)) ∙ h.prefixes es)
 
   demands_alike : (ds : List Demand) → ds ≡ with_demands [] (demands_of ts) → Alike (map demand_of (filter (are_declared schema env) ds)) (map demand_of (declared_demands schema env ts))
   demands_alike ds is =

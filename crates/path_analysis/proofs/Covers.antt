@@ -1,7 +1,7 @@
 -- Steps of walks that add paths, each with all that it goes on from.
 use Rattle.std.proofs.Common.{◌≡◌, ℕ, Bool, true, false, ◌||◌, ◌&&◌, List, [], ◌∷◌, ◌++◌, map, refl, sym, ap, ◌∙◌, subst}
 use Rattle.access_tries.specs.Edges.{Address, edge_eq}
-use Rattle.access_tries.specs.Paths.{AccessPath, address_of, edge_of, is_front}
+use Rattle.access_tries.specs.Paths.{AccessPath, address_of, edge_of, is_prefix_of}
 use Rattle.access_tries.specs.PathLaws.{exact_path}
 use Rattle.access_tries.specs.declared.edge.Edge.TheVariants.{Root}
 use Rattle.plain_lemmas.proofs.Booleans.{or_false, or_assoc, or_assoc_left, or_right_true, and_parts_of}
@@ -21,53 +21,53 @@ use Rattle.path_analysis.proofs.Alike.{more}
 pub covers_both : (xs ys : List AccessPath) (es : Address) → covers (xs ++ ys) es ≡ (covers xs es || covers ys es)
 covers_both [] ys es = refl
 covers_both (x ∷ xs) ys es =
-    ap (λ b. is_front es (address_of x) || b) (covers_both xs ys es) ∙ or_assoc_left (is_front es (address_of x)) (covers xs es) (covers ys es)
+    ap (λ b. is_prefix_of es (address_of x) || b) (covers_both xs ys es) ∙ or_assoc_left (is_prefix_of es (address_of x)) (covers xs es) (covers ys es)
 
 -- nothing is added, and nothing is added yet
 pub adds_none : (old : List AccessPath) → Adds old [] old []
-adds_none old = record { fronts = λ es. refl }
+adds_none old = record { prefixes = λ es. refl }
 
 pub adds_start : (old all : List AccessPath) → Adds old all old all
-adds_start old all = record { fronts = λ es. refl }
+adds_start old all = record { prefixes = λ es. refl }
 
 -- more is added after more
 pub adds_more : (old xs mid ys new : List AccessPath) → Adds old xs mid [] → Adds mid ys new [] → Adds old (xs ++ ys) new []
 adds_more old xs mid ys new h k = record {
-  fronts = λ es.
-      k.fronts es ∙ ap (λ b. b || covers ys es) (sym (or_false (covers mid es)) ∙ h.fronts es)
+  prefixes = λ es.
+      k.prefixes es ∙ ap (λ b. b || covers ys es) (sym (or_false (covers mid es)) ∙ h.prefixes es)
       ∙ or_assoc (covers old es) (covers xs es) (covers ys es) ∙ ap (λ b. covers old es || b) (sym (covers_both xs ys es));
 }
 
 -- the next of what is left is added
 pub adds_next : (old all mid xs rest new : List AccessPath) → Adds old all mid (xs ++ rest) → Adds mid xs new [] → Adds old all new rest
 adds_next old all mid xs rest new h k = record {
-  fronts = λ es.
-      ap (λ b. b || covers rest es) (sym (or_false (covers new es)) ∙ k.fronts es)
-      ∙ or_assoc (covers mid es) (covers xs es) (covers rest es) ∙ ap (λ b. covers mid es || b) (sym (covers_both xs rest es)) ∙ h.fronts es;
+  prefixes = λ es.
+      ap (λ b. b || covers rest es) (sym (or_false (covers new es)) ∙ k.prefixes es)
+      ∙ or_assoc (covers mid es) (covers xs es) (covers rest es) ∙ ap (λ b. covers mid es || b) (sym (covers_both xs rest es)) ∙ h.prefixes es;
 }
 
 -- what is added to a set
 set_prefixes : (old xs : List AccessPath) (es : Address) → covers (with_paths old xs) es ≡ (covers old es || covers xs es)
-set_prefixes old xs es = more exact_path (λ p. is_front es (address_of p)) old xs
+set_prefixes old xs es = more exact_path (λ p. is_prefix_of es (address_of p)) old xs
 
 pub adds_set : (old xs new : List AccessPath) → new ≡ with_paths old xs → Adds old xs new []
-adds_set old xs new is = record { fronts = λ es. or_false (covers new es) ∙ ap (λ ps. covers ps es) is ∙ set_prefixes old xs es }
+adds_set old xs new is = record { prefixes = λ es. or_false (covers new es) ∙ ap (λ ps. covers ps es) is ∙ set_prefixes old xs es }
 
 pub adds_set_more : (old xs mid ys new : List AccessPath) → Adds old xs mid [] → new ≡ with_paths mid ys → Adds old (xs ++ ys) new []
 adds_set_more old xs mid ys new h is = adds_more old xs mid ys new h (adds_set mid ys new is)
 
--- a path's fronts are fronts of the path that goes on
-prefix_of_longer : (es : Address) (ss : List Step) (n : Step) → is_front es (map edge_of ss) ≡ true → is_front es (map edge_of (ss ++ n ∷ [])) ≡ true
+-- a path's prefixes are prefixes of the path that goes on
+prefix_of_longer : (es : Address) (ss : List Step) (n : Step) → is_prefix_of es (map edge_of ss) ≡ true → is_prefix_of es (map edge_of (ss ++ n ∷ [])) ≡ true
 prefix_of_longer [] ss n h = refl
 prefix_of_longer (e ∷ es) [] n h = cc
 prefix_of_longer (e ∷ es) (s ∷ ss) n h =
-    let parts = and_parts_of (edge_eq (edge_of s) e) (is_front es (map edge_of ss)) h in
+    let parts = and_parts_of (edge_eq (edge_of s) e) (is_prefix_of es (map edge_of ss)) h in
     λ i. parts.0 i && prefix_of_longer es ss n parts.1 i
 
-root_prefix : (es : Address) (r : PathRoot) (ss : List Step) (n : Step) → is_front es (address_of (record { root = r; steps = ss })) ≡ true → is_front es (address_of (record { root = r; steps = ss ++ n ∷ [] })) ≡ true
+root_prefix : (es : Address) (r : PathRoot) (ss : List Step) (n : Step) → is_prefix_of es (address_of (record { root = r; steps = ss })) ≡ true → is_prefix_of es (address_of (record { root = r; steps = ss ++ n ∷ [] })) ≡ true
 root_prefix [] r ss n h = refl
 root_prefix (e ∷ es) r ss n h =
-    let parts = and_parts_of (edge_eq (Root r) e) (is_front es (map edge_of ss)) h in
+    let parts = and_parts_of (edge_eq (Root r) e) (is_prefix_of es (map edge_of ss)) h in
     λ i. parts.0 i && prefix_of_longer es ss n parts.1 i
 
 one_goes_on : (es : Address) (r : PathRoot) (ss : List Step) (n : Step) →
@@ -75,7 +75,7 @@ one_goes_on : (es : Address) (r : PathRoot) (ss : List Step) (n : Step) →
 one_goes_on es r [] n h = cc
 one_goes_on es r (s ∷ ss) n h =
     let short = address_of (record { root = r; steps = s ∷ ss }) in
-    ap (λ b. b || false) (root_prefix es r (s ∷ ss) n (sym (or_false (is_front es short)) ∙ h))
+    ap (λ b. b || false) (root_prefix es r (s ∷ ss) n (sym (or_false (is_prefix_of es short)) ∙ h))
 
 -- the path that a shape is itself is one of its paths
 own_in : (a : Shape) (es : Address) → covers (own_path a) es ≡ true → covers (with_step (paths a)) es ≡ true
@@ -104,9 +104,9 @@ goes_on_for n false o x false h k = k ∙ ap (λ b. o || b) (sym (or_false x))
 -- a path that goes on stands for itself
 pub path_goes_on : (a : Shape) (n : Step) (old xs new : List AccessPath) → is_path a ≡ true → Adds old xs new (own_path a) → Adds old (xs ++ with_step (paths (extended a n))) new (own_path (extended a n))
 path_goes_on (at_path p) n old xs new is h = record {
-  fronts = λ es.
+  prefixes = λ es.
       let w = covers (with_step (beyond p (n ∷ []) ∷ [])) es in
-      goes_on_for (covers new es) (covers (own_path (at_path p)) es) (covers old es) (covers xs es) w (one_goes_on es p.root p.steps n) (h.fronts es)
+      goes_on_for (covers new es) (covers (own_path (at_path p)) es) (covers old es) (covers xs es) w (one_goes_on es p.root p.steps n) (h.prefixes es)
       ∙ ap (λ b. covers old es || b) (sym (covers_both xs (with_step (beyond p (n ∷ []) ∷ [])) es));
 }
 path_goes_on no_shape n old xs new is h = cc
@@ -125,10 +125,10 @@ none_own (one_of a b) is = refl
 pub paths_go_on : (a : Shape) (n : Step) (old xs mid new : List AccessPath) → is_path a ≡ false → Adds old xs mid (own_path a) →
     new ≡ with_paths mid (with_step (paths (extended a n))) → Adds old (xs ++ with_step (paths (extended a n))) new (own_path (extended a n))
 paths_go_on a n old xs mid new is h added = record {
-  fronts = λ es.
+  prefixes = λ es.
       let ws = with_step (paths (extended a n)) in
       let before : covers mid es ≡ (covers old es || covers xs es) =
-      sym (or_false (covers mid es)) ∙ ap (λ ps. covers mid es || covers ps es) (sym (none_own a is)) ∙ h.fronts es in
+      sym (or_false (covers mid es)) ∙ ap (λ ps. covers mid es || covers ps es) (sym (none_own a is)) ∙ h.prefixes es in
       ap (λ b. b || covers (own_path (extended a n)) es) (ap (λ ps. covers ps es) added ∙ set_prefixes mid ws es)
       ∙ own_again (covers mid es) (covers old es) (covers xs es) (covers ws es) (covers (own_path (extended a n)) es) (own_in (extended a n) es) before
       ∙ ap (λ b. covers old es || b) (sym (covers_both xs ws es));
@@ -137,10 +137,10 @@ paths_go_on a n old xs mid new is h added = record {
 -- at the end the paths of the shape are added
 pub adds_own : (a : Shape) (old xs mid new : List AccessPath) → Adds old (xs ++ with_step (paths a)) mid (own_path a) → new ≡ with_paths mid (with_step (paths a)) → Adds old (xs ++ with_step (paths a)) new []
 adds_own a old xs mid new h added = record {
-  fronts = λ es.
+  prefixes = λ es.
       let ws = with_step (paths a) in
       or_false (covers new es) ∙ ap (λ ps. covers ps es) added ∙ set_prefixes mid ws es
-      ∙ with_own (covers old es) (covers xs es) (covers ws es) (covers mid es) (covers (own_path a) es) (own_in a es) (h.fronts es ∙ ap (λ b. covers old es || b) (covers_both xs ws es))
+      ∙ with_own (covers old es) (covers xs es) (covers ws es) (covers mid es) (covers (own_path a) es) (own_in a es) (h.prefixes es ∙ ap (λ b. covers old es || b) (covers_both xs ws es))
       ∙ ap (λ b. covers old es || b) (sym (covers_both xs ws es));
 }
 
@@ -167,7 +167,7 @@ module _ (schema : SchemaData) (env : EnvData) {A : Type 0} where
 
   -- so it stands for itself
   pub own_stands : (e : Tree A) (old new : List AccessPath) → Adds old (reads schema env e) new [] → Adds old (reads schema env e) new (own_path (shape_of e))
-  own_stands e old new h = record { fronts = λ es. kept (covers new es) (covers (own_path (shape_of e)) es) (covers old es) (covers (reads schema env e) es) (own_read e es) (h.fronts es) }
+  own_stands e old new h = record { prefixes = λ es. kept (covers new es) (covers (own_path (shape_of e)) es) (covers old es) (covers (reads schema env e) es) (own_read e es) (h.prefixes es) }
     where
       kept : (n own o r : Bool) → (own ≡ true → r ≡ true) → (n || false) ≡ (o || r) → (n || own) ≡ (o || r)
       kept n true o r g k = or_right_true n true refl ∙ sym (or_right_true o r (g refl))

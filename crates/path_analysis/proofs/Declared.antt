@@ -1,10 +1,10 @@
--- The declared part of a path has those of its fronts that are declared.
+-- The declared part of a path has those of its prefixes that are declared.
 use Rattle.std.proofs.Common.{◌≡◌, Bool, true, false, ◌||◌, ◌&&◌, List, [], ◌∷◌, map, Option, is_some, refl, sym, ap, ◌∙◌}
 use Rattle.std.specs.Prelude.{if◌then◌else◌}
 use Rattle.policy_values.specs.Ties.{equal_of}
 use Rattle.access_tries.specs.Edges.{Address, edge_cmp, edge_eq}
 use Rattle.access_tries.specs.EdgeLaws.{exact_edge}
-use Rattle.access_tries.specs.Paths.{AccessPath, address_of, edge_of, is_front}
+use Rattle.access_tries.specs.Paths.{AccessPath, address_of, edge_of, is_prefix_of}
 use Rattle.access_tries.specs.declared.edge.Edge.{Edge}
 use Rattle.access_tries.specs.declared.edge.Edge.TheVariants.{Field, AnyTag, Root}
 use Rattle.plain_lemmas.proofs.Booleans.{and_exchange, and_false}
@@ -39,17 +39,17 @@ module _ (schema : SchemaData) where
       computed (along n) = refl
       computed any_tag = refl
 
-  one_prefix : (d : Bool) (e : Edge) (es : Address) (s : Step) (ss : List Step) → is_front (e ∷ es) (map edge_of (if d then s ∷ ss else [])) ≡ (d && (edge_eq (edge_of s) e && is_front es (map edge_of ss)))
+  one_prefix : (d : Bool) (e : Edge) (es : Address) (s : Step) (ss : List Step) → is_prefix_of (e ∷ es) (map edge_of (if d then s ∷ ss else [])) ≡ (d && (edge_eq (edge_of s) e && is_prefix_of es (map edge_of ss)))
   one_prefix true e es s ss = refl
   one_prefix false e es s ss = refl
 
-  steps_prefix : (o : Option Ty) (ss : List Step) (es : Address) → is_front es (map edge_of (declared_steps schema o ss)) ≡ (is_front es (map edge_of ss) && are_steps o es)
+  steps_prefix : (o : Option Ty) (ss : List Step) (es : Address) → is_prefix_of es (map edge_of (declared_steps schema o ss)) ≡ (is_prefix_of es (map edge_of ss) && are_steps o es)
   steps_prefix o ss [] = refl
   steps_prefix o [] (e ∷ es) = refl
   steps_prefix o (s ∷ ss) (e ∷ es) =
       let next = step_on schema o s in
       one_prefix (is_some next) e es s (declared_steps schema next ss)
-      ∙ both_sides (is_some next) (edge_eq (edge_of s) e) (is_front es (map edge_of ss)) (is_front es (map edge_of (declared_steps schema next ss))) (are_steps next es) (are_steps o (e ∷ es))
+      ∙ both_sides (is_some next) (edge_eq (edge_of s) e) (is_prefix_of es (map edge_of ss)) (is_prefix_of es (map edge_of (declared_steps schema next ss))) (are_steps next es) (are_steps o (e ∷ es))
       (steps_prefix next ss es) (one_step o s e es)
 
   module _ (env : EnvData) where
@@ -58,17 +58,17 @@ module _ (schema : SchemaData) where
     is_declared_address (Root r ∷ es) = are_steps (root_type schema env r) es
     is_declared_address (e ∷ es) = false
 
-    path_prefix : (p : AccessPath) (es : Address) → is_front es (address_of (declared_part schema env p)) ≡ (is_front es (address_of p) && is_declared_address es)
+    path_prefix : (p : AccessPath) (es : Address) → is_prefix_of es (address_of (declared_part schema env p)) ≡ (is_prefix_of es (address_of p) && is_declared_address es)
     path_prefix p [] = refl
     path_prefix p (e ∷ es) =
-        both_sides true (edge_eq (Root p.root) e) (is_front es (map edge_of p.steps)) (is_front es (map edge_of (declared_steps schema (root_type schema env p.root) p.steps)))
+        both_sides true (edge_eq (Root p.root) e) (is_prefix_of es (map edge_of p.steps)) (is_prefix_of es (map edge_of (declared_steps schema (root_type schema env p.root) p.steps)))
         (are_steps (root_type schema env p.root) es) (is_declared_address (e ∷ es)) (steps_prefix (root_type schema env p.root) p.steps es)
         (λ h. ap (λ x. is_declared_address (x ∷ es)) (sym (exact_edge (Root p.root) e (equal_of (edge_cmp (Root p.root) e) h))))
 
     declared_prefixes : (ps : List AccessPath) (es : Address) → covers (map (declared_part schema env) ps) es ≡ (covers ps es && is_declared_address es)
     declared_prefixes [] es = refl
-    declared_prefixes (p ∷ ps) es = (λ i. path_prefix p es i || declared_prefixes ps es i) ∙ either_side (is_front es (address_of p)) (covers ps es) (is_declared_address es)
+    declared_prefixes (p ∷ ps) es = (λ i. path_prefix p es i || declared_prefixes ps es i) ∙ either_side (is_prefix_of es (address_of p)) (covers ps es) (is_declared_address es)
 
-    -- paths with the same fronts have declared parts with the same fronts
+    -- paths with the same prefixes have declared parts with the same prefixes
     pub same_declared : (ps qs : List AccessPath) (es : Address) → covers ps es ≡ covers qs es → covers (map (declared_part schema env) ps) es ≡ covers (map (declared_part schema env) qs) es
     same_declared ps qs es h = declared_prefixes ps es ∙ ap (λ b. b && is_declared_address es) h ∙ sym (declared_prefixes qs es)

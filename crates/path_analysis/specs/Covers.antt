@@ -2,7 +2,7 @@
 use Rattle.std.specs.Prelude.{◌≡◌, Bool, true, false, ◌||◌, List, [], ◌∷◌}
 use Rattle.std.specs.List.{list_any}
 use Rattle.access_tries.specs.Edges.{Address}
-use Rattle.access_tries.specs.Paths.{AccessPath, address_of, is_front}
+use Rattle.access_tries.specs.Paths.{AccessPath, address_of, is_prefix_of}
 use Rattle.policy_expressions.specs.Tree.{Tree}
 use Rattle.schema_core.specs.EnvData.{EnvData}
 use Rattle.schema_core.specs.Schema.{SchemaData}
@@ -11,11 +11,11 @@ use Rattle.reads_spec.specs.Reads.{with_step, reads, shape_of}
 
 -- whether one of the paths goes on from these edges
 abbrev pub covers : List AccessPath → Address → Bool
-covers ps es = list_any (λ p. is_front es (address_of p)) ps
+covers ps es = list_any (λ p. is_prefix_of es (address_of p)) ps
 
 -- the new paths, those that are left, and all that they go on from are the old ones and more
 pub record Adds (old more new left : List AccessPath) : Type 0 where
-  pub fronts : (es : Address) → (covers new es || covers left es) ≡ (covers old es || covers more es)
+  pub prefixes : (es : Address) → (covers new es || covers left es) ≡ (covers old es || covers more es)
 
 -- whether the shape is a path itself
 abbrev pub is_path : Shape → Bool

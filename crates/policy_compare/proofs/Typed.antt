@@ -13,7 +13,7 @@ use Rattle.typecheck_rules.specs.Check.{Check, Success, Irrelevant, Fail, TooDee
 use Rattle.typecheck_rules.specs.Walked.{findings_of}
 use Rattle.typecheck_walk.specs.Answer.{Reports}
 use Rattle.typecheck_walk.specs.declared.policy_check.PolicyCheck.{PolicyCheck}
-use Rattle.typecheck_walk.specs.declared.policy_check.PolicyCheck.TheVariants as told
+use Rattle.typecheck_walk.specs.declared.policy_check.PolicyCheck.TheVariants as reported
 
 -- what a check leaves, by the definitions and in code
 abbrev left_in : Check → Option Typed
@@ -22,15 +22,15 @@ left_in (Irrelevant t) = Some t
 left_in c = None
 
 abbrev pub left_by : PolicyCheck → Option Typed
-left_by (told.Success t) = Some t
-left_by (told.Irrelevant t) = Some t
-left_by (told.Fail es) = None
+left_by (reported.Success t) = Some t
+left_by (reported.Irrelevant t) = Some t
+left_by (reported.Fail es) = None
 
 left_same : (id : List ℕ) (c : Check) (r : PolicyCheck) → Reports id c r → left_in c ≡ left_by r
-left_same id (Success t) (told.Success u) h = ap Some (sym h)
-left_same id (Irrelevant t) (told.Irrelevant u) h = ap Some (sym h)
-left_same id (Fail fs) (told.Fail es) h = refl
-left_same id TooDeep (told.Fail es) h = refl
+left_same id (Success t) (reported.Success u) h = ap Some (sym h)
+left_same id (Irrelevant t) (reported.Irrelevant u) h = ap Some (sym h)
+left_same id (Fail fs) (reported.Fail es) h = refl
+left_same id TooDeep (reported.Fail es) h = refl
 left_same id c r h = absurd h
 
 by_type : (u : Ty) (t : Typed) (fs : List Finding) (v : Typed) → left_in (check_of u t fs) ≡ Some v → t ≡ v

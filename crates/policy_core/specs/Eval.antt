@@ -68,7 +68,7 @@ abbrev pub with_value : Outcome → (Val → Outcome) → Outcome
 with_value (Value v) f = f v
 with_value (Error e) f = Error e
 
--- one more value in front; its error comes first
+-- with one more value at the head; its error comes first
 abbrev pub in_prefix : {X : Type 0} → (Val → X) → Outcome →
     Result (List X) EvalError → Result (List X) EvalError
 in_prefix f (Error e) r = Err e

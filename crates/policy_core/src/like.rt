@@ -57,10 +57,10 @@ fn behind_chars<'a>(pattern: &'a [PatternElem], text: &'a [char]) -> Left<'a>
             [PatternElem::Wildcard, pattern_left @ ..] => {
                 return Left::Wildcard(pattern_left, text);
             }
-            [PatternElem::Char(wanted), pattern_left @ ..] => match text {
+            [PatternElem::Char(needed), pattern_left @ ..] => match text {
                 [] => return Left::Nothing,
                 [c, text_left @ ..] => {
-                    if *c != *wanted {
+                    if *c != *needed {
                         return Left::Nothing;
                     }
                     pattern = pattern_left;

@@ -32,17 +32,17 @@ module _ (laws : Laws) (d : Document) (made : IsWellMade d) where
   lines_are (q ∷ qs) [] h = absurd h
   lines_are (q ∷ qs) (a ∷ answers) h = rw (line_is q a h.0, lines_are qs answers h.1) refl
 
-  told : (q : Request) (a : BatchAnswer) → IsAnswer q a → IsReportedOfStore a
-  told q Partial is = tt
-  told q (Refused e) is = tt
-  told q (Loading e) is = is
-  told q (Decided r) is = tt
+  reported : (q : Request) (a : BatchAnswer) → IsAnswer q a → IsReportedOfStore a
+  reported q Partial is = tt
+  reported q (Refused e) is = tt
+  reported q (Loading e) is = is
+  reported q (Decided r) is = tt
 
   each_reported : (qs : List Request) (answers : List BatchAnswer) → AllZip IsAnswer qs answers → AllByRecursion IsReportedOfStore answers
   each_reported [] [] h = tt
   each_reported [] (a ∷ answers) h = absurd h
   each_reported (q ∷ qs) [] h = tt
-  each_reported (q ∷ qs) (a ∷ answers) h = (told q a h.0, each_reported qs answers h.1)
+  each_reported (q ∷ qs) (a ∷ answers) h = (reported q a h.0, each_reported qs answers h.1)
 
   pub all_reported : (qs : List Request) (answers : List BatchAnswer) → AllZip IsAnswer qs answers → All IsReportedOfStore answers
   all_reported qs answers h = All-from_recursion IsReportedOfStore answers (each_reported qs answers h)

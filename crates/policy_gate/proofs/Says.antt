@@ -1,5 +1,5 @@
--- What an answer with status 0 or 1 says, and when 0 is due.
--- The plan. A refusal has a status of its own, so where 0 is due nothing was refused, and the text is that of the command's
+-- What an answer with status 0 or 1 says, and when 0 is expected.
+-- The plan. A refusal has a status of its own, so where 0 is expected nothing was refused, and the text is that of the command's
 -- work (`done`). That nothing was refused means that each rule of the command holds, part by part: the request, the store,
 -- the policies, the edits (`keeping`, `conforming_store` and so on), and back (`not_refused`, `kept_is_done`). What 0 says
 -- is then what the definitions of the work say under these rules. Of refusals only that of policies has the status 1, and
@@ -120,7 +120,7 @@ no_refusal : (c : Command) (s : Status) → IsRefusalOf c s → s ≡ status.Don
 no_refusal Live s h is = cc (h, is)
 no_refusal c s h is = subst IsRefusal is h
 
--- where 0 is due nothing is refused, and the work is done
+-- where 0 is expected nothing is refused, and the work is done
 done : (c : Command) (r : Option Answer) (W : List ℕ → Type 0) (text : List ℕ) → IfSome r (λ a. IsRefusalOf c a.status) → IsRefusedOr r W (answer status.Done text) → (r ≡ None) × W text
 done c None W text h is = (refl, is.1)
 done c (Some a) W text h is = absurd (no_refusal c a.status h (sym (ap (λ b. b.status) is)))
@@ -453,7 +453,7 @@ edit_of c d text h is = absurd (not_edit (refusal c d) (IsWork c d) text h is)
 -- ---- over the bytes
 
 module _ (laws : Laws) (c : Command) (bytes text : List ℕ) where
-  -- where 0 is due, it says this
+  -- where 0 is expected, it says this
   pub says_done : IsAnswer c bytes (answer status.Done text) → (d : Document) × IsDocumentOf (shape_of c) bytes d × Says c d text
   unfolding IsAnswer
   says_done (inl (place, reads, is)) = absurd (cc (ap (λ b. b.status) is))
@@ -461,20 +461,20 @@ module _ (laws : Laws) (c : Command) (bytes text : List ℕ) where
       let past = done c (refusal c d) (IsWork c d) text (refuses c d) is in
       (d, reads, says laws d made c text past.0 past.1)
 
-  -- where 1 is due, the policies are not accepted
+  -- where 1 is expected, the policies are not accepted
   pub says_refused : IsAnswer c bytes (answer status.Findings text) → (d : Document) × IsDocumentOf (shape_of c) bytes d × (¬ HasPoliciesFor c d)
   unfolding IsAnswer
   says_refused (inl (place, reads, is)) = absurd (cc (ap (λ b. b.status) is))
   says_refused (inr (d, reads, made, is)) = (d, reads, found_policies laws c d (found_answer (refusal c d) (IsWork c d) text is))
 
-  -- where 12 is due, an edit is refused
+  -- where 12 is expected, an edit is refused
   pub says_edit : IsAnswer c bytes (answer status.Edit text) → (c ≡ Live) × ((d : Document) × IsDocumentOf (shape_of c) bytes d × IsRefusedEdit d text)
   unfolding IsAnswer
   says_edit (inl (place, reads, is)) = absurd (cc (ap (λ b. b.status) is))
   says_edit (inr (d, reads, made, is)) = let edit = edit_of c d text (refuses c d) is in (edit.0, (d, reads, edit.1))
 
 module _ (laws : Laws) (c : Command) where
-  -- where every rule of the command holds, 0 is due
+  -- where every rule of the command holds, 0 is expected
   pub kept_is_done : (bytes : List ℕ) (d : Document) (a : Answer) → IsDocumentOf (shape_of c) bytes d → KeepsRulesOf c d → IsAnswer c bytes a → a.status ≡ status.Done
   unfolding IsAnswer
   kept_is_done bytes d a reads rules (inl (place, faulty, is)) = absurd (cc (one_reading_of (shape_of c) bytes d (Err place) reads faulty))

@@ -1,4 +1,4 @@
--- Which status and text are due for a command and the bytes of a document.
+-- Which status and text are expected for a command and the bytes of a document.
 use Rattle.std.specs.Prelude.{◌≡◌, ◌⊎◌, ◌&&◌, ℕ, Bool, true, List, [], ◌∷◌, ◌++◌, length, Option, Some, None, is_some, Ok, Err, codes, option_map, if◌then◌else◌}
 use Rattle.std.specs.Option.{option_or}
 use Rattle.std.specs.List.{flat_map}
@@ -252,12 +252,12 @@ abbrev pub IsRefusedOr : Option Answer → (List ℕ → Type 0) → Answer → 
 IsRefusedOr None IsDone a = (a.status ≡ status.Done) × IsDone a.text
 IsRefusedOr (Some r) IsDone a = a ≡ r
 
--- this is due for edits: the first that is refused, or else the manifest of the policies that they leave
+-- this is expected for edits: the first that is refused, or else the manifest of the policies that they leave
 abbrev pub IsAnswerToEdits : SchemaData → List SetEdit → Answer → Type 0
 IsAnswerToEdits schema edits a = IsRefusedOr (refused_first (first_refused schema 0 no_policies edits))
     (IsManifestText schema (after_edits schema no_policies edits)) a
 
--- this is due for a document
+-- this is expected for a document
 abbrev pub IsAnswerTo : Command → Document → Answer → Type 0
 IsAnswerTo c d a = IsRefusedOr (refusal c d) (IsWork c d) a
 
@@ -268,7 +268,7 @@ pub record IsWellMade (d : Document) : Type 0 where
   pub policies : IsPolicySet d.policies
   pub keys : AreKeyedOnce d.policies.policies
 
--- this status and text are due for a document of these bytes: the place of the first fault, where they are
+-- this status and text are expected for a document of these bytes: the place of the first fault, where they are
 -- none
 unfoldable pub IsAnswer : Command → List ℕ → Answer → Type 0
 IsAnswer c bytes a = ((place : Place) × IsReadAs (shape_of c) bytes (Err place)

@@ -26,24 +26,24 @@ read_fault = answer ReadFault (codes "read fault\n")
 abbrev pub too_long : Answer
 too_long = answer TooLong (codes "document: more than 16777216 bytes\n")
 
--- what is due where a document is read: what the command asks for its bytes; or the source failed, or gave
+-- what is expected where a document is read: what the command asks for its bytes; or the source failed, or gave
 -- too many bytes
-abbrev pub IsDueAfterReading : Command → SourceState → SourceState → Answer → Type 0
-IsDueAfterReading command source source' a =
+abbrev pub IsExpectedAfterReading : Command → SourceState → SourceState → Answer → Type 0
+IsExpectedAfterReading command source source' a =
     ((bytes : List ℕ) × WasRead source source' bytes × IsAnswer command bytes a)
     ⊎ (((a ≡ read_fault) × Rose source.faults source'.faults
     × (source'.taken ≤ source.taken + document_limit))
     ⊎ ((a ≡ too_long) × TakesTooMany source source'))
 
--- what is due for a command that has a document of its own: the source is left alone; the others read one
-abbrev pub IsDueFor : Option (List ℕ) → Command → SourceState → SourceState → Answer → Type 0
-IsDueFor None command source source' a = IsDueAfterReading command source source' a
-IsDueFor (Some bytes) command source source' a = (source' ≡ source) × IsAnswer command bytes a
+-- what is expected for a command that has a document of its own: the source is left alone; the others read one
+abbrev pub IsExpectedFor : Option (List ℕ) → Command → SourceState → SourceState → Answer → Type 0
+IsExpectedFor None command source source' a = IsExpectedAfterReading command source source' a
+IsExpectedFor (Some bytes) command source source' a = (source' ≡ source) × IsAnswer command bytes a
 
--- what is due for the words; where they are no command the source is left alone
-abbrev pub IsDue : Option Command → SourceState → SourceState → Answer → Type 0
-IsDue None source source' a = (a ≡ usage) × (source' ≡ source)
-IsDue (Some command) source source' a = IsDueFor (own_document command) command source source' a
+-- what is expected for the words; where they are no command the source is left alone
+abbrev pub IsExpected : Option Command → SourceState → SourceState → Answer → Type 0
+IsExpected None source source' a = (a ≡ usage) × (source' ≡ source)
+IsExpected (Some command) source source' a = IsExpectedFor (own_document command) command source source' a
 
 -- the bytes of the document that a command works on: all that the source gave, or those of its own document
 abbrev pub IsGivenBy : Option (List ℕ) → SourceState → SourceState → List ℕ → Type 0
@@ -74,24 +74,24 @@ abbrev pub HasTooMany : SourceState → SourceState → Type 0
 HasTooMany source source' = (bytes : List ℕ) × (source.left ≡ Some bytes) × (document_limit < length bytes)
     × IsQuiet source.faults source'.faults
 
--- all of the answer's text is written, and its status stands; or the sink's count rose, and a front of the
+-- all of the answer's text is written, and its status stands; or the sink's count rose, and a prefix of the
 -- text is written
 abbrev pub Gives : Answer → SinkState → SinkState → Status → Type 0
 Gives a sink sink' status = ((status ≡ a.status) × Appends sink.holds sink'.holds a.text)
     ⊎ (Rose sink.faults sink'.faults × (status ≡ after_fault a.status)
     × ((n : ℕ) × Appends sink.holds sink'.holds (take n a.text)))
 
--- a run gives the answer that is due; or memory ran out for a command, and nothing is written
+-- a run gives the answer that is expected; or memory ran out for a command, and nothing is written
 abbrev pub Runs : Option Command → SourceState → SourceState → SinkState → SinkState → Status → Type 0
 Runs command source source' sink sink' status =
     (IsSome command × (status ≡ OutOfMemory) × Keeps sink.holds sink'.holds)
-    ⊎ ((a : Answer) × IsDue command source source' a × Gives a sink sink' status)
+    ⊎ ((a : Answer) × IsExpected command source source' a × Gives a sink sink' status)
 
--- the words are a command, the document was read or is its own, and this status is due for its bytes, with
+-- the words are a command, the document was read or is its own, and this status is expected for its bytes, with
 -- this text
-abbrev pub IsDocumentDue : Option Command → SourceState → SourceState → Status → List ℕ → Type 0
-IsDocumentDue None source source' status text = ⊥
-IsDocumentDue (Some command) source source' status text =
+abbrev pub IsExpectedOfDocument : Option Command → SourceState → SourceState → Status → List ℕ → Type 0
+IsExpectedOfDocument None source source' status text = ⊥
+IsExpectedOfDocument (Some command) source source' status text =
     (bytes : List ℕ) × IsGiven command source source' bytes × IsAnswer command bytes (answer status text)
 
 -- the words are a command that reads a document
@@ -102,26 +102,26 @@ IsReader (Some command) = Reads command
 -- why a run ends with a status
 abbrev pub Cause : Option Command → SourceState → SourceState → SinkState → SinkState → Status → Type 0
 Cause command source source' sink sink' Done =
-    (text : List ℕ) × IsDocumentDue command source source' Done text × Appends sink.holds sink'.holds text
+    (text : List ℕ) × IsExpectedOfDocument command source source' Done text × Appends sink.holds sink'.holds text
 Cause command source source' sink sink' Usage = (command ≡ None) × (source' ≡ source)
 Cause command source source' sink sink' Document =
-    (text : List ℕ) × IsDocumentDue command source source' Document text
+    (text : List ℕ) × IsExpectedOfDocument command source source' Document text
 Cause command source source' sink sink' Findings =
-    (text : List ℕ) × IsDocumentDue command source source' Findings text
+    (text : List ℕ) × IsExpectedOfDocument command source source' Findings text
 Cause command source source' sink sink' Request =
-    (text : List ℕ) × IsDocumentDue command source source' Request text
+    (text : List ℕ) × IsExpectedOfDocument command source source' Request text
 Cause command source source' sink sink' Store =
-    (text : List ℕ) × IsDocumentDue command source source' Store text
+    (text : List ℕ) × IsExpectedOfDocument command source source' Store text
 Cause command source source' sink sink' PartialRequest =
-    (text : List ℕ) × IsDocumentDue command source source' PartialRequest text
+    (text : List ℕ) × IsExpectedOfDocument command source source' PartialRequest text
 Cause command source source' sink sink' ReadFault = IsReader command × Rose source.faults source'.faults
 Cause command source source' sink sink' WriteFault = Rose sink.faults sink'.faults
-    × ((text : List ℕ) × IsDocumentDue command source source' Done text
+    × ((text : List ℕ) × IsExpectedOfDocument command source source' Done text
     × ((n : ℕ) × Appends sink.holds sink'.holds (take n text)))
 Cause command source source' sink sink' OutOfMemory = Keeps sink.holds sink'.holds
 Cause command source source' sink sink' TooLong = IsReader command × TakesTooMany source source'
 Cause command source source' sink sink' Edit =
-    (text : List ℕ) × IsDocumentDue command source source' Edit text
+    (text : List ℕ) × IsExpectedOfDocument command source source' Edit text
 
 -- what a run is: the command that its words are, if they are one; its source and its sink before and after
 -- it; and the status that it ends with
@@ -156,7 +156,7 @@ abbrev pub IsUndisturbed : Command → List ℕ → Run → Type 0
 IsUndisturbed command bytes run = (run.command ≡ Some command)
     × IsToWorkOn command run.source run.source' bytes × IsQuiet run.sink.faults run.sink'.faults
 
--- all of the answer that is due for the command and the bytes is written, and its status stands
+-- all of the answer that is expected for the command and the bytes is written, and its status stands
 abbrev pub GivesWhole : Command → List ℕ → Run → Type 0
 GivesWhole command bytes run = (text : List ℕ) × IsAnswer command bytes (answer run.status text)
     × Appends run.sink.holds run.sink'.holds text

@@ -45,8 +45,8 @@ const CONFORMS: &str = "conforms\n";
 pub(crate) const PARTIAL_REQUEST: &str =
     "request: entity slicing requires a fully concrete request. Got a partial request\n";
 
-/// The reply that is due for the command and a document of these bytes, which are let go of once they are read:
-/// the place of its first fault, or what is due for the document that they are.
+/// The reply that is expected for the command and a document of these bytes, which are let go of once they are read:
+/// the place of its first fault, or what is expected for the document that they are.
 #[tactic(auto, unfolding(crate::specs::Answer::IsAnswer))]
 pub(crate) fn reply(alloc: Global, command: &Command, bytes: Vec<u8>) -> Result<Reply, AllocError>
     ensures { IfOk result (λ r. IsAnswer command.now bytes.items (reply_view r)) }
@@ -101,7 +101,7 @@ fn with_findings(alloc: Global, document: &Document) -> Result<Reply, AllocError
     ensures { IfOk result (λ r. IsAnswerTo Command.Check document.now (reply_view r)) }
 {
     let found = found_in(alloc, document)?;
-    told(alloc, &found)
+    reported(alloc, &found)
 }
 
 // The findings on the policies, which are checked for a level.
@@ -109,11 +109,11 @@ fn with_levels(alloc: Global, document: &Document, level: u32) -> Result<Reply, 
     ensures { IfOk result (λ r. IsAnswerTo (Command.Level level) document.now (reply_view r)) }
 {
     let found = found_at(alloc, document, level)?;
-    told(alloc, &found)
+    reported(alloc, &found)
 }
 
 /// The findings, with the status that they have.
-pub(crate) fn told(alloc: Global, found: &ValidationResult) -> Result<Reply, AllocError>
+pub(crate) fn reported(alloc: Global, found: &ValidationResult) -> Result<Reply, AllocError>
     ensures { IfOk result (λ r. IsRefusedOr (refused_with found.now.errors found.now)
         (λ text. text ≡ findings_text found.now) (reply_view r)) }
 {
@@ -149,7 +149,7 @@ fn with_manifest(alloc: Global, document: &Document) -> Result<Reply, AllocError
     no_errors_where_accepted();
     match compute_entity_manifest(alloc, &document.schema, &document.policies) {
         Ok(manifest) => written_manifest(alloc, &manifest),
-        Err(EntityManifestError::Validation(found)) => told(alloc, &found),
+        Err(EntityManifestError::Validation(found)) => reported(alloc, &found),
         Err(EntityManifestError::OutOfMemory) => Err(AllocError),
     }
 }
@@ -292,7 +292,7 @@ fn decision_reply(alloc: Global, document: &Document) -> Result<Reply, AllocErro
 
 // What is answered in place of a decision, if anything; else the request is whole.
 fn refused_decision(alloc: Global, document: &Document) -> Result<Option<Reply>, AllocError>
-    ensures told { IfOk result (λ o. option_map reply_view o ≡ refused_decision document.now) }
+    ensures reported { IfOk result (λ o. option_map reply_view o ≡ refused_decision document.now) }
     ensures whole { IfOk result (λ o. o ≡ None → IsWhole document.now.request) }
 {
     if !document.request.is_whole() {

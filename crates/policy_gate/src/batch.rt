@@ -7,7 +7,7 @@ ghost use Rattle.policy_gate.specs.Batch.{IsReportedOfStore, line_on};
 ghost use Rattle.policy_gate.specs.declared.command.Command.{Command};
 ghost use Rattle.policy_gate.specs.Reply.{reply_view};
 
-use crate::answer::{is_well_made, refused_store, told};
+use crate::answer::{is_well_made, refused_store, reported};
 use crate::laws::laws;
 use crate::reply::Reply;
 use crate::status::Status;
@@ -47,7 +47,7 @@ fn over_store(alloc: Global, document: &Document) -> Result<Reply, AllocError>
         &document.entities,
     ) {
         Ok(answers) => lines_reply(alloc, &answers),
-        Err(EntityManifestError::Validation(found)) => told(alloc, &found),
+        Err(EntityManifestError::Validation(found)) => reported(alloc, &found),
         Err(EntityManifestError::OutOfMemory) => Err(AllocError),
     }
 }

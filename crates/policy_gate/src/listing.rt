@@ -8,7 +8,7 @@ ghost use Rattle.policy_gate.specs.Reply.{answer, reply_view};
 ghost use Rattle.policy_gate.specs.declared.command.Command.{Command};
 ghost use Rattle.principal_listing.specs.Refused.{WhyNoPage};
 
-use crate::answer::{PARTIAL_REQUEST, is_well_made, told};
+use crate::answer::{PARTIAL_REQUEST, is_well_made, reported};
 use crate::command::PageLimit;
 use crate::laws::laws;
 use crate::reply::{Reply, reply_with};
@@ -58,7 +58,7 @@ fn refused_page(alloc: Global, document: &Document, error: ListError) -> Result<
         ListError::PartialRequest => reply_with(alloc, Status::PartialRequest, PARTIAL_REQUEST),
         ListError::Request(fault) => request_reply(alloc, &fault),
         ListError::EntityDoesNotConform(fault) => store_reply(alloc, &fault),
-        ListError::Validation(found) => told(alloc, &found),
+        ListError::Validation(found) => reported(alloc, &found),
         ListError::OutOfMemory => Err(AllocError),
     }
 }

@@ -184,7 +184,7 @@ fn why_not_added(
     added: Result<(), LiveManifestError>,
 ) -> Result<Option<String>, AllocError>
     ensures added { IfOk result (λ o. o ≡ None → IsOk added) }
-    ensures told { (why : Option Refusal) → OnOk added (why ≡ None) → IfErr added (IsRefusedFor why)
+    ensures reported { (why : Option Refusal) → OnOk added (why ≡ None) → IfErr added (IsRefusedFor why)
         → IfOk result (λ o. option_map string_bytes o ≡ option_map refusal_text why) }
 {
     match added {

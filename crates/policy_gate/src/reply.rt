@@ -8,7 +8,7 @@ use std::alloc::{AllocError, Global};
 /// A status, and the text that goes with it.
 #[derive(Debug, Drop)]
 pub struct Reply {
-    /// The status that is due.
+    /// The status that is expected.
     pub status: Status,
     /// All that is to be written, its last newline included.
     pub text: String,

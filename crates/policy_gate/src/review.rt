@@ -5,7 +5,7 @@ ghost use Rattle.policy_gate.specs.Answer.{IsAnswerTo, level_line, row_line, ver
 ghost use Rattle.policy_gate.specs.Reply.{reply_view};
 ghost use Rattle.policy_gate.specs.declared.command.Command.{Command};
 
-use crate::answer::told;
+use crate::answer::reported;
 use crate::reply::Reply;
 use crate::status::Status;
 use json_document::Document;
@@ -20,7 +20,7 @@ pub(crate) fn reviewed(alloc: Global, document: &Document) -> Result<Reply, Allo
     no_errors_where_accepted();
     match review(alloc, &document.schema, &document.policies) {
         Ok(review) => written_review(alloc, &review),
-        Err(ReviewError::Validation(found)) => told(alloc, &found),
+        Err(ReviewError::Validation(found)) => reported(alloc, &found),
         Err(ReviewError::OutOfMemory) => Err(AllocError),
     }
 }

@@ -5,7 +5,7 @@ ghost use Rattle.json_samples.specs.Sample.{sample_document};
 ghost use Rattle.policy_gate.specs.Command.{command_of, own_document};
 ghost use Rattle.policy_gate.specs.Headline.{DoneSays, HasPoliciesFor, IsBatch, IsChecked, IsCheckedAt, IsConforming, IsDecided, IsListed, IsLive, IsManifested, IsRefusedEdit, IsReviewed, IsSampled, IsSliced, KeepsAllRules, OwnSays, WorkedOn};
 ghost use Rattle.policy_gate.specs.Reply.{answer, reply_view};
-ghost use Rattle.policy_gate.specs.Run.{Cause, Gives, HasTooMany, IsDueAfterReading, IsDueFor, IsExact, IsReader, IsRunOn, Runs, run_of};
+ghost use Rattle.policy_gate.specs.Run.{Cause, Gives, HasTooMany, IsExpectedAfterReading, IsExpectedFor, IsExact, IsReader, IsRunOn, Runs, run_of};
 ghost use Rattle.policy_gate.specs.Status.{IsAfterEnd, IsUnlessOutOfMemory};
 ghost use Rattle.policy_values.specs.declared.entity_uid.EntityUID.{EntityUID};
 
@@ -40,8 +40,8 @@ fn from_document<S: Source>(
     command: &Command,
     source: &mut S,
 ) -> Result<Reply, AllocError>
-    ensures due { IfOk result (λ r.
-        IsDueAfterReading command.now (S.state source.old) (S.state source.new) (reply_view r)) }
+    ensures expected { IfOk result (λ r.
+        IsExpectedAfterReading command.now (S.state source.old) (S.state source.new) (reply_view r)) }
     ensures taken { TakesFew (S.state source.old) (S.state source.new) }
 {
     match read_document_bytes(alloc, source) {
@@ -58,8 +58,8 @@ fn reply_to<S: Source>(
     command: &Command,
     source: &mut S,
 ) -> Result<Reply, AllocError>
-    ensures due { IfOk result (λ r.
-        IsDueFor (own_document command.now) command.now (S.state source.old) (S.state source.new)
+    ensures expected { IfOk result (λ r.
+        IsExpectedFor (own_document command.now) command.now (S.state source.old) (S.state source.new)
         (reply_view r)) }
     ensures taken { TakesFew (S.state source.old) (S.state source.new) }
 {
@@ -134,14 +134,14 @@ pub fn run<S: Source, K: Sink>(
     ensures cause { Cause (command_of (map string_bytes words.now.items))
         (S.state source.old) (S.state source.new) (K.state sink.old) (K.state sink.new) result }
 
-    // At most one byte more is taken than a document may have. Every status but usage, a failing source, want
+    // At most one byte more is taken than a document may have. Every status but usage, a failing source, lack
     // of memory and a document that is too long means that the source was read to its end, or that the
     // command has a document of its own.
     ensures taken { TakesFew (S.state source.old) (S.state source.new) }
     ensures read { IsAfterEnd result → (command : Command) × (bytes : List ℕ) × IsRunOn command bytes
         (run_of S.state K.state words.now source.old source.new sink.old sink.new result) }
 
-    // All of the text that was due is written; a front of it where the sink's count rose; and
+    // All of the text that was expected is written; a prefix of it where the sink's count rose; and
     // nothing where memory ran out.
     ensures written { Runs (command_of (map string_bytes words.now.items))
         (S.state source.old) (S.state source.new) (K.state sink.old) (K.state sink.new) result }
@@ -219,7 +219,7 @@ pub fn run<S: Source, K: Sink>(
         DoneSays (Command.List limit after) (IsListed limit after)
         (run_of S.state K.state words.now source.old source.new sink.old sink.new result) }
 
-    // An edit is refused by `live` alone: the text that is due says which one is the first, and why.
+    // An edit is refused by `live` alone: the text that is expected says which one is the first, and why.
     ensures edit_refused { result ≡ Status.Edit → (text : List ℕ)
         × WorkedOn Command.Live (λ d. IsRefusedEdit d text)
         (run_of S.state K.state words.now source.old source.new sink.old sink.new result) }

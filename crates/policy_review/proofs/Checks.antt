@@ -19,7 +19,7 @@ use Rattle.typecheck_rules.specs.Check.{Check, Success, Irrelevant, Fail, TooDee
 use Rattle.typecheck_rules.specs.Walked.{findings_of}
 use Rattle.policy_typecheck.specs.Answer.{Reports}
 use Rattle.policy_typecheck.specs.declared.PolicyCheck.{PolicyCheck}
-use Rattle.policy_typecheck.specs.declared.PolicyCheck.TheVariants as told
+use Rattle.policy_typecheck.specs.declared.PolicyCheck.TheVariants as reported
 use Rattle.link_spec.specs.Accepted.{IsTypedIn, IsAcceptedTemplate}
 use Rattle.link_spec.specs.Linked.{linked_envs}
 use Rattle.level_spec.specs.Levels.{greater, least_level}
@@ -44,10 +44,10 @@ verdict_in (Irrelevant t) = Some Never
 verdict_in c = None
 
 verdict_same : (id : List ℕ) (c : Check) (r : PolicyCheck) → Reports id c r → passed_verdict r ≡ verdict_in c
-verdict_same id (Success t) (told.Success u) h = refl
-verdict_same id (Irrelevant t) (told.Irrelevant u) h = refl
-verdict_same id (Fail fs) (told.Fail es) h = refl
-verdict_same id TooDeep (told.Fail es) h = refl
+verdict_same id (Success t) (reported.Success u) h = refl
+verdict_same id (Irrelevant t) (reported.Irrelevant u) h = refl
+verdict_same id (Fail fs) (reported.Fail es) h = refl
+verdict_same id TooDeep (reported.Fail es) h = refl
 verdict_same id c r h = absurd h
 
 verdict_passes : (c : Check) → is_some (verdict_in c) ≡ passes c

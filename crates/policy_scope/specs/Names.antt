@@ -71,7 +71,7 @@ abbrev pub occurs_in : List ℕ → List ℕ → Bool
 occurs_in part [] = starts_with eqb [] part
 occurs_in part (c ∷ cs) = starts_with eqb (c ∷ cs) part || occurs_in part cs
 
--- the action's eid has in it the eid of the other with the type of actions in front
+-- the action's eid has in it the eid of the other with the type of actions before it
 abbrev pub repeats_type : EntityUID → ActionData → Bool
 repeats_type uid a = occurs_in (codes "Action::" ++ uid.eid) a.name.eid ||
     occurs_in (codes "Action::\"" ++ uid.eid ++ codes "\"") a.name.eid

@@ -39,7 +39,7 @@ abbrev pub outcomes : List PolicyData → Request → Store → List Outcome
 outcomes [] q s = []
 outcomes (p ∷ ps) q s = outcome p q s ∷ outcomes ps q s
 
--- the id in front, where the outcome is true
+-- the id before it, where the outcome is true
 abbrev pub if_true : Outcome → List ℕ → List (List ℕ) → List (List ℕ)
 if_true (Value (truth true)) id ids = id ∷ ids
 if_true o id ids = ids

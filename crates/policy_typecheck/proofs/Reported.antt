@@ -30,11 +30,11 @@ use Rattle.policy_typecheck.specs.Added.{added, all_added, same_error}
 use Rattle.typecheck_walk.specs.Answer.{Reports, errors_of, too_deep}
 use Rattle.policy_typecheck.specs.NoAction.{names_no_action}
 use Rattle.policy_typecheck.specs.Policies.{passes, is_irrelevant, is_too_deep, checks_of, refusals, is_accepted, is_impossible}
-use Rattle.policy_typecheck.specs.Reported.{Reported, reported_by, told, all_reported, condition_check}
+use Rattle.policy_typecheck.specs.Reported.{Reported, reported_by, reported, all_reported, condition_check}
 use Rattle.policy_typecheck.proofs.Lists.{once_added}
 
 -- in code as by the definitions
-pub same_reported : (id : List ℕ) (c : Check) (r : PolicyCheck) → Reports id c r → (s : Reported) → reported_by r s ≡ told id c s
+pub same_reported : (id : List ℕ) (c : Check) (r : PolicyCheck) → Reports id c r → (s : Reported) → reported_by r s ≡ reported id c s
 same_reported id (Success t) (code.Success u) h s = refl
 same_reported id (Irrelevant t) (code.Irrelevant u) h s = refl
 same_reported id (Fail fs) (code.Fail es) h s = ap (λ xs. (record { accepted = false; impossible = false }, all_added same_error s.1 xs)) h
@@ -45,17 +45,17 @@ and_again : (a b : Bool) → (a && (a && b)) ≡ (a && b)
 and_again true b = refl
 and_again false b = refl
 
-reported_step : (id : List ℕ) → IsStep (told id)
+reported_step : (id : List ℕ) → IsStep (reported id)
 reported_step id = record {
   once = λ c s. λ j. (record { accepted = and_again (passes c) s.0.accepted j; impossible = and_again (is_irrelevant c) s.0.impossible j }, once_added same_error laws-law s.1 (errors_of id c) j);
   skips = λ x s. refl;
-  same = λ p w s. same_asked (λ c. told id c s) ((λ x y. refl), (λ x y. refl)) p w;
+  same = λ p w s. same_asked (λ c. reported id c s) ((λ x y. refl), (λ x y. refl)) p w;
 }
 
 -- the bodies in the environments that meet the scope say what the conditions in all environments do
 pub bodies_say : (schema : SchemaData) → IsSchema schema → (t : TemplateData) → is_plain_scope schema t.principal t.action t.resource ≡ true → has_slot t.body ≡ false → is_too_deep schema t ≡ false → (s : Reported) →
     all_reported t.id (body_check schema t) s (met_envs schema t) ≡ all_reported t.id (condition_check schema t) s (linked_envs schema t)
-bodies_say schema ok t plain no_slot flat s = sym (checks_follow schema ok t plain no_slot flat (told t.id) (reported_step t.id) s)
+bodies_say schema ok t plain no_slot flat s = sym (checks_follow schema ok t plain no_slot flat (reported t.id) (reported_step t.id) s)
 
 -- a body that has a type has no errors
 body_errors : (id : List ℕ) (w : Walked) → errors_of id (check_walked w) ≡ errors_of id (Fail (findings_of w))
@@ -68,7 +68,7 @@ body_errors id (walk.Success a) = by a.type
     by (primitive BoolType) = refl
     by t = refl
 
-pub refused_reported : (id : List ℕ) (w : Walked) (s : Reported) (found : List ValidationError) → found ≡ (told id (check_walked w) s).1 → (record { accepted = false; impossible = false }, found) ≡ told id (Fail (findings_of w)) s
+pub refused_reported : (id : List ℕ) (w : Walked) (s : Reported) (found : List ValidationError) → found ≡ (reported id (check_walked w) s).1 → (record { accepted = false; impossible = false }, found) ≡ reported id (Fail (findings_of w)) s
 refused_reported id w s found h = λ j. (record { accepted = false; impossible = false }, (h ∙ ap (all_added same_error s.1) (body_errors id w)) j)
 
 -- where a scope names an action that is not declared, what is found of the body says what the conditions do
@@ -85,7 +85,7 @@ refused_say schema ok t names flat s = by t.action refl names
         let parts = and_parts_of (is_none (literal_type schema u)) (is_plain_scope schema t.principal Any t.resource) h in
         let sides = and_parts_of (is_plain_side schema t.principal && true) (is_plain_side schema t.resource) parts.1 in
         let principal = and_parts_of (is_plain_side schema t.principal) true sides.0 in
-        sym (refused_follow schema ok t u e (none (literal_type schema u) parts.0) principal.0 sides.1 flat (told t.id) (λ x s. refl) s)
+        sym (refused_follow schema ok t u e (none (literal_type schema u) parts.0) principal.0 sides.1 flat (reported t.id) (λ x s. refl) s)
     by c e h = absurd (true≢false (sym h))
 
 -- behind the environments each passes where each did before and each of these does
@@ -101,15 +101,15 @@ exchanged false false c = refl
 module _ (id : List ℕ) (check : EnvData → Check) where
   accepted_reported : (s : Reported) (envs : List EnvData) → (all_reported id check s envs).0.accepted ≡ (s.0.accepted && list_all passes (map check envs))
   accepted_reported s [] = sym (with_true s.0.accepted)
-  accepted_reported s (e ∷ envs) = accepted_reported (told id (check e) s) envs ∙ exchanged (passes (check e)) s.0.accepted (list_all passes (map check envs))
+  accepted_reported s (e ∷ envs) = accepted_reported (reported id (check e) s) envs ∙ exchanged (passes (check e)) s.0.accepted (list_all passes (map check envs))
 
   impossible_reported : (s : Reported) (envs : List EnvData) → (all_reported id check s envs).0.impossible ≡ (s.0.impossible && list_all is_irrelevant (map check envs))
   impossible_reported s [] = sym (with_true s.0.impossible)
-  impossible_reported s (e ∷ envs) = impossible_reported (told id (check e) s) envs ∙ exchanged (is_irrelevant (check e)) s.0.impossible (list_all is_irrelevant (map check envs))
+  impossible_reported s (e ∷ envs) = impossible_reported (reported id (check e) s) envs ∙ exchanged (is_irrelevant (check e)) s.0.impossible (list_all is_irrelevant (map check envs))
 
   errors_reported : (s : Reported) (envs : List EnvData) → (all_reported id check s envs).1 ≡ all_added same_error s.1 (flat_map (errors_of id) (map check envs))
   errors_reported s [] = refl
-  errors_reported s (e ∷ envs) = errors_reported (told id (check e) s) envs ∙ sym (fold-append (added same_error) s.1 (errors_of id (check e)) (flat_map (errors_of id) (map check envs)))
+  errors_reported s (e ∷ envs) = errors_reported (reported id (check e) s) envs ∙ sym (fold-append (added same_error) s.1 (errors_of id (check e)) (flat_map (errors_of id) (map check envs)))
 
 -- a template whose condition is not too deep
 module _ (schema : SchemaData) (t : TemplateData) (flat : is_too_deep schema t ≡ false) (es : List ValidationError) where

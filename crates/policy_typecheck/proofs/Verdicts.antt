@@ -44,8 +44,8 @@ by_typing (Some x) fs = by_type x.type x.tree fs
 -- what is no deeper than 200
 pub reported_verdict : CheckIsExact → (schema : SchemaData) (env : EnvData) (e : Plain) → depth_of e ≤ 200 →
     (id : List ℕ) (r : PolicyCheck) → Reports id (checked schema env e) r → verdict_reported r ≡ verdict_of schema e env
-reported_verdict exact schema env e depth id r told =
+reported_verdict exact schema env e depth id r reported =
     let fs = findings_of (condition_walked schema env e) in
-    as_checked id (checked schema env e) r told ∙
+    as_checked id (checked schema env e) r reported ∙
     ap verdict_on (exact schema env e ∙ ap (λ b. if b then TooDeep else check_by (types schema env [] e) fs) (le-ltb 200 (depth_of e) depth)) ∙
     by_typing (types schema env [] e) fs

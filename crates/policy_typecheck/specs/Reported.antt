@@ -24,15 +24,15 @@ reported_by r s = (
   all_added same_error s.1 (errors_in r),
 )
 
-abbrev pub told : List ℕ → Check → Reported → Reported
-told id c s = (
+abbrev pub reported : List ℕ → Check → Reported → Reported
+reported id c s = (
   record { accepted = passes c && s.0.accepted; impossible = is_irrelevant c && s.0.impossible },
   all_added same_error s.1 (errors_of id c),
 )
 
 -- the checks in environments, one after another
 abbrev pub all_reported : List ℕ → (EnvData → Check) → Reported → List EnvData → Reported
-all_reported id check s envs = fold (λ s env. told id (check env) s) s envs
+all_reported id check s envs = fold (λ s env. reported id (check env) s) s envs
 
 -- the check of a template's condition
 abbrev pub condition_check : SchemaData → TemplateData → EnvData → Check

@@ -28,7 +28,7 @@ pub(crate) fn check_bodies(
     found: &mut IndexSet<ValidationError>,
 ) -> Result<(), AllocError>
     ensures schema { IsSchema checker.now }
-    ensures told { OnOk result ((summary.new, found.new.keys) ≡
+    ensures reported { OnOk result ((summary.new, found.new.keys) ≡
         all_reported t.now.id (body_check checker.now t.now) (summary.old, found.old.keys)
         (met_envs checker.now t.now)) }
 {

@@ -11,7 +11,7 @@ ghost use Rattle.link_spec.specs.Linked.{linked_envs, linked_envs_of};
 ghost use Rattle.link_spec.specs.Met.{refused_check};
 ghost use Rattle.typecheck_rules.specs.Check.{condition_walked};
 ghost use Rattle.policy_typecheck.specs.NoAction.{names_no_action};
-ghost use Rattle.policy_typecheck.specs.Reported.{all_reported, told};
+ghost use Rattle.policy_typecheck.specs.Reported.{all_reported, reported};
 
 use crate::Typechecker;
 use crate::environments::add_of_action;
@@ -58,7 +58,7 @@ pub(crate) fn check_refused(
     found: &mut IndexSet<ValidationError>,
 ) -> Result<(), AllocError>
     ensures schema { IsSchema checker.now }
-    ensures told { OnOk result ((summary.new, found.new.keys) ≡
+    ensures reported { OnOk result ((summary.new, found.new.keys) ≡
         all_reported t.now.id (refused_check checker.now t.now) (summary.old, found.old.keys)
         (linked_envs checker.now t.now)) }
 {
@@ -99,7 +99,7 @@ fn say_where_met<'b>(
     found: &mut IndexSet<ValidationError>,
 ) -> Result<(), AllocError>
     ensures { OnOk result ((summary.new, found.new.keys) ≡
-        told t.now.id (refused_check checker.now t.now (env_data_of env.now))
+        reported t.now.id (refused_check checker.now t.now (env_data_of env.now))
         (summary.old, found.old.keys)) }
 {
     let principal = env.principal_entity_type();
@@ -120,7 +120,7 @@ fn say_refused<'b>(
     found: &mut IndexSet<ValidationError>,
 ) -> Result<(), AllocError>
     ensures { OnOk result ((summary.new, found.new.keys) ≡
-        told t.now.id
+        reported t.now.id
         (refused true (condition_walked checker.now (env_data_of env.now) t.now.body))
         (summary.old, found.old.keys)) }
 {

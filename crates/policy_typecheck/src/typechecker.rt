@@ -14,7 +14,7 @@ ghost use Rattle.policy_typecheck.specs.Added.{all_added, same_error};
 ghost use Rattle.typecheck_walk.specs.Answer.{Reports, SaysIn};
 ghost use Rattle.typecheck_walk.specs.Known.{KnowsFunctions};
 ghost use Rattle.policy_typecheck.specs.Policies.{is_accepted, is_impossible, is_too_deep, refusals, warned};
-ghost use Rattle.policy_typecheck.specs.Reported.{all_reported, condition_check, told};
+ghost use Rattle.policy_typecheck.specs.Reported.{all_reported, condition_check, reported};
 ghost use Rattle.policy_typecheck.specs.Verdict.{verdict_of};
 
 use crate::added::add_errors;
@@ -289,7 +289,7 @@ impl<'a, 'x> Typechecker<'a, 'x> {
         found: &mut IndexSet<ValidationError>,
     ) -> Result<(), AllocError>
         ensures { OnOk result ((summary.new, found.new.keys) ≡
-            told t.now.id (body_check self.now t.now (env_data_of env.now)) (
+            reported t.now.id (body_check self.now t.now (env_data_of env.now)) (
               summary.old,
               found.old.keys,
             )) }

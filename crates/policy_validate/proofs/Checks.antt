@@ -17,16 +17,16 @@ use Rattle.typecheck_rules.specs.Walked.{findings_of}
 use Rattle.link_spec.specs.Accepted.{IsTyped}
 use Rattle.policy_typecheck.specs.Answer.{Reports}
 use Rattle.policy_typecheck.specs.declared.PolicyCheck.{PolicyCheck}
-use Rattle.policy_typecheck.specs.declared.PolicyCheck.TheVariants as told
+use Rattle.policy_typecheck.specs.declared.PolicyCheck.TheVariants as reported
 use Rattle.policy_validate.specs.Typed.{typed_conditions}
 use Rattle.policy_validate.specs.Found.{condition_in, condition_reported, found_conditions}
 
 -- a check in code leaves what the check leaves
 pub reported_condition : (id : List ℕ) (c : Check) (r : PolicyCheck) → Reports id c r → condition_reported r ≡ condition_in c
-reported_condition id (Success t) (told.Success u) h = ap Some h
-reported_condition id (Irrelevant t) (told.Irrelevant u) h = ap Some h
-reported_condition id (Fail fs) (told.Fail es) h = refl
-reported_condition id TooDeep (told.Fail es) h = refl
+reported_condition id (Success t) (reported.Success u) h = ap Some h
+reported_condition id (Irrelevant t) (reported.Irrelevant u) h = ap Some h
+reported_condition id (Fail fs) (reported.Fail es) h = refl
+reported_condition id TooDeep (reported.Fail es) h = refl
 reported_condition id c r h = absurd h
 
 of_boolean : (u : Ty) (t : Typed) (fs : List Finding) → is_boolean u ≡ true → condition_in (check_of u t fs) ≡ Some t

@@ -45,16 +45,16 @@ more_left false true false h' e i = i
 more_left false false h h' e i = i
 
 module _ {K : Type 0} {cmp : K → K → Ordering} (o : IsTotalOrder cmp) (exact : CmpEqualImpliesEq cmp) (p : K → Bool) where
-  front : (b : Bool) (k : K) (ks : List K) (q : K) → p k ≡ b → has cmp (filter p ks) q ≡ (p q && has cmp ks q) → has cmp (filter p (k ∷ ks)) q ≡ (p q && has cmp (k ∷ ks) q)
-  front true k ks q h i = rw h (kept_step (is_at (cmp q) k) true (p q) (has cmp ks q) (has cmp (filter p ks) q) (λ a. ap p (tells_apart exact q k a) ∙ h) i)
-  front false k ks q h i = rw h (kept_step (is_at (cmp q) k) false (p q) (has cmp ks q) (has cmp (filter p ks) q) (λ a. ap p (tells_apart exact q k a) ∙ h) i)
+  prefix : (b : Bool) (k : K) (ks : List K) (q : K) → p k ≡ b → has cmp (filter p ks) q ≡ (p q && has cmp ks q) → has cmp (filter p (k ∷ ks)) q ≡ (p q && has cmp (k ∷ ks) q)
+  prefix true k ks q h i = rw h (kept_step (is_at (cmp q) k) true (p q) (has cmp ks q) (has cmp (filter p ks) q) (λ a. ap p (tells_apart exact q k a) ∙ h) i)
+  prefix false k ks q h i = rw h (kept_step (is_at (cmp q) k) false (p q) (has cmp ks q) (has cmp (filter p ks) q) (λ a. ap p (tells_apart exact q k a) ∙ h) i)
 
   has_kept : (ks : List K) (q : K) → has cmp (filter p ks) q ≡ (p q && has cmp ks q)
   has_kept [] q = both_false (p q) where
     both_false : (b : Bool) → false ≡ (b && false)
     both_false true = refl
     both_false false = refl
-  has_kept (k ∷ ks) q = front (p k) k ks q refl (has_kept ks q)
+  has_kept (k ∷ ks) q = prefix (p k) k ks q refl (has_kept ks q)
 
   -- an ascending set that has the keys that are kept is what is kept
   pub kept_is : (ks set : List K) → IsStrictlySortedBy cmp ks → IsStrictlySortedBy cmp set → ((q : K) → has cmp set q ≡ (p q && has cmp ks q)) → set ≡ filter p ks

@@ -85,8 +85,8 @@ module _ (exact : CheckIsExact) (schema : SchemaData) (n : ℕ) (x : Plain) (fla
       passes_first env (filter_map (condition_at schema x) envs) (types schema env [] x) (condition_at schema x env) (condition_is env typed.0) typed.0 (h.0, passes_each envs typed.1 h.1)
 
 pub level_errors_exact : CheckIsExact → RefusalsAreReported → LevelErrorsAreExact → LevelErrorsOfAreExact
-level_errors_exact exact told levels schema n t none =
-    let accepted : IsAcceptedTemplate schema t = template_accepted schema exact told t none in
+level_errors_exact exact reported levels schema n t none =
+    let accepted : IsAcceptedTemplate schema t = template_accepted schema exact reported t none in
     let flat : nat_lt 200 (depth_of (condition_of t)) ≡ false = le-ltb 200 (depth_of (condition_of t)) accepted.depth in
     let r = levels t.id n (conditions_of schema t) in (
       (

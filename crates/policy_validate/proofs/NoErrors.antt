@@ -34,7 +34,7 @@ module _ (schema : SchemaData) where
   none_applied t h = ap (λ b. if b then [] else application_finding schema t.id t.principal t.action t.resource ∷ []) h
 
   -- what is written
-  module _ (exact : CheckIsExact) (told : RefusalsAreReported) where
+  module _ (exact : CheckIsExact) (reported : RefusalsAreReported) where
     pub template_accepted : (t : TemplateData) → errors_of_written schema t ≡ [] → IsAcceptedTemplate schema t
     template_accepted t h =
         let types = parts_empty (map UnrecognizedEntityType (entity_type_findings schema t.id (condition_of t))) _ h in
@@ -42,7 +42,7 @@ module _ (schema : SchemaData) where
         let actions = parts_empty (map UnrecognizedActionId (action_id_findings schema t.id (condition_of t))) _ ids.1 in
         let scope = parts_empty (map InvalidActionApplication (application_findings schema t)) (typing_errors schema t) actions.1 in
         let known = names_known schema t.id (condition_of t) (none_mapped UnrecognizedEntityType _ types.0) (none_mapped InvalidEnumEntity _ ids.0) (none_mapped UnrecognizedActionId _ actions.0) in
-        let typed = is_typed exact schema t (told schema t known) scope.1 in
+        let typed = is_typed exact schema t (reported schema t known) scope.1 in
         record {
           names = known;
           scope = applicable t (none_mapped InvalidActionApplication _ scope.0);
@@ -102,18 +102,18 @@ module _ (schema : SchemaData) where
   no_link_errors p k = empty_parts _ _ (ap (map UnrecognizedEntityType) (known_slots p k.slots)) (ap (map InvalidActionApplication) (none_applied (written_of p) k.scope))
 
 pub no_errors : CheckIsExact → RefusalsAreReported → NoErrorsWhereAccepted
-no_errors exact told schema s = (accepted, none)
+no_errors exact reported schema s = (accepted, none)
   where
     accepted : (findings_of schema s).errors ≡ [] → IsAccepted schema s
     accepted h =
         let e = parts_empty (flat_map (errors_of_written schema) (written s)) (flat_map (errors_of_link schema) (links s)) h in
         record {
-          as_written = all_more (λ t. errors_of_written schema t ≡ []) (IsAcceptedTemplate schema) (template_accepted schema exact told) (written s) (none_in_each (errors_of_written schema) (written s) e.0);
+          as_written = all_more (λ t. errors_of_written schema t ≡ []) (IsAcceptedTemplate schema) (template_accepted schema exact reported) (written s) (none_in_each (errors_of_written schema) (written s) e.0);
           as_linked = all_more (λ p. errors_of_link schema p ≡ []) (KeepsLinkRules schema) (link_kept schema) (links s) (none_in_each (errors_of_link schema) (links s) e.1);
         }
 
     none : IsAccepted schema s → (findings_of schema s).errors ≡ []
     none a =
         empty_parts _ _
-        (each_none (errors_of_written schema) (written s) (all_more (IsAcceptedTemplate schema) (λ t. errors_of_written schema t ≡ []) (no_template_errors schema exact told) (written s) a.as_written))
+        (each_none (errors_of_written schema) (written s) (all_more (IsAcceptedTemplate schema) (λ t. errors_of_written schema t ≡ []) (no_template_errors schema exact reported) (written s) a.as_written))
         (each_none (errors_of_link schema) (links s) (all_more (KeepsLinkRules schema) (λ p. errors_of_link schema p ≡ []) (no_link_errors schema) (links s) a.as_linked))

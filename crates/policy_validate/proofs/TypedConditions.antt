@@ -66,13 +66,13 @@ module _ (exact : CheckIsExact) (schema : SchemaData) (t : TemplateData) where
   check_at env = checked schema env condition
 
   pub is_typed : AllByRecursion (λ env. SaysWhy (check_at env)) (linked_envs schema t) → all_added same_error [] (refusals schema t) ≡ [] → (depth_of condition ≤ 200) × IsTypedIn schema condition (linked_envs schema t)
-  is_typed told none = by (nat_lt 200 (depth_of condition)) refl (none_grown _ (λ x. refl) (refusals schema t) none)
+  is_typed reported none = by (nat_lt 200 (depth_of condition)) refl (none_grown _ (λ x. refl) (refusals schema t) none)
     where
       by : (b : Bool) → nat_lt 200 (depth_of condition) ≡ b → (if b then too_deep t.id ∷ [] else flat_map (errors_of t.id) (map check_at (linked_envs schema t))) ≡ [] → (depth_of condition ≤ 200) × IsTypedIn schema condition (linked_envs schema t)
       by true deep h = absurd (cc h)
       by false flat h = (
         ltb-false 200 (depth_of condition) flat,
-        all_both (λ env. SaysWhy (check_at env)) (λ env. errors_of t.id (check_at env) ≡ []) (IsTyped schema condition) (λ env. typed_in t.id exact schema condition flat env) (linked_envs schema t) told
+        all_both (λ env. SaysWhy (check_at env)) (λ env. errors_of t.id (check_at env) ≡ []) (IsTyped schema condition) (λ env. typed_in t.id exact schema condition flat env) (linked_envs schema t) reported
             (all_of_map check_at (λ c. errors_of t.id c ≡ []) (linked_envs schema t) (none_in_each (errors_of t.id) (map check_at (linked_envs schema t)) h)),
       )
 

@@ -47,32 +47,32 @@ skip y (p ∷ ps) us s =
 
 -- what comes after x is the end of ascending ids
 record IsEnd (vs us : List EntityUID) : Type 0 where
-  front : List EntityUID
-  is : us ≡ front ++ vs
+  prefix : List EntityUID
+  is : us ≡ prefix ++ vs
 
 end_of : (x : EntityUID) (us : List EntityUID) → Sorted us → IsEnd (after (Some x) us) us
-end_of x [] s = record { front = []; is = refl }
+end_of x [] s = record { prefix = []; is = refl }
 end_of x (u ∷ us) s = by (uid_cmp x u) refl (end_of x us (sorted_tail uid_cmp u us s))
   where
     by : (o : Ordering) → uid_cmp x u ≡ o → IsEnd (after (Some x) us) us → IsEnd (after (Some x) (u ∷ us)) (u ∷ us)
-    by Less e rest = record { front = []; is = sym (keep_all x (u ∷ us) (e, further x u us e (sorted_head uid_cmp u us s))) }
-    by Equal e rest = record { front = u ∷ rest.front; is = ap (λ l. u ∷ l) rest.is ∙ ap (λ l. u ∷ (rest.front ++ l)) (sym (drop_first x u us (ap is_lt e))) }
-    by Greater e rest = record { front = u ∷ rest.front; is = ap (λ l. u ∷ l) rest.is ∙ ap (λ l. u ∷ (rest.front ++ l)) (sym (drop_first x u us (ap is_lt e))) }
+    by Less e rest = record { prefix = []; is = sym (keep_all x (u ∷ us) (e, further x u us e (sorted_head uid_cmp u us s))) }
+    by Equal e rest = record { prefix = u ∷ rest.prefix; is = ap (λ l. u ∷ l) rest.is ∙ ap (λ l. u ∷ (rest.prefix ++ l)) (sym (drop_first x u us (ap is_lt e))) }
+    by Greater e rest = record { prefix = u ∷ rest.prefix; is = ap (λ l. u ∷ l) rest.is ∙ ap (λ l. u ∷ (rest.prefix ++ l)) (sym (drop_first x u us (ap is_lt e))) }
 
 ends : (x : Option EntityUID) (us : List EntityUID) → Sorted us → IsEnd (after x us) us
-ends None us s = record { front = []; is = refl }
+ends None us s = record { prefix = []; is = refl }
 ends (Some x) us s = end_of x us s
 
 -- the last of some ids
 record HasLast (ws : List EntityUID) : Type 0 where
-  front : List EntityUID
+  prefix : List EntityUID
   last : EntityUID
-  is : ws ≡ front ++ last ∷ []
+  is : ws ≡ prefix ++ last ∷ []
   named : last_of ws ≡ Some last
 
 last_in : (w : EntityUID) (ws : List EntityUID) → HasLast (w ∷ ws)
-last_in w [] = record { front = []; last = w; is = refl; named = refl }
-last_in w (v ∷ ws) = let r = last_in v ws in record { front = w ∷ r.front; last = r.last; is = ap (λ l. w ∷ l) r.is; named = r.named }
+last_in w [] = record { prefix = []; last = w; is = refl; named = refl }
+last_in w (v ∷ ws) = let r = last_in v ws in record { prefix = w ∷ r.prefix; last = r.last; is = ap (λ l. w ∷ l) r.is; named = r.named }
 
 last_taken : (n : ℕ) → 1 ≤ n → (vs : List EntityUID) → n < length vs → HasLast (take n vs)
 last_taken zero one vs h = absurd (omega arith)
@@ -84,12 +84,12 @@ resumed : (us : List EntityUID) → Sorted us → (vs : List EntityUID) → IsEn
 resumed us s vs end n l =
     ap (λ o. after o us) l.named
     ∙ ap (after (Some l.last)) split
-    ∙ skip l.last (end.front ++ l.front) (drop n vs) (subst Sorted split s)
+    ∙ skip l.last (end.prefix ++ l.prefix) (drop n vs) (subst Sorted split s)
   where
-    split : us ≡ (end.front ++ l.front) ++ l.last ∷ drop n vs
+    split : us ≡ (end.prefix ++ l.prefix) ++ l.last ∷ drop n vs
     split =
-        end.is ∙ ap (λ k. end.front ++ k) (sym (take-append-drop n vs) ∙ ap (λ k. k ++ drop n vs) l.is ∙ append_assoc l.front (l.last ∷ []) (drop n vs))
-        ∙ sym (append_assoc end.front l.front (l.last ∷ drop n vs))
+        end.is ∙ ap (λ k. end.prefix ++ k) (sym (take-append-drop n vs) ∙ ap (λ k. k ++ drop n vs) l.is ∙ append_assoc l.prefix (l.last ∷ []) (drop n vs))
+        ∙ sym (append_assoc end.prefix l.prefix (l.last ∷ drop n vs))
 
 module _ (us : List EntityUID) (s : Sorted us) (n : ℕ) (one : 1 ≤ n) where
   no_more : (vs : List EntityUID) → nat_lt n (length vs) ≡ false → take n vs ≡ vs

@@ -27,7 +27,7 @@ use table_loader::entities_are_ordered;
 ///
 /// Errs with the first of these that does not hold: the request's action, resource and context are known;
 /// they break no rule of requests; the store conforms; the policies are accepted. Where all hold, it errs for
-/// want of memory alone.
+/// lack of memory alone.
 ///
 /// Each principal is decided on the store itself; whom no permit's scope lets in is denied without that. None is decided behind the first allowed one for which the
 /// page has no room.

@@ -30,7 +30,7 @@ abbrev mutual
   plain_attrs no_attrs = Some no_attrs
   plain_attrs (attr k t q xs) = plain_first k q (plain t) (plain_attrs xs)
 
--- refused where there is none; want of memory is free
+-- refused where there is none; lack of memory is free
 abbrev pub IsPlainError : Option Ty → SchemaTypeError → Type 0
 IsPlainError o NotRepresentable = o ≡ None
 IsPlainError o OutOfMemory = Unit {0}

@@ -26,7 +26,7 @@ use Rattle.table_loader.specs.RowsState.{RowsState, RowsContinue, TablesHaveAnce
 use Rattle.table_loader.specs.Tables.{Tables, store_of}
 use Rattle.table_loader.proofs.Entries.{keys_ascend, ordered_keys}
 use Rattle.table_loader.proofs.FromRows.{given}
-use Rattle.table_loader.proofs.Ordered.{told}
+use Rattle.table_loader.proofs.Ordered.{known}
 use Rattle.table_loader.specs.Asking.{AreFound}
 use Rattle.table_loader.specs.State.{store_in_order, store_known, loader_state}
 
@@ -95,11 +95,11 @@ honest_list t r ys f = record { enough = f.enough; given = f.given; exactly = λ
 -- ---- states
 
 pub continues : (a b : RowsState) (m n k l : ℕ) → RowsContinue a b → Continues (loader_state a m k) (loader_state b n l)
-continues a b m n k l on = record { told = stays; exact = refl; faults = on.faults; strays = omega arith; honest = λ s h. refl }
+continues a b m n k l on = record { known = stays; exact = refl; faults = on.faults; strays = omega arith; honest = λ s h. refl }
   where
     stays : (s : Store) → store_known a ≡ Some s → store_known b ≡ Some s
     stays s h =
-        let steady = (told a s h).steady in
+        let steady = (known a s h).steady in
         let same : store_known b ≡ store_known a =
         λ i. if on.steady i then option_and_then store_in_order (on.stays steady i) else None in
         same ∙ h

@@ -140,23 +140,23 @@ rows_say s is h k = ap (λ w. cond (is_store_ordered w) (Some w) None) is ∙ ap
 pub record IsReported (r : RowsState) (s : Store) : Type 0 where
   pub steady : r.steady ≡ true
   pub tables : Tables
-  pub told : r.told ≡ Some tables
+  pub known : r.known ≡ Some tables
   pub is : store_of tables ≡ s
   pub ordered : IsStoreOrdered s
 
-pub told : (r : RowsState) (s : Store) → store_known r ≡ Some s → IsReported r s
-told r s h = by r.steady refl r.told refl h
+pub known : (r : RowsState) (s : Store) → store_known r ≡ Some s → IsReported r s
+known r s h = by r.steady refl r.known refl h
   where
-    in_order : (b : Bool) (t : Tables) → r.steady ≡ true → r.told ≡ Some t → is_store_ordered (store_of t) ≡ b → cond b (Some (store_of t)) None ≡ Some s → IsReported r s
+    in_order : (b : Bool) (t : Tables) → r.steady ≡ true → r.known ≡ Some t → is_store_ordered (store_of t) ≡ b → cond b (Some (store_of t)) None ≡ Some s → IsReported r s
     in_order true t steady is ordered k =
         let same : store_of t ≡ s = cc in
-        record { steady = steady; tables = t; told = is; is = same; ordered = store_ordered s (subst (λ w. is_store_ordered w ≡ true) same ordered) }
+        record { steady = steady; tables = t; known = is; is = same; ordered = store_ordered s (subst (λ w. is_store_ordered w ≡ true) same ordered) }
     in_order false t steady is ordered k = absurd (cc)
 
-    by : (b : Bool) → r.steady ≡ b → (o : Option Tables) → r.told ≡ o → cond b (option_and_then store_in_order o) None ≡ Some s → IsReported r s
+    by : (b : Bool) → r.steady ≡ b → (o : Option Tables) → r.known ≡ o → cond b (option_and_then store_in_order o) None ≡ Some s → IsReported r s
     by true steady (Some t) is k = in_order (is_store_ordered (store_of t)) t steady is refl k
     by true steady None is k = absurd (cc)
     by false steady o is k = absurd (cc)
 
 pub known_ordered : KnownStoresAreOrdered
-known_ordered r s h = (told r s h).ordered
+known_ordered r s h = (known r s h).ordered

@@ -8,12 +8,12 @@ use Rattle.table_loader.specs.declared.rows.RowsError.{RowsError}
 use Rattle.table_loader.specs.Asking.{IsCause}
 
 pub rows_here : (r : RowsState) → RowsContinue r r
-rows_here r = record { told = λ t h. h; steady = refl; stays = λ h. refl; faults = omega arith }
+rows_here r = record { known = λ t h. h; steady = refl; stays = λ h. refl; faults = omega arith }
 
 module _ (a b c : RowsState) where
   pub rows_later : RowsContinue a b → RowsContinue b c → RowsContinue a c
   rows_later f g = record {
-    told = λ t h. f.told t (g.told t h);
+    known = λ t h. f.known t (g.known t h);
     steady = g.steady ∙ f.steady;
     stays = λ h. g.stays (f.steady ∙ h) ∙ f.stays h;
     faults = omega (arith, f.faults, g.faults);

@@ -7,11 +7,11 @@ use Rattle.table_loader.specs.declared.store.StoreRows.{StoreRows}
 
 -- steady rows of the store, whose calls never fail
 abbrev pub store_state : StoreRows → RowsState
-store_state r = record { told = Some (tables_of r.entities.now); steady = true; faults = 0 }
+store_state r = record { known = Some (tables_of r.entities.now); steady = true; faults = 0 }
 
 -- steady rows of the store
 abbrev pub memory_state : MemoryRows → RowsState
-memory_state r = record { told = Some (tables_of r.entities.now); steady = true; faults = r.faults }
+memory_state r = record { known = Some (tables_of r.entities.now); steady = true; faults = r.faults }
 
 -- a call fails exactly where its number is listed, and the next call has the next number
 pub record IsCall (old new : MemoryRows) (failed : Bool) : Type 0 where

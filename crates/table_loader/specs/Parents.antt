@@ -27,7 +27,7 @@ PartsAreRightStores =
     (x : EntityUID) → IsSome (entity_at part x) → entity_at t x ≡ entity_at s x
 
 -- where no entity is its own ancestor, none is in a part; so a part in which no id is repeated is refused for
--- want of memory alone
+-- lack of memory alone
 abbrev pub PartsAreStores : Type 0
 PartsAreStores =
     (part all : List StoredEntity) → AreSomeOf part all → ((x : EntityUID) → ¬ IsOwnAncestor all x) →

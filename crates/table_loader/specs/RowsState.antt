@@ -11,7 +11,7 @@ use Rattle.table_loader.specs.declared.rows.RowsError.TheVariants.{Failed}
 
 pub record RowsState : Type 0 where
   -- the tables, where they are known
-  pub told : Option Tables
+  pub known : Option Tables
   -- whether tables that are known stay known, and failed calls alone are counted
   pub steady : Bool
   -- how often a call has failed
@@ -19,12 +19,12 @@ pub record RowsState : Type 0 where
 
 -- over a call: tables that are known after it were known before it, and are the same; the count does not fall
 pub record RowsContinue (old new : RowsState) : Type 0 where
-  pub told : (t : Tables) → new.told ≡ Some t → old.told ≡ Some t
+  pub known : (t : Tables) → new.known ≡ Some t → old.known ≡ Some t
   pub steady : new.steady ≡ old.steady
-  pub stays : old.steady ≡ true → new.told ≡ old.told
+  pub stays : old.steady ≡ true → new.known ≡ old.known
   pub faults : old.faults ≤ new.faults
 
--- whether the call failed, and not for want of memory
+-- whether the call failed, and not for lack of memory
 abbrev pub has_failed : {X : Type 0} → Result X RowsError → Bool
 has_failed (Err Failed) = true
 has_failed r = false

@@ -46,7 +46,7 @@ store_in_order t = if is_store_ordered (store_of t) then Some (store_of t) else 
 
 -- the store that is known: of steady rows, where they say tables
 abbrev pub store_known : RowsState → Option Store
-store_known r = if r.steady then option_and_then store_in_order r.told else None
+store_known r = if r.steady then option_and_then store_in_order r.known else None
 
 -- a loader over rows that was asked so often for entities, and for ancestors: it may answer more than what is
 -- asked, and never strays

@@ -22,7 +22,7 @@ pub(crate) fn ancestor_lists<R: Rows>(
     ensures goes_on { RowsContinue (R.state rows.old) (R.state rows.new) }
     ensures cause { IsCause result (R.state rows.old) (R.state rows.new) }
     ensures fit { IfOk result (λ found. length requests.now.items ≡ length found.items) }
-    ensures honest { (t : Tables) → (R.state rows.new).told ≡ Some t →
+    ensures honest { (t : Tables) → (R.state rows.new).known ≡ Some t →
         IfOk result (λ found. AllZip (IsHonestList false (store_of t)) requests.now.items found.items) }
 {
     let mut found = Vec::new(alloc);
@@ -42,7 +42,7 @@ fn ancestors_among<R: Rows>(
 ) -> Result<Vec<EntityUID>, LoadError>
     ensures goes_on { RowsContinue (R.state rows.old) (R.state rows.new) }
     ensures cause { IsCause result (R.state rows.old) (R.state rows.new) }
-    ensures found { (t : Tables) → (R.state rows.new).told ≡ Some t →
+    ensures found { (t : Tables) → (R.state rows.new).known ≡ Some t →
         IfOk result (λ found. AreFound t uid.now ids.now found.items) }
 {
     let mut found = Vec::new(alloc);

@@ -34,7 +34,7 @@ pub(crate) fn answers<R: Rows>(
     ensures goes_on { RowsContinue (R.state rows.old) (R.state rows.new) }
     ensures cause { IsCause result (R.state rows.old) (R.state rows.new) }
     ensures fit { IfOk result (λ found. AllZip Fits requests.now.items found.items) }
-    ensures honest { (t : Tables) → (R.state rows.new).told ≡ Some t → IsOrderedStore (store_of t) →
+    ensures honest { (t : Tables) → (R.state rows.new).known ≡ Some t → IsOrderedStore (store_of t) →
         IfOk result (λ found. AllZip (IsHonest false (store_of t)) requests.now.items found.items) }
 {
     let mut found = Vec::new(alloc);
@@ -54,7 +54,7 @@ fn answer<R: Rows>(
     ensures goes_on { RowsContinue (R.state rows.old) (R.state rows.new) }
     ensures cause { IsCause result (R.state rows.old) (R.state rows.new) }
     ensures fit { IfOk result (Fits request.now) }
-    ensures honest { (t : Tables) → (R.state rows.new).told ≡ Some t → IsOrderedStore (store_of t) →
+    ensures honest { (t : Tables) → (R.state rows.new).known ≡ Some t → IsOrderedStore (store_of t) →
         IfOk result (IsHonest false (store_of t) request.now) }
 {
     let uid = &request.entity_id;
@@ -78,7 +78,7 @@ fn attributes<R: Rows>(
 ) -> Result<BTreeMap<Text, Value>, LoadError>
     ensures goes_on { RowsContinue (R.state rows.old) (R.state rows.new) }
     ensures cause { IsCause result (R.state rows.old) (R.state rows.new) }
-    ensures found { (t : Tables) → (R.state rows.new).told ≡ Some t → IfOk result (λ m. (k : List ℕ) →
+    ensures found { (t : Tables) → (R.state rows.new).known ≡ Some t → IfOk result (λ m. (k : List ℕ) →
         get text_cmp m k ≡ (if asks trie.now (along k ∷ []) then attribute_at t uid.now k else None)) }
 {
     // for the proof: the nodes are a table
@@ -100,7 +100,7 @@ fn put_attribute<R: Rows>(
 ) -> Result<(), LoadError>
     ensures goes_on { RowsContinue (R.state rows.old) (R.state rows.new) }
     ensures cause { IsCause result (R.state rows.old) (R.state rows.new) }
-    ensures put { (t : Tables) → (R.state rows.new).told ≡ Some t →
+    ensures put { (t : Tables) → (R.state rows.new).known ≡ Some t →
         OnOk result (PutsIfAny attrs.old attrs.new key.now (attribute_at t uid.now key.now)) }
 {
     match loaded(rows.attribute(alloc, uid, key))? {
@@ -126,7 +126,7 @@ fn tags<R: Rows>(
 ) -> Result<BTreeMap<Text, Value>, LoadError>
     ensures goes_on { RowsContinue (R.state rows.old) (R.state rows.new) }
     ensures cause { IsCause result (R.state rows.old) (R.state rows.new) }
-    ensures found { (t : Tables) → (R.state rows.new).told ≡ Some t → KeysAscend (tags_at t uid.now) →
+    ensures found { (t : Tables) → (R.state rows.new).known ≡ Some t → KeysAscend (tags_at t uid.now) →
         IfOk result (λ m. fields_of m.entries ≡ tags_from_rows t trie.now uid.now) }
 {
     match trie.tags() {

@@ -70,7 +70,7 @@ impl Rows for MemoryRows<'_> {
         ensures call { IsCall self.old self.new (has_failed result) }
         ensures goes_on { RowsContinue (memory_state self.old) (memory_state self.new) }
         ensures counted { IsCounted (has_failed result) (memory_state self.old) (memory_state self.new) }
-        ensures answer { (t : Tables) → (memory_state self.new).told ≡ Some t →
+        ensures answer { (t : Tables) → (memory_state self.new).known ≡ Some t →
             IfOk result (λ b. b ≡ has_entity t uid.now) }
     {
         if self.count_call() {
@@ -88,7 +88,7 @@ impl Rows for MemoryRows<'_> {
         ensures call { IsCall self.old self.new (has_failed result) }
         ensures goes_on { RowsContinue (memory_state self.old) (memory_state self.new) }
         ensures counted { IsCounted (has_failed result) (memory_state self.old) (memory_state self.new) }
-        ensures answer { (t : Tables) → (memory_state self.new).told ≡ Some t →
+        ensures answer { (t : Tables) → (memory_state self.new).known ≡ Some t →
             IfOk result (λ o. o ≡ attribute_at t uid.now key.now) }
     {
         if self.count_call() {
@@ -104,7 +104,7 @@ impl Rows for MemoryRows<'_> {
         ensures call { IsCall self.old self.new (has_failed result) }
         ensures goes_on { RowsContinue (memory_state self.old) (memory_state self.new) }
         ensures counted { IsCounted (has_failed result) (memory_state self.old) (memory_state self.new) }
-        ensures answer { (t : Tables) → (memory_state self.new).told ≡ Some t →
+        ensures answer { (t : Tables) → (memory_state self.new).known ≡ Some t →
             IfOk result (λ ts. fields_of ts.items ≡ tags_at t uid.now) }
     {
         if self.count_call() {
@@ -120,7 +120,7 @@ impl Rows for MemoryRows<'_> {
         ensures call { IsCall self.old self.new (has_failed result) }
         ensures goes_on { RowsContinue (memory_state self.old) (memory_state self.new) }
         ensures counted { IsCounted (has_failed result) (memory_state self.old) (memory_state self.new) }
-        ensures answer { (t : Tables) → (memory_state self.new).told ≡ Some t →
+        ensures answer { (t : Tables) → (memory_state self.new).known ≡ Some t →
             IfOk result (λ b. IsTrue b ↔ TablesHaveAncestor t uid.now ancestor.now) }
     {
         if self.count_call() {

@@ -8,7 +8,7 @@ pub fn parts_are_right_stores()
     ensures { PartsAreRightStores }
 {}
 
-/// Where all entities make a store, a part of them is refused for a repeated id or want of memory alone:
+/// Where all entities make a store, a part of them is refused for a repeated id or lack of memory alone:
 /// it has no cycle.
 pub fn parts_are_stores()
     ensures { PartsAreStores }

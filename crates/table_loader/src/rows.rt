@@ -31,7 +31,7 @@ pub trait Rows {
     fn entity(&mut self, uid: &EntityUID) -> Result<bool, RowsError>
         ensures goes_on { RowsContinue (state self.old) (state self.new) }
         ensures counted { IsCounted (has_failed result) (state self.old) (state self.new) }
-        ensures answer { (t : Tables) → (state self.new).told ≡ Some t →
+        ensures answer { (t : Tables) → (state self.new).known ≡ Some t →
             IfOk result (λ b. b ≡ has_entity t uid.now) };
 
     /// The attribute of the entity under the key, where there is a row for it.
@@ -43,20 +43,20 @@ pub trait Rows {
     ) -> Result<Option<Value>, RowsError>
         ensures goes_on { RowsContinue (state self.old) (state self.new) }
         ensures counted { IsCounted (has_failed result) (state self.old) (state self.new) }
-        ensures answer { (t : Tables) → (state self.new).told ≡ Some t →
+        ensures answer { (t : Tables) → (state self.new).known ≡ Some t →
             IfOk result (λ o. o ≡ attribute_at t uid.now key.now) };
 
     /// All tags of the entity, ascending by key.
     fn tags(&mut self, alloc: Global, uid: &EntityUID) -> Result<Vec<(Text, Value)>, RowsError>
         ensures goes_on { RowsContinue (state self.old) (state self.new) }
         ensures counted { IsCounted (has_failed result) (state self.old) (state self.new) }
-        ensures answer { (t : Tables) → (state self.new).told ≡ Some t →
+        ensures answer { (t : Tables) → (state self.new).known ≡ Some t →
             IfOk result (λ ts. fields_of ts.items ≡ tags_at t uid.now) };
 
     /// Whether there is a row for the ancestor of the entity.
     fn ancestor(&mut self, uid: &EntityUID, ancestor: &EntityUID) -> Result<bool, RowsError>
         ensures goes_on { RowsContinue (state self.old) (state self.new) }
         ensures counted { IsCounted (has_failed result) (state self.old) (state self.new) }
-        ensures answer { (t : Tables) → (state self.new).told ≡ Some t →
+        ensures answer { (t : Tables) → (state self.new).known ≡ Some t →
             IfOk result (λ b. IsTrue b ↔ TablesHaveAncestor t uid.now ancestor.now) };
 }

@@ -8,7 +8,7 @@ use entity_store::Entities;
 use policy_values::{EntityUID, Text, Value};
 use std::alloc::Global;
 
-/// The rows of a store in memory. No call fails but for want of memory.
+/// The rows of a store in memory. A call fails only where memory runs out.
 #[derive(Debug, Drop)]
 pub struct StoreRows<'a> {
     /// The store.

@@ -26,10 +26,10 @@ covers_step m k t q xs l u r ys (inl h) = h.3
 covers_step m k t q xs l u r ys (inr h) = covers_rest m xs l u r ys h
 
 -- where the first attributes match, the rest decides
-pub covers_turn : (m : SubtypeMode) (A : Type 0) (ws due zs : Attrs) (k : List ℕ) (t : Ty) (q : Bool) (xs : Attrs) (l : List ℕ) (u : Ty) (r : Bool) (ys : Attrs) → (A ↔ Covers m ws due) → ws ≡ attr k t q xs → due ≡ attr l u r ys → zs ≡ ys → k ≡ l → Subtype m t u × SubRequired m q r → A ↔ Covers m xs zs
-covers_turn m A ws due zs k t q xs l u r ys inv w d z e b = (
-  λ a. subst (λ v. Covers m xs v) (sym z) (covers_step m k t q xs l u r ys (subst (λ v. Covers m (attr k t q xs) v) d (subst (λ v. Covers m v due) w (inv.0 a)))),
-  λ h. inv.1 (subst (λ v. Covers m v due) (sym w) (subst (λ v. Covers m (attr k t q xs) v) (sym d) (inl (e, b.0, b.1, subst (λ v. Covers m xs v) z h)))),
+pub covers_turn : (m : SubtypeMode) (A : Type 0) (ws expected zs : Attrs) (k : List ℕ) (t : Ty) (q : Bool) (xs : Attrs) (l : List ℕ) (u : Ty) (r : Bool) (ys : Attrs) → (A ↔ Covers m ws expected) → ws ≡ attr k t q xs → expected ≡ attr l u r ys → zs ≡ ys → k ≡ l → Subtype m t u × SubRequired m q r → A ↔ Covers m xs zs
+covers_turn m A ws expected zs k t q xs l u r ys inv w d z e b = (
+  λ a. subst (λ v. Covers m xs v) (sym z) (covers_step m k t q xs l u r ys (subst (λ v. Covers m (attr k t q xs) v) d (subst (λ v. Covers m v expected) w (inv.0 a)))),
+  λ h. inv.1 (subst (λ v. Covers m v expected) (sym w) (subst (λ v. Covers m (attr k t q xs) v) (sym d) (inl (e, b.0, b.1, subst (λ v. Covers m xs v) z h)))),
 )
 
 covered_either : (m : SubtypeMode) (p : OpenTag) (xs ys : Attrs) → (IsPermissive m × IsOpen p × Covers m xs ys) ⊎ SubAttrs m xs ys → Covers m xs ys

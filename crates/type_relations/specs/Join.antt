@@ -92,12 +92,12 @@ join_records Strict xs ys o p joined shared =
     cond (same_keys xs ys) (result_map (λ zs. record_of zs (either_open o p)) joined) (Err RecordWidth)
 join_records Permissive xs ys o p joined shared = Ok (record_of shared (wide_open o p xs ys shared))
 
--- strict: one attribute in front, where both or neither is required
+-- strict: one attribute before it, where both or neither is required
 abbrev pub join_first : List ℕ → Bool → Bool → Result Ty LubHelp → Result Attrs LubHelp → Result Attrs LubHelp
 join_first k q r (Err h) rest = Err h
 join_first k q r (Ok t) rest = cond (bool_eq q r) (result_map (attr k t q) rest) (Err AttributeQualifier)
 
--- permissive: one attribute in front, where its types have a join
+-- permissive: one attribute before it, where its types have a join
 abbrev pub keep : List ℕ → Bool → Result Ty LubHelp → Attrs → Attrs
 keep k q (Ok t) xs = attr k t q xs
 keep k q (Err h) xs = xs
@@ -165,7 +165,7 @@ join_rest m (Ok t) (u ∷ us) = join_rest m (join m t u) us
 abbrev pub join_all : SubtypeMode → List Ty → Result Ty LubHelp
 join_all m ts = join_rest m (Ok never) ts
 
--- the refusal is the join's; want of memory is free
+-- the refusal is the join's; lack of memory is free
 abbrev pub IsLubError : Result Ty LubHelp → LubError → Type 0
 IsLubError r (Help h) = r ≡ Err h
 IsLubError r OutOfMemory = Unit {0}

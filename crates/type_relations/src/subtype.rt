@@ -207,18 +207,18 @@ fn covers(a: &Attributes, b: &Attributes, mode: SubtypeMode) -> bool
     ensures { IsTrue result ↔ Covers mode a.now b.now }
 {
     let mut rest = b.entries().iter();
-    let mut due = rest.next();
+    let mut expected = rest.next();
     for (key, x) in a.entries().iter() {
-        match due {
+        match expected {
             None => return true,
             Some((other, y)) => {
                 if same_text(key, other) && is_below(x, y, mode) {
-                    due = rest.next();
+                    expected = rest.next();
                 }
             }
         }
     }
-    match due {
+    match expected {
         None => true,
         Some(_) => false,
     }

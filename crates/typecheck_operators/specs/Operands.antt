@@ -20,7 +20,7 @@ use Rattle.findings.specs.Finding.{Finding}
 use Rattle.typecheck_rules.specs.Own.{if_none}
 use Rattle.typecheck_rules.specs.Walked.{Walked, Success, Fail, ended, lends, both, one}
 use Rattle.typecheck_rules.specs.Operators as definition
-use Rattle.typecheck_operators.specs.Reported.{Operand, lent, mark}
+use Rattle.typecheck_operators.specs.Reported.{Operand, given, mark}
 use Rattle.typecheck_operators.specs.declared.attr.Access.{Access}
 use Rattle.typecheck_operators.specs.declared.binary.Operator.{Operator}
 
@@ -31,7 +31,7 @@ ended_as ok t cs part m fs = cond ok (Success (typing t cs (part (at t m)))) (Fa
 
 -- of one operand
 abbrev pub one_of : (Typing → Option Typing) → Typed → List Finding → Operand → Walked
-one_of rule failed own a = ended a.ok (option_and_then rule (lent a)) failed (a.found ++ own)
+one_of rule failed own a = ended a.ok (option_and_then rule (given a)) failed (a.found ++ own)
 
 abbrev pub unary_of : UnaryOp → Mark (Unit {0}) → Operand → Walked
 unary_of o m a =
@@ -73,7 +73,7 @@ attr_given o t = option_and_then (definition.attr_given o.schema.now (env_data_o
 abbrev pub attr_of : Access → Operand → Walked
 attr_of o a =
     one_of (attr_typing o) (attr a.tree o.name.now (lends (attr_given o a.of) (mark o.loc)))
-    (option_map_or (attr_found o) (lent a) []) a
+    (option_map_or (attr_found o) (given a) []) a
 
 -- of an attribute that is declared: its type, where it is safe to read, else that it may be absent
 abbrev pub declared_typing : Access → AttributeType → Typed → Option Typing
@@ -126,7 +126,7 @@ binary_tree o x y t = binary o.op x y (lends t (mark o.loc))
 
 abbrev pub binary_of : Operator → Operand → Operand → Walked
 binary_of o a b =
-    ended (a.ok && b.ok) (both (binary_typing o) (lent a) (lent b))
+    ended (a.ok && b.ok) (both (binary_typing o) (given a) (given b))
     (binary_tree o a.tree b.tree (binary_given o a.of)) (a.found ++ (b.found ++ binary_own o a.of b.of))
 
 -- with a type of its own, over the expressions of its operands

@@ -9,10 +9,10 @@ use Rattle.typing_spec.specs.Typing.{Typed, typing}
 use Rattle.findings.specs.Finding.{Finding}
 use Rattle.typecheck_rules.specs.Walked.{Walked, Success, Fail}
 use Rattle.typecheck_rules.specs.Found.{findings_from}
-use Rattle.typecheck_operators.specs.declared.told.Typing.{Typing}
-use Rattle.typecheck_operators.specs.declared.told.Part.{Part}
-use Rattle.typecheck_operators.specs.declared.told.Reported.{Reported}
-use Rattle.typecheck_operators.specs.declared.told.Reported.TheVariants as told
+use Rattle.typecheck_operators.specs.declared.reported.Typing.{Typing}
+use Rattle.typecheck_operators.specs.declared.reported.Part.{Part}
+use Rattle.typecheck_operators.specs.declared.reported.Reported.{Reported}
+use Rattle.typecheck_operators.specs.declared.reported.Reported.TheVariants as reported
 
 -- the mark of a plain expression at a place
 abbrev pub mark : Option Loc → Mark (Unit {0})
@@ -22,8 +22,8 @@ abbrev pub typing_from : Typing → definition.Typing
 typing_from a = record { type = a.of; caps = a.caps; tree = a.tree }
 
 abbrev pub walked_of : Reported → Walked
-walked_of (told.Success a) = Success (typing_from a.value)
-walked_of (told.Fail a) = Fail a.value.tree (findings_from a.value.found.items)
+walked_of (reported.Success a) = Success (typing_from a.value)
+walked_of (reported.Fail a) = Fail a.value.tree (findings_from a.value.found.items)
 
 -- of the operands of a list, and of the fields of a record
 abbrev pub all_of : List Reported → List Walked
@@ -50,5 +50,5 @@ operand_of p =
     record { ok = p.ok; of = p.of; caps = p.caps; tree = p.tree; found = findings_from p.found.items }
 
 -- what it gives
-abbrev pub lent : Operand → Option definition.Typing
-lent a = given_as a.of a.caps a.tree
+abbrev pub given : Operand → Option definition.Typing
+given a = given_as a.of a.caps a.tree

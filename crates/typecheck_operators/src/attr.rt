@@ -8,7 +8,7 @@ ghost use Rattle.typecheck_operators.specs.Operands as definition;
 ghost use Rattle.typecheck_operators.specs.Reported.{mark, operand_of, walked_of};
 
 use crate::known::knows_attribute;
-use crate::told::{Part, Reported, Typing, ended_typed, expect, failed, parted};
+use crate::reported::{Part, Reported, Typing, ended_typed, expect, failed, parted};
 use policy_expressions::{BuildError, Expr, Loc};
 use policy_values::Text;
 use schema_core::{RequestEnv, ValidatorSchema};

@@ -7,7 +7,7 @@ ghost use Rattle.typecheck_rules.specs.Found.{findings_from};
 ghost use Rattle.typecheck_operators.specs.Operands as definition;
 ghost use Rattle.typecheck_operators.specs.Reported.{operand_of, walked_of};
 
-use crate::told::{Part, Reported, Typing, expect_if, failed, parted, rest_of, typed};
+use crate::reported::{Part, Reported, Typing, expect_if, failed, parted, rest_of, typed};
 use policy_expressions::{BinaryOp, BuildError, Expr, Loc};
 use schema_core::{RequestEnv, ValidatorSchema};
 use schema_types::Type;
@@ -131,8 +131,8 @@ fn binary_by<'a>(
             }
         }
         None => {
-            let lent = binary_given(o.schema, o.env, o.op, o.left, o.right, &v.of);
-            binary_failure(alloc, o, lent, v, w, found)
+            let given = binary_given(o.schema, o.env, o.op, o.left, o.right, &v.of);
+            binary_failure(alloc, o, given, v, w, found)
         }
     }
 }
@@ -173,20 +173,20 @@ fn binary_tree<'a>(
 fn binary_failure<'a>(
     alloc: Global,
     o: &Operator<'_, 'a>,
-    lent: Option<Type>,
+    given: Option<Type>,
     v: Part<'a>,
     w: Part<'a>,
     own: Vec<Finding>,
 ) -> Result<Reported<'a>, BuildError>
     ensures { IfOk result (λ r. walked_of r ≡
-        definition.binary_failed o.now lent (operand_of v.entry) (operand_of w.entry)
+        definition.binary_failed o.now given (operand_of v.entry) (operand_of w.entry)
         (findings_from own.items)) }
 {
     let (left, found) = rest_of(v);
     let (right, more) = rest_of(w);
-    let found = or_drop!(joined_all(found, more, own), lent, left, right);
+    let found = or_drop!(joined_all(found, more, own), given, left, right);
     let tree = or_drop!(
-        Expr::binary_app(alloc, o.op, left, right, lent, o.loc),
+        Expr::binary_app(alloc, o.op, left, right, given, o.loc),
         found
     );
     Ok(failed(alloc, tree, found)?)

@@ -14,7 +14,7 @@ ghost use Rattle.typecheck_operators.specs.Parts.{argument_walked, call_by_type}
 ghost use Rattle.typecheck_operators.specs.Reported.{mark, walked_of, all_of};
 
 use crate::parts::{Rest, are_typed, rest_of_all, types_given};
-use crate::told::{Reported, Typing, ended_typed, expect, failed};
+use crate::reported::{Reported, Typing, ended_typed, expect, failed};
 use policy_expressions::{BuildError, Expr, Loc};
 use policy_values::Name;
 use schema_types::Type;

@@ -7,7 +7,7 @@ ghost use Rattle.typing_spec.specs.Environment as environment;
 ghost use Rattle.typecheck_rules.specs.Operators.{leaf_walked};
 ghost use Rattle.typecheck_operators.specs.Reported.{mark, walked_of};
 
-use crate::told::{Reported, Typing, failed, typed};
+use crate::reported::{Reported, Typing, failed, typed};
 use policy_expressions::{BuildError, Expr, Literal, Loc, SlotId, Var};
 use schema_core::{RequestEnv, ValidatorSchema};
 use schema_types::Type;

@@ -27,8 +27,8 @@ mod leaf;
 mod like;
 mod parts;
 mod record;
+mod reported;
 mod set;
-mod told;
 mod unary;
 
 pub use attr::{Access, attr_reported};
@@ -40,9 +40,9 @@ pub use known::knows_attribute;
 pub use leaf::{literal_reported, slot_reported, variable_reported};
 pub use like::like_reported;
 pub use record::record_reported;
-pub use set::set_reported;
-pub use told::{
+pub use reported::{
     Failure, Part, Reported, Typing, ended_typed, expect, failed, into_tree, parted, rest_of,
     skipped, typed, unreached,
 };
+pub use set::set_reported;
 pub use unary::unary_reported;

@@ -8,7 +8,7 @@ ghost use Rattle.typecheck_rules.specs.Operators as definition;
 ghost use Rattle.typecheck_operators.specs.Operands.{like_of};
 ghost use Rattle.typecheck_operators.specs.Reported.{mark, operand_of, walked_of};
 
-use crate::told::{Part, Reported, Typing, ended_typed, expect, failed, parted};
+use crate::reported::{Part, Reported, Typing, ended_typed, expect, failed, parted};
 use policy_expressions::{BuildError, Expr, Loc, Pattern};
 use schema_types::Type;
 use std::alloc::Global;

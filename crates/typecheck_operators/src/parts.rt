@@ -8,7 +8,7 @@ ghost use Rattle.typecheck_rules.specs.Found.{findings_from};
 ghost use Rattle.typecheck_operators.specs.Parts.{types_given};
 ghost use Rattle.typecheck_operators.specs.Reported.{walked_of, all_of};
 
-use crate::told::{Failure, Reported, into_tree};
+use crate::reported::{Failure, Reported, into_tree};
 use policy_expressions::Expr;
 use schema_types::Type;
 use std::alloc::{AllocError, Global};

@@ -11,7 +11,7 @@ ghost use Rattle.typecheck_operators.specs.Parts.{fields_given, trees_in_fields,
 ghost use Rattle.typecheck_operators.specs.Reported.{mark, walked_of, field_of};
 
 use crate::parts::{add_found, is_typed, reported_rest, type_given};
-use crate::told::{Reported, Typing, ended_typed, failed};
+use crate::reported::{Reported, Typing, ended_typed, failed};
 use policy_expressions::{BuildError, Expr, Loc};
 use policy_values::{Text, push_entry};
 use schema_types::Type;

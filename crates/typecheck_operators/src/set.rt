@@ -8,7 +8,7 @@ ghost use Rattle.typecheck_operators.specs.Parts.{set_by_type, set_in_parts};
 ghost use Rattle.typecheck_operators.specs.Reported.{mark, walked_of, all_of};
 
 use crate::parts::{are_typed, rest_of_all, types_given};
-use crate::told::{Reported, Typing, ended_typed, failed};
+use crate::reported::{Reported, Typing, ended_typed, failed};
 use policy_expressions::{BuildError, Expr, Loc};
 use schema_types::Type;
 use std::alloc::Global;

@@ -5,7 +5,7 @@ ghost use Rattle.typecheck_rules.specs.Operators.{unary_given, unary_fitting, un
 ghost use Rattle.typecheck_operators.specs.Operands.{unary_of};
 ghost use Rattle.typecheck_operators.specs.Reported.{mark, operand_of, walked_of};
 
-use crate::told::{Part, Reported, Typing, ended_typed, expect, failed, parted};
+use crate::reported::{Part, Reported, Typing, ended_typed, expect, failed, parted};
 use policy_expressions::{BuildError, Expr, Loc, UnaryOp};
 use schema_types::Type;
 use std::alloc::Global;

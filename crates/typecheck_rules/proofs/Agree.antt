@@ -65,69 +65,69 @@ module _ (schema : SchemaData) (env : EnvData) where
       (sub_both (findings_of v) (findings_of w) (findings_of (expect_if (left_of o) (place x) v)) (findings_of (expect_if (right_of o) (place y) w)) (if_says (left_of o) (place x) v) (if_says (right_of o) (place y) w) f i)
 
   mutual
-    pub told : (cs : List Capability) (e : Plain) → Sub (faults schema env cs e) (findings_of (walked schema env cs e))
-    told cs (lit l m) = sub_none (findings_of (walked schema env cs (lit l m)))
-    told cs (var v m) = sub_none (findings_of (walked schema env cs (var v m)))
-    told cs (slot i m) = sub_none []
-    told cs (ite x y z m) =
+    pub reported : (cs : List Capability) (e : Plain) → Sub (faults schema env cs e) (findings_of (walked schema env cs e))
+    reported cs (lit l m) = sub_none (findings_of (walked schema env cs (lit l m)))
+    reported cs (var v m) = sub_none (findings_of (walked schema env cs (var v m)))
+    reported cs (slot i m) = sub_none []
+    reported cs (ite x y z m) =
         subst (λ fs. Sub fs (findings_of (walked schema env cs (ite x y z m))))
         (λ i. at_typed (exact schema env cs x i) (faults schema env cs x ++ (faults schema env cs y ++ faults schema env cs z))
         (λ a. if_faults m (place x) a.type a (faults schema env cs y) (exact schema env (cs ++ a.caps) y i) (faults schema env (cs ++ a.caps) y) (exact schema env cs z i) (faults schema env cs z)))
         (if_reported m (place x) (walked schema env cs x) (λ ds. walked schema env (cs ++ ds) y) (walked schema env cs y) (walked schema env cs z)
-        (faults schema env cs x) (faults schema env cs y) (faults schema env cs z) (λ ds. faults schema env (cs ++ ds) y) (told cs x) (told cs y) (told cs z) (λ ds. told (cs ++ ds) y))
-    told cs (conj x y m) =
+        (faults schema env cs x) (faults schema env cs y) (faults schema env cs z) (λ ds. faults schema env (cs ++ ds) y) (reported cs x) (reported cs y) (reported cs z) (λ ds. reported (cs ++ ds) y))
+    reported cs (conj x y m) =
         subst (λ fs. Sub fs (findings_of (walked schema env cs (conj x y m))))
         (λ i. at_typed (exact schema env cs x i) (faults schema env cs x ++ faults schema env cs y)
         (λ a. and_faults (place x) (place y) a.type (faults schema env cs y) (exact schema env (cs ++ a.caps) y i) (faults schema env (cs ++ a.caps) y)))
         (and_reported m (place y) (place x) (walked schema env cs x) (λ ds. walked schema env (cs ++ ds) y) (walked schema env cs y)
-        (faults schema env cs x) (faults schema env cs y) (λ ds. faults schema env (cs ++ ds) y) (told cs x) (told cs y) (λ ds. told (cs ++ ds) y))
-    told cs (disj x y m) =
+        (faults schema env cs x) (faults schema env cs y) (λ ds. faults schema env (cs ++ ds) y) (reported cs x) (reported cs y) (λ ds. reported (cs ++ ds) y))
+    reported cs (disj x y m) =
         subst (λ fs. Sub fs (findings_of (walked schema env cs (disj x y m))))
         (λ i. at_typed (exact schema env cs x i) (faults schema env cs x ++ faults schema env cs y) (λ a. or_faults (place x) (place y) a.type (exact schema env cs y i) (faults schema env cs y)))
-        (or_reported m (place y) (place x) (walked schema env cs x) (walked schema env cs y) (faults schema env cs x) (faults schema env cs y) (told cs x) (told cs y))
-    told cs (unary o x m) =
+        (or_reported m (place y) (place x) (walked schema env cs x) (walked schema env cs y) (faults schema env cs x) (faults schema env cs y) (reported cs x) (reported cs y))
+    reported cs (unary o x m) =
         subst (λ t. Sub (at_typed t (faults schema env cs x) (λ a. findings_of (unary_walked o m (place x) (Success a)))) (findings_of (walked schema env cs (unary o x m)))) (exact schema env cs x)
-        (step_reported (unary_walked o m (place x)) (walked schema env cs x) (faults schema env cs x) (λ v e. fit_says (of_unary o) (place x) _ _ [] v e) (told cs x))
-    told cs (binary o x y m) =
+        (step_reported (unary_walked o m (place x)) (walked schema env cs x) (faults schema env cs x) (λ v e. fit_says (of_unary o) (place x) _ _ [] v e) (reported cs x))
+    reported cs (binary o x y m) =
         subst (λ fs. Sub fs (findings_of (walked schema env cs (binary o x y m))))
         (λ i. at_both (exact schema env cs x i) (exact schema env cs y i) (faults schema env cs x ++ faults schema env cs y)
         (λ a b. findings_of (binary_walked schema env o (has_cap cs (tag_known x y)) x y m (Success a) (Success b))))
         (steps_reported (binary_walked schema env o (has_cap cs (tag_known x y)) x y m) (walked schema env cs x) (walked schema env cs y) (faults schema env cs x) (faults schema env cs y)
-        (binary_says o (has_cap cs (tag_known x y)) x y m) (told cs x) (told cs y))
-    told cs (attr x n m) =
+        (binary_says o (has_cap cs (tag_known x y)) x y m) (reported cs x) (reported cs y))
+    reported cs (attr x n m) =
         subst (λ t. Sub (at_typed t (faults schema env cs x) (λ a. findings_of (attr_walked schema env (has_cap cs (attribute_known x n)) n m (place x) (Success a)))) (findings_of (walked schema env cs (attr x n m)))) (exact schema env cs x)
-        (step_reported (attr_walked schema env (has_cap cs (attribute_known x n)) n m (place x)) (walked schema env cs x) (faults schema env cs x) (λ v e. fit_says (an_owner no_help) (place x) _ _ _ v e) (told cs x))
-    told cs (has x n m) =
+        (step_reported (attr_walked schema env (has_cap cs (attribute_known x n)) n m (place x)) (walked schema env cs x) (faults schema env cs x) (λ v e. fit_says (an_owner no_help) (place x) _ _ _ v e) (reported cs x))
+    reported cs (has x n m) =
         subst (λ t. Sub (at_typed t (faults schema env cs x) (λ a. findings_of (has_walked schema (has_cap cs (attribute_known x n)) x n m (Success a)))) (findings_of (walked schema env cs (has x n m)))) (exact schema env cs x)
-        (step_reported (has_walked schema (has_cap cs (attribute_known x n)) x n m) (walked schema env cs x) (faults schema env cs x) (λ v e. fit_says (an_owner contents_help) (place x) _ _ [] v e) (told cs x))
-    told cs (like x p m) =
+        (step_reported (has_walked schema (has_cap cs (attribute_known x n)) x n m) (walked schema env cs x) (faults schema env cs x) (λ v e. fit_says (an_owner contents_help) (place x) _ _ [] v e) (reported cs x))
+    reported cs (like x p m) =
         subst (λ t. Sub (at_typed t (faults schema env cs x) (λ a. findings_of (like_walked p m (place x) (Success a)))) (findings_of (walked schema env cs (like x p m)))) (exact schema env cs x)
-        (step_reported (like_walked p m (place x)) (walked schema env cs x) (faults schema env cs x) (λ v e. fit_says (a_string like_help) (place x) _ _ [] v e) (told cs x))
-    told cs (is_type x n m) =
+        (step_reported (like_walked p m (place x)) (walked schema env cs x) (faults schema env cs x) (λ v e. fit_says (a_string like_help) (place x) _ _ [] v e) (reported cs x))
+    reported cs (is_type x n m) =
         subst (λ t. Sub (at_typed t (faults schema env cs x) (λ a. findings_of (is_walked n m (place x) (Success a)))) (findings_of (walked schema env cs (is_type x n m)))) (exact schema env cs x)
-        (step_reported (is_walked n m (place x)) (walked schema env cs x) (faults schema env cs x) (λ v e. fit_says (an_entity test_help) (place x) _ _ [] v e) (told cs x))
-    told cs (call f xs m) =
+        (step_reported (is_walked n m (place x)) (walked schema env cs x) (faults schema env cs x) (λ v e. fit_says (an_entity test_help) (place x) _ _ [] v e) (reported cs x))
+    reported cs (call f xs m) =
         subst (λ t. Sub (call_faults f (function_of f) xs m t (faults_all schema env cs xs)) (findings_of (walked schema env cs (call f xs m)))) (exact_all schema env cs xs)
         (call_reported f (function_of f) xs m (walked_all schema env cs xs) (faults_all schema env cs xs) (reported_all cs xs))
-    told cs (set xs m) =
+    reported cs (set xs m) =
         subst (λ t. Sub (at_typed t (faults_all schema env cs xs) (λ ts. findings_of (set_walked m (map Success ts)))) (findings_of (walked schema env cs (set xs m)))) (exact_all schema env cs xs)
         (all_reported (set_walked m) (walked_all schema env cs xs) (faults_all schema env cs xs)
         (λ e. all_says (set_typing m) _ _ (faults_all schema env cs xs) (walked_all schema env cs xs) e
         (sub_left (faults_all schema env cs xs) (findings_of_all (walked_all schema env cs xs)) (option_map_or (λ ys. set_found m.loc (types_in ys)) (given_by_all (walked_all schema env cs xs)) []) (reported_all cs xs))))
-    told cs (rec xs m) = record_reported (walked_named schema env cs xs) m (faults_named schema env cs xs) (reported_named cs xs)
+    reported cs (rec xs m) = record_reported (walked_named schema env cs xs) m (faults_named schema env cs xs) (reported_named cs xs)
 
     pub reported_all : (cs : List Capability) (xs : Trees (Mark (Unit {0}))) → Sub (faults_all schema env cs xs) (findings_of_all (walked_all schema env cs xs))
     reported_all cs no_trees = sub_none []
     reported_all cs (tree x xs) =
-        sub_both (faults schema env cs x) (faults_all schema env cs xs) (findings_of (walked schema env cs x)) (findings_of_all (walked_all schema env cs xs)) (told cs x) (reported_all cs xs)
+        sub_both (faults schema env cs x) (faults_all schema env cs xs) (findings_of (walked schema env cs x)) (findings_of_all (walked_all schema env cs xs)) (reported cs x) (reported_all cs xs)
 
     pub reported_named : (cs : List Capability) (xs : Named (Mark (Unit {0}))) → Sub (faults_named schema env cs xs) (findings_of_all (parts_of (walked_named schema env cs xs)))
     reported_named cs no_named = sub_none []
     reported_named cs (named k x xs) =
-        sub_both (faults schema env cs x) (faults_named schema env cs xs) (findings_of (walked schema env cs x)) (findings_of_all (parts_of (walked_named schema env cs xs))) (told cs x) (reported_named cs xs)
+        sub_both (faults schema env cs x) (faults_named schema env cs xs) (findings_of (walked schema env cs x)) (findings_of_all (parts_of (walked_named schema env cs xs))) (reported cs x) (reported_named cs xs)
 
 pub walk_exact : WalkIsExact
-walk_exact schema env cs e = record { exact = exact schema env cs e; told = told schema env cs e }
+walk_exact schema env cs e = record { exact = exact schema env cs e; reported = reported schema env cs e }
 
 -- where nothing can be reported there is nothing
 none_in : (fs : List Finding) → Sub fs [] → fs ≡ []
@@ -142,4 +142,4 @@ typed_none (Success a) fs h = none_in fs h
 typed_none (Fail t gs) fs h = tt
 
 pub typed_no_faults : TypedHasNoFaults
-typed_no_faults schema env cs e = subst (λ o. IfSome o (λ a. faults schema env cs e ≡ [])) (exact schema env cs e) (typed_none (walked schema env cs e) (faults schema env cs e) (told schema env cs e))
+typed_no_faults schema env cs e = subst (λ o. IfSome o (λ a. faults schema env cs e ≡ [])) (exact schema env cs e) (typed_none (walked schema env cs e) (faults schema env cs e) (reported schema env cs e))

@@ -30,26 +30,26 @@ use Rattle.typecheck_rules.specs.Walked.{Walked, Success, Fail, tree_of, lends, 
 use Rattle.typecheck_rules.specs.Own.{incompatible, set_found}
 use Rattle.typecheck_rules.specs.Operators.{place, unless_false, unless_true, unary_fitting, unary_walked, like_fitting, like_walked, is_fitting, is_walked, has_fitting, has_walked, attr_found, attr_fitting, attr_walked, binary_fitting, binary_walked, and_sides, and_walked, or_sides, or_walked, if_parts, if_walked, set_typing, set_walked, Fields, parts_of, given_fields, record_typing, record_walked}
 use Rattle.typecheck_rules.proofs.Lists.{AllTyped, SomeFails, typed_or_not}
-use Rattle.typecheck_rules.proofs.Found.{NonEmpty, front, HasFinding, Holds, Found, found_mapped, ended_full, ended_found, Fitted, fitted, fitted_if, unary_gives, like_gives, is_gives, has_gives, attr_gives, binary_gives, is_reached, is_besides, and_gives, or_gives, joined}
+use Rattle.typecheck_rules.proofs.Found.{NonEmpty, prefix, HasFinding, Holds, Found, found_mapped, ended_full, ended_found, Fitted, fitted, fitted_if, unary_gives, like_gives, is_gives, has_gives, attr_gives, binary_gives, is_reached, is_besides, and_gives, or_gives, joined}
 
 -- operators of one operand
 unary_fits : (o : UnaryOp) (m : Mark (Unit {0})) (v : Walked) → Fitted (Some (of_unary o)) v → HasFinding (unary_fitting o m v)
 unary_fits o m (Success a) h = ended_found _ _ [] (found_mapped _ (rule.unary_type o a.type) [] (unary_gives o a.type [] h))
-unary_fits o m (Fail t fs) h = ended_full false _ _ (fs ++ []) (front fs [] h)
+unary_fits o m (Fail t fs) h = ended_full false _ _ (fs ++ []) (prefix fs [] h)
 
 pub unary_reported : (o : UnaryOp) (m : Mark (Unit {0})) (l : Option Loc) (v : Walked) → HasFinding v → HasFinding (unary_walked o m l v)
 unary_reported o m l v h = unary_fits o m (expect (of_unary o) l v) (fitted (of_unary o) l v h)
 
 like_fits : (p : List PatternElem) (m : Mark (Unit {0})) (v : Walked) → Fitted (Some (a_string like_help)) v → HasFinding (like_fitting p m v)
 like_fits p m (Success a) h = ended_found _ _ [] (found_mapped _ (rule.like_type a.type) [] (like_gives a.type [] h))
-like_fits p m (Fail t fs) h = ended_full false _ _ (fs ++ []) (front fs [] h)
+like_fits p m (Fail t fs) h = ended_full false _ _ (fs ++ []) (prefix fs [] h)
 
 pub like_reported : (p : List PatternElem) (m : Mark (Unit {0})) (l : Option Loc) (v : Walked) → HasFinding v → HasFinding (like_walked p m l v)
 like_reported p m l v h = like_fits p m (expect (a_string like_help) l v) (fitted (a_string like_help) l v h)
 
 is_fits : (n : List ℕ) (m : Mark (Unit {0})) (v : Walked) → Fitted (Some (an_entity test_help)) v → HasFinding (is_fitting n m v)
 is_fits n m (Success a) h = ended_found _ _ [] (found_mapped _ (rule.is_type a.type n) [] (is_gives n a.type [] h))
-is_fits n m (Fail t fs) h = ended_full false _ _ (fs ++ []) (front fs [] h)
+is_fits n m (Fail t fs) h = ended_full false _ _ (fs ++ []) (prefix fs [] h)
 
 pub is_reported : (n : List ℕ) (m : Mark (Unit {0})) (l : Option Loc) (v : Walked) → HasFinding v → HasFinding (is_walked n m l v)
 is_reported n m l v h = is_fits n m (expect (an_entity test_help) l v) (fitted (an_entity test_help) l v h)
@@ -57,7 +57,7 @@ is_reported n m l v h = is_fits n m (expect (an_entity test_help) l v) (fitted (
 module _ (schema : SchemaData) where
   has_fits : (known : Bool) (x : Plain) (n : List ℕ) (m : Mark (Unit {0})) (v : Walked) → Fitted (Some (an_owner contents_help)) v → HasFinding (has_fitting schema known x n m v)
   has_fits known x n m (Success a) h = ended_found _ _ [] (found_mapped _ (rule.has_type schema known a.type n) [] (has_gives schema known n a.type [] h))
-  has_fits known x n m (Fail t fs) h = ended_full false _ _ (fs ++ []) (front fs [] h)
+  has_fits known x n m (Fail t fs) h = ended_full false _ _ (fs ++ []) (prefix fs [] h)
 
   pub has_reported : (known : Bool) (x : Plain) (n : List ℕ) (m : Mark (Unit {0})) (v : Walked) → HasFinding v → HasFinding (has_walked schema known x n m v)
   has_reported known x n m v h = has_fits known x n m (expect (an_owner contents_help) (place x) v) (fitted (an_owner contents_help) (place x) v h)
@@ -67,7 +67,7 @@ module _ (schema : SchemaData) where
     attr_fits known n m (Success a) h =
         ended_found _ _ (attr_found schema env known n m a)
         (found_mapped _ (rule.attr_type schema known a.type n) (attr_found schema env known n m a) (attr_gives schema known n m.loc (attribute_access env a.tree n) a.type (attribute_of schema a.type n)))
-    attr_fits known n m (Fail t fs) h = ended_full false _ _ _ (front fs _ h)
+    attr_fits known n m (Fail t fs) h = ended_full false _ _ _ (prefix fs _ h)
 
     pub attr_reported : (known : Bool) (n : List ℕ) (m : Mark (Unit {0})) (l : Option Loc) (v : Walked) → HasFinding v → HasFinding (attr_walked schema env known n m l v)
     attr_reported known n m l v h = attr_fits known n m (expect (an_owner no_help) l v) (fitted (an_owner no_help) l v h)
@@ -76,8 +76,8 @@ module _ (schema : SchemaData) where
     binary_fits : (o : BinaryOp) (known : Bool) (x y : Plain) (m : Mark (Unit {0})) (v w : Walked) → Fitted (left_of o) v → Fitted (right_of o) w → HasFinding (binary_fitting schema env o known x y m v w)
     binary_fits o known x y m (Success a) (Success b) h k =
         ended_found _ _ _ (found_mapped _ (rule.binary_type schema env o known x y a.type b.type) _ (binary_gives schema env o known x y (place x) (place y) m.loc a.type b.type h k))
-    binary_fits o known x y m (Success a) (Fail u gs) h k = ended_full false _ _ _ (front gs _ k)
-    binary_fits o known x y m (Fail t fs) w h k = ended_full false _ _ _ (front fs _ h)
+    binary_fits o known x y m (Success a) (Fail u gs) h k = ended_full false _ _ _ (prefix gs _ k)
+    binary_fits o known x y m (Fail t fs) w h k = ended_full false _ _ _ (prefix fs _ h)
 
     pub binary_reported : (o : BinaryOp) (known : Bool) (x y : Plain) (m : Mark (Unit {0})) (v w : Walked) → HasFinding v → HasFinding w → HasFinding (binary_walked schema env o known x y m v w)
     binary_reported o known x y m v w h k = binary_fits o known x y m (expect_if (left_of o) (place x) v) (expect_if (right_of o) (place y) w) (fitted_if (left_of o) (place x) v h) (fitted_if (right_of o) (place y) w k)
@@ -104,7 +104,7 @@ and_fits m r _ cs x after h k = absurd h
 and_left_fits : (m : Mark (Unit {0})) (r : Option Loc) (v : Walked) (after : List Capability → Walked) (before : Walked) → Fitted (Some a_boolean) v → ((ds : List Capability) → HasFinding (after ds)) →
     HasFinding (and_walked m r v after before)
 and_left_fits m r (Success a) after before h k = and_fits m r a.type a.caps a.tree (after a.caps) h (k a.caps)
-and_left_fits m r (Fail t fs) after before h k = ended_full false _ _ _ (front fs _ h)
+and_left_fits m r (Fail t fs) after before h k = ended_full false _ _ _ (prefix fs _ h)
 
 pub and_is_reported : (m : Mark (Unit {0})) (l r : Option Loc) (v : Walked) (after : List Capability → Walked) (before : Walked) → HasFinding v → ((ds : List Capability) → HasFinding (after ds)) →
     HasFinding (and_walked m r (expect a_boolean l v) after before)
@@ -131,7 +131,7 @@ or_fits m r _ cs x w h k = absurd h
 
 or_left_fits : (m : Mark (Unit {0})) (r : Option Loc) (v w : Walked) → Fitted (Some a_boolean) v → HasFinding w → HasFinding (or_walked m r v w)
 or_left_fits m r (Success a) w h k = or_fits m r a.type a.caps a.tree w h k
-or_left_fits m r (Fail t fs) w h k = ended_full false _ _ _ (front fs _ h)
+or_left_fits m r (Fail t fs) w h k = ended_full false _ _ _ (prefix fs _ h)
 
 pub or_is_reported : (m : Mark (Unit {0})) (l r : Option Loc) (v w : Walked) → HasFinding v → HasFinding w → HasFinding (or_walked m r (expect a_boolean l v) w)
 or_is_reported m l r v w h k = or_left_fits m r (expect a_boolean l v) w (fitted a_boolean l v h) k
@@ -145,12 +145,12 @@ join_fits m cs x a b (Err h) make failed = tt
 if_fits : (m : Mark (Unit {0})) (t : Ty) (cs : List Capability) (x : Typed) (v w : Walked) → Holds (is_boolean t) → HasFinding v → HasFinding w →
     HasFinding (if_parts m (Success (typing t cs x)) (unless_false t v) (unless_true t w))
 if_fits m true_type cs x (Success a) w h k i = tt
-if_fits m true_type cs x (Fail t fs) w h k i = ended_full false _ _ _ (front fs _ k)
+if_fits m true_type cs x (Fail t fs) w h k i = ended_full false _ _ _ (prefix fs _ k)
 if_fits m false_type cs x v (Success b) h k i = tt
-if_fits m false_type cs x v (Fail u gs) h k i = ended_full false _ _ _ (front gs _ i)
+if_fits m false_type cs x v (Fail u gs) h k i = ended_full false _ _ _ (prefix gs _ i)
 if_fits m (primitive BoolType) cs x (Success a) (Success b) h k i = join_fits m cs x a b (join Strict a.type b.type) _ _
-if_fits m (primitive BoolType) cs x (Success a) (Fail u gs) h k i = ended_full false _ _ _ (front gs _ i)
-if_fits m (primitive BoolType) cs x (Fail t fs) w h k i = ended_full false _ _ _ (front fs _ k)
+if_fits m (primitive BoolType) cs x (Success a) (Fail u gs) h k i = ended_full false _ _ _ (prefix gs _ i)
+if_fits m (primitive BoolType) cs x (Fail t fs) w h k i = ended_full false _ _ _ (prefix fs _ k)
 if_fits m (primitive Long) cs x v w h k i = absurd h
 if_fits m (primitive String) cs x v w h k i = absurd h
 if_fits m _ cs x v w h k i = absurd h
@@ -158,7 +158,7 @@ if_fits m _ cs x v w h k i = absurd h
 if_test_fits : (m : Mark (Unit {0})) (u : Walked) (after : List Capability → Walked) (before w : Walked) → Fitted (Some a_boolean) u → ((ds : List Capability) → HasFinding (after ds)) → HasFinding w →
     HasFinding (if_walked m u after before w)
 if_test_fits m (Success a) after before w h k i = if_fits m a.type a.caps a.tree (after a.caps) w h (k a.caps) i
-if_test_fits m (Fail t fs) after before w h k i = ended_full false _ _ _ (front fs _ h)
+if_test_fits m (Fail t fs) after before w h k i = ended_full false _ _ _ (prefix fs _ h)
 
 pub if_is_reported : (m : Mark (Unit {0})) (l : Option Loc) (u : Walked) (after : List Capability → Walked) (before w : Walked) → HasFinding u → ((ds : List Capability) → HasFinding (after ds)) → HasFinding w →
     HasFinding (if_walked m (expect a_boolean l u) after before w)
@@ -172,7 +172,7 @@ HaveFindings (w ∷ ws) = HasFinding w × HaveFindings ws
 pub some_found : (ws : List Walked) → HaveFindings ws → list_all has_typing ws ≡ false → NonEmpty (findings_of_all ws)
 some_found [] h e = absurd (true≢false e)
 some_found (Success a ∷ ws) h e = some_found ws h.1 e
-some_found (Fail t fs ∷ ws) h e = front fs (findings_of_all ws) h.0
+some_found (Fail t fs ∷ ws) h e = prefix fs (findings_of_all ws) h.0
 
 pub all_given : (ts : List Typing) → given_by_all (map Success ts) ≡ Some ts
 all_given [] = refl
@@ -205,7 +205,7 @@ set_reported m ws h = by (typed_or_not ws)
 
     by : AllTyped ws ⊎ SomeFails ws → HasFinding (set_walked m ws)
     by (inl k) = subst (λ vs. HasFinding (set_walked m vs)) (sym k.1) (all k.0 (set (trees_walked (map Success k.0)) (lends None m)))
-    by (inr k) = ended_full (list_all has_typing ws) _ _ _ (front (findings_of_all ws) _ (some_found ws h k.0))
+    by (inr k) = ended_full (list_all has_typing ws) _ _ _ (prefix (findings_of_all ws) _ (some_found ws h k.0))
 
 fields_given : (es : Fields) → list_all has_typing (parts_of es) ≡ true → Found (given_fields es) []
 fields_given [] e = tt

@@ -37,9 +37,9 @@ abbrev pub NonEmpty : List Finding → Type 0
 NonEmpty [] = ⊥
 NonEmpty (f ∷ fs) = ⊤
 
-pub front : (fs gs : List Finding) → NonEmpty fs → NonEmpty (fs ++ gs)
-front [] gs h = absurd h
-front (f ∷ fs) gs h = tt
+pub prefix : (fs gs : List Finding) → NonEmpty fs → NonEmpty (fs ++ gs)
+prefix [] gs h = absurd h
+prefix (f ∷ fs) gs h = tt
 
 pub back : (fs gs : List Finding) → NonEmpty gs → NonEmpty (fs ++ gs)
 back [] gs h = h
@@ -100,7 +100,7 @@ fitted x l (Fail t fs) h = of_given (mark_of t).note
   where
     fit : (u : Ty) (b : Bool) → Fitted (Some x) (cond b (Fail t fs) (Fail (untyped t) (fs ++ unexpected x l u)))
     fit u true = h
-    fit u false = front fs (unexpected x l u) h
+    fit u false = prefix fs (unexpected x l u) h
 
     of_given : (n : Option Ty) → Fitted (Some x) (expect_given x l n t fs)
     of_given None = h

@@ -55,8 +55,8 @@ module _ (schema : SchemaData) where
   split : (xs ys : List (Mentioned × Option Loc)) → list_all (λ m. is_known_name schema m.0) (xs ++ ys) ≡ true → (list_all (λ m. is_known_name schema m.0) xs ≡ true) × (list_all (λ m. is_known_name schema m.0) ys ≡ true)
   split xs ys h = and_parts_of (list_all (λ m. is_known_name schema m.0) xs) (list_all (λ m. is_known_name schema m.0) ys) (sym (list_all-append (λ m. is_known_name schema m.0) xs ys) ∙ h)
 
-  front : (xs ys : List (Mentioned × Option Loc)) → list_all (λ m. is_known_name schema m.0) (xs ++ ys) ≡ true → list_all (λ m. is_known_name schema m.0) xs ≡ true
-  front xs ys h = (split xs ys h).0
+  prefix : (xs ys : List (Mentioned × Option Loc)) → list_all (λ m. is_known_name schema m.0) (xs ++ ys) ≡ true → list_all (λ m. is_known_name schema m.0) xs ≡ true
+  prefix xs ys h = (split xs ys h).0
 
   back : (xs ys : List (Mentioned × Option Loc)) → list_all (λ m. is_known_name schema m.0) (xs ++ ys) ≡ true → list_all (λ m. is_known_name schema m.0) ys ≡ true
   back xs ys h = (split xs ys h).1
@@ -76,23 +76,23 @@ module _ (schema : SchemaData) where
       names_known (var v a) h = tt
       names_known (slot i a) h = tt
       names_known (ite x y z a) h =
-          (names_known x (front (names_in x) (names_in y ++ names_in z) h), names_known y (front (names_in y) (names_in z) (back (names_in x) (names_in y ++ names_in z) h)), names_known z (back (names_in y) (names_in z) (back (names_in x) (names_in y ++ names_in z) h)))
-      names_known (conj x y a) h = (names_known x (front (names_in x) (names_in y) h), names_known y (back (names_in x) (names_in y) h))
-      names_known (disj x y a) h = (names_known x (front (names_in x) (names_in y) h), names_known y (back (names_in x) (names_in y) h))
+          (names_known x (prefix (names_in x) (names_in y ++ names_in z) h), names_known y (prefix (names_in y) (names_in z) (back (names_in x) (names_in y ++ names_in z) h)), names_known z (back (names_in y) (names_in z) (back (names_in x) (names_in y ++ names_in z) h)))
+      names_known (conj x y a) h = (names_known x (prefix (names_in x) (names_in y) h), names_known y (back (names_in x) (names_in y) h))
+      names_known (disj x y a) h = (names_known x (prefix (names_in x) (names_in y) h), names_known y (back (names_in x) (names_in y) h))
       names_known (unary o x a) h = names_known x h
-      names_known (binary o x y a) h = (names_known x (front (names_in x) (names_in y) h), names_known y (back (names_in x) (names_in y) h))
+      names_known (binary o x y a) h = (names_known x (prefix (names_in x) (names_in y) h), names_known y (back (names_in x) (names_in y) h))
       names_known (attr x n a) h = names_known x h
       names_known (core.has x n a) h = names_known x h
       names_known (like x p a) h = names_known x h
-      names_known (is_type x t a) h = names_known x (front (names_in x) ((a_type t, a.loc) ∷ []) h)
+      names_known (is_type x t a) h = names_known x (prefix (names_in x) ((a_type t, a.loc) ∷ []) h)
       names_known (call f xs a) h = all_known xs h
       names_known (set xs a) h = all_known xs h
       names_known (rec xs a) h = named_known xs h
 
       all_known : (xs : Trees (Mark T)) → list_all (λ m. is_known_name schema m.0) (names_in_all xs) ≡ true → HaveKnownNames schema xs
       all_known no_trees h = tt
-      all_known (tree x xs) h = (names_known x (front (names_in x) (names_in_all xs) h), all_known xs (back (names_in x) (names_in_all xs) h))
+      all_known (tree x xs) h = (names_known x (prefix (names_in x) (names_in_all xs) h), all_known xs (back (names_in x) (names_in_all xs) h))
 
       named_known : (xs : Named (Mark T)) → list_all (λ m. is_known_name schema m.0) (names_in_named xs) ≡ true → FieldsHaveKnownNames schema xs
       named_known no_named h = tt
-      named_known (named k x xs) h = (names_known x (front (names_in x) (names_in_named xs) h), named_known xs (back (names_in x) (names_in_named xs) h))
+      named_known (named k x xs) h = (names_known x (prefix (names_in x) (names_in_named xs) h), named_known xs (back (names_in x) (names_in_named xs) h))

@@ -61,7 +61,7 @@ module _ (schema : SchemaData) (env : EnvData) (ps : List Part) (cs : List Capab
 
   -- `<` and `<=`
   wrong_true : (ts : List Ty) (e : Plain) (t : Ty) → At e → Gives schema env cs e t → NoneAbove t ts → Each Q (wrong ts (place e) t)
-  wrong_true ts e t at lent h = one_true (UnexpectedType ts t None) e at (lent, h)
+  wrong_true ts e t at borrowed h = one_true (UnexpectedType ts t None) e at (borrowed, h)
 
   either : (b c : Bool) → (b || c) ≡ false → (b ≡ false) × (c ≡ false)
   either true c e = absurd (true≢false e)
@@ -112,12 +112,12 @@ module _ (schema : SchemaData) (env : EnvData) (ps : List Part) (cs : List Capab
 
   -- `getTag`
   tag_true : (known : Bool) (x y : Plain) (m : Mark (Unit {0})) (t : Ty) → known ≡ has_cap cs (tag_known x y) → At (binary GetTag x y m) → Gives schema env cs x t → Each Q (tag_found schema known y m.loc t)
-  tag_true false x y m t asked at lent = one_true _ (binary GetTag x y m) at (t, lent, refl, refl, sym asked)
-  tag_true true x y m t asked at lent = each_if_none Q (tag_type schema t) _ (λ e. one_true _ (binary GetTag x y m) at (t, lent, refl, e))
+  tag_true false x y m t asked at borrowed = one_true _ (binary GetTag x y m) at (t, borrowed, refl, refl, sym asked)
+  tag_true true x y m t asked at borrowed = each_if_none Q (tag_type schema t) _ (λ e. one_true _ (binary GetTag x y m) at (t, borrowed, refl, e))
 
   tag_if : (known : Bool) (x y : Plain) (m : Mark (Unit {0})) (t : Option Ty) → known ≡ has_cap cs (tag_known x y) → At (binary GetTag x y m) → MayGive x t → Each Q (option_map_or (tag_found schema known y m.loc) t [])
-  tag_if known x y m None asked at lent = tt
-  tag_if known x y m (Some t) asked at lent = tag_true known x y m t asked at (lent t refl)
+  tag_if known x y m None asked at borrowed = tt
+  tag_if known x y m (Some t) asked at borrowed = tag_true known x y m t asked at (borrowed t refl)
 
   pub binary_true : (o : BinaryOp) (known : Bool) (x y : Plain) (m : Mark (Unit {0})) (type t u : Option Ty) → known ≡ has_cap cs (tag_known x y) → At x → At y → At (binary o x y m) → MayGive x t → MayGive y u →
       Each Q (binary_found schema o known y type (place x) (place y) m.loc t u)
@@ -152,15 +152,15 @@ module _ (schema : SchemaData) (env : EnvData) (ps : List Part) (cs : List Capab
 
   pub attribute_true : (access : AttributeAccess) (known : Bool) (x : Plain) (n : List ℕ) (m : Mark (Unit {0})) (t : Ty) → known ≡ has_cap cs (attribute_known x n) → At (attr x n m) → Gives schema env cs x t →
       Each Q (attribute_found schema access known n m.loc t (attribute_of schema t n))
-  attribute_true access known x n m t asked at lent = by (attribute_of schema t n) refl
+  attribute_true access known x n m t asked at borrowed = by (attribute_of schema t n) refl
     where
       by : (a : Option AttributeType) → attribute_of schema t n ≡ a → Each Q (attribute_found schema access known n m.loc t a)
-      by None e = one_true _ (attr x n m) at (t, lent, e, refl)
-      by (Some a) e = each_if_none Q (safe_type known a) _ (λ d. one_true _ (attr x n m) at (t, lent, subst (λ o. IsSomeAnd o (λ b. b.is_required ≡ false)) (sym e) (unsafe known a d), sym asked ∙ unknown known a d))
+      by None e = one_true _ (attr x n m) at (t, borrowed, e, refl)
+      by (Some a) e = each_if_none Q (safe_type known a) _ (λ d. one_true _ (attr x n m) at (t, borrowed, subst (λ o. IsSomeAnd o (λ b. b.is_required ≡ false)) (sym e) (unsafe known a d), sym asked ∙ unknown known a d))
 
   pub set_true : (xs : Trees (Mark (Unit {0}))) (m : Mark (Unit {0})) (ts : List Ty) → At (set xs m) → (ts ≡ [] → xs ≡ no_trees) → GiveEach schema env cs xs ts → Each Q (set_found m.loc ts)
-  set_true xs m [] at k lent = one_true _ (set xs m) at (k refl)
-  set_true xs m (t ∷ ts) at k lent = incompatible_true context.Set (set xs m) (t ∷ ts) (join_all Strict (t ∷ ts)) at lent (λ h e. e)
+  set_true xs m [] at k borrowed = one_true _ (set xs m) at (k refl)
+  set_true xs m (t ∷ ts) at k borrowed = incompatible_true context.Set (set xs m) (t ∷ ts) (join_all Strict (t ∷ ts)) at borrowed (λ h e. e)
 
   -- calls
   text_true : (f : List ℕ) (g : ExtensionFunction) (xs : Trees (Mark (Unit {0}))) (m : Mark (Unit {0})) (o : Option (List ℕ)) → function_of f ≡ Some g → only_text xs ≡ o → option_map_or (is_readable g) o true ≡ false →

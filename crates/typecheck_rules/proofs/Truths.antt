@@ -82,21 +82,21 @@ module _ (schema : SchemaData) (env : EnvData) where
 
     barring : (x : Expected) (e : Plain) (v : Walked) → At schema env ps cs e → MayGive schema env ps cs e (type_given v) → Bars x → (t : Ty) → type_given v ≡ Some t →
         IfFalse (x.fits t) (IsTrueAt schema env ps (record { kind = UnexpectedType x.types t (x.help t); loc = place e }))
-    barring x e v at lent bars t is = if_true (x.fits t) _ (λ h. record { part = record { known = cs; is = e }; among = at; at = refl; so = (lent t is, h) }) (bars t)
+    barring x e v at borrowed bars t is = if_true (x.fits t) _ (λ h. record { part = record { known = cs; is = e }; among = at; at = refl; so = (borrowed t is, h) }) (bars t)
 
     expect_true : (x : Expected) (e : Plain) (v : Walked) → At schema env ps cs e → MayGive schema env ps cs e (type_given v) → Bars x → Each (IsTrueAt schema env ps) (findings_of v) →
         Each (IsTrueAt schema env ps) (findings_of (expect x (place e) v))
-    expect_true x e v at lent bars h = each_expect (IsTrueAt schema env ps) x (place e) v (barring x e v at lent bars) h
+    expect_true x e v at borrowed bars h = each_expect (IsTrueAt schema env ps) x (place e) v (barring x e v at borrowed bars) h
 
     expect_if_true : (o : Option Expected) (e : Plain) (v : Walked) → At schema env ps cs e → MayGive schema env ps cs e (type_given v) → BarsIf o → Each (IsTrueAt schema env ps) (findings_of v) →
         Each (IsTrueAt schema env ps) (findings_of (expect_if o (place e) v))
-    expect_if_true None e v at lent bars h = h
-    expect_if_true (Some x) e v at lent bars h = expect_true x e v at lent bars h
+    expect_if_true None e v at borrowed bars h = h
+    expect_if_true (Some x) e v at borrowed bars h = expect_true x e v at borrowed bars h
 
     attr_own : (known : Bool) (x : Plain) (n : List ℕ) (m : Mark (Unit {0})) (a : Option Typing) → known ≡ has_cap cs (attribute_known x n) → At schema env ps cs (attr x n m) → MayGive schema env ps cs x (option_map (λ b. b.type) a) →
         Each (IsTrueAt schema env ps) (option_map_or (attr_found schema env known n m) a [])
-    attr_own known x n m None asked at lent = tt
-    attr_own known x n m (Some a) asked at lent = attribute_true schema env ps cs (attribute_access env a.tree n) known x n m a.type asked at (lent a.type refl)
+    attr_own known x n m None asked at borrowed = tt
+    attr_own known x n m (Some a) asked at borrowed = attribute_true schema env ps cs (attribute_access env a.tree n) known x n m a.type asked at (borrowed a.type refl)
 
     branches_true : (x y z : Plain) (m : Mark (Unit {0})) (s : Ty) (t u : Option Ty) → At schema env ps cs (ite x y z m) → (IsOpen s → MayGive schema env ps (known_after cs (tested schema env cs x)) y t) → (IsOpen s → MayGive schema env ps cs z u) →
         Each (IsTrueAt schema env ps) (branches_found m s t u)
@@ -123,8 +123,8 @@ module _ (schema : SchemaData) (env : EnvData) where
 
     set_own : (xs : Trees (Mark (Unit {0}))) (m : Mark (Unit {0})) (o : Option (List Typing)) → At schema env ps cs (set xs m) → ((ys : List Typing) → o ≡ Some ys → types_in ys ≡ [] → xs ≡ no_trees) →
         ((ys : List Typing) → o ≡ Some ys → GiveEach schema env cs xs (types_in ys)) → Each (IsTrueAt schema env ps) (option_map_or (λ ys. set_found m.loc (types_in ys)) o [])
-    set_own xs m None at k lent = tt
-    set_own xs m (Some ys) at k lent = set_true schema env ps cs xs m (types_in ys) at (k ys refl) (lent ys refl)
+    set_own xs m None at k borrowed = tt
+    set_own xs m (Some ys) at k borrowed = set_true schema env ps cs xs m (types_in ys) at (k ys refl) (borrowed ys refl)
 
     -- an operator has only true findings where its operands do, and its own are true
     one_is_true : (rule : Typing → Option Typing) (failed : Typed) (own : List Finding) (v : Walked) → Each (IsTrueAt schema env ps) (findings_of v) → Each (IsTrueAt schema env ps) own →
@@ -155,8 +155,8 @@ module _ (schema : SchemaData) (env : EnvData) where
 
     attr_is_true : (known : Bool) (x : Plain) (n : List ℕ) (m : Mark (Unit {0})) (v : Walked) → known ≡ has_cap cs (attribute_known x n) → At schema env ps cs (attr x n m) → MayGive schema env ps cs x (type_given v) → Each (IsTrueAt schema env ps) (findings_of v) →
         Each (IsTrueAt schema env ps) (findings_of (attr_fitting schema env known n m v))
-    attr_is_true known x n m v asked at lent h =
-        one_is_true (attr_typing schema env known n m) (attr (tree_of v) n (lends (option_and_then (attr_given schema env n) (type_given v)) m)) (option_map_or (attr_found schema env known n m) (given_by v) []) v h (attr_own known x n m (given_by v) asked at lent)
+    attr_is_true known x n m v asked at borrowed h =
+        one_is_true (attr_typing schema env known n m) (attr (tree_of v) n (lends (option_and_then (attr_given schema env n) (type_given v)) m)) (option_map_or (attr_found schema env known n m) (given_by v) []) v h (attr_own known x n m (given_by v) asked at borrowed)
 
     binary_is_true : (o : BinaryOp) (known : Bool) (x y : Plain) (m : Mark (Unit {0})) (v w : Walked) → known ≡ has_cap cs (tag_known x y) → At schema env ps cs x → At schema env ps cs y → At schema env ps cs (binary o x y m) →
         MayGive schema env ps cs x (type_given v) → MayGive schema env ps cs y (type_given w) →
@@ -188,9 +188,9 @@ module _ (schema : SchemaData) (env : EnvData) where
     set_is_true : (xs : Trees (Mark (Unit {0}))) (m : Mark (Unit {0})) (ws : List Walked) → At schema env ps cs (set xs m) → ((ys : List Typing) → given_by_all ws ≡ Some ys → types_in ys ≡ [] → xs ≡ no_trees) →
         ((ys : List Typing) → given_by_all ws ≡ Some ys → GiveEach schema env cs xs (types_in ys)) →
         Each (IsTrueAt schema env ps) (findings_of_all ws) → Each (IsTrueAt schema env ps) (findings_of (set_walked m ws))
-    set_is_true xs m ws at k lent h =
+    set_is_true xs m ws at k borrowed h =
         all_is_true (set_typing m) (set (trees_walked ws) (lends None m)) (findings_of_all ws ++ option_map_or (λ ys. set_found m.loc (types_in ys)) (given_by_all ws) []) ws
-        (each_both (IsTrueAt schema env ps) (findings_of_all ws) (option_map_or (λ ys. set_found m.loc (types_in ys)) (given_by_all ws) []) h (set_own xs m (given_by_all ws) at k lent))
+        (each_both (IsTrueAt schema env ps) (findings_of_all ws) (option_map_or (λ ys. set_found m.loc (types_in ys)) (given_by_all ws) []) h (set_own xs m (given_by_all ws) at k borrowed))
 
     record_is_true : (m : Mark (Unit {0})) (es : Fields) → Each (IsTrueAt schema env ps) (findings_of_all (parts_of es)) → Each (IsTrueAt schema env ps) (findings_of (record_walked m es))
     record_is_true m es h =
@@ -208,14 +208,14 @@ module _ (schema : SchemaData) (env : EnvData) where
 
     fitting_true : (ts : List Ty) (xs : Trees (Mark (Unit {0}))) (ws : List Walked) → AllByRecursion IsLeast ts → ((e : Part) → Contains (all_parts schema env cs xs) e → Contains ps e) → AreBorrowed xs ws →
         Each (IsTrueAt schema env ps) (findings_of_all ws) → Each (IsTrueAt schema env ps) (findings_of_all (arguments_fitting ts xs ws))
-    fitting_true [] xs ws least k lent h = h
-    fitting_true (t ∷ ts) no_trees ws least k lent h = h
-    fitting_true (t ∷ ts) (tree x xs) [] least k lent h = h
-    fitting_true (t ∷ ts) (tree x xs) (w ∷ ws) least k lent h =
+    fitting_true [] xs ws least k borrowed h = h
+    fitting_true (t ∷ ts) no_trees ws least k borrowed h = h
+    fitting_true (t ∷ ts) (tree x xs) [] least k borrowed h = h
+    fitting_true (t ∷ ts) (tree x xs) (w ∷ ws) least k borrowed h =
         let parted = split (findings_of w) (findings_of_all ws) h in
         each_both (IsTrueAt schema env ps) (findings_of (expect (an_argument t) (place x) w)) (findings_of_all (arguments_fitting ts xs ws))
-        (expect_true (an_argument t) x w (k _ (Contains-append_left (parts schema env cs x) (all_parts schema env cs xs) _ (part_in schema env cs x))) lent.0 (argument_bars t least.0) parted.0)
-        (fitting_true ts xs ws least.1 (λ e i. k e (Contains-append_right (parts schema env cs x) (all_parts schema env cs xs) e i)) lent.1 parted.1)
+        (expect_true (an_argument t) x w (k _ (Contains-append_left (parts schema env cs x) (all_parts schema env cs xs) _ (part_in schema env cs x))) borrowed.0 (argument_bars t least.0) parted.0)
+        (fitting_true ts xs ws least.1 (λ e i. k e (Contains-append_right (parts schema env cs x) (all_parts schema env cs xs) e i)) borrowed.1 parted.1)
       where
         split : (fs gs : List Finding) → Each (IsTrueAt schema env ps) (fs ++ gs) → Each (IsTrueAt schema env ps) fs × Each (IsTrueAt schema env ps) gs
         split [] gs i = (tt, i)
@@ -223,12 +223,12 @@ module _ (schema : SchemaData) (env : EnvData) where
 
     call_is_true : (f : List ℕ) (o : Option ExtensionFunction) (xs : Trees (Mark (Unit {0}))) (m : Mark (Unit {0})) (ws : List Walked) → function_of f ≡ o → At schema env ps cs (call f xs m) →
         ((e : Part) → Contains (all_parts schema env cs xs) e → Contains ps e) → AreBorrowed xs ws → Each (IsTrueAt schema env ps) (findings_of_all ws) → Each (IsTrueAt schema env ps) (findings_of (call_walked f o xs m ws))
-    call_is_true f None xs m ws e at k lent h = one_true schema env ps cs (UndefinedFunction f) (call f xs m) at (refl, e)
-    call_is_true f (Some g) xs m ws e at k lent h = by (call_found g xs m.loc) (call_found g xs m.loc) (call_true schema env ps cs f g xs m e at)
+    call_is_true f None xs m ws e at k borrowed h = one_true schema env ps cs (UndefinedFunction f) (call f xs m) at (refl, e)
+    call_is_true f (Some g) xs m ws e at k borrowed h = by (call_found g xs m.loc) (call_found g xs m.loc) (call_true schema env ps cs f g xs m e at)
       where
         by : (own all : List Finding) → Each (IsTrueAt schema env ps) all → Each (IsTrueAt schema env ps) (findings_of (call_fitting f g xs m all (arguments_walked own (signature_of g).arguments xs ws)))
         by [] all i =
-            call_fitting_true f g xs m all (arguments_fitting (signature_of g).arguments xs ws) i (fitting_true (signature_of g).arguments xs ws (arguments_least g) k lent h)
+            call_fitting_true f g xs m all (arguments_fitting (signature_of g).arguments xs ws) i (fitting_true (signature_of g).arguments xs ws (arguments_least g) k borrowed h)
         by (d ∷ own) all i = call_fitting_true f g xs m all ws i h
 
 leaf_true : (schema : SchemaData) (env : EnvData) (ps : List Part) (part : Mark (Option Ty) → Typed) (m : Mark (Unit {0})) (o : Option Ty) → Each (IsTrueAt schema env ps) (findings_of (leaf_walked part m o))
@@ -271,23 +271,23 @@ module _ (schema : SchemaData) (env : EnvData) where
   up cs ds e x k w h = wider schema env (ps ds x) (ps cs e) (below cs e (ps ds x) k) (findings_of w) h
 
   -- what a part comes to is what it gives
-  lent : (qs : List Part) (cs : List Capability) (x : Plain) → MayGive schema env qs cs x (type_given (walked schema env cs x))
-  lent qs cs x t h = h
+  borrowed : (qs : List Part) (cs : List Capability) (x : Plain) → MayGive schema env qs cs x (type_given (walked schema env cs x))
+  borrowed qs cs x t h = h
 
   all_given : (qs : List Part) (cs : List Capability) (xs : Trees (Mark (Unit {0}))) → AreBorrowed schema env qs cs xs (walked_all schema env cs xs)
   all_given qs cs no_trees = tt
-  all_given qs cs (tree x xs) = (lent qs cs x, all_given qs cs xs)
+  all_given qs cs (tree x xs) = (borrowed qs cs x, all_given qs cs xs)
 
   -- an operand of which something is expected
   expected : (cs ds : List Capability) (e x : Plain) (o : Expected) → Within (ps ds x) (operands schema env cs e) → Bars o → Truth ds x (walked schema env ds x) →
       Truth cs e (expect o (place x) (walked schema env ds x))
   expected cs ds e x o k bars h =
-      expect_true schema env (ps cs e) ds o x (walked schema env ds x) (operand_at cs ds e x k) (lent (ps cs e) ds x) bars (up cs ds e x k (walked schema env ds x) h)
+      expect_true schema env (ps cs e) ds o x (walked schema env ds x) (operand_at cs ds e x k) (borrowed (ps cs e) ds x) bars (up cs ds e x k (walked schema env ds x) h)
 
   expected_if : (cs ds : List Capability) (e x : Plain) (o : Option Expected) → Within (ps ds x) (operands schema env cs e) → BarsIf o → Truth ds x (walked schema env ds x) →
       Truth cs e (expect_if o (place x) (walked schema env ds x))
   expected_if cs ds e x o k bars h =
-      expect_if_true schema env (ps cs e) ds o x (walked schema env ds x) (operand_at cs ds e x k) (lent (ps cs e) ds x) bars (up cs ds e x k (walked schema env ds x) h)
+      expect_if_true schema env (ps cs e) ds o x (walked schema env ds x) (operand_at cs ds e x k) (borrowed (ps cs e) ds x) bars (up cs ds e x k (walked schema env ds x) h)
 
   -- what is known behind a test
   known_where : (cs : List Capability) (v : Walked) (a : Typing) → v ≡ Success a → known_after cs v ≡ cs ++ a.caps
@@ -306,22 +306,22 @@ module _ (schema : SchemaData) (env : EnvData) where
   -- the branches of an `if` whose test is open are both walked
   after_given : (qs : List Part) (u : Walked) (cs : List Capability) (y : Plain) → IsOpen (test_given u).type →
       MayGive schema env qs (known_after cs u) y (type_given (reached_after u (λ ds. walked schema env (cs ++ ds) y) (walked schema env cs y)))
-  after_given qs (Fail t fs) cs y h = lent qs cs y
+  after_given qs (Fail t fs) cs y h = borrowed qs cs y
   after_given qs (Success a) cs y h = by a.type h
     where
       by : (s : Ty) → IsOpen s → MayGive schema env qs (cs ++ a.caps) y (type_given (unless_false s (walked schema env (cs ++ a.caps) y)))
       by true_type i = absurd i
       by false_type i = absurd i
-      by s i = lent qs (cs ++ a.caps) y
+      by s i = borrowed qs (cs ++ a.caps) y
 
   besides_given : (qs : List Part) (u : Walked) (cs : List Capability) (z : Plain) → IsOpen (test_given u).type → MayGive schema env qs cs z (type_given (reached_besides u (walked schema env cs z)))
-  besides_given qs (Fail t fs) cs z h = lent qs cs z
+  besides_given qs (Fail t fs) cs z h = borrowed qs cs z
   besides_given qs (Success a) cs z h = by a.type h
     where
       by : (s : Ty) → IsOpen s → MayGive schema env qs cs z (type_given (unless_true s (walked schema env cs z)))
       by true_type i = absurd i
       by false_type i = absurd i
-      by s i = lent qs cs z
+      by s i = borrowed qs cs z
 
   -- where each element gives a type, these are the types that they give
   each_given : (cs : List Capability) (xs : Trees (Mark (Unit {0}))) (ys : List Typing) → given_by_all (walked_all schema env cs xs) ≡ Some ys → GiveEach schema env cs xs (types_in ys)

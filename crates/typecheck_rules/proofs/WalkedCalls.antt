@@ -16,7 +16,7 @@ use Rattle.typecheck_rules.specs.Walked.{Walked, Success, Fail, has_typing, give
 use Rattle.typecheck_rules.specs.Own.{if_not, text_found, call_found}
 use Rattle.typecheck_rules.specs.Operators.{place, arguments_fitting, arguments_walked, call_typing, call_fitting, call_walked}
 use Rattle.typecheck_rules.proofs.Lists.{AllTyped, SomeFails, typed_or_not}
-use Rattle.typecheck_rules.proofs.Found.{NonEmpty, front, back, HasFinding, Holds, found_mapped, ended_full, ended_found, Fitted, fitted, gives_both}
+use Rattle.typecheck_rules.proofs.Found.{NonEmpty, prefix, back, HasFinding, Holds, found_mapped, ended_full, ended_found, Fitted, fitted, gives_both}
 use Rattle.typecheck_rules.proofs.Failing.{HaveFindings, some_found, all_given, all_typed}
 
 -- there are as many operands as were walked, and as many as there are types
@@ -79,8 +79,8 @@ text_full f l (Some t) e = tt
 formed : (b c d : Bool) (fs gs hs : List Finding) → NonEmpty fs → (c ≡ false → NonEmpty gs) → NonEmpty hs → (if_not b fs ++ (if_not c gs ++ if_not d hs)) ≡ [] → Holds (b && (d && c))
 formed true true true fs gs hs h k i e = tt
 formed true true false fs gs hs h k i e = absurd (subst NonEmpty e i)
-formed true false d fs gs hs h k i e = absurd (subst NonEmpty e (front gs (if_not d hs) (k refl)))
-formed false c d fs gs hs h k i e = absurd (subst NonEmpty e (front fs (if_not c gs ++ if_not d hs) h))
+formed true false d fs gs hs h k i e = absurd (subst NonEmpty e (prefix gs (if_not d hs) (k refl)))
+formed false c d fs gs hs h k i e = absurd (subst NonEmpty e (prefix fs (if_not c gs ++ if_not d hs) h))
 
 call_formed : (g : ExtensionFunction) (xs : Trees (Mark (Unit {0}))) (l : Option Loc) → call_found g xs l ≡ [] → Holds (has_count g xs && (has_literals g xs && has_readable g xs))
 call_formed g xs l e = formed (has_count g xs) (has_readable g xs) (has_literals g xs) _ (text_found g l (only_text xs)) _ tt (text_full g l (only_text xs)) tt e

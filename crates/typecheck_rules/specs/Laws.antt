@@ -14,7 +14,7 @@ use Rattle.typecheck_rules.specs.Faults.{faults}
 -- the walk gives the typing, where there is one, and says each fault
 pub record WalkAgrees (w : Walked) (t : Option Typing) (fs : List Finding) : Type 0 where
   pub exact : typing_of w ≡ t
-  pub told : (f : Finding) → Contains fs f → Contains (findings_of w) f
+  pub reported : (f : Finding) → Contains fs f → Contains (findings_of w) f
 
 abbrev pub WalkIsExact : Type 0
 WalkIsExact = (schema : SchemaData) (env : EnvData) (cs : List Capability) (e : Plain) →

@@ -96,7 +96,7 @@ module _ (schema : SchemaData) (env : EnvData) where
   GiveEach cs (tree x xs) (t ∷ ts) = Gives cs x t × GiveEach cs xs ts
   GiveEach cs xs ts = ⊥
 
-  -- the types of which a part wants a join: of the branches of an `if`, of a set's elements, of the elements
+  -- the types of which a part needs a join: of the branches of an `if`, of a set's elements, of the elements
   -- of the left operand of `contains` and of its right operand, of the operands of another operator
   abbrev pub IsToJoin : List Capability → Plain → List Ty → Type 0
   IsToJoin cs (ite x y z m) (t ∷ u ∷ []) = Gives (known_after cs (tested cs x)) y t × Gives cs z u

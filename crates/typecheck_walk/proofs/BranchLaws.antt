@@ -9,7 +9,7 @@ use Rattle.typing_spec.specs.Rules.{strict_join}
 use Rattle.typing_spec.specs.Typing.{Typed, Typing, typing, at, if_typing}
 use Rattle.typecheck_rules.specs.Walked.{ended, lends}
 use Rattle.typecheck_rules.specs.Operators.{branches_found}
-use Rattle.typecheck_operators.specs.Reported.{Operand, lent, given_as}
+use Rattle.typecheck_operators.specs.Reported.{Operand, given, given_as}
 use Rattle.typecheck_walk.specs.declared.conditional.Chosen.{Chosen}
 use Rattle.typecheck_walk.specs.Branches.{Tested, chosen, own_behind, if_own, if_typed, if_by, all_ok, all_found, if_of}
 
@@ -32,7 +32,7 @@ module _ (m : Mark (Unit {0})) (x : Typed) (cs : List Capability) where
   both_branches (Some t) None ds es y z = refl
   both_branches (Some t) (Some u) ds es y z = map_twice (if_typed m x y z) (λ w. chosen w (common es (ds ++ cs)) true true) (strict_join t u)
 
-  if_behind : (t : Ty) (a b : Operand) → option_map (if_typed m x a.tree b.tree) (own_behind t cs a b) ≡ if_typing t cs x m (lent a) (lent b)
+  if_behind : (t : Ty) (a b : Operand) → option_map (if_typed m x a.tree b.tree) (own_behind t cs a b) ≡ if_typing t cs x m (given a) (given b)
   if_behind never a b = refl
   if_behind true_type a b = one_branch _ _ a.tree b.tree a.of a.caps a.tree (λ t. refl)
   if_behind false_type a b = one_branch _ _ a.tree b.tree b.of b.caps b.tree (λ t. refl)

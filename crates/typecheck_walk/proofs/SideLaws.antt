@@ -8,7 +8,7 @@ use Rattle.typing_spec.specs.Rules.{and_type, or_type}
 use Rattle.typing_spec.specs.Signatures.{bool_type}
 use Rattle.typing_spec.specs.Typing.{Typed, typing, at, and_caps, and_typing, or_caps, or_typing}
 use Rattle.typecheck_rules.specs.Walked.{ended, lends}
-use Rattle.typecheck_operators.specs.Reported.{Operand, lent, given_as}
+use Rattle.typecheck_operators.specs.Reported.{Operand, given, given_as}
 use Rattle.typecheck_walk.specs.Sides.{own, and_own, and_own_of, and_typed, and_by, and_of, or_own, or_own_of, or_typed, or_by, or_of}
 
 module _ {A B C : Type 0} where
@@ -23,7 +23,7 @@ module _ (m : Mark (Unit {0})) (x : Typed) (cs : List Capability) where
   and_right t None ds y = refl
   and_right t (Some u) ds y = map_twice (and_typed m x y) (λ w. own w (and_caps u cs ds) true) (and_type t u)
 
-  and_left : (t : Ty) (b : Operand) → option_map (and_typed m x b.tree) (and_own_of t cs b) ≡ and_typing t cs x m (lent b)
+  and_left : (t : Ty) (b : Operand) → option_map (and_typed m x b.tree) (and_own_of t cs b) ≡ and_typing t cs x m (given b)
   and_left never b = and_right never b.of b.caps b.tree
   and_left true_type b = and_right true_type b.of b.caps b.tree
   and_left false_type b = refl
@@ -37,7 +37,7 @@ module _ (m : Mark (Unit {0})) (x : Typed) (cs : List Capability) where
   and_left (extension n) b = and_right (extension n) b.of b.caps b.tree
 
 and_any : (m : Mark (Unit {0})) (o : Option Ty) (cs : List Capability) (x : Typed) (b : Operand)
-    → option_map (and_typed m x b.tree) (option_and_then (λ t. and_own_of t cs b) o) ≡ option_and_then (λ y. and_typing y.type y.caps y.tree m (lent b)) (given_as o cs x)
+    → option_map (and_typed m x b.tree) (option_and_then (λ t. and_own_of t cs b) o) ≡ option_and_then (λ y. and_typing y.type y.caps y.tree m (given b)) (given_as o cs x)
 and_any m None cs x b = refl
 and_any m (Some t) cs x b = and_left m x cs t b
 
@@ -52,7 +52,7 @@ module _ (m : Mark (Unit {0})) (x : Typed) (cs : List Capability) where
   or_right t None ds y = refl
   or_right t (Some u) ds y = map_twice (or_typed m x y) (λ w. own w (or_caps t u cs ds) true) (or_type t u)
 
-  or_left : (t : Ty) (b : Operand) → option_map (or_typed m x b.tree) (or_own_of t cs b) ≡ or_typing t cs x m (lent b)
+  or_left : (t : Ty) (b : Operand) → option_map (or_typed m x b.tree) (or_own_of t cs b) ≡ or_typing t cs x m (given b)
   or_left never b = or_right never b.of b.caps b.tree
   or_left true_type b = refl
   or_left false_type b = or_right false_type b.of b.caps b.tree
@@ -66,7 +66,7 @@ module _ (m : Mark (Unit {0})) (x : Typed) (cs : List Capability) where
   or_left (extension n) b = or_right (extension n) b.of b.caps b.tree
 
 or_any : (m : Mark (Unit {0})) (o : Option Ty) (cs : List Capability) (x : Typed) (b : Operand)
-    → option_map (or_typed m x b.tree) (option_and_then (λ t. or_own_of t cs b) o) ≡ option_and_then (λ y. or_typing y.type y.caps y.tree m (lent b)) (given_as o cs x)
+    → option_map (or_typed m x b.tree) (option_and_then (λ t. or_own_of t cs b) o) ≡ option_and_then (λ y. or_typing y.type y.caps y.tree m (given b)) (given_as o cs x)
 or_any m None cs x b = refl
 or_any m (Some t) cs x b = or_left m x cs t b
 

@@ -10,7 +10,7 @@ use Rattle.policy_expressions.specs.Tree.{named_of, deepest_named}
 use Rattle.typing_spec.specs.Capability.{Capability}
 use Rattle.typecheck_rules.specs.Walk.{walked, walked_named}
 use Rattle.typecheck_rules.specs.Operators.{Fields}
-use Rattle.typecheck_operators.specs.declared.told.Reported.{Reported}
+use Rattle.typecheck_operators.specs.declared.reported.Reported.{Reported}
 use Rattle.typecheck_operators.specs.Reported.{walked_of, field_of}
 
 module _ (s : SchemaData) (env : EnvData) (cs : List Capability)

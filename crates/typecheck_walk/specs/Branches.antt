@@ -15,7 +15,7 @@ use Rattle.typecheck_rules.specs.Walked.{Walked, ended, lends}
 use Rattle.typecheck_rules.specs.Operators.{branches_found, reached_after}
 use Rattle.typecheck_rules.specs.Walk.{walked}
 use Rattle.typecheck_rules.specs.Found.{findings_from}
-use Rattle.typecheck_operators.specs.Reported.{Operand, lent}
+use Rattle.typecheck_operators.specs.Reported.{Operand, given}
 use Rattle.typecheck_walk.specs.Sides.{reached}
 use Rattle.typecheck_walk.specs.declared.conditional.Test.{Test}
 use Rattle.typecheck_walk.specs.declared.conditional.Chosen.{Chosen}
@@ -79,6 +79,6 @@ all_found u a b fs = u.found ++ (a.found ++ (b.found ++ fs))
 
 abbrev pub if_of : Mark (Unit {0}) → Tested → Operand → Operand → Walked
 if_of m u a b =
-    ended (all_ok u a b) (if_typing u.of u.caps u.tree m (lent a) (lent b))
+    ended (all_ok u a b) (if_typing u.of u.caps u.tree m (given a) (given b))
     (ite u.tree a.tree b.tree (lends None m))
     (all_found u a b (branches_found m u.of a.of b.of))

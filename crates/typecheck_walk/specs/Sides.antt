@@ -15,7 +15,7 @@ use Rattle.findings.specs.Finding.{Finding}
 use Rattle.typecheck_rules.specs.Walked.{Walked, ended, lends}
 use Rattle.typecheck_rules.specs.Operators.{reached_after}
 use Rattle.typecheck_rules.specs.Truth.{tested}
-use Rattle.typecheck_operators.specs.Reported.{Operand, lent}
+use Rattle.typecheck_operators.specs.Reported.{Operand, given}
 use Rattle.typecheck_walk.specs.declared.sides.Own.{Own}
 
 -- the walk through the right side of `&&`, with what the left side makes known, unless that failed
@@ -50,7 +50,7 @@ abbrev pub and_by : Mark (Unit {0}) → Option Own → Bool → Typed → Typed 
 and_by m o ok x y fs = ended ok (option_map (and_typed m x y) o) (conj x y (lends (Some bool_type) m)) fs
 
 abbrev pub and_rule : Mark (Unit {0}) → Operand → Operand → Option Typing
-and_rule m a b = option_and_then (λ x. and_typing x.type x.caps x.tree m (lent b)) (lent a)
+and_rule m a b = option_and_then (λ x. and_typing x.type x.caps x.tree m (given b)) (given a)
 
 abbrev pub and_of : Mark (Unit {0}) → Operand → Operand → Walked
 and_of m a b =
@@ -75,7 +75,7 @@ abbrev pub or_by : Mark (Unit {0}) → Option Own → Bool → Typed → Typed �
 or_by m o ok x y fs = ended ok (option_map (or_typed m x y) o) (disj x y (lends (Some bool_type) m)) fs
 
 abbrev pub or_rule : Mark (Unit {0}) → Operand → Operand → Option Typing
-or_rule m a b = option_and_then (λ x. or_typing x.type x.caps x.tree m (lent b)) (lent a)
+or_rule m a b = option_and_then (λ x. or_typing x.type x.caps x.tree m (given b)) (given a)
 
 abbrev pub or_of : Mark (Unit {0}) → Operand → Operand → Walked
 or_of m a b =

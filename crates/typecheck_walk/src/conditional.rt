@@ -77,7 +77,7 @@ pub fn if_parts<'a>(
 
 fn test_of<'a>(alloc: Global, u: Reported<'a>) -> Result<Test<'a>, AllocError>
     ensures ok { IfOk result (λ p. p.ok ≡ has_typing (walked_of u.entry)) }
-    ensures lent { IfOk result (λ p. typing p.of p.caps p.tree ≡ test_given (walked_of u.entry)) }
+    ensures given { IfOk result (λ p. typing p.of p.caps p.tree ≡ test_given (walked_of u.entry)) }
     ensures of { IfOk result (λ p. p.of ≡ (test_given (walked_of u.entry)).type) }
     ensures tree { IfOk result (λ p. p.tree ≡ tree_of (walked_of u.entry)) }
     ensures found { IfOk result (λ p. findings_from p.found.items ≡

@@ -57,7 +57,7 @@ pub fn check_walk<'a>(
         (condition_walked at.now.schema.now (env_data_of at.now.env.now) e.now)) r) }
 {
     match walk_condition(at, e) {
-        Ok(told) => answer(at.alloc, id, told),
+        Ok(reported) => answer(at.alloc, id, reported),
         // An expression with types is no deeper than the expression itself, so that there is memory alone
         // to want.
         Err(_) => Err(AllocError),
@@ -85,15 +85,15 @@ fn walk_condition<'a>(
         condition_walked at.now.schema.now (env_data_of at.now.env.now) e.now) }
 {
     let caps = CapabilitySet::new(at.alloc);
-    let told = walk(at, &caps, e)?;
-    let told = expect(at.alloc, Expected::Boolean, e.source_loc(), told)?;
-    Ok(told)
+    let reported = walk(at, &caps, e)?;
+    let reported = expect(at.alloc, Expected::Boolean, e.source_loc(), reported)?;
+    Ok(reported)
 }
 
-fn answer(alloc: Global, id: &Text, told: Reported<'_>) -> Result<PolicyCheck, AllocError>
-    ensures { IfOk result (λ r. Reports id.now (check_walked (walked_of told.entry)) r) }
+fn answer(alloc: Global, id: &Text, reported: Reported<'_>) -> Result<PolicyCheck, AllocError>
+    ensures { IfOk result (λ r. Reports id.now (check_walked (walked_of reported.entry)) r) }
 {
-    match told {
+    match reported {
         Reported::Success(a) => match a.of.kind() {
             TypeKind::True
             | TypeKind::Primitive {

@@ -66,11 +66,11 @@ map_both R S f g (Some a) (Some b) h k = k a b h
 map_both R S f g None (Some b) h k = absurd h
 map_both R S f g (Some a) None h k = absurd h
 
-told : (o p : Option Typing) → Both AreSame o p → TypedTheSame o p
-told None None h = tt
-told (Some a) (Some b) h = h
-told None (Some b) h = h
-told (Some a) None h = h
+known : (o p : Option Typing) → Both AreSame o p → TypedTheSame o p
+known None None h = tt
+known (Some a) (Some b) h = h
+known None (Some b) h = h
+known (Some a) None h = h
 
 -- what holds of typings that differ in their capabilities at most, holds of those that are the same
 by_same : (P : Typing → Typing → Type 0) → ((t : Ty) (e : Typed) (cs ds : List Capability) → KnowTheSame cs ds → P (typing t cs e) (typing t ds e)) → (a b : Typing) → AreSame a b → P a b
@@ -255,4 +255,4 @@ module _ (schema : SchemaData) (env : EnvData) where
         (λ a b k. map_both NamedSame NamedSame (λ ys. (n, a) ∷ ys) (λ ys. (n, b) ∷ ys) (types_named schema env cs xs) (types_named schema env ds xs) (same_named cs ds h xs) (λ ys zs l. (refl, k, l)))
 
 pub what_is_known_decides : WhatIsKnownDecides
-what_is_known_decides schema env cs ds h e = told (types schema env cs e) (types schema env ds e) (same schema env cs ds h e)
+what_is_known_decides schema env cs ds h e = known (types schema env cs e) (types schema env ds e) (same schema env cs ds h e)

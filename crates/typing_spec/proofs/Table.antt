@@ -20,17 +20,17 @@ use Rattle.policy_expressions.specs.declared.functions.ExtensionFunction.TheVari
 use Rattle.typing_spec.specs.Table.{typed, decimals, ranges, times, all_typed, all_extensions, functions_in, function_at, names_of, AreOnce, IsFirstRepeated}
 use Rattle.plain_lemmas.proofs.Booleans.{false_of_not}
 
--- an entry whose name is new among those in front may stand before them
-pick : (q : List ℕ) (e : List ℕ × ExtensionFunction) (front rest : Functions) → list_all (λ f. not (bytes_eq e.0 f.0)) front ≡ true
-    → beside (front ++ e ∷ rest) q ≡ (if bytes_eq q e.0 then Some e.1 else beside (front ++ rest) q)
+-- an entry whose name is new among those before it may stand before them
+pick : (q : List ℕ) (e : List ℕ × ExtensionFunction) (prefix rest : Functions) → list_all (λ f. not (bytes_eq e.0 f.0)) prefix ≡ true
+    → beside (prefix ++ e ∷ rest) q ≡ (if bytes_eq q e.0 then Some e.1 else beside (prefix ++ rest) q)
 pick q e [] rest new = refl
-pick q e (f ∷ front) rest new =
-    let p = and_parts (not (bytes_eq e.0 f.0)) (list_all (λ g. not (bytes_eq e.0 g.0)) front) new in
-    by (bytes_eq q f.0) refl (bytes_eq q e.0) refl p.0 (pick q e front rest p.1)
+pick q e (f ∷ prefix) rest new =
+    let p = and_parts (not (bytes_eq e.0 f.0)) (list_all (λ g. not (bytes_eq e.0 g.0)) prefix) new in
+    by (bytes_eq q f.0) refl (bytes_eq q e.0) refl p.0 (pick q e prefix rest p.1)
   where
     by : (b : Bool) → bytes_eq q f.0 ≡ b → (c : Bool) → bytes_eq q e.0 ≡ c → not (bytes_eq e.0 f.0) ≡ true
-        → beside (front ++ e ∷ rest) q ≡ (if c then Some e.1 else beside (front ++ rest) q)
-        → (if b then Some f.1 else beside (front ++ e ∷ rest) q) ≡ (if c then Some e.1 else (if b then Some f.1 else beside (front ++ rest) q))
+        → beside (prefix ++ e ∷ rest) q ≡ (if c then Some e.1 else beside (prefix ++ rest) q)
+        → (if b then Some f.1 else beside (prefix ++ e ∷ rest) q) ≡ (if c then Some e.1 else (if b then Some f.1 else beside (prefix ++ rest) q))
     by true h true k n later =
         let same : e.0 ≡ f.0 = sym ((bytes_eq-Decides q e.0).0 k) ∙ (bytes_eq-Decides q f.0).0 h in
         absurd (false≢true (rw ((bytes_eq-Decides e.0 f.0).1 same) at n))
@@ -46,13 +46,13 @@ behind_first (e ∷ es) = es
 same_table : (q : List ℕ) → beside (decimals ++ (ranges ++ times)) q ≡ function_of q
 unfolding functions decimal_functions ip_functions datetime_functions duration_functions
 same_table q =
-    let front : Functions = behind_first decimals ++ behind_first ranges in
+    let prefix : Functions = behind_first decimals ++ behind_first ranges in
     ap (λ o. if bytes_eq q (codes "decimal") then Some (Unary unary.Decimal) else o)
     (pick q (codes "ip", Unary unary.Ip) (behind_first decimals) (behind_first ranges ++ times) refl
     ∙ ap (λ o. if bytes_eq q (codes "ip") then Some (Unary unary.Ip) else o)
-    (pick q (codes "datetime", Unary unary.Datetime) front (behind_first times) refl
+    (pick q (codes "datetime", Unary unary.Datetime) prefix (behind_first times) refl
     ∙ ap (λ o. if bytes_eq q (codes "datetime") then Some (Unary unary.Datetime) else o)
-    (pick q (codes "duration", Unary unary.Duration) front (behind_first (behind_first times)) refl)))
+    (pick q (codes "duration", Unary unary.Duration) prefix (behind_first (behind_first times)) refl)))
 
 -- what is typed of a table is found by name
 found_typed : (es : Functions) (q : List ℕ) → function_at (all_typed es) q ≡ option_map (typed q) (beside es q)

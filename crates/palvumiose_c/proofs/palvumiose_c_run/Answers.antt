@@ -8,11 +8,11 @@ use Rattle.palvumiose_c.proofs.palvumiose_c_run.Goals as goal
 handed : (c : goal.After-drop-reply) → IsHanded c.answer_to-reply.result.text.items c.len.result c.args.out.now c.lay_over.new.out
 handed c = record {
   whole = c.len.ensures ∙ sym c.as_slice.ensures.len ∙ ap length c.as_slice.ensures.value;
-  front = c.lay_over.ensures ∙ ap (λ t. laid_over t c.args.out.now) c.as_slice.ensures.value;
+  prefix = c.lay_over.ensures ∙ ap (λ t. laid_over t c.args.out.now) c.as_slice.ensures.value;
 }
 
-pub returns-clause-told : goal.returns-clause-told
-returns-clause-told c = (answer c.answer_to-reply.result.status c.answer_to-reply.result.text.items, c.answer_to-reply.ensures.told, c.code.ensures, handed c)
+pub returns-clause-reported : goal.returns-clause-reported
+returns-clause-reported c = (answer c.answer_to-reply.result.status c.answer_to-reply.result.text.items, c.answer_to-reply.ensures.reported, c.code.ensures, handed c)
 
 pub returns-clause-headline : goal.returns-clause-headline
 returns-clause-headline c is ends =

@@ -22,8 +22,8 @@ in_memory c = record {
   took = c.if-faults-gt0.false;
 }
 
-pub returns-clause-told : goal.returns-clause-told
-returns-clause-told c =
+pub returns-clause-reported : goal.returns-clause-reported
+returns-clause-reported c =
     subst (λ ws. IsReported (command_of ws) c.args.document.now (answer c.run-status.result c.run-status.new.sink.bytes.items)) c.in_ok-words.ensures
     (known_from_runs (in_memory c) _ _ c.run-status.ensures.written)
 

@@ -1,5 +1,5 @@
 use Rattle.std.proofs.Common.{◌∙◌, sym}
-use Rattle.access_tries.proofs.Fronts.{next_left}
+use Rattle.access_tries.proofs.Prefixes.{next_left}
 use Rattle.access_tries.proofs.least.is_gone_on.Goals as goal
 
 pub returns-then-place-paths : goal.returns-then-place-paths

@@ -3,7 +3,7 @@ use Rattle.std.proofs.lemmas.Result.{IfOk-weaker}
 use Rattle.access_tries.specs.Paths.{IsUnion, IsLeast}
 use Rattle.access_tries.specs.Walks.{IsOf, addresses_in}
 use Rattle.access_tries.proofs.Addresses.{least_of, least_of_reads, none_in}
-use Rattle.access_tries.proofs.Fronts.{of_same_prefixes}
+use Rattle.access_tries.proofs.Prefixes.{of_same_prefixes}
 use Rattle.access_tries.proofs.least.least_trie.Goals as goal
 
 pub returns : goal.returns

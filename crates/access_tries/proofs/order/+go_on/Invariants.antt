@@ -2,4 +2,4 @@ use Rattle.std.proofs.Common.{length}
 use Rattle.access_tries.proofs.order.+go_on.Given as goal
 
 abbrev pub decreases-go_on : goal.decreases-go_on
-decreases-go_on l = length l.front.now
+decreases-go_on l = length l.prefix.now

@@ -1,7 +1,7 @@
 use Rattle.std.proofs.Common.{rules, ◌≡◌, None, IsSome, refl, subst, sym, ◌∙◌}
 use Rattle.std.specs.Option.{option_copied}
 use Rattle.conformance.specs.StoreRules.{entity_fault, first_store_fault}
-use Rattle.conformance.proofs.Lacking.{walk_first, told, walk_more, some_first}
+use Rattle.conformance.proofs.Lacking.{walk_first, known, walk_more, some_first}
 use Rattle.conformance.proofs.store.conforms.Goals as goal
 
 pub loop-entity-init : goal.loop-entity-init
@@ -13,7 +13,7 @@ loop-entity-init c =
 
 pub broken_rule-requires : goal.broken_rule-requires
 broken_rule-requires c =
-    told c.args.schema.now c.args.entities.now (option_copied c.least_lacking-lacking.result) c.least_lacking-lacking.ensures c.in-Some.entity.now c.next.new.self
+    known c.args.schema.now c.args.entities.now (option_copied c.least_lacking-lacking.result) c.least_lacking-lacking.ensures c.in-Some.entity.now c.next.new.self
     (rw c.in-Some.ensures.steps at c.loop-entity.invariant.walk) c.is_id-lacks.result (rw c.uid.ensures at c.is_id-lacks.ensures)
 
 pub returns-in_err-rule : goal.returns-in_err-rule

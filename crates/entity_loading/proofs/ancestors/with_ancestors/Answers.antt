@@ -7,12 +7,12 @@ use Rattle.entity_loading.proofs.UnaskedSteps.{none_requested}
 use Rattle.entity_loading.proofs.ancestors.with_ancestors.Goals as goal
 
 pub returns-clause-honest : goal.returns-clause-honest
-returns-clause-honest g c = λ s told t kept.
+returns-clause-honest g c = λ s known t kept.
     joined (g.D.EntityLoader.state c.args.loader.now).exact s (IsAskedFor c.args.nodes.now c.args.request.now c.args.loaded.asked.keys t) c.in_ok-requests.requests.items (c.in_ok-requests.ensures.asked t kept) (get uid_cmp c.args.loaded.kept)
-    c.in_ok-lists.lists.items (get uid_cmp c.add_all.new.kept) (c.in_ok-lists.ensures.honest s told) c.in_ok-add_all.ensures.more
+    c.in_ok-lists.lists.items (get uid_cmp c.add_all.new.kept) (c.in_ok-lists.ensures.honest s known) c.in_ok-add_all.ensures.more
 
 pub returns-then-is_empty-clause-honest : goal.returns-then-is_empty-clause-honest
-returns-then-is_empty-clause-honest g c = λ s told t kept.
+returns-then-is_empty-clause-honest g c = λ s known t kept.
     joined_none (g.D.EntityLoader.state c.args.loader.now).exact s (IsAskedFor c.args.nodes.now c.args.request.now c.args.loaded.asked.keys t) c.in_ok-requests.requests.items (c.in_ok-requests.ensures.asked t kept) (get uid_cmp c.args.loaded.kept)
     (none_counted c.in_ok-requests.requests.items c.in_ok-requests.requests.len (omega (arith, c.in_ok-requests.requests.ok)) (sym c.is_empty.ensures ∙ c.if-is_empty.true))
 

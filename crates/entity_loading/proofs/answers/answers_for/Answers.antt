@@ -15,24 +15,24 @@ returns-then-expected-got-clause-cause g c = let many : length c.in-Ok.answers.i
 )
 
 pub returns-then-expected-got-clause-right : goal.returns-then-expected-got-clause-right
-returns-then-expected-got-clause-right g c = λ s told.
+returns-then-expected-got-clause-right g c = λ s known.
     let rs = c.args.requests.now.items in
     let os = c.in-Ok.answers.items in
     let many : length os ≡ c.len-got.result = omega (arith, c.in-Ok.answers.ok, c.len-got.ensures) in
     let asked : c.len-expected.result ≡ length rs = omega (arith, c.args.requests.now.ok, c.len-expected.ensures) in
-    c.if-expected-got.true (asked ∙ zip_length Fits rs os (honest_zip (g.D.EntityLoader.state c.args.loader.now).exact s rs os (c.in-Ok.ensures.honest s told)) ∙ many)
+    c.if-expected-got.true (asked ∙ zip_length Fits rs os (honest_zip (g.D.EntityLoader.state c.args.loader.now).exact s rs os (c.in-Ok.ensures.honest s known)) ∙ many)
 
 pub returns-clause-cause : goal.returns-clause-cause
 returns-clause-cause g c =
     IfErr-weaker c.under_ids.result _ _ (stray_cause (λ v. ⊥) c.args.requests.now.items c.in-Ok.answers.items (g.D.EntityLoader.state c.args.loader.now) (g.D.EntityLoader.state c.load_entities.new.self) c.in-Ok.ensures.fit) c.under_ids.ensures.why
 
 pub returns-clause-honest : goal.returns-clause-honest
-returns-clause-honest g c = λ s told.
-    IfOk-weaker c.under_ids.result _ _ (λ found is. honest_all (g.D.EntityLoader.state c.args.loader.now).exact s c.args.requests.now.items c.in-Ok.answers.items (get uid_cmp found) c.requires (c.in-Ok.ensures.honest s told) is) c.under_ids.ensures.found
+returns-clause-honest g c = λ s known.
+    IfOk-weaker c.under_ids.result _ _ (λ found is. honest_all (g.D.EntityLoader.state c.args.loader.now).exact s c.args.requests.now.items c.in-Ok.answers.items (get uid_cmp found) c.requires (c.in-Ok.ensures.honest s known) is) c.under_ids.ensures.found
 
 pub returns-clause-right : goal.returns-clause-right
-returns-clause-right g c = λ s told.
+returns-clause-right g c = λ s known.
     let rs = c.args.requests.now.items in
     let os = c.in-Ok.answers.items in
     let old = g.D.EntityLoader.state c.args.loader.now in
-    IfErr-weaker c.under_ids.result _ _ (stray_right (λ v. ⊥) rs os old (g.D.EntityLoader.state c.load_entities.new.self) (honest_zip old.exact s rs os (c.in-Ok.ensures.honest s told))) c.under_ids.ensures.why
+    IfErr-weaker c.under_ids.result _ _ (stray_right (λ v. ⊥) rs os old (g.D.EntityLoader.state c.load_entities.new.self) (honest_zip old.exact s rs os (c.in-Ok.ensures.honest s known))) c.under_ids.ensures.why

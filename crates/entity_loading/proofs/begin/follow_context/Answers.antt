@@ -2,7 +2,7 @@ use Rattle.std.proofs.Common.{subst}
 use Rattle.std.proofs.lemmas.Result.{on_ok_weaker}
 use Rattle.policy_values.specs.Value.{rec, fields_of}
 use Rattle.entity_loading.specs.Leads.{Leads, IsLed}
-use Rattle.entity_loading.specs.Wants.{points}
+use Rattle.entity_loading.specs.Needs.{points}
 use Rattle.entity_loading.proofs.FollowSteps.{at_or_below, or_weaker}
 use Rattle.entity_loading.proofs.LedSteps.{led_record}
 use Rattle.entity_loading.proofs.begin.follow_context.Goals as goal

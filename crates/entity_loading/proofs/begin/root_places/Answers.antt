@@ -8,7 +8,7 @@ use Rattle.access_tries.specs.Views.{view_leads}
 use Rattle.entity_loading.specs.Begun.{root_points}
 use Rattle.entity_loading.specs.Leads.{RootLeads, IsEdgeLed}
 use Rattle.entity_loading.specs.Places.{IsAtOrBelow}
-use Rattle.entity_loading.specs.Wants.{Adds}
+use Rattle.entity_loading.specs.Needs.{Adds}
 use Rattle.entity_loading.proofs.DemandSteps.{link_leads, number_in}
 use Rattle.plain_lemmas.proofs.Lists.{is_some_within}
 use Rattle.entity_loading.proofs.BeginSteps.{first_at}

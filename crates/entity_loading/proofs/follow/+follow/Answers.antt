@@ -6,7 +6,7 @@ use Rattle.reads_spec.specs.Paths.{along}
 use Rattle.policy_values.specs.Value.{entity, rec, size_of_fields, fields_of}
 use Rattle.policy_values.specs.ValueView.{val_of}
 use Rattle.entity_loading.specs.Leads.{Leads, IsLed}
-use Rattle.entity_loading.specs.Wants.{sees, points, fields_point, Adds}
+use Rattle.entity_loading.specs.Needs.{sees, points, fields_point, Adds}
 use Rattle.entity_loading.proofs.FollowSteps.{following_same, following_more, following_skip, points_behind, points_nothing, placed_below, at_or_below, below_step, or_weaker}
 use Rattle.entity_loading.proofs.LedSteps.{IsLeading, led_entity, led_record, led_behind, led_nowhere, leading_start, leading_more}
 use Rattle.entity_loading.proofs.follow.+follow.Goals as goal

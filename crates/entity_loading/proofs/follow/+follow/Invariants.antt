@@ -1,7 +1,7 @@
 use Rattle.std.proofs.Common.{◌+◌, ◌*◌, ◌≤◌}
 use Rattle.policy_values.specs.Value.{size_of, size_of_fields, fields_of}
 use Rattle.entity_loading.specs.Places.{IsPlaceBelow}
-use Rattle.entity_loading.specs.Wants.{sees, fields_point}
+use Rattle.entity_loading.specs.Needs.{sees, fields_point}
 use Rattle.entity_loading.proofs.FollowSteps.{IsFollowing}
 use Rattle.entity_loading.proofs.LedSteps.{IsLeading}
 use Rattle.entity_loading.proofs.follow.+follow.Given as goal

@@ -1,6 +1,6 @@
 use Rattle.std.proofs.Common.{ap, ◌∙◌}
 use Rattle.std.specs.List.{list_any}
-use Rattle.entity_loading.specs.Wants.{sees, points}
+use Rattle.entity_loading.specs.Needs.{sees, points}
 use Rattle.entity_loading.proofs.PlacePointSteps.{values_are}
 use Rattle.entity_loading.proofs.FollowSteps.{following_same, following_more}
 use Rattle.entity_loading.proofs.LedSteps.{some_start, some_more}

@@ -2,7 +2,7 @@ use Rattle.std.specs.List.{list_any}
 use Rattle.policy_values.specs.Value.{fields_of}
 use Rattle.reads_spec.specs.Restrict.{values_in}
 use Rattle.entity_loading.specs.Places.{IsAtOrBelow}
-use Rattle.entity_loading.specs.Wants.{sees, points}
+use Rattle.entity_loading.specs.Needs.{sees, points}
 use Rattle.entity_loading.proofs.FollowSteps.{IsFollowing}
 use Rattle.entity_loading.proofs.LedSteps.{IsLeadingSome}
 use Rattle.entity_loading.proofs.follow.follow_each.Given as goal

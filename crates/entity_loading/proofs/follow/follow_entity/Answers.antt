@@ -6,7 +6,7 @@ use Rattle.reads_spec.specs.Paths.{any_tag}
 use Rattle.reads_spec.specs.Restrict.{values_in}
 use Rattle.policy_values.specs.Value.{fields_of}
 use Rattle.entity_loading.specs.Leads.{FieldsLead, SomeLeads, IsLed}
-use Rattle.entity_loading.specs.Wants.{sees, points, fields_point, entity_points, Adds}
+use Rattle.entity_loading.specs.Needs.{sees, points, fields_point, entity_points, Adds}
 use Rattle.entity_loading.proofs.FollowSteps.{adds_also, adds_same, any_behind, any_nothing, below_step, or_then}
 use Rattle.plain_lemmas.proofs.Booleans.{or_false}
 use Rattle.entity_loading.proofs.LedSteps.{some_point, led_with_tags, led_without_tags}

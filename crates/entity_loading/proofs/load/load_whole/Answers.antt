@@ -96,18 +96,18 @@ pub returns-clause-steps : goal.returns-clause-steps
 returns-clause-steps g c = λ n w. c.load_rounds.ensures.steps n (subst (λ ns. PathsWithin ns n) (sym c.nodes.ensures.nodes) w)
 
 pub returns-clause-honest : goal.returns-clause-honest
-returns-clause-honest g c = λ s told order.
+returns-clause-honest g c = λ s known order.
     let ns = c.args.trie.now in
     let q = c.args.request.now in
     let exact = (g.D.EntityLoader.state c.args.loader.now).exact in
     let begun : IsBegun ns q s c.in-Ok.start.keys = record { asked = c.in-Ok.ensures.asked; leads = c.in-Ok.ensures.leads; order = order } in
     let state = subst (λ t. IsState exact t q s c.in_ok-loaded.loaded.asked.keys [] (get uid_cmp c.in_ok-loaded.loaded.kept)) c.nodes.ensures.nodes
-    (c.in_ok-loaded.ensures.honest s told q (subst (λ t. IsBegun t q s c.in-Ok.start.keys) (sym c.nodes.ensures.nodes) begun)) in
+    (c.in_ok-loaded.ensures.honest s known q (subst (λ t. IsBegun t q s c.in-Ok.start.keys) (sym c.nodes.ensures.nodes) begun)) in
     loaded exact ns q s c.in_ok-store_of.field-0 c.in_ok-loaded.loaded.asked.keys (get uid_cmp c.in_ok-loaded.loaded.kept) state
     (λ x. ap (option_map without_links) (c.in_ok-store_of.ensures.at x) ∙ c.in_ok-kept.ensures.alike x)
 
 pub returns-clause-between : goal.returns-clause-between
-returns-clause-between g c = λ s told order ids reads demands fit.
+returns-clause-between g c = λ s known order ids reads demands fit.
     let ns = c.args.trie.now in
     let q = c.args.request.now in
     let exact = (g.D.EntityLoader.state c.args.loader.now).exact in
@@ -116,16 +116,16 @@ returns-clause-between g c = λ s told order ids reads demands fit.
     let new = get uid_cmp c.in_ok-kept.kept in
     let begun : IsBegun ns q s c.in-Ok.start.keys = record { asked = c.in-Ok.ensures.asked; leads = c.in-Ok.ensures.leads; order = order } in
     let state = subst (λ t. IsState exact t q s loaded.asked.keys [] kept) c.nodes.ensures.nodes
-    (c.in_ok-loaded.ensures.honest s told q (subst (λ t. IsBegun t q s c.in-Ok.start.keys) (sym c.nodes.ensures.nodes) begun)) in
+    (c.in_ok-loaded.ensures.honest s known q (subst (λ t. IsBegun t q s c.in-Ok.start.keys) (sym c.nodes.ensures.nodes) begun)) in
     let joined = subst (λ e. IsJoined e s (IsAskedFor c.nodes-2.result.now q loaded.asked.keys (part state.part.choice s)) kept new) c.load_rounds.ensures.goes_on.exact
-    (c.in_ok-kept.ensures.honest s (c.load_rounds.ensures.goes_on.told s told) (part state.part.choice s) (λ x. part_at state.part.choice s x ∙ sym (state.part.is x))) in
+    (c.in_ok-kept.ensures.honest s (c.load_rounds.ensures.goes_on.known s known) (part state.part.choice s) (λ x. part_at state.part.choice s x ∙ sym (state.part.is x))) in
     loaded_between exact ns q s loaded.asked.keys kept new state order
     (subst (λ t. IsJoined exact s (IsAskedFor t q loaded.asked.keys (part state.part.choice s)) kept new) c.nodes-2.ensures.nodes joined)
     c.in_ok-kept.ensures.alike (c.in_ok-kept.ensures.ascending (left_ascends state.part.choice s kept order state.part.is))
     reads demands fit ids c.in_ok-store_of.field-0 c.in_ok-store_of.ensures.at c.in_ok-store_of.ensures.ascending
 
 pub returns-in_err-loaded-clause-right : goal.returns-in_err-loaded-clause-right
-returns-in_err-loaded-clause-right g c = λ s told order.
+returns-in_err-loaded-clause-right g c = λ s known order.
     let ns = c.args.trie.now in
     let q = c.args.request.now in
     let old = g.D.EntityLoader.state c.args.loader.now in
@@ -134,16 +134,16 @@ returns-in_err-loaded-clause-right g c = λ s told order.
     let exit = err_from_is_err_and c.from_residual.result c.from_residual.ensures.1 in
     rw (exit.1, exit.2)
     (right_later (CannotStep ns q s) (BlocksAt ns q s) old old new (goes_on_here old) (λ v h. inr h) c.in_err-loaded.field-0.0
-    (subst (λ t. IsRight (CannotStep t q s) old new c.in_err-loaded.field-0.0) c.nodes.ensures.nodes (c.in_err-loaded.ensures.right s told q (subst (λ t. IsBegun t q s c.in-Ok.start.keys) (sym c.nodes.ensures.nodes) begun))))
+    (subst (λ t. IsRight (CannotStep t q s) old new c.in_err-loaded.field-0.0) c.nodes.ensures.nodes (c.in_err-loaded.ensures.right s known q (subst (λ t. IsBegun t q s c.in-Ok.start.keys) (sym c.nodes.ensures.nodes) begun))))
 
 pub returns-in_err-kept-clause-right : goal.returns-in_err-kept-clause-right
-returns-in_err-kept-clause-right g c = λ s told order.
+returns-in_err-kept-clause-right g c = λ s known order.
     let old = g.D.EntityLoader.state c.args.loader.now in
     let mid = g.D.EntityLoader.state c.load_rounds.new.loader in
     let exit = err_from_is_err_and c.from_residual-in_err-kept.result c.from_residual-in_err-kept.ensures.1 in
     rw (exit.1, exit.2)
     (right_later (λ v. ⊥) (BlocksAt c.args.trie.now c.args.request.now s) old mid (g.D.EntityLoader.state c.with_ancestors.new.loader) c.load_rounds.ensures.goes_on (λ v h. absurd h) c.in_err-kept.field-0.0
-    (c.in_err-kept.ensures.right s (c.load_rounds.ensures.goes_on.told s told)))
+    (c.in_err-kept.ensures.right s (c.load_rounds.ensures.goes_on.known s known)))
 
 pub returns-in_err-kept-clause-counted : goal.returns-in_err-kept-clause-counted
 returns-in_err-kept-clause-counted g c = let a = c.load_rounds.ensures.counted in let b = c.with_ancestors.ensures.rounds in omega (arith, a, b)

@@ -5,7 +5,7 @@ use Rattle.reads_spec.proofs.Lists.{IsIn}
 use Rattle.entity_loading.specs.Places.{IsPlaceBelow, node_of}
 use Rattle.entity_loading.specs.Answered.{answer_points, answers_point, AnswerBlocks, SomeAnswerBlocks}
 use Rattle.entity_loading.specs.CannotGoOn.{tests_of}
-use Rattle.entity_loading.specs.Wants.{Adds}
+use Rattle.entity_loading.specs.Needs.{Adds}
 use Rattle.entity_loading.proofs.FollowSteps.{following_more, refused_weaker, or_weaker}
 use Rattle.entity_loading.proofs.next.next_places.Goals as goal
 

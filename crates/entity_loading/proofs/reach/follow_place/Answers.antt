@@ -3,7 +3,7 @@ use Rattle.std.proofs.lemmas.Result.{on_ok_weaker}
 use Rattle.entity_loading.specs.Answered.{answer_points}
 use Rattle.entity_loading.specs.Leads.{EntityLeads, IsLed}
 use Rattle.entity_loading.specs.Places.{IsPlaceBelow, node_of}
-use Rattle.entity_loading.specs.Wants.{Adds, sees, entity_points}
+use Rattle.entity_loading.specs.Needs.{Adds, sees, entity_points}
 use Rattle.entity_loading.specs.Reached.{IsAnswerLed}
 use Rattle.entity_loading.proofs.SliceReachSteps.{adds_none}
 use Rattle.entity_loading.proofs.reach.follow_place.Goals as goal

@@ -5,7 +5,7 @@ use Rattle.std.proofs.lemmas.Result.{err_from_is_err_and}
 use Rattle.std.specs.BTreeMap.{get}
 use Rattle.policy_values.specs.Uid.{uid_cmp, uid_eq}
 use Rattle.entity_loading.specs.Places.{node_of}
-use Rattle.entity_loading.specs.Wants.{sees}
+use Rattle.entity_loading.specs.Needs.{sees}
 use Rattle.entity_loading.specs.KeptPart.{IsState}
 use Rattle.entity_loading.specs.Rounds.{IsRound}
 use Rattle.entity_loading.specs.Unasked.{DemandNothing}
@@ -30,7 +30,7 @@ rounds-init g c =
       ids = λ x e h. absurd (cc (none x, h));
       deep = let zero : 0 ≡ c.args.steps.now - c.args.steps.now = omega arith in subst (λ r. AreDeep ns r c.args.start.keys) zero (deep_first ns c.args.start.keys c.requires.start);
       within = λ n w. omega arith;
-      honest = λ s told q b. subst (λ ks. IsState old.exact ns q s ks c.args.start.keys (get uid_cmp c.new-kept.result)) (sym c.new-asked.ensures.empty) (state_start old.exact ns q s c.args.start.keys (get uid_cmp c.new-kept.result) b none);
+      honest = λ s known q b. subst (λ ks. IsState old.exact ns q s ks c.args.start.keys (get uid_cmp c.new-kept.result)) (sym c.new-asked.ensures.empty) (state_start old.exact ns q s c.args.start.keys (get uid_cmp c.new-kept.result) b none);
       begun = λ e. (e, c.new-asked.ensures.empty, refl, refl);
       quiet = λ none. (subst (DemandNothing ns) (sym c.new-asked.ensures.empty) (λ x ms r. refl), none);
     }
@@ -56,9 +56,9 @@ rounds-preserved g c =
       ids = c.in_ok-next.ensures.ids;
       deep = let same : k + 1 ≡ c.one_round.new.steps - c.args.steps.now = omega (arith, before, up) in subst (λ r. AreDeep ns r next) same (deep_more ns k ps next inv.deep c.in_ok-next.ensures.below);
       within = λ n w. let l = longest ns k ps inv.deep some n w in omega (arith, l, before, up);
-      honest = λ s told q b.
-          let r = subst (λ e. IsRound e s ns ps (get uid_cmp c.rounds.kept) (get uid_cmp c.one_round.new.kept) next) inv.goes_on.exact (c.in_ok-next.ensures.honest s (inv.goes_on.told s told)) in
-          state_next old.exact ns q s c.args.start.keys c.rounds.asked.keys ps next c.note.new.asked.keys (get uid_cmp c.rounds.kept) (get uid_cmp c.one_round.new.kept) b (inv.honest s told q b) r inv.deep.there
+      honest = λ s known q b.
+          let r = subst (λ e. IsRound e s ns ps (get uid_cmp c.rounds.kept) (get uid_cmp c.one_round.new.kept) next) inv.goes_on.exact (c.in_ok-next.ensures.honest s (inv.goes_on.known s known)) in
+          state_next old.exact ns q s c.args.start.keys c.rounds.asked.keys ps next c.note.new.asked.keys (get uid_cmp c.rounds.kept) (get uid_cmp c.one_round.new.kept) b (inv.honest s known q b) r inv.deep.there
           (λ d x a. c.in_ok-note.ensures.tests (λ p. uid_eq p.uid x && sees d (node_of ns p) a));
       begun = λ e. absurd (some (inv.begun e).0);
       quiet = λ none. let q = inv.quiet none in (undemanding_noted ns ps c.rounds.asked.keys c.note.new.asked.keys c.in_ok-note.ensures q.0 q.1, c.in_ok-next.ensures.quiet q.1);
@@ -111,11 +111,11 @@ returns-in_err-note-clause-steps g c = λ n w.
     omega (arith, l, up, before)
 
 pub returns-clause-honest : goal.returns-clause-honest
-returns-clause-honest g c = λ s told q b.
-    subst (λ ks. IsState (g.D.EntityLoader.state c.args.loader.now).exact c.args.nodes.now q s c.rounds.asked.keys ks (get uid_cmp c.rounds.kept)) (nil_from_length c.rounds.pending.keys (c.is_empty.ensures.0 c.rounds-test.false)) (c.rounds.invariant.honest s told q b)
+returns-clause-honest g c = λ s known q b.
+    subst (λ ks. IsState (g.D.EntityLoader.state c.args.loader.now).exact c.args.nodes.now q s c.rounds.asked.keys ks (get uid_cmp c.rounds.kept)) (nil_from_length c.rounds.pending.keys (c.is_empty.ensures.0 c.rounds-test.false)) (c.rounds.invariant.honest s known q b)
 
 pub returns-in_err-next-clause-right : goal.returns-in_err-next-clause-right
-returns-in_err-next-clause-right g c = λ s told q b.
+returns-in_err-next-clause-right g c = λ s known q b.
     let old = g.D.EntityLoader.state c.args.loader.now in
     let mid = g.D.EntityLoader.state c.rounds.loader in
     let new = g.D.EntityLoader.state c.one_round.new.loader in
@@ -124,8 +124,8 @@ returns-in_err-next-clause-right g c = λ s told q b.
     let inv = c.rounds.invariant in
     let exit = err_from_is_err_and c.from_residual.result c.from_residual.ensures.1 in
     rw (exit.1, exit.2)
-    (refused_right old.exact ns q s c.rounds.asked.keys ps (get uid_cmp c.rounds.kept) (inv.honest s told q b) b.order inv.deep.there old mid new inv.goes_on c.in_err-next.field-0.0
-    (subst (λ e. IsRoundError e s ns ps (get uid_cmp c.rounds.kept) mid new c.in_err-next.field-0.0) inv.goes_on.exact (c.in_err-next.ensures.right s (inv.goes_on.told s told))))
+    (refused_right old.exact ns q s c.rounds.asked.keys ps (get uid_cmp c.rounds.kept) (inv.honest s known q b) b.order inv.deep.there old mid new inv.goes_on c.in_err-next.field-0.0
+    (subst (λ e. IsRoundError e s ns ps (get uid_cmp c.rounds.kept) mid new c.in_err-next.field-0.0) inv.goes_on.exact (c.in_err-next.ensures.right s (inv.goes_on.known s known))))
 
 pub returns-in_err-next-clause-counted : goal.returns-in_err-next-clause-counted
 returns-in_err-next-clause-counted g c =

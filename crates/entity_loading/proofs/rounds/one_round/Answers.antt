@@ -8,7 +8,7 @@ use Rattle.policy_values.specs.Uid.{uid_cmp}
 use Rattle.entity_store.specs.Store.{Store}
 use Rattle.access_tries.specs.Table.{Table}
 use Rattle.entity_loading.specs.Answered.{answers_point}
-use Rattle.entity_loading.specs.Wants.{Adds}
+use Rattle.entity_loading.specs.Needs.{Adds}
 use Rattle.entity_loading.specs.declared.place.Place.{Place}
 use Rattle.entity_loading.specs.Keeping.{Found, kept_and}
 use Rattle.entity_loading.specs.Rounds.{AreHonestAt, IsRound}
@@ -24,11 +24,11 @@ rounded exact s ns ps old new found h (Ok next) kept asked = record { found = fo
 rounded exact s ns ps old new found h (Err e) kept asked = tt
 
 pub returns-in_err-found-clause-right : goal.returns-in_err-found-clause-right
-returns-in_err-found-clause-right g c = λ s told.
+returns-in_err-found-clause-right g c = λ s known.
     let old = g.D.EntityLoader.state c.args.loader.now in
     let exit = err_from_is_err_and c.from_residual.result c.from_residual.ensures.1 in
     rw (exit.1, exit.2)
-    (right_refused old.exact s c.args.nodes.now c.args.pending.now.keys (get uid_cmp c.args.kept.now) old (g.D.EntityLoader.state c.answers_at.new.loader) c.in_err-found.field-0.0 (c.in_err-found.ensures.right s told))
+    (right_refused old.exact s c.args.nodes.now c.args.pending.now.keys (get uid_cmp c.args.kept.now) old (g.D.EntityLoader.state c.answers_at.new.loader) c.in_err-found.field-0.0 (c.in_err-found.ensures.right s known))
 
 pub returns-clause-cause : goal.returns-clause-cause
 returns-clause-cause g c =
@@ -37,15 +37,15 @@ returns-clause-cause g c =
     c.take_answers.ensures.why
 
 pub returns-clause-honest : goal.returns-clause-honest
-returns-clause-honest g c = λ s told.
-    rounded (g.D.EntityLoader.state c.args.loader.now).exact s c.args.nodes.now c.args.pending.now.keys (get uid_cmp c.args.kept.now) (get uid_cmp c.take_answers.new.kept) (get uid_cmp c.in_ok-found.found) (c.in_ok-found.ensures.honest s told)
+returns-clause-honest g c = λ s known.
+    rounded (g.D.EntityLoader.state c.args.loader.now).exact s c.args.nodes.now c.args.pending.now.keys (get uid_cmp c.args.kept.now) (get uid_cmp c.take_answers.new.kept) (get uid_cmp c.in_ok-found.found) (c.in_ok-found.ensures.honest s known)
     c.take_answers.result c.take_answers.ensures.kept c.take_answers.ensures.asked
 
 pub returns-clause-right : goal.returns-clause-right
-returns-clause-right g c = λ s told.
+returns-clause-right g c = λ s known.
     let old = g.D.EntityLoader.state c.args.loader.now in
     IfErr-weaker c.take_answers.result _ _
-    (taken_refused old.exact s c.args.nodes.now c.args.pending.now.keys (get uid_cmp c.args.kept.now) (get uid_cmp c.in_ok-found.found) old (g.D.EntityLoader.state c.answers_at.new.loader) (c.in_ok-found.ensures.honest s told))
+    (taken_refused old.exact s c.args.nodes.now c.args.pending.now.keys (get uid_cmp c.args.kept.now) (get uid_cmp c.in_ok-found.found) old (g.D.EntityLoader.state c.answers_at.new.loader) (c.in_ok-found.ensures.honest s known))
     c.take_answers.ensures.why
 
 pub returns-clause-quiet : goal.returns-clause-quiet

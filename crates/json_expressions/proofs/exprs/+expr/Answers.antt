@@ -60,13 +60,13 @@ read_fields-loop-key-preserved t c =
     let place = c.in-Some.place.now in
     let rest = c.next.new.self in
     let left : All (λ i. i < length ms) (place ∷ values_of rest) = subst (λ es. All (λ i. i < length ms) (values_of es)) c.in-Some.ensures.steps c.loop-key.invariant.left in
-    let told = said_there ms place c.index-members-place.result (All-head (λ i. i < length ms) place (values_of rest) left) in
+    let known = said_there ms place c.index-members-place.result (All-head (λ i. i < length ms) place (values_of rest) left) in
     let member = expr_of (said_at ms place) in
     let read = c.in-Some-next.next in
     let is = c.in_ok-fields.ensures in
     record {
       read = item_more bounded_field done _ (key, read) (option_map (λ x. (key, x)) member) (named_exprs_of (placed_view ms rest)) _ is
-          (field_read key read member (ap (λ d. option_map bounded (expr_of d)) told ∙ sym c.in-Ok.ensures ∙ c.in-Some-next.is))
+          (field_read key read member (ap (λ d. option_map bounded (expr_of d)) known ∙ sym c.in-Ok.ensures ∙ c.in-Some-next.is))
           (ap (λ es. option_map (λ rs. done ++ rs) (option_map (map bounded_field) (named_exprs_of (placed_view ms es)))) (sym c.in-Some.ensures.steps) ∙ c.loop-key.invariant.read);
       sorted = subst (IsStrictlySortedBy text_cmp) (keys_more _ done _ key read (map (λ b. b.now) (keys_of rest)) is refl)
           (subst (λ es. IsStrictlySortedBy text_cmp (keys_of done ++ map (λ b. b.now) (keys_of es))) c.in-Some.ensures.steps c.loop-key.invariant.sorted);
@@ -81,9 +81,9 @@ read_fields-returns-in_default-next t c =
     let place = c.in-Some.place.now in
     let rest = c.next.new.self in
     let left : All (λ i. i < length ms) (place ∷ values_of rest) = subst (λ es. All (λ i. i < length ms) (values_of es)) c.in-Some.ensures.steps c.loop-key.invariant.left in
-    let told = said_there ms place c.index-members-place.result (All-head (λ i. i < length ms) place (values_of rest) left) in
+    let known = said_there ms place c.index-members-place.result (All-head (λ i. i < length ms) place (values_of rest) left) in
     nothing_read done key (expr_of (said_at ms place)) (named_exprs_of (placed_view ms rest)) _
-    (sym c.in_default-next.is ∙ c.in-Ok.ensures ∙ ap (λ d. option_map bounded (expr_of d)) (sym told))
+    (sym c.in_default-next.is ∙ c.in-Ok.ensures ∙ ap (λ d. option_map bounded (expr_of d)) (sym known))
     (ap (λ es. option_map (λ rs. done ++ rs) (option_map (map bounded_field) (named_exprs_of (placed_view ms es)))) (sym c.in-Some.ensures.steps) ∙ c.loop-key.invariant.read)
 
 pub read_get-returns : goal.read_get-returns
@@ -146,9 +146,9 @@ read_several-returns-in_default-next t c =
     let end = c.in_default-next.ensures.steps in
     let one : c.in_ok-places.places.entries ≡ (k, i) ∷ [] = cc (c.iter-rest.ensures.rest, c.in-Some.ensures.steps, end.0) in
     let within : All (λ n. n < length ms) (i ∷ []) = subst (λ es. All (λ n. n < length ms) (values_of es)) one c.in_ok-places.ensures.within in
-    let told = said_there ms i c.index-members-first_place.result (All-head (λ n. n < length ms) i [] within) in
+    let known = said_there ms i c.index-members-first_place.result (All-head (λ n. n < length ms) i [] within) in
     subst (λ o. IfOk c.read_named_form.result (λ r. r ≡ o))
-    (ap (λ d. option_map bounded (named_form_tree k.now d (operands_of d))) (sym told)
+    (ap (λ d. option_map bounded (named_form_tree k.now d (operands_of d))) (sym known)
     ∙ ap (λ es. option_map bounded (expr_of_members (placed_view ms es))) (sym one)
     ∙ ap (λ all. option_map bounded (expr_of_members all)) c.in_ok-places.ensures.said)
     c.read_named_form.ensures

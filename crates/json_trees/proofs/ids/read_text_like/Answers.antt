@@ -7,6 +7,6 @@ pub returns-then-eq : goal.returns-then-eq
 returns-then-eq c =
     let text = c.args.text.now in
     let known = c.entity_type-known.result.now in
-    let told : c.as_str.result.now ≡ text = (bytes_eq-Decides c.as_str.result.now text).0 (sym c.eq.ensures ∙ c.if-eq.true) in
-    let same : known ≡ text = sym c.as_str.ensures.value ∙ told in
+    let same_bytes : c.as_str.result.now ≡ text = (bytes_eq-Decides c.as_str.result.now text).0 (sym c.eq.ensures ∙ c.if-eq.true) in
+    let same : known ≡ text = sym c.as_str.ensures.value ∙ same_bytes in
     name_found text c.in_ok-shared.shared (rw same at c.as_str.ensures.name) (c.in_ok-shared.ensures ∙ same)

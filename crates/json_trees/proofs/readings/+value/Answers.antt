@@ -35,9 +35,9 @@ read_repeated-returns t c =
     let end = rw (none_of_no_some c.next-2.result no) at c.next-2.ensures.steps in
     let one : c.in_ok-places.places.entries ≡ (k, i) ∷ [] = cc (c.iter-rest.ensures.rest, c.in-Some.ensures.steps, end.0) in
     let within : All (λ n. n < length ms) (i ∷ []) = subst (λ es. All (λ n. n < length ms) (values_of es)) one c.in_ok-places.ensures.within in
-    let told = said_there ms i c.index-members-place.result (All-head (λ n. n < length ms) i [] within) in
+    let known = said_there ms i c.index-members-place.result (All-head (λ n. n < length ms) i [] within) in
     subst (λ o. IfOk c.read_form.result (λ r. r ≡ o))
-    (ap (λ d. value_form k.now d (value_fields_of d)) (sym told)
+    (ap (λ d. value_form k.now d (value_fields_of d)) (sym known)
     ∙ ap (λ es. value_of_members (placed_view ms es)) (sym one)
     ∙ ap value_of_members c.in_ok-places.ensures.said)
     c.read_form.ensures
@@ -70,12 +70,12 @@ read_entries-loop-key-preserved t c =
     let place = c.in-Some.place.now in
     let rest = c.next.new.self in
     let left : All (λ i. i < length ms) (place ∷ values_of rest) = subst (λ es. All (λ i. i < length ms) (values_of es)) c.in-Some.ensures.steps c.loop-key.invariant.left in
-    let told = said_there ms place c.index-members-place.result (All-head (λ i. i < length ms) place (values_of rest) left) in
+    let known = said_there ms place c.index-members-place.result (All-head (λ i. i < length ms) place (values_of rest) left) in
     let value = c.in-Some-next.next in
     let is = c.in_ok-fields.ensures in
     record {
       read = field_more done _ key value (value_of (said_at ms place)) (value_entries_of (placed_view ms rest)) _ is
-          (ap value_of told ∙ sym c.in-Ok.ensures ∙ c.in-Some-next.is)
+          (ap value_of known ∙ sym c.in-Ok.ensures ∙ c.in-Some-next.is)
           (ap (λ es. option_map (λ ys. done ++ ys) (value_entries_of (placed_view ms es))) (sym c.in-Some.ensures.steps) ∙ c.loop-key.invariant.read);
       sorted = subst (IsStrictlySortedBy text_cmp) (keys_more _ done _ key value (map (λ b. b.now) (keys_of rest)) is refl)
           (subst (λ es. IsStrictlySortedBy text_cmp (keys_of done ++ map (λ b. b.now) (keys_of es))) c.in-Some.ensures.steps c.loop-key.invariant.sorted);
@@ -90,6 +90,6 @@ read_entries-returns-in_default-next t c =
     let place = c.in-Some.place.now in
     let rest = c.next.new.self in
     let left : All (λ i. i < length ms) (place ∷ values_of rest) = subst (λ es. All (λ i. i < length ms) (values_of es)) c.in-Some.ensures.steps c.loop-key.invariant.left in
-    let told = said_there ms place c.index-members-place.result (All-head (λ i. i < length ms) place (values_of rest) left) in
-    ap (λ o. option_map (λ ys. done ++ ys) (with_field key o (value_entries_of (placed_view ms rest)))) (sym c.in_default-next.is ∙ c.in-Ok.ensures ∙ ap value_of (sym told))
+    let known = said_there ms place c.index-members-place.result (All-head (λ i. i < length ms) place (values_of rest) left) in
+    ap (λ o. option_map (λ ys. done ++ ys) (with_field key o (value_entries_of (placed_view ms rest)))) (sym c.in_default-next.is ∙ c.in-Ok.ensures ∙ ap value_of (sym known))
     ∙ ap (λ es. option_map (λ ys. done ++ ys) (value_entries_of (placed_view ms es))) (sym c.in-Some.ensures.steps) ∙ c.loop-key.invariant.read

@@ -15,8 +15,8 @@ returns-clause-none c =
     (λ errors is. subst (λ (es : List ValidationError). (es ≡ []) ↔ AllByRecursion (PassesIn n) conditions) (sym (is ∙ ap (map (level_error id n)) c.in_ok-faults.ensures)) (c.level_errors_are_exact.ensures id n conditions).0)
     c.errors.ensures
 
-pub returns-clause-told : goal.returns-clause-told
-returns-clause-told c =
+pub returns-clause-reported : goal.returns-clause-reported
+returns-clause-reported c =
     let id = c.args.policy_id.now in
     let n = c.args.max_level in
     let conditions = map condition_in c.args.conditions.now.items in

@@ -14,6 +14,6 @@ returns c =
     let schema = c.args.schema.now in
     let env = env_data_of c.args.env.now in
     let p = c.args.policy.now in
-    let told = reported_condition p.id (checked c.args.typechecker.now env p.condition) c.in_ok-check.check c.in_ok-check.ensures ∙ ap (λ s. condition_in (checked s env p.condition)) c.requires in
-    let is : c.as_slice.result.now ≡ found_conditions schema env (p ∷ []) = c.as_slice.ensures.value ∙ c.in_ok-conditions.ensures ∙ ap option_to_list told ∙ listed (condition_in (checked schema env p.condition)) in
+    let reported = reported_condition p.id (checked c.args.typechecker.now env p.condition) c.in_ok-check.check c.in_ok-check.ensures ∙ ap (λ s. condition_in (checked s env p.condition)) c.requires in
+    let is : c.as_slice.result.now ≡ found_conditions schema env (p ∷ []) = c.as_slice.ensures.value ∙ c.in_ok-conditions.ensures ∙ ap option_to_list reported ∙ listed (condition_in (checked schema env p.condition)) in
     subst (λ ts. IfOk c.conditions_trie.result (IsLeast (declared_reads schema env ts) (declared_demands schema env ts))) is c.conditions_trie.ensures

@@ -17,12 +17,12 @@ returns-in-empty t c = of_none c.args.number _ c.new.result (ap (map (deref {X =
 
 pub returns-in_ok-back-in_default : goal.returns-in_ok-back-in_default
 returns-in_ok-back-in_default t c =
-    let front = c.in_ok-front-in_default.front in
+    let prefix = c.in_ok-prefix-in_default.prefix in
     let back = c.in_ok-back-in_default.back in
-    IfOk-weaker c.union.result (IsUnion front back) (IsUnionAt c.args.number (map (deref {X = Vec Table Global}) c.args.tries.now))
+    IfOk-weaker c.union.result (IsUnion prefix back) (IsUnionAt c.args.number (map (deref {X = Vec Table Global}) c.args.tries.now))
     (λ u h. of_halves c.args.number _ _ (map (deref {X = Vec Table Global}) c.args.tries.now)
-    (sym (map-append (deref {X = Vec Table Global}) _ _) ∙ ap (map (deref {X = Vec Table Global})) (take-append-drop _ c.args.tries.now)) front back u
-    (rw c.split_at.ensures.front at c.in_ok-front-in_default.ensures) (rw c.split_at.ensures.back at c.in_ok-back-in_default.ensures) h)
+    (sym (map-append (deref {X = Vec Table Global}) _ _) ∙ ap (map (deref {X = Vec Table Global})) (take-append-drop _ c.args.tries.now)) prefix back u
+    (rw c.split_at.ensures.front at c.in_ok-prefix-in_default.ensures) (rw c.split_at.ensures.back at c.in_ok-back-in_default.ensures) h)
     c.union.ensures
 
 pub returns-in-len1 : goal.returns-in-len1

@@ -9,8 +9,8 @@ use Rattle.policy_gate.proofs.answer.manifest_text.Goals as goal
 pub returns : goal.returns
 unfolding manifest_text
 returns c =
-    let due = manifest_data c.args.manifest.now in
-    let written : view c.in_ok-written.written ≡ due = c.in_ok-written.ensures in
+    let expected = manifest_data c.args.manifest.now in
+    let written : view c.in_ok-written.written ≡ expected = c.in_ok-written.ensures in
     let none = ap has_float written ∙ manifest_has_none c.args.manifest.now in
     let text = c.in_ok-text.ensures.text none ∙ ap compact_text written in
     rw (c.in_ok-push_str.ensures.bytes, text) refl

@@ -7,5 +7,5 @@ use Rattle.policy_gate.proofs.answer.with_levels.Goals as goal
 
 pub returns : goal.returns
 returns c =
-    subst (λ f. IfOk c.told.result (λ r. IsRefusedOr (refused_with f.errors f) (λ text. text ≡ findings_text f) (reply_view r)))
-    c.in_ok-found.ensures c.told.ensures
+    subst (λ f. IfOk c.reported.result (λ r. IsRefusedOr (refused_with f.errors f) (λ text. text ≡ findings_text f) (reply_view r)))
+    c.in_ok-found.ensures c.reported.ensures

@@ -24,4 +24,4 @@ returns-in-Ok c =
 pub returns-in-Err-Validation : goal.returns-in-Err-Validation
 returns-in-Err-Validation c =
     let w = c.in-Err-Validation in
-    more _ _ (λ r is. refused c.laws.ensures.errors c.args.document.now (reply_view r) (IsWork Batch c.args.document.now) w.field-0 w.found w.field-0-is w.ensures.refused is) c.told.result c.told.ensures
+    more _ _ (λ r is. refused c.laws.ensures.errors c.args.document.now (reply_view r) (IsWork Batch c.args.document.now) w.field-0 w.found w.field-0-is w.ensures.refused is) c.reported.result c.reported.ensures

@@ -17,4 +17,4 @@ returns-in-EntityDoesNotConform c =
 
 pub returns-in-Validation : goal.returns-in-Validation
 returns-in-Validation c =
-    more _ _ (λ r is. no_policies c.laws.ensures c.args.document.now c.is_well_made.ensures _ c.in-Validation.found (reply_view r) c.in-Validation.is c.requires is) c.told.result c.told.ensures
+    more _ _ (λ r is. no_policies c.laws.ensures c.args.document.now c.is_well_made.ensures _ c.in-Validation.found (reply_view r) c.in-Validation.is c.requires is) c.reported.result c.reported.ensures

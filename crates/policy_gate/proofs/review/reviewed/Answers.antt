@@ -13,4 +13,4 @@ pub returns-in-Err-Validation : goal.returns-in-Err-Validation
 returns-in-Err-Validation c =
     let w = c.in-Err-Validation in
     more _ _ (λ r is. not_reviewed c.no_errors_where_accepted.ensures c.args.document.now (reply_view r) w.field-0 w.found w.field-0-is w.ensures.refused is)
-    c.told.result c.told.ensures
+    c.reported.result c.reported.ensures

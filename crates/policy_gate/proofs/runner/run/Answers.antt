@@ -21,8 +21,8 @@ pub returns-clause-too_long : goal.returns-clause-too_long
 returns-clause-too_long g c = too_long_for _ _ _ _ _ _ c.outcome.ensures.runs
 
 pub returns-clause-too_long_reported : goal.returns-clause-too_long_reported
-returns-clause-too_long_reported g c reads (bytes, told, long, q) =
-    too_long_reported bytes _ _ _ _ _ told q _ c.outcome.ensures.runs reads long
+returns-clause-too_long_reported g c reads (bytes, reported, long, q) =
+    too_long_reported bytes _ _ _ _ _ reported q _ c.outcome.ensures.runs reads long
 
 pub returns-clause-exact : goal.returns-clause-exact
 returns-clause-exact g c command bytes (is, work, q) =

@@ -20,8 +20,8 @@ loop-env-preserved c =
     let before = c.loop-env.level in
     let level = level_found_in c.args.schema.now (condition_of t) in
     let rest = greatest (map level (map env_data_of (into_iter_items c.next.new.self))) in
-    let told = reported_condition t.id (checked c.args.typechecker.now e (condition_of t)) c.in_ok-check.check c.in_ok-check.ensures ∙ ap (λ s. condition_in (checked s e (condition_of t))) c.requires in
-    ap (λ l. greater l rest) (c.in_ok-level.ensures ∙ ap (λ o. greater before (level_reported (action_in e) o)) told)
+    let reported = reported_condition t.id (checked c.args.typechecker.now e (condition_of t)) c.in_ok-check.check c.in_ok-check.ensures ∙ ap (λ s. condition_in (checked s e (condition_of t))) c.requires in
+    ap (λ l. greater l rest) (c.in_ok-level.ensures ∙ ap (λ o. greater before (level_reported (action_in e) o)) reported)
     ∙ greater_assoc before (level e) rest
     ∙ ap (λ es. greater before (greatest (map level (map env_data_of es)))) (sym c.in-Some.ensures.steps.0)
     ∙ c.loop-env.invariant

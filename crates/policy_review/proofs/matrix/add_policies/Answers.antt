@@ -5,10 +5,10 @@ use Rattle.policy_review.proofs.matrix.add_policies.Goals as goal
 
 pub loop-policy-preserved : goal.loop-policy-preserved
 loop-policy-preserved c =
-    let told = c.in_ok-passes.ensures in
+    let reported = c.in_ok-passes.ensures in
     gone_over c.args.schema.now c.args.policies.now c.args.matrix.now.items c.args.levels.now.entries c.loop-policy.matrix.items c.loop-policy.levels.entries c.loop-policy.policy-iterator c.next.new.self c.in-Some.policy.now
-    c.in-Some.ensures.steps c.loop-policy.invariant (sym told.passes ∙ c.if-not-passes.false)
-    c.add_policy.new.matrix.items (OnTrue_at c.if-not-passes.false told.rows) c.add_policy.new.levels.entries (OnTrue_at c.if-not-passes.false told.levels)
+    c.in-Some.ensures.steps c.loop-policy.invariant (sym reported.passes ∙ c.if-not-passes.false)
+    c.add_policy.new.matrix.items (OnTrue_at c.if-not-passes.false reported.rows) c.add_policy.new.levels.entries (OnTrue_at c.if-not-passes.false reported.levels)
 
 pub returns-then-not-passes-clause-passes : goal.returns-then-not-passes-clause-passes
 returns-then-not-passes-clause-passes c =

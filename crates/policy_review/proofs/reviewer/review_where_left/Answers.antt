@@ -16,12 +16,12 @@ pub returns : goal.returns
 returns c =
     let schema = c.args.schema.now in
     let s = c.args.policies.now in
-    let told = c.in_ok-passes.ensures in
-    let accepted = c.accepted_exactly.ensures.0 (c.requires.rules, sym told.passes ∙ c.if-not-passes.false) in
+    let reported = c.in_ok-passes.ensures in
+    let accepted = c.accepted_exactly.ensures.0 (c.requires.rules, sym reported.passes ∙ c.if-not-passes.false) in
     let templates = c.in_ok-add_templates.ensures ∙ ap (λ es. fold (with_level schema) es s.templates) c.new-levels.ensures.empty in
-    let levels = OnTrue_at c.if-not-passes.false told.levels ∙ ap (λ es. fold (with_level schema) es (statics s)) templates in
+    let levels = OnTrue_at c.if-not-passes.false reported.levels ∙ ap (λ es. fold (with_level schema) es (statics s)) templates in
     record {
       accepted = accepted;
-      matrix = OnTrue_at c.if-not-passes.false told.rows ∙ ap (λ rows. rows ++ flat_map (rows_of schema) s.policies) c.new-matrix.ensures.items;
+      matrix = OnTrue_at c.if-not-passes.false reported.rows ∙ ap (λ rows. rows ++ flat_map (rows_of schema) s.policies) c.new-matrix.ensures.items;
       levels = c.in_ok-levels.ensures ∙ ap (map level_at) levels ∙ levels_are schema c.check_is_exact.ensures s accepted.as_written;
     }

@@ -23,8 +23,8 @@ found_in : (part s : List ℕ) → occurs_in part s ≡ true → HasSubslice s p
 found_in part [] h = ([], drop (length part) [], (starts part []).0 h)
 found_in part (c ∷ cs) h = by_prefix (starts_with eqb (c ∷ cs) part) refl (found_in part cs) where
   by_prefix : (b : Bool) → starts_with eqb (c ∷ cs) part ≡ b → (occurs_in part cs ≡ true → HasSubslice cs part) → HasSubslice (c ∷ cs) part
-  by_prefix true front later = ([], drop (length part) (c ∷ cs), (starts part (c ∷ cs)).0 front)
-  by_prefix false front later = let rest = later (rw front at h) in (c ∷ rest.0, rest.1, ap (λ s. c ∷ s) rest.2)
+  by_prefix true prefix later = ([], drop (length part) (c ∷ cs), (starts part (c ∷ cs)).0 prefix)
+  by_prefix false prefix later = let rest = later (rw prefix at h) in (c ∷ rest.0, rest.1, ap (λ s. c ∷ s) rest.2)
 
 pub returns : goal.returns
 returns c =

@@ -13,7 +13,7 @@ pub loop-request-init : goal.loop-request-init
 loop-request-init g c = record {
   goes_on = rows_here (g.R.Rows.state c.args.rows.now);
   fit = ap length c.new-found.ensures.items;
-  honest = λ t told. rw c.new-found.ensures.items tt;
+  honest = λ t known. rw c.new-found.ensures.items tt;
 }
 
 pub loop-request-preserved : goal.loop-request-preserved
@@ -29,9 +29,9 @@ loop-request-preserved g c =
     record {
       goes_on = rows_later old mid new before.goes_on c.ancestors_among.ensures.goes_on;
       fit = rw c.in_ok-push.ensures.items (grind (arith, before.fit));
-      honest = λ t told. rw (next, c.in_ok-push.ensures.items)
+      honest = λ t known. rw (next, c.in_ok-push.ensures.items)
           (all_zipped_more (IsHonestList false (store_of t)) (take i rs) c.loop-request.found.items r c.in_ok-list.list
-          (before.honest t (c.ancestors_among.ensures.goes_on.told t told))
+          (before.honest t (c.ancestors_among.ensures.goes_on.known t known))
           (honest_list t r c.in_ok-list.list
-          (subst (λ (ids : List EntityUID). AreFound t r.entity_id ids c.in_ok-list.list.items) c.deref.ensures.value (c.in_ok-list.ensures.found t told))));
+          (subst (λ (ids : List EntityUID). AreFound t r.entity_id ids c.in_ok-list.list.items) c.deref.ensures.value (c.in_ok-list.ensures.found t known))));
     }

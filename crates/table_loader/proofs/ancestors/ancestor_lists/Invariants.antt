@@ -10,6 +10,6 @@ abbrev pub invariant-loop-request : goal.invariant-loop-request
 invariant-loop-request g l = record {
   goes_on : RowsContinue (g.R.Rows.state l.fn.rows) (g.R.Rows.state l.rows);
   fit : length l.found.items ≡ l.request-index;
-  honest : (t : Tables) → (g.R.Rows.state l.rows).told ≡ Some t →
+  honest : (t : Tables) → (g.R.Rows.state l.rows).known ≡ Some t →
       AllZip (IsHonestList false (store_of t)) (take l.request-index l.request-items) l.found.items;
 }

@@ -19,9 +19,9 @@ loop-id-preserved g c =
     let next : take (i + 1) ids ≡ take i ids ++ id ∷ [] = take_more ids i id c.loop-id-test.true ∙ rw (← c.id-item.is) refl in
     record {
       goes_on = rows_later (g.R.Rows.state c.args.rows.now) (g.R.Rows.state c.loop-id.rows) (g.R.Rows.state c.ancestor.new.self) before.goes_on c.ancestor.ensures.goes_on;
-      found = λ t told.
-          let has = at_ok (λ b. IsTrue b ↔ TablesHaveAncestor t uid id) c.ancestor.result c.in_ok-loaded.field-0 c.in_ok-loaded.ensures.ok (c.ancestor.ensures.answer t told) in
-          let done = before.found t (c.ancestor.ensures.goes_on.told t told) in
+      found = λ t known.
+          let has = at_ok (λ b. IsTrue b ↔ TablesHaveAncestor t uid id) c.ancestor.result c.in_ok-loaded.field-0 c.in_ok-loaded.ensures.ok (c.ancestor.ensures.answer t known) in
+          let done = before.found t (c.ancestor.ensures.goes_on.known t known) in
           elim c.if-branch.branch [
             | then-branch+in_ok-try_clone+in_ok-push w ↦
                 rw (next, ap (λ v. v.items) w.found-is ∙ w.in_ok-push.ensures.items, w.in_ok-try_clone.ensures)
@@ -34,6 +34,6 @@ loop-id-preserved g c =
     }
 
 pub returns-clause-found : goal.returns-clause-found
-returns-clause-found g c = λ t told.
+returns-clause-found g c = λ t known.
     subst (λ (ids : List EntityUID). AreFound t c.args.uid.now ids c.loop-id.found.items)
-    (take_all c.loop-id.id-index c.args.ids.now c.loop-id-test.false) (c.loop-id.invariant.found t told)
+    (take_all c.loop-id.id-index c.args.ids.now c.loop-id-test.false) (c.loop-id.invariant.found t known)

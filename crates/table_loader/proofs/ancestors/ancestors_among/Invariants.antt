@@ -8,5 +8,5 @@ use Rattle.table_loader.proofs.ancestors.ancestors_among.Given as goal
 abbrev pub invariant-loop-id : goal.invariant-loop-id
 invariant-loop-id g l = record {
   goes_on : RowsContinue (g.R.Rows.state l.fn.rows) (g.R.Rows.state l.rows);
-  found : (t : Tables) → (g.R.Rows.state l.rows).told ≡ Some t → AreFound t l.uid (take l.id-index l.ids) l.found.items;
+  found : (t : Tables) → (g.R.Rows.state l.rows).known ≡ Some t → AreFound t l.uid (take l.id-index l.ids) l.found.items;
 }

@@ -10,7 +10,7 @@ pub loop-request-init : goal.loop-request-init
 loop-request-init g c = record {
   goes_on = rows_here (g.R.Rows.state c.args.rows.now);
   fit = rw c.new-found.ensures.items tt;
-  honest = λ t told order. rw c.new-found.ensures.items tt;
+  honest = λ t known order. rw c.new-found.ensures.items tt;
 }
 
 pub loop-request-preserved : goal.loop-request-preserved
@@ -27,7 +27,7 @@ loop-request-preserved g c =
       goes_on = rows_later old mid new before.goes_on c.answer.ensures.goes_on;
       fit = rw (next, c.in_ok-push.ensures.items)
           (all_zipped_more Fits (take i rs) c.loop-request.found.items r c.in_ok-answer.answer before.fit c.in_ok-answer.ensures.fit);
-      honest = λ t told order. rw (next, c.in_ok-push.ensures.items)
+      honest = λ t known order. rw (next, c.in_ok-push.ensures.items)
           (all_zipped_more (IsHonest false (store_of t)) (take i rs) c.loop-request.found.items r c.in_ok-answer.answer
-          (before.honest t (c.answer.ensures.goes_on.told t told) order) (c.in_ok-answer.ensures.honest t told order));
+          (before.honest t (c.answer.ensures.goes_on.known t known) order) (c.in_ok-answer.ensures.honest t known order));
     }

@@ -11,6 +11,6 @@ abbrev pub invariant-loop-request : goal.invariant-loop-request
 invariant-loop-request g l = record {
   goes_on : RowsContinue (g.R.Rows.state l.fn.rows) (g.R.Rows.state l.rows);
   fit : AllZip Fits (take l.request-index l.request-items) l.found.items;
-  honest : (t : Tables) → (g.R.Rows.state l.rows).told ≡ Some t → IsOrderedStore (store_of t) →
+  honest : (t : Tables) → (g.R.Rows.state l.rows).known ≡ Some t → IsOrderedStore (store_of t) →
       AllZip (IsHonest false (store_of t)) (take l.request-index l.request-items) l.found.items;
 }

@@ -11,6 +11,6 @@ use Rattle.table_loader.proofs.entities.attributes.Given as goal
 abbrev pub invariant-loop-key : goal.invariant-loop-key
 invariant-loop-key g l = record {
   goes_on : RowsContinue (g.R.Rows.state l.fn.rows) (g.R.Rows.state l.rows);
-  found : (t : Tables) → (g.R.Rows.state l.rows).told ≡ Some t →
+  found : (t : Tables) → (g.R.Rows.state l.rows).known ≡ Some t →
       IsTaking (attribute_at t l.uid) (children_of l.trie) l.key-iterator (get text_cmp l.attrs);
 }

@@ -33,6 +33,6 @@ invariant-is_sub_attrs-loop-key l = record {
 
 abbrev pub invariant-covers-loop-key : goal.invariant-covers-loop-key
 invariant-covers-loop-key l = record {
-  left : Covers l.mode l.a l.b ↔ Covers l.mode (attrs_of l.key-iterator) (attrs_of (pending l.due l.rest));
+  left : Covers l.mode l.a l.b ↔ Covers l.mode (attrs_of l.key-iterator) (attrs_of (pending l.expected l.rest));
   size : size_of_attrs (attrs_of l.key-iterator) ≤ size_of_attrs l.a;
 }

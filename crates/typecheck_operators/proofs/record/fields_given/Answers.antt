@@ -25,10 +25,10 @@ loop-key-preserved c =
     let is = c.in-Some.ensures.steps in
     let rest = fields_given (map field_of c.next.new.self) in
     let pushed = c.in_ok-push_entry-in-Some-2.ensures.added ∙ ap (λ l. done ++ (l, t) ∷ []) c.in-Ok.ensures in
-    let lent = sym c.in_ok-t.ensures ∙ c.in-Some-2.is in
+    let given = sym c.in_ok-t.ensures ∙ c.in-Some-2.is in
     record {
       all = some_step _ done _ (k, t) rest pushed
-          (ap (λ o. option_map (λ ts. done ++ ts) (option_and_then (λ u. option_map (λ ts. (k, u) ∷ ts) rest) o)) (sym lent)
+          (ap (λ o. option_map (λ ts. done ++ ts) (option_and_then (λ u. option_map (λ ts. (k, u) ∷ ts) rest) o)) (sym given)
           ∙ ap (λ es. option_map (λ ts. done ++ ts) (fields_given (map field_of es))) (sym is) ∙ c.loop-key.invariant.all);
       keys = keys_step _ done _ k t c.in-Some.w.now c.loop-key.key-iterator c.next.new.self is pushed c.loop-key.invariant.keys;
     }

@@ -12,7 +12,7 @@ returns-4 c =
     let v = c.in-Ok-or_drop-v.ensures in
     let w = c.in-Ok-or_drop-w.ensures in
     subst (λ x. IfOk c.if_ended.result (λ r. walked_of r ≡ x))
-    (λ i. ended (u.ok i && (v.ok i && w.ok i)) (if_typing_of m (u.lent i) (v.lent i) (w.lent i))
+    (λ i. ended (u.ok i && (v.ok i && w.ok i)) (if_typing_of m (u.given i) (v.given i) (w.given i))
     (ite (u.tree i) (v.tree i) (w.tree i) (lends None m))
     (u.found i ++ (v.found i ++ (w.found i ++ branches_found m (u.of i) (v.of i) (w.of i)))))
     c.if_ended.ensures

@@ -12,7 +12,7 @@ returns-in-End g c =
 pub returns : goal.returns
 returns g c =
     let byte = c.index-byte.result.now in
-    known_byte _ _ byte c.told.result c.told.ensures (elim c.if-self-len.branch [
+    known_byte _ _ byte c.known.result c.known.ensures (elim c.if-self-len.branch [
       | then-self-len+in-Got w ↦
           rw (sym c.self.view_is) (rw w.self-inside-is (refilled c.self.inside.at byte c.self.inside.piece.items w.read_piece.new.piece.items (g.S.Source.state c.self.inside.source).left (g.S.Source.state w.read_piece.new.source).left
           (omega (arith, w.if-self-len.true, c.len.ensures, c.self.inside.piece.ok.0)) w.in-Got.ensures.1 (some_in w.read_piece.new.piece.items w.in-Got.ensures.0) (rw w.self-inside-is at c.index-byte.ensures)))

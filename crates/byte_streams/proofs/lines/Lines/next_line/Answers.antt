@@ -8,11 +8,11 @@ pub loop-self-preserved : goal.loop-self-preserved
 loop-self-preserved g c =
     let i = c.loop-self.invariant in
     let h = c.in-Byte.ensures in
-    let front = c.loop-self.line.items in
+    let prefix = c.loop-self.line.items in
     let byte = c.in-Byte.byte in
-    let grown : c.push.new.self.items ≡ front ++ (byte ∷ []) = pushed c.push.result front c.push.new.self.items byte c.if-is_err.ensures.value c.push.ensures.items in
-    let longer : length c.push.new.self.items ≡ length front + 1 = ap length grown ∙ length-append front (byte ∷ []) in
-    let more = prefix_more c.args.self.now c.loop-self.self c.next_byte.new.self front byte i.plain i.taken h.0 h.1 in
+    let grown : c.push.new.self.items ≡ prefix ++ (byte ∷ []) = pushed c.push.result prefix c.push.new.self.items byte c.if-is_err.ensures.value c.push.ensures.items in
+    let longer : length c.push.new.self.items ≡ length prefix + 1 = ap length grown ∙ length-append prefix (byte ∷ []) in
+    let more = prefix_more c.args.self.now c.loop-self.self c.next_byte.new.self prefix byte i.plain i.taken h.0 h.1 in
     record {
       in_range = omega (arith, longer, c.loop-self-test.true, c.len.ensures, c.loop-self.line.ok.0, c.push.new.self.ok.0);
       plain = subst (λ xs. is_plain xs ≡ true) (sym grown) more.0;

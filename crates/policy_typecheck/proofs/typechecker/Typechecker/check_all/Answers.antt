@@ -12,7 +12,7 @@ returns-then-is_plain_scope c =
     let before : Reported = (c.args.summary.now, c.args.found.now.keys) in
     let plain : is_plain_scope s t.principal t.action t.resource ≡ true =
     (λ j. is_plain_scope (sym c.self.view_is j) (sym c.principal_constraint-principal.ensures j) (sym c.action_constraint-action.ensures j) (sym c.resource_constraint-resource.ensures j)) ∙ sym c.is_plain_scope.ensures ∙ c.if-is_plain_scope.true in
-    subst (λ z. OnOk c.check_bodies.result ((c.check_bodies.new.summary, c.check_bodies.new.found.keys) ≡ z)) (bodies_say s c.check_bodies.ensures.schema t plain c.requires.body c.requires.depth before) c.check_bodies.ensures.told
+    subst (λ z. OnOk c.check_bodies.result ((c.check_bodies.new.summary, c.check_bodies.new.found.keys) ≡ z)) (bodies_say s c.check_bodies.ensures.schema t plain c.requires.body c.requires.depth before) c.check_bodies.ensures.reported
 
 pub returns-then-names_no_action : goal.returns-then-names_no_action
 returns-then-names_no_action c =
@@ -21,4 +21,4 @@ returns-then-names_no_action c =
     let before : Reported = (c.args.summary.now, c.args.found.now.keys) in
     let names : names_no_action s t.principal t.action t.resource ≡ true =
     (λ j. names_no_action (sym c.self.view_is j) (sym c.principal_constraint-principal.ensures j) (sym c.action_constraint-action.ensures j) (sym c.resource_constraint-resource.ensures j)) ∙ sym c.names_no_action.ensures ∙ c.if-names_no_action.true in
-    subst (λ z. OnOk c.check_refused.result ((c.check_refused.new.summary, c.check_refused.new.found.keys) ≡ z)) (refused_say s c.check_refused.ensures.schema t names c.requires.depth before) c.check_refused.ensures.told
+    subst (λ z. OnOk c.check_refused.result ((c.check_refused.new.summary, c.check_refused.new.found.keys) ≡ z)) (refused_say s c.check_refused.ensures.schema t names c.requires.depth before) c.check_refused.ensures.reported

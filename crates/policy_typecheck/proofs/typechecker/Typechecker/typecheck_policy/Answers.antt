@@ -7,6 +7,6 @@ use Rattle.policy_typecheck.proofs.typechecker.Typechecker.typecheck_policy.Goal
 
 pub returns-clause-errors : goal.returns-clause-errors
 returns-clause-errors c =
-    let told = refusals c.args.self.now c.args.t.now in
-    let found = c.in_ok-summary.ensures.errors ∙ ap (λ ks. all_added same_error ks told) c.new-found.ensures.empty in
-    c.in_ok-add_found.ensures.errors ∙ ap (all_added same_error c.args.errors.now.items) found ∙ once_is_enough same_error laws-law c.args.errors.now.items told
+    let reported = refusals c.args.self.now c.args.t.now in
+    let found = c.in_ok-summary.ensures.errors ∙ ap (λ ks. all_added same_error ks reported) c.new-found.ensures.empty in
+    c.in_ok-add_found.ensures.errors ∙ ap (all_added same_error c.args.errors.now.items) found ∙ once_is_enough same_error laws-law c.args.errors.now.items reported

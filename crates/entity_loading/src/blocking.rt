@@ -71,8 +71,8 @@ fn blocked_in_each<'a>(values: &'a BTreeMap<Text, Value>, trie: &TrieRef<'_>) ->
         (option_copied result) }
 {
     for value in values.values() {
-        if let Some(stuck) = blocked_in(value, trie) {
-            return Some(stuck);
+        if let Some(blocked) = blocked_in(value, trie) {
+            return Some(blocked);
         }
     }
     None
@@ -86,8 +86,8 @@ fn blocked_in_fields<'a>(fields: &'a BTreeMap<Text, Value>, trie: &TrieRef<'_>) 
 {
     for (key, value) in fields.iter() {
         if let Some(below) = trie.field(key) {
-            if let Some(stuck) = blocked_in(value, &below) {
-                return Some(stuck);
+            if let Some(blocked) = blocked_in(value, &below) {
+                return Some(blocked);
             }
         }
     }

@@ -1,8 +1,8 @@
 use Rattle.std.proofs.Common.{◌≡◌, Some, sym, subst}
 use Rattle.entity_loading.specs.Lending.{IsUnited}
-use Rattle.entity_loading.specs.declared.lent.Borrowed.TheVariants.{One, Many}
+use Rattle.entity_loading.specs.declared.borrowed.Borrowed.TheVariants.{One, Many}
 use Rattle.entity_loading.proofs.BorrowSteps.{united_two}
-use Rattle.entity_loading.proofs.lent.united.Goals as goal
+use Rattle.entity_loading.proofs.borrowed.united.Goals as goal
 
 pub returns-in_ok-add-in-Some-One-2 : goal.returns-in_ok-add-in-Some-One-2
 returns-in_ok-add-in-Some-One-2 c =

@@ -23,8 +23,8 @@ sees false v = view_leads v
 sees true v = view_marks v
 
 -- whether some place asks the entity for the address
-abbrev pub wants : Bool → Table → List Place → EntityUID → Test
-wants b ns ps x a = list_any (λ p. uid_eq p.uid x && sees b (node_of ns p) a) ps
+abbrev pub needs : Bool → Table → List Place → EntityUID → Test
+needs b ns ps x a = list_any (λ p. uid_eq p.uid x && sees b (node_of ns p) a) ps
 
 -- whether the value leads, through records alone and along addresses that go on to pass the test, to the
 -- entity, with that address left
@@ -46,4 +46,4 @@ entity_points e t x a =
 -- the new places ask what the old ones ask, or this, and nothing else
 pub record Adds (ns : Table) (more : Bool → EntityUID → Test) (old new : List Place) : Type 0 where
   pub each : (b : Bool) (x : EntityUID) (a : Address) →
-      wants b ns new x a ≡ (wants b ns old x a || more b x a)
+      needs b ns new x a ≡ (needs b ns old x a || more b x a)

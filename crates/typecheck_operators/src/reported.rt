@@ -85,7 +85,7 @@ pub struct Part<'a> {
 /// Takes an operand apart.
 pub fn parted<'a>(alloc: Global, v: Reported<'a>) -> Result<Part<'a>, AllocError>
     ensures ok { IfOk result (λ p. p.ok ≡ has_typing (walked_of v.entry)) }
-    ensures lent { IfOk result (λ p. given_as p.of p.caps p.tree ≡ given_by (walked_of v.entry)) }
+    ensures given { IfOk result (λ p. given_as p.of p.caps p.tree ≡ given_by (walked_of v.entry)) }
     ensures of { IfOk result (λ p. p.of ≡ type_given (walked_of v.entry)) }
     ensures tree { IfOk result (λ p. p.tree ≡ tree_of (walked_of v.entry)) }
     ensures found { IfOk result (λ p. findings_from p.found.items ≡
@@ -104,7 +104,7 @@ pub fn parted<'a>(alloc: Global, v: Reported<'a>) -> Result<Part<'a>, AllocError
         }
         Reported::Fail(failure) => {
             let Failure { tree, found } = Box::into_inner(failure);
-            let Ok(of) = lent(alloc, &tree) else {
+            let Ok(of) = given(alloc, &tree) else {
                 drop(tree);
                 drop(found);
                 return Err(AllocError);
@@ -139,7 +139,7 @@ pub fn rest_of(v: Part<'_>) -> (Expr<Option<Type>>, Vec<Finding>)
 }
 
 // The type that an expression gives.
-fn lent(alloc: Global, tree: &Expr<Option<Type>>) -> Result<Option<Type>, AllocError>
+fn given(alloc: Global, tree: &Expr<Option<Type>>) -> Result<Option<Type>, AllocError>
     ensures { IfOk result (λ o. o ≡ (mark_of tree.now).note) }
 {
     match tree.data() {

@@ -6,7 +6,7 @@ use Rattle.policy_values.specs.Value.{rec}
 use Rattle.policy_core.specs.Eval.{known_fields}
 use Rattle.reads_spec.specs.Restrict.{root_value}
 use Rattle.entity_loading.proofs.CannotGoOnSteps.{blocked_root, no_root_blocks}
-use Rattle.entity_loading.proofs.stuck.blocked_in_context.Goals as goal
+use Rattle.entity_loading.proofs.blocking.blocked_in_context.Goals as goal
 
 pub returns-in-None : goal.returns-in-None
 returns-in-None c = no_root_blocks c.args.trie.now c.args.request.now c.in-None.ensures

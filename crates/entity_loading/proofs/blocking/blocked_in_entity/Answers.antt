@@ -5,7 +5,7 @@ use Rattle.reads_spec.specs.Restrict.{values_in}
 use Rattle.entity_loading.specs.CannotGoOn.{tests_of, behind, FieldsBlock, SomeBlocks, CannotStep}
 use Rattle.entity_loading.proofs.FollowSteps.{tests_behind}
 use Rattle.entity_loading.proofs.CannotGoOnSteps.{blocked_entity, none_of_them, nowhere_behind}
-use Rattle.entity_loading.proofs.stuck.blocked_in_entity.Goals as goal
+use Rattle.entity_loading.proofs.blocking.blocked_in_entity.Goals as goal
 
 pub returns-in-Some-tags : goal.returns-in-Some-tags
 returns-in-Some-tags c =

@@ -1,4 +1,4 @@
--- What leads somewhere leads somewhere at each front.
+-- What leads somewhere leads somewhere at each prefix.
 use Rattle.std.proofs.Common.{◌≡◌, ℕ, Bool, true, false, ◌&&◌, Option, Some, None, is_some, [], ◌∷◌, ◌++◌, refl}
 use Rattle.std.specs.Prelude.{slice_get}
 use Rattle.std.specs.List.{list_any}
@@ -25,7 +25,7 @@ module _ (f : Option NodeData → Bool) (none : f None ≡ false) (ns : Table) w
       by None g = absurd (cc)
       by (Some n) g = refl
 
-  -- a front of what leads to a node that passes the test leads to a node
+  -- a prefix of what leads to a node that passes the test leads to a node
   pub prefix_leads : (es a : Address) (i : ℕ) → at_path f ns i (es ++ a) ≡ true → at_path is_some ns i es ≡ true
   prefix_leads [] a i h = there i a h
   prefix_leads (e ∷ es) a i h =

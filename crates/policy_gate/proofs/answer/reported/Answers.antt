@@ -5,7 +5,7 @@ use Rattle.finding_messages.specs.Written.{findings_text}
 use Rattle.policy_gate.specs.Answer.{IsRefusedOr, refused_with, status_of}
 use Rattle.policy_gate.specs.Reply.{Answer, answer, reply_view}
 use Rattle.policy_gate.proofs.Results.{more}
-use Rattle.policy_gate.proofs.answer.told.Goals as goal
+use Rattle.policy_gate.proofs.answer.reported.Goals as goal
 
 answered : (es : List ValidationError) (found : Findings) (a : Answer) → a ≡ answer (status_of es) (findings_text found) → IsRefusedOr (refused_with es found) (λ text. text ≡ findings_text found) a
 answered [] found a is = (ap (λ b. b.status) is, ap (λ b. b.text) is)

@@ -45,25 +45,25 @@ pub(crate) fn borrowed_tries(
     requires { IsTable nodes.now }
     ensures { IfOk result (AreBorrowed nodes.now places.now.keys) }
 {
-    let mut lent = BTreeMap::new(alloc);
+    let mut borrowed = BTreeMap::new(alloc);
     for place in places.iter() {
-        lend(alloc, nodes, place, &mut lent)?;
+        lend(alloc, nodes, place, &mut borrowed)?;
     }
-    Ok(lent)
+    Ok(borrowed)
 }
 
 fn lend(
     alloc: Global,
     nodes: &[Node],
     place: &Place,
-    lent: &mut BTreeMap<EntityUID, Borrowed>,
+    borrowed: &mut BTreeMap<EntityUID, Borrowed>,
 ) -> Result<(), AllocError>
     requires { IsTable nodes.now }
-    ensures { OnOk result (Borrows nodes.now place.now lent.old lent.new) }
+    ensures { OnOk result (Borrows nodes.now place.now borrowed.old borrowed.new) }
 {
-    let known = lent.remove(&place.uid);
+    let known = borrowed.remove(&place.uid);
     let with = united(alloc, nodes, known, place.number)?;
-    lent.insert(place.uid.try_clone()?, with)?;
+    borrowed.insert(place.uid.try_clone()?, with)?;
     Ok(())
 }
 
@@ -98,19 +98,19 @@ fn united(
 pub(crate) fn requests_of<'a>(
     alloc: Global,
     nodes: &'a [Node],
-    lent: &'a BTreeMap<EntityUID, Borrowed>,
+    borrowed: &'a BTreeMap<EntityUID, Borrowed>,
 ) -> Result<Vec<EntityRequest<'a>>, AllocError>
     requires { IsTable nodes.now }
     ensures requests { IfOk result (λ requests. requests.items ≡
-        map (request_of nodes.now) lent.entry.now.entries) }
+        map (request_of nodes.now) borrowed.entry.now.entries) }
     ensures ascending { IfOk result
         (λ requests. IsStrictlySortedBy uid_cmp (map (λ r. r.entity_id) requests.items)) }
 {
     let mut requests = Vec::new(alloc);
-    for (uid, lent) in lent.iter() {
+    for (uid, borrowed) in borrowed.iter() {
         requests.push(EntityRequest {
             entity_id: uid.try_clone()?,
-            access_trie: lent.trie(nodes),
+            access_trie: borrowed.trie(nodes),
         })?;
     }
     Ok(requests)

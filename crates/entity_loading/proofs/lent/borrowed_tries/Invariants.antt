@@ -1,5 +1,0 @@
-use Rattle.entity_loading.proofs.BorrowSteps.{IsBorrowing}
-use Rattle.entity_loading.proofs.lent.borrowed_tries.Given as goal
-
-abbrev pub invariant-loop-place : goal.invariant-loop-place
-invariant-loop-place l = IsBorrowing l.nodes l.places.keys l.place-iterator l.lent

@@ -1,5 +1,0 @@
-use Rattle.entity_loading.proofs.BorrowSteps.{requests_ascend}
-use Rattle.entity_loading.proofs.lent.requests_of.Goals as goal
-
-pub returns-clause-ascending : goal.returns-clause-ascending
-returns-clause-ascending c = requests_ascend c.args.nodes.now c.args.lent.now.entries c.loop-uid.uid-iterator c.loop-uid.requests.items c.in-None.ensures.steps.0 c.loop-uid.invariant c.iter-uid-items.ensures.ordered
