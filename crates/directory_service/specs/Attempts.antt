@@ -1,8 +1,5 @@
 -- What deciding on what was looked up so far comes to.
 use Rattle.std.specs.Prelude.{◌≡◌, ⊤, List, Option, Some, Result, Ok, Err}
-use Rattle.std.specs.declared.vec.Vec.{Vec}
-use Rattle.std.specs.declared.alloc.Global.{Global}
-use Rattle.policy_values.specs.declared.entity_uid.EntityUID.{EntityUID}
 use Rattle.entity_store.specs.declared.request.Request.{Request}
 use Rattle.entity_store.specs.Store.{Store}
 use Rattle.policy_set.specs.Data.{PolicyData}
@@ -13,6 +10,7 @@ use Rattle.entity_manifest.specs.declared.EntitySliceError.{EntitySliceError}
 use Rattle.entity_manifest.specs.declared.EntitySliceError.TheVariants as error
 use Rattle.directory_service.specs.declared.attempt.Attempt.{Attempt}
 use Rattle.directory_service.specs.declared.attempt.Attempt.TheVariants.{Decided, Missing, Refused}
+use Rattle.directory_service.specs.declared.attempt.MissingIds.{MissingIds}
 
 -- it holds of the store that is known, where it conforms to the schema
 abbrev pub OfStore : SchemaData → Option Store → (Store → Type 0) → Type 0
@@ -27,6 +25,6 @@ IsAttempt ps q w (Refused e) = ⊥
 -- what loading a part of the store came to makes this attempt
 abbrev pub Becomes : List PolicyData → Request → Result Store EntitySliceError → Attempt → Type 0
 Becomes ps q (Ok s) a = a ≡ Decided (response ps q s)
-Becomes ps q (Err error.LoaderFault) a = (ids : Vec EntityUID Global) × (a ≡ Missing ids)
+Becomes ps q (Err error.LoaderFault) a = (ids : MissingIds) × (a ≡ Missing ids)
 Becomes ps q (Err error.OutOfMemory) a = ⊥
 Becomes ps q (Err e) a = a ≡ Refused e

@@ -1,9 +1,9 @@
 -- What is answered to the lines behind the policies.
-use Rattle.std.specs.Prelude.{ℕ, List, Option, Result, Ok, Err}
+use Rattle.std.specs.Prelude.{◌≡◌, ℕ, List, Option, Some, Result, Ok, Err}
 use Rattle.byte_streams.specs.Answering.{AreAnswered}
 use Rattle.byte_streams.specs.Lines.{TakesLine}
 use Rattle.byte_streams.specs.declared.answering.Ended.TheVariants as ended
-use Rattle.byte_streams.specs.State.{SinkState}
+use Rattle.byte_streams.specs.State.{SinkState, SourceState}
 use Rattle.directory_service.specs.Accepted.{IsAccepted}
 use Rattle.directory_service.specs.Attempts.{OfStore}
 use Rattle.directory_service.specs.Lines.{IsLineOn}
@@ -12,7 +12,7 @@ use Rattle.entity_files.specs.Table.{IsReady, Continues}
 use Rattle.json_document.specs.declared.document.Document.{Document}
 use Rattle.sqlite.specs.State.{State}
 use Rattle.directory_service.specs.Documents.{IsReading}
-use Rattle.directory_service.specs.Run.{IsRefusal}
+use Rattle.directory_service.specs.Run.{IsDocumentLeft, IsRefusal}
 use Rattle.directory_service.specs.declared.reply.Reply.{Reply}
 
 -- the next line that is left is the document, and this is left behind it
@@ -37,3 +37,8 @@ AreDecided d first last left sink sink' =
 abbrev pub Decides : Option (List ℕ) → Type 0
 Decides left =
     (d : Document) × (rest : Option (List ℕ)) × IsFirstDocument left rest d × IsAccepted d.schema d.policies
+
+-- the document is all that was left of a source of its own, and its policies are accepted
+abbrev pub DecidesBy : Option SourceState → Type 0
+DecidesBy given =
+    (own : SourceState) × (d : Document) × (given ≡ Some own) × IsDocumentLeft own.left d × IsAccepted d.schema d.policies

@@ -1,11 +1,11 @@
 -- What a run writes, and what it says where it is done.
-use Rattle.std.specs.Prelude.{◌≡◌, ◌⊎◌, ◌≤◌, ℕ, List, ◌++◌, length, take, string_bytes, Option, None, Result, Ok, Err, IfSome, codes, decimal}
+use Rattle.std.specs.Prelude.{◌≡◌, ◌⊎◌, ◌≤◌, ℕ, List, ◌++◌, length, take, string_bytes, Option, Some, None, Result, Ok, Err, IfSome, codes, decimal}
 use Rattle.std.specs.declared.alloc.AllocError.{AllocError}
 use Rattle.std.specs.declared.alloc.Global.{Global}
 use Rattle.std.specs.declared.vec.Vec.{Vec}
 use Rattle.std.specs.Io.KnownBytes.{Appends}
 use Rattle.byte_streams.specs.Document.{document_limit}
-use Rattle.byte_streams.specs.State.{SinkState}
+use Rattle.byte_streams.specs.State.{SinkState, SourceState}
 use Rattle.byte_streams.specs.Steps.{Rose}
 use Rattle.conformance.specs.StoreRules.{first_store_fault}
 use Rattle.json_document.specs.declared.document.Document.{Document}
@@ -17,7 +17,7 @@ use Rattle.directory_service.specs.declared.status.Status.TheVariants as status
 
 -- what is known of words that are no command
 abbrev pub usage : List ℕ
-usage = codes "usage: import DB | decide DB | check DB\n"
+usage = codes "usage: import DB | check DB | decide DB [DOCUMENT]\n"
 
 -- all of the text is written, and the status stands; or the sink's count rose, and a front of it is written
 abbrev pub Gives : Status → List ℕ → SinkState → SinkState → Status → Type 0
@@ -51,6 +51,12 @@ IsDocumentLeft left d = (bytes : List ℕ) × AreAll left bytes × IsReading byt
 abbrev pub IsReadOf : Option (List ℕ) → Result Document Reply → Type 0
 IsReadOf left (Ok d) = IsDocumentLeft left d
 IsReadOf left (Err r) = IsRefusal r
+
+-- the same of a source, where there is one
+abbrev pub IsReadFrom : Option SourceState → Result Document Reply → Type 0
+IsReadFrom (Some s) read = IsReadOf s.left read
+IsReadFrom None (Ok d) = ⊥
+IsReadFrom None (Err r) = IsRefusal r
 
 -- the document's store breaks no rule of its schema, and the text says how many entities it has
 abbrev pub IsImported : Document → List ℕ → Type 0

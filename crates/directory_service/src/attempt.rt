@@ -1,6 +1,7 @@
 //! Deciding on what was looked up so far.
 
-ghost use Rattle.std.specs.Prelude.{◌≢◌, IfOk};
+ghost use Rattle.std.specs.Prelude.{◌≡◌, ◌≢◌, None, IfOk};
+ghost use Rattle.conformance.specs.StoreRules.{first_store_fault};
 ghost use Rattle.sqlite.specs.Held.{state};
 ghost use Rattle.entity_store.specs.Request.{IsWhole};
 ghost use Rattle.entity_store.specs.FromParents.{IsFromParents};
@@ -25,19 +26,30 @@ use std::alloc::{AllocError, Global};
 use std::collections::BTreeSet;
 use std::sync::ledger::Ledger;
 
+/// The ids that have to be looked up before a request is decided.
+#[derive(Drop)]
+pub struct MissingIds {
+    /// The ids; none where the loader failed for another reason.
+    pub ids: Vec<EntityUID>,
+    /// Whether their ancestors are needed too, as far as rows lead to them.
+    pub above: bool,
+}
+
 /// What deciding on what was looked up so far comes to.
 #[derive(Drop)]
 pub enum Attempt {
     /// The response.
     Decided(Response),
     /// These ids have to be looked up first.
-    Missing(Vec<EntityUID>),
+    Missing(MissingIds),
     /// What the request reads is not loaded.
     Refused(EntitySliceError),
 }
 
 // Checks that each entity that was found conforms, with the ancestors that it has by what was found.
-fn check_entities(schema: &ValidatorSchema, entities: &Entities) -> Result<(), RowError> {
+fn check_entities(schema: &ValidatorSchema, entities: &Entities) -> Result<(), RowError>
+    ensures { IfOk result (λ _. first_store_fault schema.now entities.now ≡ None) }
+{
     match conforms(schema, entities) {
         Ok(()) => Ok(()),
         Err(ConformanceError::OutOfMemory) => Err(RowError::OutOfMemory),
@@ -59,8 +71,8 @@ fn store_of(alloc: Global, fetched: &Fetched) -> Result<Entities, RowError>
     }
 }
 
-// Adds those of the ids that were not looked up.
-fn add_unseen(
+/// Adds those of the ids that were not looked up.
+pub(crate) fn add_unseen(
     seen: &BTreeSet<EntityUID>,
     unseen: &mut Vec<EntityUID>,
     ids: &BTreeSet<EntityUID>,
@@ -117,7 +129,10 @@ pub(crate) fn try_decide<S: Alter, L: Ledger>(
     let entities = store_of(alloc, fetched)?;
     let unseen = unseen_above_actions(alloc, &fetched.seen, &entities)?;
     if !unseen.is_empty() {
-        return Ok(Attempt::Missing(unseen));
+        return Ok(Attempt::Missing(MissingIds {
+            ids: unseen,
+            above: true,
+        }));
     }
     check_entities(schema, &entities)?;
     let mut loader = FetchedLoader::new(alloc, conn, fetched, &entities);
@@ -130,7 +145,12 @@ pub(crate) fn try_decide<S: Alter, L: Ledger>(
         &mut loader,
         steps,
     );
-    let missing = loader.into_missing();
+    // Ancestors are asked for once, when all entities are there.
+    let above = loader.lists > 0;
+    let missing = MissingIds {
+        ids: loader.into_missing(),
+        above,
+    };
     attempt_of(alloc, policies, request, loaded, missing)
 }
 
@@ -140,7 +160,7 @@ fn attempt_of(
     policies: &PolicySet,
     request: &Request,
     loaded: Result<Entities, EntitySliceError>,
-    missing: Vec<EntityUID>,
+    missing: MissingIds,
 ) -> Result<Attempt, RowError>
     requires { IsWhole request.now }
     ensures { IfOk result (Becomes policies.now.policies request.now loaded) }

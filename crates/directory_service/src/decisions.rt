@@ -1,13 +1,13 @@
 //! Decisions on the lines that follow the policies.
-ghost use Rattle.std.specs.Prelude.{◌≡◌, IfOk};
+ghost use Rattle.std.specs.Prelude.{◌≡◌, IfOk, option_map};
 ghost use Rattle.sqlite.specs.Held.{Held, state};
 ghost use Rattle.entity_files.specs.Table.{IsReady};
 ghost use Rattle.directory_service.specs.Accepted.{IsAccepted};
 ghost use Rattle.directory_service.specs.OfPolicies.{IsManifestOf};
-ghost use Rattle.directory_service.specs.Decided.{AreDecided, Decides, IsReadFirst};
-ghost use Rattle.directory_service.specs.Run.{IsRefusal};
+ghost use Rattle.directory_service.specs.Decided.{AreDecided, Decides, DecidesBy, IsReadFirst};
+ghost use Rattle.directory_service.specs.Run.{IsReadFrom, IsRefusal};
 
-use crate::document::{READ_FAULT, TOO_LONG, read_bytes};
+use crate::document::{READ_FAULT, TOO_LONG, read_bytes, read_source};
 use crate::reply::{Reply, file_reply, finish, finish_with, reply_with};
 use crate::status::Status;
 use crate::{
@@ -35,6 +35,19 @@ fn first_document<I: Source + Drop>(
         Line::TooLong => Ok(Err(reply_with(alloc, Status::TooLong, TOO_LONG)?)),
         Line::Failed => Ok(Err(reply_with(alloc, Status::ReadFault, READ_FAULT)?)),
         Line::OutOfMemory => Err(AllocError),
+    }
+}
+
+// The document that a source of its own gives up to its end, or the reply on its first fault.
+fn own_document<D: Source + Drop>(
+    alloc: Global,
+    given: Option<D>,
+) -> Result<Result<Document, Reply>, AllocError>
+    ensures { IfOk result (IsReadFrom (option_map (λ s. D.state s) given)) }
+{
+    match given {
+        Some(mut source) => read_source(alloc, &mut source),
+        None => Ok(Err(reply_with(alloc, Status::ReadFault, READ_FAULT)?)),
     }
 }
 
@@ -149,6 +162,30 @@ pub(crate) fn decide<S: Start, I: Source + Drop, K: Sink>(
     let mut lines = Lines::new(alloc, source);
     match first_document(alloc, &mut lines) {
         Ok(Ok(document)) => by_policies(rt, path, start, &document, &mut lines, sink),
+        Ok(Err(reply)) => finish(sink, reply.status, reply.text.as_str()),
+        Err(_) => Status::OutOfMemory,
+    }
+}
+
+/// Reads schema and policies from a source of their own, and answers each line of the other by the rows of the
+/// file.
+pub(crate) fn decide_by<S: Start, I: Source + Drop, D: Source + Drop, K: Sink>(
+    rt: &HostRuntime,
+    path: &str,
+    start: S,
+    source: I,
+    given: Option<D>,
+    sink: &mut K,
+) -> Status
+    ensures done { result ≡ Status.Done → DecidesBy (option_map (λ s. D.state s) given) }
+    ensures command { ¬ (result ≡ Status.Usage) }
+{
+    let alloc = rt.alloc();
+    match own_document(alloc, given) {
+        Ok(Ok(document)) => {
+            let mut lines = Lines::new(alloc, source);
+            by_policies(rt, path, start, &document, &mut lines, sink)
+        }
         Ok(Err(reply)) => finish(sink, reply.status, reply.text.as_str()),
         Err(_) => Status::OutOfMemory,
     }

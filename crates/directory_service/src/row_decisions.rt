@@ -15,7 +15,7 @@ ghost use Rattle.entity_files.specs.Rows.{known_entities, known_store};
 ghost use Rattle.directory_service.specs.Attempts.{OfStore};
 ghost use Rattle.directory_service.specs.Rows.{IsRowAnswer, row_faults};
 
-use crate::attempt::{Attempt, try_decide};
+use crate::attempt::{Attempt, MissingIds, add_unseen, try_decide};
 use crate::row_fault::{RowAnswer, RowError, RowFault};
 use conformance::laws::request_rules_are_exact;
 use entity_files::{Fetched, FindError};
@@ -97,6 +97,55 @@ fn fetch_all<S: Alter>(
     Ok(())
 }
 
+// Looks the ids up with all of their ancestors, as far as rows lead to these.
+fn fetch_upward<S: Alter>(
+    alloc: Global,
+    conn: &mut Connection<S>,
+    fetched: &mut Fetched,
+    ids: Vec<EntityUID>,
+) -> Result<(), RowError>
+    requires ready { IsReady (state S.Store conn.old) }
+    requires fetched { AreFetched (known_entities (state S.Store conn.old)) fetched.old }
+    ensures ready { IsReady (state S.Store conn.new) }
+    ensures goes_on { Continues (known_entities (state S.Store conn.old))
+        (known_entities (state S.Store conn.new)) }
+    ensures fetched { OnOk result (AreFetched (known_entities (state S.Store conn.new)) fetched.new) }
+{
+    let mut left = ids;
+    for _step in 0..u64::MAX {
+        let Some(uid) = left.pop() else {
+            return Ok(());
+        };
+        let count = fetched.found.len();
+        fetch(alloc, conn, fetched, &uid)?;
+        if let Some(entity) = fetched.found.get(count) {
+            add_unseen(&fetched.seen, &mut left, entity.ancestors())?;
+        }
+    }
+    Err(RowError::Database)
+}
+
+// Looks up what is missing.
+fn fetch_missing<S: Alter>(
+    alloc: Global,
+    conn: &mut Connection<S>,
+    fetched: &mut Fetched,
+    missing: MissingIds,
+) -> Result<(), RowError>
+    requires ready { IsReady (state S.Store conn.old) }
+    requires fetched { AreFetched (known_entities (state S.Store conn.old)) fetched.old }
+    ensures ready { IsReady (state S.Store conn.new) }
+    ensures goes_on { Continues (known_entities (state S.Store conn.old))
+        (known_entities (state S.Store conn.new)) }
+    ensures fetched { OnOk result (AreFetched (known_entities (state S.Store conn.new)) fetched.new) }
+{
+    if missing.above {
+        fetch_upward(alloc, conn, fetched, missing.ids)
+    } else {
+        fetch_all(alloc, conn, fetched, &missing.ids)
+    }
+}
+
 // Decides on a whole request that conforms, and looks up what is missing until nothing is.
 fn decided<S: Alter, L: Ledger>(
     alloc: Global,
@@ -126,11 +175,11 @@ fn decided<S: Alter, L: Ledger>(
         )? {
             Attempt::Decided(response) => return Ok(BatchAnswer::Decided(response)),
             Attempt::Refused(error) => return Ok(BatchAnswer::Loading(error)),
-            Attempt::Missing(ids) => {
-                if ids.is_empty() {
+            Attempt::Missing(missing) => {
+                if missing.ids.is_empty() {
                     return Err(RowError::Database);
                 }
-                fetch_all(alloc, conn, &mut fetched, &ids)?;
+                fetch_missing(alloc, conn, &mut fetched, missing)?;
             }
         }
     }

@@ -4,6 +4,7 @@
 use byte_streams::{StdSink, StdSource};
 use directory_service::{Status, run};
 use sqlite::Unknown;
+use std::fs::File;
 use std::process::ExitCode;
 use std::{env, io};
 
@@ -16,17 +17,37 @@ fn words(rt: &HostRuntime) -> io::Result<Vec<String>> {
     Ok(words)
 }
 
+// The document that a third word names, where `decide` asks for it and it can be opened.
+fn document(rt: &HostRuntime, words: &Vec<String>) -> Option<StdSource<File>> {
+    match words.as_slice() {
+        [command, _, path] => {
+            if command.as_str() != "decide" {
+                return None;
+            }
+            match File::open(rt, path.as_str()) {
+                Ok(file) => Some(StdSource::new(file)),
+                Err(_) => None,
+            }
+        }
+        _ => None,
+    }
+}
+
 fn main(rt: HostRuntime) -> ExitCode {
     let source = StdSource::new(rt.reader());
     let mut sink = StdSink::new(io::writer(&rt));
     let status = match words(&rt) {
-        Ok(words) => run(&rt, &words, Unknown, source, &mut sink),
+        Ok(words) => {
+            let given = document(&rt, &words);
+            run(&rt, &words, Unknown, source, given, &mut sink)
+        }
         Err(e) => {
             if e.kind() == io::ErrorKind::OutOfMemory {
                 Status::OutOfMemory
             } else {
                 // A word that is no text: it is in no command, as no words are.
-                run(&rt, &Vec::new(rt.alloc()), Unknown, source, &mut sink)
+                let none: Option<StdSource<File>> = None;
+                run(&rt, &Vec::new(rt.alloc()), Unknown, source, none, &mut sink)
             }
         }
     };

@@ -13,7 +13,7 @@ returns-clause-right g c w told stored =
     (loader_state (known_store (state g.S.Store c.load_for_request-loaded.new.loader.database.now)) c.load_for_request-loaded.new.loader.faults c.load_for_request-loaded.new.loader.rounds c.load_for_request-loaded.new.loader.lists)
     c.load_for_request-loaded.result
     c.load_for_request-loaded.ensures.decided c.load_for_request-loaded.ensures.cause c.attempt_of.result c.attempt_of.ensures
-    w (record { told = ap (λ d. known_store (state g.S.Store d)) c.new-loader.ensures.database ∙ told; order = known_in_order (state g.S.Store c.args.conn.now) w told }) stored
+    w (record { known = ap (λ d. known_store (state g.S.Store d)) c.new-loader.ensures.database ∙ told; order = known_in_order (state g.S.Store c.args.conn.now) w told }) stored
 
 pub returns-clause-no_fault : goal.returns-clause-no_fault
 returns-clause-no_fault g c = no_fault_if c.args.policies.now.policies c.args.request.now c.load_for_request-loaded.result c.attempt_of.result c.attempt_of.ensures
