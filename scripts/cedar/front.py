@@ -16,7 +16,7 @@ from script import bytes_of, complain, program_at, run  # noqa: E402
 from dataclasses import dataclass  # noqa: E402
 
 import linting  # noqa: E402
-from cedar import cases, directory, documents, explain, files, words  # noqa: E402
+from cedar import cases, compare, directory, documents, explain, files, words  # noqa: E402
 from cedar.command import tell_report  # noqa: E402
 from findings import Broken  # noqa: E402
 from refusals import faults_in  # noqa: E402
@@ -99,12 +99,12 @@ def answer(command, given):
     made, quiet = files.make(asked.given, OPTIONAL.get(command, ())), bool(set(QUIET) & asked.flags)
     if made.report.refused:
         return tell_report(made, quiet)
-    told = explain.run(program, [command, *asked.rest], made)
-    if command == "review" and told.status == 0 and "--plain" not in asked.flags:
-        told.text = table(program, made.document)
-    write(str(told))
+    reported = explain.run(program, [command, *asked.rest], made)
+    if command == "review" and reported.status == 0 and "--plain" not in asked.flags:
+        reported.text = table(program, made.document)
+    write(str(reported))
     tell_report(made, quiet)
-    return told.status
+    return reported.status
 
 
 def write(text):
@@ -127,7 +127,13 @@ def document(given):
     return tell_report(made, quiet)
 
 
-OTHERS = {"lint": linting.main, "test": cases.main, "directory": directory.main, "document": document}
+OTHERS = {
+    "lint": linting.main,
+    "test": cases.main,
+    "compare": compare.main,
+    "directory": directory.main,
+    "document": document,
+}
 
 
 def main(given):

@@ -13,20 +13,20 @@ class Fault(Exception):
 
 class Line:
     """One line: the commands, each a list of words; the bytes of the document; the status and the text
-    that are due."""
+    that are expected."""
 
     def __init__(self, text, folder, names):
         parts = re.fullmatch(r"(.*) => ([0-9]+)(?: (.*))?", text)
         if not parts:
             raise Fault("no line of the form WORDS DOCUMENT => STATUS TEXT")
-        asked, status, told = parts[1], parts[2], parts[3] or ""
+        asked, status, reported = parts[1], parts[2], parts[3] or ""
         start = re.search(r'[{\["$<]', asked)
         at = start.start() if start else len(asked)
         self.text = text
         self.commands = [words.split() for words in asked[:at].split(",")]
         self.document = document_of(asked[at:], folder, names)
         self.status = int(status)
-        self.told = re.sub(r"(?<! )\|", "\n", expanded(told, names))
+        self.reported = re.sub(r"(?<! )\|", "\n", expanded(reported, names))
         self.unknown = sorted({"$" + name for name in NAME.findall(text) if name not in names})
 
 
@@ -74,10 +74,11 @@ def line_files():
 
 
 def example_documents():
-    """The files with documents; examples/cedar and examples/first have Cedar's own JSON besides."""
-    cedars = {"cedar", "first"}
+    """The files with documents; examples/cedar and examples/first have Cedar's own JSON besides, and
+    examples/analysis a document of an edit."""
+    others = {"cedar", "first", "analysis"}
     return sorted(
         path
         for path in EXAMPLES.rglob("*.json")
-        if path.name == "document.json" or not cedars & set(path.relative_to(EXAMPLES).parts)
+        if path.name == "document.json" or not others & set(path.relative_to(EXAMPLES).parts)
     )

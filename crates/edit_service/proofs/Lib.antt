@@ -1,0 +1,4 @@
+mod OneReading
+pub mod Answered
+pub mod Read
+pub mod Compared

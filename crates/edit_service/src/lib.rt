@@ -1,0 +1,23 @@
+//! What edits of policies change, as a service: a document with two sets of policies, and a line for each
+//! environment of its schema.
+#![tactic(auto)]
+
+mod acceptance;
+mod change;
+mod changes;
+mod document;
+mod fault;
+mod reply;
+mod runner;
+mod source;
+mod status;
+mod text;
+mod words;
+
+pub use change::Change;
+pub use document::{EditDocument, read_edit_document};
+pub use fault::EditFault;
+pub use reply::Reply;
+pub use runner::run;
+pub use status::Status;
+pub use words::{Command, command_of};
