@@ -1,10 +1,9 @@
-//! Runs whose reads and writes fail in turn, for each command and each status, and bytes that are no JSON. What is due comes
-//! from the rules in docs/FORMAT.md.
+//! Runs whose reads and writes fail in turn, for each command and each status, and bytes that are no JSON.
+//! What is expected comes from the rules in docs/FORMAT.md.
 
-use crate::runs::run_on;
+use crate::runs::{answer_on, answer_text, assert_same, run_on};
 use policy_gate::Status;
-use std::alloc::Global;
-use std::test::Fail;
+use std::alloc::{AllocError, Global};
 
 // Words of the table below, each with the text that it stands for.
 const WORDS: [(&str, &str); 13] = [
@@ -41,8 +40,9 @@ const WORDS: [(&str, &str); 13] = [
     ),
 ];
 
-// Words, a document and, behind ` => `, the status and the text, in which a bar ends a line. A line with # says what the
-// next ones show. Each run is tried again with each of its reads and writes failing, and with one byte a call.
+// Words, a document and, behind ` => `, the status and the text, in which a bar ends a line. A line with #
+// says what the next ones show. Each run is tried again with each of its reads and writes failing, and with
+// one byte a call.
 const CASES: &str = r#"# no document
 slice;  => Document document: json|
 # an id that is not listed
@@ -110,7 +110,7 @@ level 1 ; [] => Usage $usage"#;
 const KEPT: &str =
     r#"{"schema":$photos,"policies":[{"id":"p0","effect":"permit","principal":{"in":["Group","g"]}}],"entities":[{"id":["User","alice"],"parents":[["Group","g"],["Group","h"]]}],"request":$view}"#;
 
-fn words_of(alloc: Global, text: &str) -> Result<Vec<&str>, Fail> {
+fn words_of(alloc: Global, text: &str) -> Result<Vec<&str>, AllocError> {
     let mut words = Vec::new(alloc);
     if text.is_empty() {
         return Ok(words);
@@ -122,7 +122,7 @@ fn words_of(alloc: Global, text: &str) -> Result<Vec<&str>, Fail> {
 }
 
 // The document that a line says, in full.
-fn written_out(alloc: Global, line: &str) -> Result<String, Fail> {
+fn written_out(alloc: Global, line: &str) -> Result<String, AllocError> {
     let mut document = String::from_str(alloc, line)?;
     for (word, text) in WORDS {
         document = document.as_str().replace(alloc, word, text)?;
@@ -130,20 +130,55 @@ fn written_out(alloc: Global, line: &str) -> Result<String, Fail> {
     Ok(document)
 }
 
-// How a run ends and what it writes, on one line.
-fn told(alloc: Global, status: Status, written: Vec<u8>) -> Result<String, Fail> {
-    let Ok(text) = String::from_utf8(written) else {
-        return Err(Fail::new("no text is written"));
-    };
-    let text = text.as_str().replace(alloc, "\n", "|")?;
-    let told = format!(in alloc; "{status:?} {text}")?;
-    Ok(
-        told.as_str()
-            .replace(alloc, crate::runs::USAGE_LINE, "$usage")?,
-    )
+// What a run in which something fails is like.
+#[derive(Drop)]
+enum Ended {
+    // As a run ends in which this fails.
+    Failed,
+    // As the run where nothing fails: nothing failed.
+    Whole,
+    // Otherwise.
+    Otherwise,
 }
 
-// The status to end with where a write fails.
+// The run with this read failing, of one that ends with this status and text where none does.
+fn with_read(
+    alloc: Global,
+    words: &[&str],
+    document: &[u8],
+    status: Status,
+    text: &[u8],
+    read: u64,
+) -> Result<Ended, AllocError> {
+    let most = document.len() / 5 + 1;
+    let (ended, written) = run_on(alloc, words, document, most, &[read], &[])?;
+    if ended == Status::ReadFault && written.as_slice() == b"read fault\n".as_slice() {
+        return Ok(Ended::Failed);
+    }
+    if ended == status && written.as_slice() == text {
+        return Ok(Ended::Whole);
+    }
+    Ok(Ended::Otherwise)
+}
+
+// Each read of the run fails in turn, until none is left that fails.
+fn see_reads(
+    alloc: Global,
+    words: &[&str],
+    document: &[u8],
+    status: Status,
+    text: &[u8],
+) -> Result<&'static str, AllocError> {
+    for read in 0..9 {
+        match with_read(alloc, words, document, status, text, read)? {
+            Ended::Failed => {}
+            Ended::Whole => return Ok(""),
+            Ended::Otherwise => return Ok(" but not with a failing read"),
+        }
+    }
+    Ok(" by too many reads")
+}
+
 fn after_fault(status: Status) -> Status {
     if status == Status::Done {
         Status::WriteFault
@@ -152,111 +187,152 @@ fn after_fault(status: Status) -> Status {
     }
 }
 
-// Each read of the run fails in turn: it ends as a failed read does, until none is left that fails.
-fn see_reads(
+// The run with this write failing: a prefix of the text is written.
+fn with_write(
     alloc: Global,
     words: &[&str],
     document: &[u8],
-    due: (Status, &[u8]),
-) -> Result<(), Fail> {
-    let most = document.len() / 5 + 1;
-    for read in 0..9 {
-        let (status, written) = run_on(alloc, words, document, most, &[read], &[])?;
-        if status == Status::ReadFault && written.as_slice() == b"read fault\n".as_slice() {
-            continue;
-        }
-        if status == due.0 && written.as_slice() == due.1 {
-            return Ok(());
-        }
-        return Err(Fail::new("a failing read is not told"));
+    status: Status,
+    text: &[u8],
+    write: u64,
+) -> Result<Ended, AllocError> {
+    let most = text.len() / 5 + 1;
+    let (ended, written) = run_on(alloc, words, document, most, &[], &[write])?;
+    let is_prefix = text.starts_with(written.as_slice());
+    if written.len() < text.len() && ended == after_fault(status) && is_prefix {
+        return Ok(Ended::Failed);
     }
-    Err(Fail::new("there are too many reads"))
+    if ended == status && written.as_slice() == text {
+        return Ok(Ended::Whole);
+    }
+    Ok(Ended::Otherwise)
 }
 
-// Each write of the run fails in turn: a front of the text is written, until none is left that fails.
+// Each write of the run fails in turn, until none is left that fails.
 fn see_writes(
     alloc: Global,
     words: &[&str],
     document: &[u8],
-    due: (Status, &[u8]),
-) -> Result<(), Fail> {
-    let most = due.1.len() / 5 + 1;
+    status: Status,
+    text: &[u8],
+) -> Result<&'static str, AllocError> {
     for write in 0..9 {
-        let (status, written) = run_on(alloc, words, document, most, &[], &[write])?;
-        if written.len() < due.1.len() {
-            if status != after_fault(due.0) || !due.1.starts_with(written.as_slice()) {
-                return Err(Fail::new("a failing write is not told"));
-            }
-            continue;
+        match with_write(alloc, words, document, status, text, write)? {
+            Ended::Failed => {}
+            Ended::Whole => return Ok(""),
+            Ended::Otherwise => return Ok(" but not with a failing write"),
         }
-        if status == due.0 && written.as_slice() == due.1 {
-            return Ok(());
-        }
-        return Err(Fail::new("a text is not written whole"));
     }
-    Err(Fail::new("there are too many writes"))
+    Ok(" by too many writes")
 }
 
-// The case holds, with one byte a call too, and with each read and each write failing.
-fn see_case(alloc: Global, words: &[&str], document: &[u8], wanted: &str) -> Result<(), Fail> {
+// The run with one byte a call.
+fn see_slow(
+    alloc: Global,
+    words: &[&str],
+    document: &[u8],
+    status: Status,
+    text: &[u8],
+) -> Result<&'static str, AllocError> {
+    let (ended, written) = run_on(alloc, words, document, 1, &[], &[])?;
+    if ended == status && written.as_slice() == text {
+        Ok("")
+    } else {
+        Ok(" but not with one byte a call")
+    }
+}
+
+// Where the run ends otherwise: with one byte a call, or with a read or a write failing.
+fn see_run(
+    alloc: Global,
+    words: &[&str],
+    document: &[u8],
+    status: Status,
+    text: &[u8],
+) -> Result<&'static str, AllocError> {
+    let slow = see_slow(alloc, words, document, status, text)?;
+    if !slow.is_empty() {
+        return Ok(slow);
+    }
+    let reads = see_reads(alloc, words, document, status, text)?;
+    if !reads.is_empty() {
+        return Ok(reads);
+    }
+    see_writes(alloc, words, document, status, text)
+}
+
+// What is answered, and where the run ends otherwise.
+fn case_answer(alloc: Global, words: &[&str], document: &[u8]) -> Result<String, AllocError> {
     let (status, written) = run_on(alloc, words, document, 5000, &[], &[])?;
-    let (slow_status, slow) = run_on(alloc, words, document, 1, &[], &[])?;
-    if status != slow_status || written.as_slice() != slow.as_slice() {
-        return Err(Fail::new("one byte a call makes a difference"));
-    }
-    see_reads(alloc, words, document, (status, written.as_slice()))?;
-    see_writes(alloc, words, document, (status, written.as_slice()))?;
-    let told = told(alloc, status, written)?;
-    if told.as_str() != wanted {
-        return Err(Fail::new("a case is told otherwise"));
-    }
-    Ok(())
+    let otherwise = see_run(alloc, words, document, status, written.as_slice())?;
+    let mut text = answer_text(alloc, status, written.as_slice())?;
+    text.push_str(otherwise)?;
+    Ok(text)
+}
+
+// What is answered to the words and the document of a line.
+fn line_answer(alloc: Global, asked: &str) -> Result<String, AllocError> {
+    let (words, document) = asked.split_once("; ").unwrap_or((asked, ""));
+    let document = written_out(alloc, document)?;
+    let words = words_of(alloc, words)?;
+    case_answer(alloc, words.as_slice(), document.as_bytes())
 }
 
 #[test]
-fn cases_end_as_they_are_due(rt: HostRuntime) -> Result<(), Fail> {
+fn cases_end_as_expected(rt: HostRuntime) -> Result<(), AllocError> {
     for line in CASES.lines() {
-        if line.starts_with("#") {
-            continue;
+        if !line.starts_with("#") {
+            let (asked, expected) = line.split_once(" => ").unwrap_or((line, "nothing"));
+            let text = line_answer(rt.alloc(), asked)?;
+            assert_same(&rt, text.as_str(), expected);
         }
-        let Some((case, wanted)) = line.split_once(" => ") else {
-            return Err(Fail::new("a line says nothing"));
-        };
-        let Some((words, document)) = case.split_once("; ") else {
-            return Err(Fail::new("a line has no document"));
-        };
-        let document = written_out(rt.alloc(), document)?;
-        let words = words_of(rt.alloc(), words)?;
-        see_case(rt.alloc(), words.as_slice(), document.as_bytes(), wanted)?;
     }
     Ok(())
 }
 
 // Whether the bytes are no JSON.
-fn is_no_json(alloc: Global, document: &[u8]) -> Result<bool, Fail> {
+fn is_no_json(alloc: Global, document: &[u8]) -> Result<bool, AllocError> {
     let (status, written) = run_on(alloc, &["slice"], document, 5000, &[], &[])?;
     Ok(status == Status::Document && written.as_slice() == b"document: json\n".as_slice())
 }
 
-#[test]
-fn what_is_cut_short_or_no_text_is_no_json(rt: HostRuntime) -> Result<(), Fail> {
-    let document = written_out(rt.alloc(), KEPT)?;
-    let bytes = document.as_bytes();
+// Whether bytes are no JSON with these between.
+fn is_no_json_with(
+    alloc: Global,
+    before: &[u8],
+    between: &[u8],
+    behind: &[u8],
+) -> Result<bool, AllocError> {
+    let mut document = Vec::from_slice(alloc, before)?;
+    document.extend_from_slice(between)?;
+    document.extend_from_slice(behind)?;
+    is_no_json(alloc, document.as_slice())
+}
+
+// The lengths at which a cut document is JSON, or one with a byte there that stands in no UTF-8 text.
+fn read_cuts(alloc: Global, bytes: &[u8]) -> Result<String, AllocError> {
+    let mut lengths = String::new(alloc);
     for length in 0..bytes.len() {
-        let cut = is_no_json(rt.alloc(), &bytes[..length])?;
-        assert!(rt; cut, "{length}");
-        // The byte stands in no UTF-8 text.
-        let mut changed = Vec::from_slice(rt.alloc(), &bytes[..length])?;
-        changed.push(b'\xff')?;
-        changed.extend_from_slice(&bytes[length + 1..])?;
-        let no_text = is_no_json(rt.alloc(), changed.as_slice())?;
-        assert!(rt; no_text, "{length}");
+        let is_cut = is_no_json(alloc, &bytes[..length])?;
+        let is_broken = is_no_json_with(alloc, &bytes[..length], b"\xff", &bytes[length + 1..])?;
+        if !is_cut || !is_broken {
+            write!(lengths, "{length} ")?;
+        }
     }
+    Ok(lengths)
+}
+
+#[test]
+fn what_is_cut_short_or_no_text_is_no_json(rt: HostRuntime) -> Result<(), AllocError> {
+    let document = written_out(rt.alloc(), KEPT)?;
+    let lengths = read_cuts(rt.alloc(), document.as_bytes())?;
+    assert_same(&rt, lengths.as_str(), "");
     Ok(())
 }
 
-// Bytes at the edges of UTF-8, and whether they are a text: parts without a front and fronts without a part, what could be
-// shorter, halves of pairs, and what is above U+10FFFF; then the least and the greatest of each length.
+// Bytes at the edges of UTF-8, and whether they are a text: parts without a front and fronts without a part,
+// what could be shorter, halves of pairs, and what is above U+10FFFF; then the least and the greatest of each
+// length.
 const BYTES: [(&[u8], bool); 17] = [
     (b"\x80", false),
     (b"\xc3", false),
@@ -277,30 +353,33 @@ const BYTES: [(&[u8], bool); 17] = [
     (b"\xf4\x8f\xbf\xbf", true),
 ];
 
-#[test]
-fn texts_are_utf8(rt: HostRuntime) -> Result<(), Fail> {
+// The bytes of the table that are read otherwise in an id.
+fn wrong_bytes(alloc: Global) -> Result<String, AllocError> {
+    let mut wrong = String::new(alloc);
     for (bytes, is_text) in BYTES {
-        let mut document = Vec::from_slice(rt.alloc(), b"{\"schema\":{},\"policies\":[{\"id\":\"")?;
-        document.extend_from_slice(bytes)?;
-        document.extend_from_slice(b"\"}]}")?;
-        let no_json = is_no_json(rt.alloc(), document.as_slice())?;
-        assert_eq!(rt; !no_json, is_text);
+        let before = b"{\"schema\":{},\"policies\":[{\"id\":\"";
+        if is_no_json_with(alloc, before, bytes, b"\"}]}")? == is_text {
+            write!(wrong, "{bytes:?} ")?;
+        }
     }
+    Ok(wrong)
+}
+
+#[test]
+fn texts_are_utf8(rt: HostRuntime) -> Result<(), AllocError> {
+    let wrong = wrong_bytes(rt.alloc())?;
+    assert_same(&rt, wrong.as_str(), "");
     Ok(())
 }
 
 // A page begins after an id whose eid is any text, also one that no line of words could have.
 #[test]
-fn an_eid_is_any_text(rt: HostRuntime) -> Result<(), Fail> {
+fn an_eid_is_any_text(rt: HostRuntime) -> Result<(), AllocError> {
     let document = written_out(rt.alloc(), r#"$in,$stored,"request":$view}"#)?;
     for eid in ["", "a b", "ali\"ce", "\n"] {
         let words = ["list", "3", "User", eid];
-        let (status, written) = run_on(rt.alloc(), &words, document.as_bytes(), 5000, &[], &[])?;
-        assert_eq!(rt; status, Status::Done, "{eid}");
-        assert!(rt;
-            written.as_slice() == b"User::\"alice\"\nend\n".as_slice(),
-            "{eid}"
-        );
+        let text = answer_on(rt.alloc(), &words, document.as_bytes(), 5000, &[], &[])?;
+        assert_same(&rt, text.as_str(), "Done User::\"alice\"|end|");
     }
     Ok(())
 }

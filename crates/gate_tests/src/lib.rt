@@ -1,4 +1,5 @@
-//! What `run` answers where sources and sinks fail, and each command once as a user calls it: what no clause says.
+//! What `run` answers where sources and sinks fail, and each command once as a user calls it: what no clause
+//! says.
 #![tactic(auto)]
 
 #[cfg(test)]

@@ -1,9 +1,9 @@
-//! What a loader is asked: the entities of each round ascending, with the fields that are read of each, and ancestors once and
-//! last.
+//! What a loader is asked: the entities of each round ascending, with the fields that are read of each, and
+//! ancestors once and last.
 
 ghost use Rattle.std.specs.Prelude.{◌≡◌};
 
-use crate::texts::document_of;
+use crate::texts::{assert_same, document_of};
 use entity_loader::{
     AncestorsRequest, EntityAnswer, EntityLoader, EntityRequest, EntitySlicer, LoadError,
 };
@@ -14,15 +14,14 @@ use policy_values::EntityUID;
 use std::alloc::{AllocError, Global};
 use std::marker::Brand;
 use std::sync::ledger::{Blank, Ledger};
-use std::test::Fail;
 
 /// A loader that notes what it is asked, and asks another for it.
 #[derive(Drop)]
 pub(crate) struct Noter<D> {
     /// Who is asked.
     pub(crate) inner: D,
-    /// The ids of each round with the fields that are read of each, a bar behind the round; those whose ancestors are asked
-    /// for with the ancestors, and a hat.
+    /// The ids of each round with the fields that are read of each, a bar behind the round; those whose
+    /// ancestors are asked for with the ancestors, and a hat.
     pub(crate) text: String,
 }
 
@@ -112,41 +111,32 @@ const HEAD: &str =
     r#"{"schema":{"entityTypes":{"Group":{},"Photo":{"attributes":{"owner":{"entity":"User"}}},"User":{"memberOf":["Group"],"attributes":{"dept":"String","manager":{"entity":"User"},"name":"String"}}},"actions":[{"id":["Action","view"],"principals":["User"],"resources":["Photo"]}]},"entities":[{"id":["User","alice"],"parents":[["Group","g"],["Group","h"]],"attrs":{"dept":"c","manager":{"id":["User","bob"]},"name":"a"}},{"id":["User","bob"],"attrs":{"dept":"d","manager":{"id":["User","bob"]},"name":"m"}},{"id":["Photo","x"],"attrs":{"owner":{"id":["User","bob"]}}}],"request":{"principal":["User","alice"],"action":["Action","view"],"resource":["Photo","x"],"context":{}},"policies":["#;
 
 // The number of rounds, and what is asked in them.
-fn asked_on<L: Ledger>(alloc: Global, document: &Document, blank: Blank) -> Result<String, Fail>
+fn asked_on<L: Ledger>(
+    alloc: Global,
+    document: &Document,
+    blank: Blank,
+) -> Result<String, AllocError>
     requires name { blank.name ≡ L.name }
     requires parts { blank.parts ≡ L.parts }
     requires one { blank.parts ≡ 1 }
 {
     let mut steps = Steps::<L>::new(blank);
     let mut noter = Noter::new(alloc, EntitySlicer::new(&document.entities));
-    match compute_entity_manifest(alloc, &document.schema, &document.policies) {
-        Ok(manifest) => {
-            let loaded = load_entities(alloc, &manifest, &document.request, &mut noter, &mut steps);
-            drop(loaded);
-            drop(manifest);
-            Ok(format!(in alloc; "{}{}", noter.inner.rounds, noter.text.as_str())?)
-        }
-        Err(error) => {
-            drop(error);
-            Ok(String::from_str(alloc, "no manifest")?)
-        }
-    }
+    let manifest = compute_entity_manifest(alloc, &document.schema, &document.policies);
+    let manifest = manifest.ok().ok_or(AllocError)?;
+    let loaded = load_entities(alloc, &manifest, &document.request, &mut noter, &mut steps);
+    drop(loaded);
+    format!(in alloc; "{}{}", noter.inner.rounds, noter.text.as_str())
 }
 
-fn asked(alloc: Global, policies: &str) -> Result<String, Fail> {
+fn asked(alloc: Global, policies: &str) -> Result<String, AllocError> {
     let text = format!(in alloc; "{HEAD}{policies}]}}")?;
-    match document_of(alloc, text.as_str()) {
-        Some(document) => {
-            let said = asked_on::<Brand>(alloc, &document, Blank::new(1));
-            drop(document);
-            said
-        }
-        None => Ok(String::from_str(alloc, "no document")?),
-    }
+    let document = document_of(alloc, text.as_str())?;
+    asked_on::<Brand>(alloc, &document, Blank::new(1))
 }
 
 #[test]
-fn what_is_read_is_asked_for(rt: HostRuntime) -> Result<(), Fail> {
+fn what_is_read_is_asked_for(rt: HostRuntime) -> Result<(), AllocError> {
     let rows = [
         (
             r#"{"id":"p0","effect":"permit","body":[{"when":{"all":[{"==":[{"get":[{"var":"principal"},"manager","name"]},"m"]},{"==":[{"get":[{"var":"resource"},"owner","dept"]},"d"]}]}}]}"#,
@@ -165,8 +155,8 @@ fn what_is_read_is_asked_for(rt: HostRuntime) -> Result<(), Fail> {
         (r#"{"id":"p0","effect":"permit"}"#, "0"),
     ];
     for (policies, expected) in rows {
-        let said = asked(rt.alloc(), policies)?;
-        assert_eq!(rt; said.as_str(), expected);
+        let text = asked(rt.alloc(), policies)?;
+        assert_same(&rt, text.as_str(), expected);
     }
     Ok(())
 }

@@ -1,41 +1,80 @@
 //! How errors read.
 
-use entity_loading::WrongNumberOfEntitiesError;
-use manifest_core::MismatchedMissingEntityError;
+use crate::texts::assert_same;
+use entity_loading::{PartialRequestError, WrongNumberOfEntitiesError};
+use manifest_core::{MismatchedMissingEntityError, MismatchedNotStrictSchemaError};
 use policy_values::{Eid, EntityType, EntityUID, Name, Text};
-use std::test::Fail;
+use std::alloc::{AllocError, Global};
 
-#[test]
-fn numbers_are_shown(rt: HostRuntime) -> Result<(), Fail> {
+fn wrong_number(alloc: Global) -> Result<String, AllocError> {
     let error = WrongNumberOfEntitiesError {
         expected: 2,
         got: 1,
     };
-    let text = format!(in rt.alloc(); "{error}")?;
-    assert_eq!(rt;
+    format!(in alloc; "{error}")
+}
+
+#[test]
+fn numbers_are_shown(rt: HostRuntime) -> Result<(), AllocError> {
+    let text = wrong_number(rt.alloc())?;
+    assert_same(
+        &rt,
         text.as_str(),
-        "entity loader returned the wrong number of entities. Expected 2 but got 1 entities"
+        "entity loader returned the wrong number of entities. Expected 2 but got 1 entities",
     );
     Ok(())
 }
 
-#[test]
-fn what_is_missing_is_shown(rt: HostRuntime) -> Result<(), Fail> {
-    let alloc = rt.alloc();
-    let Some(name) = Name::parse(alloc, "Action")? else {
-        return Err(Fail::new("no name"));
-    };
-    let error = MismatchedMissingEntityError {
-        entity: EntityUID {
+fn action(alloc: Global, eid: &str) -> Result<EntityUID, AllocError> {
+    match Name::parse(alloc, "Action")? {
+        Some(name) => Ok(EntityUID {
             entity_type: EntityType::new(name),
-            eid: Eid::new(Text::from_str(alloc, "gone")?),
-        },
-    };
-    let text = format!(in alloc; "{error}");
-    drop(error);
-    assert_eq!(rt;
-        text?.as_str(),
-        "entity manifest doesn't match schema. Schema is missing entity Action::\"gone\". Either you wrote an entity manifest by hand (not recommended) or you are using an out-of-date entity manifest with respect to the schema"
+            eid: Eid::new(Text::from_str(alloc, eid)?),
+        }),
+        None => Err(AllocError),
+    }
+}
+
+fn missing(alloc: Global) -> Result<String, AllocError> {
+    let entity = action(alloc, "gone")?;
+    let error = MismatchedMissingEntityError { entity };
+    format!(in alloc; "{error}")
+}
+
+#[test]
+fn what_is_missing_is_shown(rt: HostRuntime) -> Result<(), AllocError> {
+    let text = missing(rt.alloc())?;
+    assert_same(
+        &rt,
+        text.as_str(),
+        "entity manifest doesn't match schema. Schema is missing entity Action::\"gone\". Either you wrote an entity manifest by hand (not recommended) or you are using an out-of-date entity manifest with respect to the schema",
+    );
+    Ok(())
+}
+
+fn not_strict(alloc: Global) -> Result<String, AllocError> {
+    let error = MismatchedNotStrictSchemaError {};
+    format!(in alloc; "{error}")
+}
+
+fn partial(alloc: Global) -> Result<String, AllocError> {
+    let error = PartialRequestError {};
+    format!(in alloc; "{error}")
+}
+
+#[test]
+fn refusals_of_manifests_are_shown(rt: HostRuntime) -> Result<(), AllocError> {
+    let schema = not_strict(rt.alloc())?;
+    assert_same(
+        &rt,
+        schema.as_str(),
+        "entity manifests are only compatible with schemas that validate in strict mode. Tried to use an invalid schema with an entity manifest",
+    );
+    let request = partial(rt.alloc())?;
+    assert_same(
+        &rt,
+        request.as_str(),
+        "entity slicing requires a fully concrete request. Got a partial request",
     );
     Ok(())
 }

@@ -24,7 +24,8 @@ pub(crate) enum Way {
     FailsForAncestors,
     /// With the last entity of the store in place of each user.
     LastUser,
-    /// With whole entities; in the round of this number, counted from 1, with the attributes of the store's last entity.
+    /// With whole entities; in the round of this number, counted from 1, with the attributes of the store's
+    /// last entity.
     LastAttrs(u64),
     /// With whole entities, but that the call of this number, counted from 1, fails.
     FailsAt(u64),

@@ -1,4 +1,4 @@
-//! Rows for calls that no command makes, each worked out by hand.
+//! Rows on manifests, loaders and what stands on them, each worked out by hand.
 #![tactic(auto)]
 
 #[cfg(test)]
@@ -6,11 +6,7 @@ mod asked;
 #[cfg(test)]
 mod batch;
 #[cfg(test)]
-mod calls;
-#[cfg(test)]
 mod errors;
-#[cfg(test)]
-mod expressions;
 #[cfg(test)]
 mod faces;
 #[cfg(test)]
@@ -24,10 +20,6 @@ mod loaders;
 #[cfg(test)]
 mod manifests;
 #[cfg(test)]
-mod schemas;
-#[cfg(test)]
 mod stores;
 #[cfg(test)]
 mod texts;
-#[cfg(test)]
-mod tries;

@@ -1,27 +1,28 @@
-//! Sets of policies under edits, beside their manifest. The command `live` ends with the first edit that is refused; here the
-//! others are made after it.
+//! Sets of policies under edits, beside their manifest. The command `live` ends with the first edit that is
+//! refused; here the others are made after it.
 
 ghost use Rattle.std.specs.Prelude.{◌≡◌};
 
-use crate::manifests::written;
+use crate::texts::{assert_same, manifest_text};
 use entity_manifest::compute_entity_manifest;
 use json_document::{Document, Edit, Edits, Shape, TemplateLink, read_document_as, slot_pairs};
 use live_manifest::{LiveManifest, LiveManifestError, LiveRemovalError, Steps};
-use policy_set::{PolicySet, PolicySetError, RemovalError};
+use policy_set::{PolicySet, PolicySetError, RemovalError, Template};
 use policy_values::Text;
 use schema_core::ValidatorSchema;
-use std::alloc::Global;
+use std::alloc::{AllocError, Global};
 use std::marker::Brand;
 use std::mem;
 use std::sync::ledger::{Blank, Ledger};
-use std::test::Fail;
 
-// Users may be in groups and view photos: one type of requests, and two types of entities that a user may be in.
+// Users may be in groups and view photos: one type of requests, and two types of entities that a user may be
+// in.
 const SCHEMA: &str =
     r#"{"entityTypes":{"Group":{},"Photo":{},"User":{"memberOf":["Group"],"attributes":{"name":"String"}}},"actions":[{"id":["Action","view"],"principals":["User"],"resources":["Photo"]}]}"#;
 
-// Edits, what each is reported with the ids of the templates and policies behind it, and how many environments may be typed for
-// all of them: two for a policy or a link, four for a template, of which there are two.
+// Edits, what is reported of each with the ids of the templates and policies behind it, and how many
+// environments may be typed for all of them: two for a policy or a link, four for a template, of which there
+// are two.
 const ROWS: [(&str, &str, u64); 8] = [
     ("", "", 0),
     (
@@ -66,7 +67,7 @@ const ROWS: [(&str, &str, u64); 8] = [
     ),
 ];
 
-fn reported_fault(fault: &PolicySetError) -> &'static str {
+fn fault_text(fault: &PolicySetError) -> &'static str {
     match fault {
         PolicySetError::DuplicateId(_) => "duplicate id",
         PolicySetError::UnknownTemplate(_) => "unknown template",
@@ -76,23 +77,18 @@ fn reported_fault(fault: &PolicySetError) -> &'static str {
     }
 }
 
-fn reported_added(alloc: Global, added: Result<(), LiveManifestError>) -> Result<String, Fail> {
+fn add_added(added: &Result<(), LiveManifestError>, text: &mut String) -> Result<(), AllocError> {
     match added {
-        Ok(()) => Ok(String::from_str(alloc, "ok")?),
-        Err(LiveManifestError::PolicySet(fault)) => Ok(String::from_str(
-            alloc,
-            reported_fault(&fault),
-        )?),
+        Ok(()) => text.push_str("ok"),
+        Err(LiveManifestError::PolicySet(fault)) => text.push_str(fault_text(fault)),
         Err(LiveManifestError::Validation(found)) => {
-            let errors = found.validation_errors().len();
-            drop(found);
-            Ok(format!(in alloc; "errors {errors}")?)
+            write!(text, "errors {}", found.validation_errors().len())
         }
-        Err(LiveManifestError::OutOfMemory) => Ok(String::from_str(alloc, "no memory")?),
+        Err(LiveManifestError::OutOfMemory) => text.push_str("no memory"),
     }
 }
 
-fn reported_removed(removed: Result<(), LiveRemovalError<'_>>) -> &'static str {
+fn removed_text(removed: &Result<(), LiveRemovalError<'_>>) -> &'static str {
     match removed {
         Ok(()) => "ok",
         Err(LiveRemovalError::PolicySet(RemovalError::UnknownPolicy(_))) => "unknown id",
@@ -101,10 +97,8 @@ fn reported_removed(removed: Result<(), LiveRemovalError<'_>>) -> &'static str {
     }
 }
 
-fn remove(alloc: Global, live: &mut LiveManifest<'_>, id: Text) -> Result<String, Fail> {
-    let told = reported_removed(live.remove(&id));
-    drop(id);
-    Ok(String::from_str(alloc, told)?)
+fn remove(live: &mut LiveManifest<'_>, id: &Text, text: &mut String) -> Result<(), AllocError> {
+    text.push_str(removed_text(&live.remove(id)))
 }
 
 fn link<L: Ledger>(
@@ -112,48 +106,55 @@ fn link<L: Ledger>(
     live: &mut LiveManifest<'_>,
     link: TemplateLink,
     steps: &mut Steps<L>,
-) -> Result<String, Fail> {
+    text: &mut String,
+) -> Result<(), AllocError> {
     let TemplateLink {
         id,
         template,
         values,
     } = link;
     let pairs = slot_pairs(alloc, values)?;
-    let added = live.link(&template, id, pairs, steps);
-    reported_added(alloc, added)
+    add_added(&live.link(&template, id, pairs, steps), text)
 }
 
-// Makes an edit, and says what is reported of it.
+fn add<L: Ledger>(
+    live: &mut LiveManifest<'_>,
+    template: Template,
+    steps: &mut Steps<L>,
+    text: &mut String,
+) -> Result<(), AllocError> {
+    let added = if template.has_slot() {
+        live.add_template(template, steps)
+    } else {
+        live.add_static(template, steps)
+    };
+    add_added(&added, text)
+}
+
+// Makes an edit, and adds what is reported of it.
 fn make<L: Ledger>(
     alloc: Global,
     live: &mut LiveManifest<'_>,
     edit: Edit,
     steps: &mut Steps<L>,
-) -> Result<String, Fail> {
+    text: &mut String,
+) -> Result<(), AllocError> {
     match edit {
-        Edit::Policy(template) => {
-            let added = if template.has_slot() {
-                live.add_template(template, steps)
-            } else {
-                live.add_static(template, steps)
-            };
-            reported_added(alloc, added)
-        }
-        Edit::Link(values) => link(alloc, live, values, steps),
-        Edit::Remove(id) => remove(alloc, live, id),
+        Edit::Policy(template) => add(live, template, steps, text),
+        Edit::Link(values) => link(alloc, live, values, steps, text),
+        Edit::Remove(id) => remove(live, &id, text),
     }
 }
 
 // The ids of the set: of its templates, and of its policies.
-fn ids(alloc: Global, set: &PolicySet) -> Result<String, Fail> {
-    let mut ids = String::new(alloc);
+fn add_ids(set: &PolicySet, text: &mut String) -> Result<(), AllocError> {
     for template in set.templates() {
-        ids.push_str(format!(in alloc; " {}", template.id())?.as_str())?;
+        write!(text, " {}", template.id())?;
     }
     for policy in set.policies() {
-        ids.push_str(format!(in alloc; " {}", policy.id())?.as_str())?;
+        write!(text, " {}", policy.id())?;
     }
-    Ok(ids)
+    Ok(())
 }
 
 // Whether the manifest that is kept is written as the one that is computed of the policies.
@@ -161,88 +162,77 @@ fn is_computed(
     alloc: Global,
     schema: &ValidatorSchema,
     live: &LiveManifest<'_>,
-) -> Result<bool, Fail> {
-    let kept = written(alloc, live.manifest())?;
-    match compute_entity_manifest(alloc, schema, live.policies()) {
-        Ok(computed) => {
-            let text = written(alloc, &computed);
-            drop(computed);
-            Ok(text?.as_str() == kept.as_str())
-        }
-        Err(error) => {
-            drop(error);
-            Ok(false)
-        }
-    }
+) -> Result<bool, AllocError> {
+    let computed = compute_entity_manifest(alloc, schema, live.policies());
+    let computed = computed.ok().ok_or(AllocError)?;
+    let text = manifest_text(alloc, &computed)?;
+    Ok(text.as_str() == manifest_text(alloc, live.manifest())?.as_str())
 }
 
-// What an edit is reported, with the ids behind it.
-fn reported_edit<L: Ledger>(
+// What is behind an edit: the ids, and a word where the manifest is another than the computed one.
+fn add_state(
     alloc: Global,
     schema: &ValidatorSchema,
-    live: &mut LiveManifest<'_>,
-    edit: Edit,
-    steps: &mut Steps<L>,
-) -> Result<String, Fail> {
-    let told = make(alloc, live, edit, steps)?;
-    let ids = ids(alloc, live.policies())?;
-    let kept = if is_computed(alloc, schema, live)? {
-        ""
+    live: &LiveManifest<'_>,
+    text: &mut String,
+) -> Result<(), AllocError> {
+    add_ids(live.policies(), text)?;
+    let is_computed = is_computed(alloc, schema, live)?;
+    text.push_str(if is_computed {
+        "; "
     } else {
-        " another manifest"
-    };
-    Ok(format!(in alloc; "{told}{ids}{kept}; ")?)
+        " another manifest; "
+    })
 }
 
-// What each edit is reported, one after another.
-fn reported_edits<L: Ledger>(
+// What is reported of each edit, one after another.
+fn make_all<L: Ledger>(
     alloc: Global,
     schema: &ValidatorSchema,
     edits: Edits,
     steps: &mut Steps<L>,
-) -> Result<String, Fail> {
+    text: &mut String,
+) -> Result<(), AllocError> {
     let mut live = LiveManifest::new(alloc, schema);
-    let mut text = String::new(alloc);
     for edit in edits.into_vec() {
-        let told = reported_edit(alloc, schema, &mut live, edit, steps)?;
-        text.push_str(told.as_str())?;
+        make(alloc, &mut live, edit, steps, text)?;
+        add_state(alloc, schema, &live, text)?;
     }
-    Ok(text)
+    Ok(())
 }
 
-// The same, and how many environments were typed.
-fn told<L: Ledger>(
+// The same, and whether more environments were typed.
+fn made<L: Ledger>(
     alloc: Global,
     mut document: Document,
+    most: u64,
     blank: Blank,
-) -> Result<(String, u64), Fail>
+) -> Result<String, AllocError>
     requires name { blank.name ≡ L.name }
     requires parts { blank.parts ≡ L.parts }
     requires one { blank.parts ≡ 1 }
 {
     let edits = mem::replace(&mut document.edits, Edits::new(Vec::new(alloc)));
     let mut steps = Steps::<L>::new(blank);
-    let text = reported_edits(alloc, &document.schema, edits, &mut steps)?;
-    Ok((text, steps.count()))
+    let mut text = String::new(alloc);
+    make_all(alloc, &document.schema, edits, &mut steps, &mut text)?;
+    if steps.count() > most {
+        write!(text, "{} environments", steps.count())?;
+    }
+    Ok(text)
 }
 
-fn reported_of(alloc: Global, edits: &str) -> Result<(String, u64), Fail> {
+fn made_of(alloc: Global, edits: &str, most: u64) -> Result<String, AllocError> {
     let text = format!(in alloc; "{{\"schema\":{SCHEMA},\"edits\":[{edits}]}}")?;
-    match read_document_as(alloc, Shape::Live, text.as_bytes()) {
-        Ok(document) => told::<Brand>(alloc, document, Blank::new(1)),
-        Err(error) => {
-            drop(error);
-            Err(Fail::new("no document"))
-        }
-    }
+    let document = read_document_as(alloc, Shape::Live, text.as_bytes());
+    made::<Brand>(alloc, document.ok().ok_or(AllocError)?, most, Blank::new(1))
 }
 
 #[test]
-fn refused_edits_change_nothing(rt: HostRuntime) -> Result<(), Fail> {
-    for (edits, due, most) in ROWS {
-        let (told, steps) = reported_of(rt.alloc(), edits)?;
-        assert_eq!(rt; told.as_str(), due);
-        assert!(rt; steps <= most, "{steps} environments for {edits}");
+fn refused_edits_change_nothing(rt: HostRuntime) -> Result<(), AllocError> {
+    for (edits, expected, most) in ROWS {
+        let text = made_of(rt.alloc(), edits, most)?;
+        assert_same(&rt, text.as_str(), expected);
     }
     Ok(())
 }

@@ -1,12 +1,11 @@
 //! Manifests that are computed, read from their texts, and typed by other schemas.
 
-use crate::texts::document_of;
-use json_document::Document;
+use crate::manifests::answer_text;
+use crate::texts::{assert_same, document_of, manifest_text};
 use manifest_computation::compute_entity_manifest;
-use manifest_core::{EntityManifest, EntityManifestFromJsonError, MismatchedEntityManifestError};
-use schema_core::ValidatorSchema;
-use std::alloc::Global;
-use std::test::Fail;
+use manifest_core::EntityManifest;
+use std::alloc::{AllocError, Global};
+use std::process::Abort;
 
 // The name of the principal's manager and the department of the resource's owner are read.
 const NAMES: &str =
@@ -35,125 +34,73 @@ const TAGS_TYPED: &str =
 {"schema":{"entityTypes":{"Group":{},"Photo":{},"User":{}},"actions":[{"id":["Action","view"],"principals":["User"],"resources":["Photo"]}]}} => {"perAction":[[{"action":["Action","view"],"principal":"User","resource":"Photo"},{"trie":[[{"var":"principal"},{"ancestorsTrie":{"trie":[]},"children":[],"isAncestor":false}]]}]]}
 {"schema":{"entityTypes":{"Photo":{},"User":{"tags":{"entity":"User"}}},"actions":[{"id":["Action","view"],"principals":["User"],"resources":["Photo"]}]}} => MismatchedMissingEntity Group::"g""#;
 
-fn written(alloc: Global, manifest: &EntityManifest) -> Result<String, Fail> {
-    let json = manifest.to_json(alloc)?;
-    let text = json.to_string(alloc);
-    drop(json);
-    Ok(text?)
+// The manifest of a document's policies; a text that says none counts as out of memory.
+fn computed(alloc: Global, text: &str) -> Result<EntityManifest, AllocError> {
+    let document = document_of(alloc, text)?;
+    let manifest = compute_entity_manifest(alloc, &document.schema, &document.policies);
+    manifest.ok().ok_or(AllocError)
 }
 
-// The text of a manifest, or why there is none.
-fn told(
-    alloc: Global,
-    manifest: Result<EntityManifest, EntityManifestFromJsonError>,
-) -> Result<String, Fail> {
-    let text = match &manifest {
-        Ok(manifest) => written(alloc, manifest),
-        Err(EntityManifestFromJsonError::MismatchedEntityManifest(mismatch)) => {
-            reported_mismatch(alloc, mismatch)
-        }
-        Err(_) => Ok(String::from_str(alloc, "no manifest")?),
-    };
-    drop(manifest);
-    text
+// The manifest of a document's policies, as the schema of another document types it.
+fn typed_by(alloc: Global, policies: &str, other: &str) -> Result<String, AllocError> {
+    let manifest = computed(alloc, policies)?;
+    let other = document_of(alloc, other)?;
+    answer_text(alloc, &manifest.to_typed(alloc, &other.schema))
 }
 
-fn reported_mismatch(
+// The text of a manifest, as it is read by that schema.
+fn read_by(alloc: Global, text: &str, other: &str) -> Result<String, AllocError> {
+    let other = document_of(alloc, other)?;
+    answer_text(
+        alloc,
+        &EntityManifest::from_json_str(alloc, text, &other.schema),
+    )
+}
+
+// Asserts that a manifest, and its text, are so by the schema of another document.
+fn assert_typed(
+    rt: &impl Abort,
     alloc: Global,
-    mismatch: &MismatchedEntityManifestError,
-) -> Result<String, Fail> {
-    match mismatch {
-        MismatchedEntityManifestError::MismatchedMissingEntity(missing) => {
-            Ok(format!(in alloc; "MismatchedMissingEntity {}", missing.entity)?)
-        }
-        MismatchedEntityManifestError::MismatchedNotStrictSchema(_) => {
-            Ok(String::from_str(alloc, "MismatchedNotStrictSchema")?)
-        }
-        MismatchedEntityManifestError::ChildOfPrimitive => {
-            Ok(String::from_str(alloc, "ChildOfPrimitive")?)
-        }
+    row: (&str, &str),
+    other: &str,
+    expected: &str,
+) -> Result<(), AllocError> {
+    let (policies, text) = row;
+    let typed = typed_by(alloc, policies, other)?;
+    assert_same(rt, typed.as_str(), expected);
+    let read = read_by(alloc, text, other)?;
+    assert_same(rt, read.as_str(), expected);
+    Ok(())
+}
+
+// Of each line of a table: a document with another schema, and what is expected by it.
+fn assert_lines(
+    rt: &impl Abort,
+    alloc: Global,
+    row: (&str, &str),
+    table: &str,
+) -> Result<(), AllocError> {
+    for line in table.lines() {
+        let (other, expected) = line.split_once(" => ").unwrap_or((line, "nothing"));
+        assert_typed(rt, alloc, row, other, expected)?;
     }
-}
-
-// The manifest, then typed by the schema, then what its text says by that schema.
-fn typed(
-    alloc: Global,
-    manifest: &EntityManifest,
-    text: &str,
-    schema: &ValidatorSchema,
-) -> Result<String, Fail> {
-    let itself = written(alloc, manifest)?;
-    let typed = manifest.to_typed(alloc, schema);
-    let typed_text = told(alloc, typed)?;
-    let read = EntityManifest::from_json_str(alloc, text, schema);
-    let read_text = told(alloc, read)?;
-    Ok(format!(in alloc; "{itself} {typed_text} {read_text}")?)
-}
-
-fn computed(
-    alloc: Global,
-    document: &Document,
-    text: &str,
-    schema: &ValidatorSchema,
-) -> Result<String, Fail> {
-    match compute_entity_manifest(alloc, &document.schema, &document.policies) {
-        Ok(manifest) => {
-            let said = typed(alloc, &manifest, text, schema);
-            drop(manifest);
-            said
-        }
-        Err(error) => {
-            drop(error);
-            Ok(String::from_str(alloc, "no manifest")?)
-        }
-    }
-}
-
-fn computed_of(
-    alloc: Global,
-    document: &str,
-    text: &str,
-    schema: &ValidatorSchema,
-) -> Result<String, Fail> {
-    match document_of(alloc, document) {
-        Some(document) => {
-            let said = computed(alloc, &document, text, schema);
-            drop(document);
-            said
-        }
-        None => Ok(String::from_str(alloc, "no document")?),
-    }
-}
-
-// By the schema of another document.
-fn typed_by(alloc: Global, document: &str, text: &str, other: &str) -> Result<String, Fail> {
-    match document_of(alloc, other) {
-        Some(other) => {
-            let said = computed_of(alloc, document, text, &other.schema);
-            drop(other);
-            said
-        }
-        None => Ok(String::from_str(alloc, "no schema")?),
-    }
+    Ok(())
 }
 
 #[test]
-fn manifests_are_typed(rt: HostRuntime) -> Result<(), Fail> {
-    let rows = [
-        (NAMES, NAMES_READ, NAMES_TYPED),
-        (TAGS, TAGS_READ, TAGS_TYPED),
-    ];
-    for (document, read, lines) in rows {
-        let said = typed_by(rt.alloc(), document, read, document)?;
-        let wanted = format!(in rt.alloc(); "{read} {read} {read}")?;
-        assert_eq!(rt; said.as_str(), wanted.as_str());
-        for line in lines.lines() {
-            if let Some((other, wanted)) = line.split_once(" => ") {
-                let said = typed_by(rt.alloc(), document, read, other)?;
-                let wanted = format!(in rt.alloc(); "{read} {wanted} {wanted}")?;
-                assert_eq!(rt; said.as_str(), wanted.as_str());
-            }
-        }
+fn computed_manifests_have_their_texts(rt: HostRuntime) -> Result<(), AllocError> {
+    for (policies, expected) in [(NAMES, NAMES_READ), (TAGS, TAGS_READ)] {
+        let text = manifest_text(rt.alloc(), &computed(rt.alloc(), policies)?)?;
+        assert_same(&rt, text.as_str(), expected);
     }
     Ok(())
+}
+
+#[test]
+fn manifests_are_typed(rt: HostRuntime) -> Result<(), AllocError> {
+    let alloc = rt.alloc();
+    assert_typed(&rt, alloc, (NAMES, NAMES_READ), NAMES, NAMES_READ)?;
+    assert_lines(&rt, alloc, (NAMES, NAMES_READ), NAMES_TYPED)?;
+    assert_typed(&rt, alloc, (TAGS, TAGS_READ), TAGS, TAGS_READ)?;
+    assert_lines(&rt, alloc, (TAGS, TAGS_READ), TAGS_TYPED)
 }

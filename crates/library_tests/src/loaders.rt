@@ -4,7 +4,7 @@ ghost use Rattle.std.specs.Prelude.{◌≡◌};
 
 use crate::asked::Noter;
 use crate::liar::{Liar, Way};
-use crate::texts::{document_of, store_text};
+use crate::texts::{assert_same, document_of, joined, store_text};
 use access_tries::RootAccessTrie;
 use entity_loader::{EntityLoader, EntitySlicer};
 use entity_loading::{EntitySliceError, Steps, load_entities, load_trie, slice_entities};
@@ -14,16 +14,18 @@ use json_response::{response_text, write_value};
 use manifest_computation::{compute_entity_manifest, slice_for_request};
 use manifest_core::EntityManifest;
 use policy_set::decide;
-use std::alloc::Global;
+use policy_values::Value;
+use std::alloc::{AllocError, Global};
 use std::marker::Brand;
+use std::process::Abort;
 use std::sync::ledger::{Blank, Ledger};
-use std::test::Fail;
 
 // The name of the principal's manager and the department of the resource's owner are read.
 const MANAGERS: &str =
     r#"{"schema":{"entityTypes":{"Photo":{"attributes":{"owner":{"entity":"User"}}},"User":{"attributes":{"dept":"String","manager":{"entity":"User"},"name":"String"}}},"actions":[{"id":["Action","view"],"principals":["User"],"resources":["Photo"]}]},"policies":[{"id":"p0","effect":"permit","body":[{"when":{"all":[{"==":[{"get":[{"var":"principal"},"manager","name"]},"m"]},{"==":[{"get":[{"var":"resource"},"owner","dept"]},"d"]}]}}]}],"entities":[{"id":["User","alice"],"attrs":{"dept":"c","manager":{"id":["User","bob"]},"name":"a"}},{"id":["User","bob"],"attrs":{"dept":"d","manager":{"id":["User","bob"]},"name":"m"}},{"id":["Photo","x"],"attrs":{"owner":{"id":["User","bob"]}}}],"request":{"principal":["User","alice"],"action":["Action","view"],"resource":["Photo","x"],"context":{}}}"#;
 
-// Two users manage each other; the name of the manager of the principal's manager is read, which is the principal's own.
+// Two users manage each other; the name of the manager of the principal's manager is read, which is the
+// principal's own.
 const EACH_OTHER: &str =
     r#"{"schema":{"entityTypes":{"Photo":{},"User":{"attributes":{"manager":{"entity":"User"},"name":"String"}}},"actions":[{"id":["Action","view"],"principals":["User"],"resources":["Photo"]}]},"policies":[{"id":"p0","effect":"permit","body":[{"when":{"==":[{"get":[{"var":"principal"},"manager","manager","name"]},"a"]}}]}],"entities":[{"id":["User","alice"],"attrs":{"manager":{"id":["User","bob"]},"name":"a"}},{"id":["User","bob"],"attrs":{"manager":{"id":["User","alice"]},"name":"b"}}],"request":{"principal":["User","alice"],"action":["Action","view"],"resource":["Photo","x"],"context":{}}}"#;
 
@@ -104,62 +106,69 @@ const ONE_IN_A_GROUP: &str = r#" User::"alice" | User::"alice"<Group::"g" ^"#;
 const IN_GROUP: &str =
     r#"{"ancestors":[["Group","g"]],"attrs":{},"id":["User","alice"],"tags":{}}|"#;
 
-// What is given and what is decided on it, with a word where the whole store decides otherwise; or why nothing is.
-fn told(
+// What is given and what is decided on it, with a word where the whole store decides otherwise; or why
+// nothing is.
+fn loaded_text(
     alloc: Global,
     document: &Document,
-    given: &Result<Entities, EntitySliceError>,
-) -> Result<String, Fail> {
-    match given {
-        Ok(entities) => {
-            let text = store_text(alloc, entities)?;
-            let on_these = decided(alloc, document, entities)?;
-            let on_all = decided(alloc, document, &document.entities)?;
-            let otherwise = if on_these.as_str() == on_all.as_str() {
-                ""
-            } else {
-                " otherwise"
-            };
-            Ok(format!(in alloc; "{text}{on_these}{otherwise}")?)
-        }
-        Err(error) => reported_error(alloc, error),
+    loaded: &Result<Entities, EntitySliceError>,
+) -> Result<String, AllocError> {
+    match loaded {
+        Ok(entities) => decided_text(alloc, document, entities),
+        Err(error) => error_text(alloc, error),
     }
 }
 
-fn decided(alloc: Global, document: &Document, entities: &Entities) -> Result<String, Fail> {
+fn decided_text(
+    alloc: Global,
+    document: &Document,
+    entities: &Entities,
+) -> Result<String, AllocError> {
+    let mut text = store_text(alloc, entities)?;
+    let on_these = decided(alloc, document, entities)?;
+    let on_all = decided(alloc, document, &document.entities)?;
+    text.push_str(on_these.as_str())?;
+    if on_these.as_str() != on_all.as_str() {
+        text.push_str(" otherwise")?;
+    }
+    Ok(text)
+}
+
+fn decided(alloc: Global, document: &Document, entities: &Entities) -> Result<String, AllocError> {
     let Document {
         policies,
         request,
         ..
     } = document;
     if !request.is_whole() {
-        return Ok(String::from_str(alloc, "not whole")?);
+        return String::from_str(alloc, "not whole");
     }
     let response = decide(alloc, policies, request, entities)?;
     let text = response_text(alloc, &response)?;
-    Ok(text.as_str().replace(alloc, "\n", "")?)
+    text.as_str().replace(alloc, "\n", "")
 }
 
-fn reported_error(alloc: Global, error: &EntitySliceError) -> Result<String, Fail> {
+fn error_text(alloc: Global, error: &EntitySliceError) -> Result<String, AllocError> {
     match error {
-        EntitySliceError::PartialRequest(_) => Ok(String::from_str(alloc, "PartialRequest")?),
-        EntitySliceError::IncompatibleEntityManifest(stuck) => {
-            let value = write_value(alloc, &stuck.value)?.to_string(alloc)?;
-            Ok(format!(in alloc; "IncompatibleEntityManifest {value}")?)
-        }
+        EntitySliceError::PartialRequest(_) => String::from_str(alloc, "PartialRequest"),
+        EntitySliceError::IncompatibleEntityManifest(error) => blocked_text(alloc, &error.value),
         EntitySliceError::WrongNumberOfEntities(wrong) => {
-            Ok(format!(in alloc; "WrongNumberOfEntities {} {}", wrong.expected, wrong.got)?)
+            format!(in alloc; "WrongNumberOfEntities {} {}", wrong.expected, wrong.got)
         }
         EntitySliceError::WrongNumberOfAncestors { expected, got } => {
-            Ok(format!(in alloc; "WrongNumberOfAncestors {expected} {got}")?)
+            format!(in alloc; "WrongNumberOfAncestors {expected} {got}")
         }
         EntitySliceError::InconsistentLoader { uid, kept, got } => {
-            let kept = kept.is_some();
-            Ok(format!(in alloc; "InconsistentLoader {uid} {kept} {}", got.uid())?)
+            format!(in alloc; "InconsistentLoader {uid} {} {}", kept.is_some(), got.uid())
         }
-        EntitySliceError::LoaderFault => Ok(String::from_str(alloc, "LoaderFault")?),
-        EntitySliceError::OutOfMemory => Ok(String::from_str(alloc, "OutOfMemory")?),
+        EntitySliceError::LoaderFault => String::from_str(alloc, "LoaderFault"),
+        EntitySliceError::OutOfMemory => Err(AllocError),
     }
+}
+
+fn blocked_text(alloc: Global, value: &Value) -> Result<String, AllocError> {
+    let value = write_value(alloc, value)?.to_string(alloc)?;
+    format!(in alloc; "IncompatibleEntityManifest {value}")
 }
 
 // What is read: what a manifest has for the type of a request, or one trie.
@@ -174,7 +183,7 @@ fn load<D: EntityLoader>(
     read: Read<'_>,
     document: &Document,
     loader: &mut D,
-) -> Result<String, Fail> {
+) -> Result<String, AllocError> {
     load_on::<D, Brand>(alloc, read, document, loader, Blank::new(1))
 }
 
@@ -184,7 +193,7 @@ fn load_on<D: EntityLoader, L: Ledger>(
     document: &Document,
     loader: &mut D,
     blank: Blank,
-) -> Result<String, Fail>
+) -> Result<String, AllocError>
     requires name { blank.name ≡ L.name }
     requires parts { blank.parts ≡ L.parts }
     requires one { blank.parts ≡ 1 }
@@ -195,9 +204,7 @@ fn load_on<D: EntityLoader, L: Ledger>(
         Read::Manifest(manifest) => load_entities(alloc, manifest, request, loader, &mut steps),
         Read::Trie(trie) => load_trie(alloc, trie, request, loader, &mut steps),
     };
-    let text = told(alloc, document, &loaded);
-    drop(loaded);
-    text
+    loaded_text(alloc, document, &loaded)
 }
 
 // Who gives the entities.
@@ -215,7 +222,7 @@ enum Giver {
     Liar(Way),
 }
 
-fn checked(alloc: Global, document: &Document) -> Result<String, Fail> {
+fn checked(alloc: Global, document: &Document) -> Result<String, AllocError> {
     let Document {
         schema,
         policies,
@@ -224,34 +231,37 @@ fn checked(alloc: Global, document: &Document) -> Result<String, Fail> {
         ..
     } = document;
     match slice_for_request(alloc, schema, policies, request, entities) {
-        Ok(slice) => {
-            let text = store_text(alloc, &slice);
-            drop(slice);
-            text
-        }
-        Err(error) => {
-            drop(error);
-            Ok(String::from_str(alloc, "refused")?)
-        }
+        Ok(slice) => store_text(alloc, &slice),
+        Err(_) => String::from_str(alloc, "refused"),
     }
 }
 
-fn sliced(alloc: Global, manifest: &EntityManifest, document: &Document) -> Result<String, Fail> {
+fn sliced(
+    alloc: Global,
+    manifest: &EntityManifest,
+    document: &Document,
+) -> Result<String, AllocError> {
     let slice = slice_entities(alloc, manifest, &document.entities, &document.request);
-    let text = told(alloc, document, &slice);
-    drop(slice);
-    text
+    loaded_text(alloc, document, &slice)
 }
 
-fn along(alloc: Global, manifest: &EntityManifest, document: &Document) -> Result<String, Fail> {
+fn along(
+    alloc: Global,
+    manifest: &EntityManifest,
+    document: &Document,
+) -> Result<String, AllocError> {
     let mut slicer = EntitySlicer::new(&document.entities);
     match manifest.per_action().values().next() {
         Some(trie) => load(alloc, Read::Trie(trie), document, &mut slicer),
-        None => Ok(String::from_str(alloc, "no trie")?),
+        None => String::from_str(alloc, "no trie"),
     }
 }
 
-fn loaded(alloc: Global, manifest: &EntityManifest, document: &Document) -> Result<String, Fail> {
+fn loaded(
+    alloc: Global,
+    manifest: &EntityManifest,
+    document: &Document,
+) -> Result<String, AllocError> {
     let mut slicer = EntitySlicer::new(&document.entities);
     load(alloc, Read::Manifest(manifest), document, &mut slicer)
 }
@@ -262,14 +272,14 @@ fn lied(
     manifest: &EntityManifest,
     document: &Document,
     way: Way,
-) -> Result<String, Fail> {
+) -> Result<String, AllocError> {
     let mut noter = Noter::new(alloc, Liar::new(&document.entities, way));
-    let text = load(alloc, Read::Manifest(manifest), document, &mut noter)?;
-    let asked = noter.text.as_str();
-    if noter.inner.faults == 0 {
-        return Ok(format!(in alloc; "{text}{asked}")?);
+    let mut text = load(alloc, Read::Manifest(manifest), document, &mut noter)?;
+    if noter.inner.faults > 0 {
+        write!(text, " {}", noter.inner.faults)?;
     }
-    Ok(format!(in alloc; "{text} {}{asked}", noter.inner.faults)?)
+    text.push_str(noter.text.as_str())?;
+    Ok(text)
 }
 
 fn give(
@@ -277,7 +287,7 @@ fn give(
     manifest: &EntityManifest,
     document: &Document,
     giver: Giver,
-) -> Result<String, Fail> {
+) -> Result<String, AllocError> {
     match giver {
         Giver::Checked => checked(alloc, document),
         Giver::Slice => sliced(alloc, manifest, document),
@@ -287,33 +297,31 @@ fn give(
     }
 }
 
-fn given_from(alloc: Global, document: &Document, giver: Giver) -> Result<String, Fail> {
-    match compute_entity_manifest(alloc, &document.schema, &document.policies) {
-        Ok(manifest) => {
-            let given = give(alloc, &manifest, document, giver);
-            drop(manifest);
-            given
-        }
-        Err(error) => {
-            drop(error);
-            Ok(String::from_str(alloc, "no manifest")?)
-        }
-    }
+// What the giver gives of a document.
+fn given_of(alloc: Global, text: &str, giver: Giver) -> Result<String, AllocError> {
+    let document = document_of(alloc, text)?;
+    let manifest = compute_entity_manifest(alloc, &document.schema, &document.policies);
+    give(alloc, &manifest.ok().ok_or(AllocError)?, &document, giver)
 }
 
-fn given_of(alloc: Global, text: &str, giver: Giver) -> Result<String, Fail> {
-    match document_of(alloc, text) {
-        Some(document) => {
-            let given = given_from(alloc, &document, giver);
-            drop(document);
-            given
-        }
-        None => Ok(String::from_str(alloc, "no document")?),
-    }
+// Asserts that the giver gives the entities, or the error, of a row, with which decision on them, and what it
+// was asked.
+fn assert_given(
+    rt: &impl Abort,
+    alloc: Global,
+    of: (&str, Giver),
+    expected: (&str, &str, &str),
+) -> Result<(), AllocError> {
+    let (document, giver) = of;
+    let text = given_of(alloc, document, giver)?;
+    let (given, decided, asked) = expected;
+    let expected = joined(alloc, &[given, decided, asked])?;
+    assert_same(rt, text.as_str(), expected.as_str());
+    Ok(())
 }
 
 #[test]
-fn entities_are_given(rt: HostRuntime) -> Result<(), Fail> {
+fn entities_are_given(rt: HostRuntime) -> Result<(), AllocError> {
     let rows = [
         (MANAGERS, Giver::Checked, CUT, ""),
         (MANAGERS, Giver::Slice, CUT, ALLOWED),
@@ -330,16 +338,14 @@ fn entities_are_given(rt: HostRuntime) -> Result<(), Fail> {
         (NOBODY, Giver::Slice, "PartialRequest", ""),
         (NOBODY, Giver::Honest, "PartialRequest", ""),
     ];
-    for (document, giver, wanted, decided) in rows {
-        let text = given_of(rt.alloc(), document, giver)?;
-        let wanted = format!(in rt.alloc(); "{wanted}{decided}")?;
-        assert_eq!(rt; text.as_str(), wanted.as_str());
+    for (document, giver, given, decided) in rows {
+        assert_given(&rt, rt.alloc(), (document, giver), (given, decided, ""))?;
     }
     Ok(())
 }
 
 #[test]
-fn liars_are_seen(rt: HostRuntime) -> Result<(), Fail> {
+fn liars_are_seen(rt: HostRuntime) -> Result<(), AllocError> {
     // How the loader answers, what is then given and decided or refused, and what the loader was asked.
     let rows = [
         (MANAGERS, Way::Whole, WHOLE, ALLOWED, BOTH_ROUNDS),
@@ -428,9 +434,8 @@ fn liars_are_seen(rt: HostRuntime) -> Result<(), Fail> {
         (NOBODY, Way::FailsAt(1), "PartialRequest", "", ""),
     ];
     for (document, way, given, decided, asked) in rows {
-        let text = given_of(rt.alloc(), document, Giver::Liar(way))?;
-        let wanted = format!(in rt.alloc(); "{given}{decided}{asked}")?;
-        assert_eq!(rt; text.as_str(), wanted.as_str());
+        let of = (document, Giver::Liar(way));
+        assert_given(&rt, rt.alloc(), of, (given, decided, asked))?;
     }
     Ok(())
 }

@@ -1,11 +1,10 @@
 //! Manifests that JSON says, typed by schemas.
 
+use crate::texts::{assert_same, manifest_text};
 use json_document::{parse_json, read_schema};
 use manifest_core::{EntityManifest, EntityManifestFromJsonError, MismatchedEntityManifestError};
 use schema_core::ValidatorSchema;
-use serde_json::Value;
-use std::alloc::Global;
-use std::test::Fail;
+use std::alloc::{AllocError, Global};
 
 const USERS: &str =
     r#"{"entityTypes":{"Photo":{"attributes":{"owner":{"entity":"User"}}},"User":{"attributes":{"dept":"String","manager":{"entity":"User"},"name":"String"}}},"actions":[{"id":["Action","view"],"principals":["User"],"resources":["Photo"]}]}"#;
@@ -20,8 +19,8 @@ const MANAGER: &str =
 const PRINCIPAL: &str =
     r#"{"perAction":[[{"action":["Action","view"],"principal":"User","resource":"Photo"},{"trie":[[{"var":"principal"},{"ancestorsTrie":{"trie":[]},"children":[],"isAncestor":false}]]}]]}"#;
 
-// Below the name another field; a root that is an action without declaration; a type without declaration; a field twice; a
-// request type twice; a root twice; a member missing; a member too many; no JSON.
+// Below the name another field; a root that is an action without declaration; a type without declaration; a
+// field twice; a request type twice; a root twice; a member missing; a member too many; no JSON.
 const REFUSED: &str =
     r#"{"perAction":[[{"action":["Action","view"],"principal":"User","resource":"Photo"},{"trie":[[{"var":"principal"},{"ancestorsTrie":{"trie":[]},"children":[["manager",{"ancestorsTrie":{"trie":[]},"children":[["name",{"ancestorsTrie":{"trie":[]},"children":[["x",{"ancestorsTrie":{"trie":[]},"children":[],"isAncestor":false}]],"isAncestor":false}]],"isAncestor":false}]],"isAncestor":false}]]}]]} => ChildOfPrimitive
 {"perAction":[[{"action":["Action","gone"],"principal":"User","resource":"Photo"},{"trie":[[{"var":"action"},{"ancestorsTrie":{"trie":[]},"children":[],"isAncestor":false}]]}]]} => MismatchedMissingEntity Action::"gone"
@@ -33,108 +32,68 @@ const REFUSED: &str =
 {"perAction":[],"more":[]} => SerdeJsonParseError
 {"perAction":[] => SerdeJsonParseError"#;
 
-fn reported_mismatch(
+fn mismatch_text(
     alloc: Global,
     mismatch: &MismatchedEntityManifestError,
-) -> Result<String, Fail> {
+) -> Result<String, AllocError> {
     match mismatch {
         MismatchedEntityManifestError::MismatchedMissingEntity(missing) => {
-            Ok(format!(in alloc; "MismatchedMissingEntity {}", missing.entity)?)
+            format!(in alloc; "MismatchedMissingEntity {}", missing.entity)
         }
         MismatchedEntityManifestError::MismatchedNotStrictSchema(_) => {
-            Ok(String::from_str(alloc, "MismatchedNotStrictSchema")?)
+            String::from_str(alloc, "MismatchedNotStrictSchema")
         }
         MismatchedEntityManifestError::ChildOfPrimitive => {
-            Ok(String::from_str(alloc, "ChildOfPrimitive")?)
+            String::from_str(alloc, "ChildOfPrimitive")
         }
     }
 }
 
-fn reported_error(alloc: Global, error: &EntityManifestFromJsonError) -> Result<String, Fail> {
-    match error {
-        EntityManifestFromJsonError::SerdeJsonParseError => {
-            Ok(String::from_str(alloc, "SerdeJsonParseError")?)
-        }
-        EntityManifestFromJsonError::MismatchedEntityManifest(mismatch) => {
-            reported_mismatch(alloc, mismatch)
-        }
-        EntityManifestFromJsonError::OutOfMemory => Ok(String::from_str(alloc, "OutOfMemory")?),
-    }
-}
-
-pub(crate) fn written(alloc: Global, manifest: &EntityManifest) -> Result<String, Fail> {
-    let json = manifest.to_json(alloc)?;
-    let text = json.to_string(alloc);
-    drop(json);
-    Ok(text?)
-}
-
-// The JSON of a manifest, or why there is none.
-fn told(
+/// The JSON of a manifest, or why there is none.
+pub(crate) fn answer_text(
     alloc: Global,
-    manifest: Result<EntityManifest, EntityManifestFromJsonError>,
-) -> Result<String, Fail> {
+    manifest: &Result<EntityManifest, EntityManifestFromJsonError>,
+) -> Result<String, AllocError> {
     match manifest {
-        Ok(manifest) => {
-            let text = written(alloc, &manifest);
-            drop(manifest);
-            text
+        Ok(manifest) => manifest_text(alloc, manifest),
+        Err(EntityManifestFromJsonError::SerdeJsonParseError) => {
+            String::from_str(alloc, "SerdeJsonParseError")
         }
-        Err(error) => {
-            let text = reported_error(alloc, &error);
-            drop(error);
-            text
+        Err(EntityManifestFromJsonError::MismatchedEntityManifest(mismatch)) => {
+            mismatch_text(alloc, mismatch)
         }
+        Err(EntityManifestFromJsonError::OutOfMemory) => Err(AllocError),
     }
 }
 
-fn schema_in(alloc: Global, value: &Value) -> Option<ValidatorSchema> {
-    match read_schema(alloc, value) {
-        Ok(schema) => Some(schema),
-        Err(_) => None,
-    }
-}
-
-fn schema_of(alloc: Global, text: &str) -> Result<Option<ValidatorSchema>, Fail> {
+fn schema(alloc: Global, text: &str) -> Result<ValidatorSchema, AllocError> {
     match parse_json(alloc, text.as_bytes())? {
-        Some(value) => {
-            let schema = schema_in(alloc, &value);
-            drop(value);
-            Ok(schema)
-        }
-        None => Ok(None),
+        Some(value) => read_schema(alloc, &value).ok().ok_or(AllocError),
+        None => Err(AllocError),
     }
 }
 
 // What a text says, typed by the schema.
-fn read_by(alloc: Global, schema: &str, text: &str) -> Result<String, Fail> {
-    match schema_of(alloc, schema)? {
-        Some(schema) => {
-            let said = told(alloc, EntityManifest::from_json_str(alloc, text, &schema));
-            drop(schema);
-            said
-        }
-        None => Ok(String::from_str(alloc, "no schema")?),
-    }
+fn read_by(alloc: Global, by: &str, text: &str) -> Result<String, AllocError> {
+    let schema = schema(alloc, by)?;
+    answer_text(alloc, &EntityManifest::from_json_str(alloc, text, &schema))
 }
 
 #[test]
-fn manifests_are_read(rt: HostRuntime) -> Result<(), Fail> {
-    let rows = [(USERS, MANAGER), (GROUPS, PRINCIPAL)];
-    for (schema, wanted) in rows {
-        let said = read_by(rt.alloc(), schema, MANAGER)?;
-        assert_eq!(rt; said.as_str(), wanted);
+fn manifests_are_read(rt: HostRuntime) -> Result<(), AllocError> {
+    for (schema, expected) in [(USERS, MANAGER), (GROUPS, PRINCIPAL)] {
+        let text = read_by(rt.alloc(), schema, MANAGER)?;
+        assert_same(&rt, text.as_str(), expected);
     }
     Ok(())
 }
 
 #[test]
-fn manifests_are_refused(rt: HostRuntime) -> Result<(), Fail> {
+fn manifests_are_refused(rt: HostRuntime) -> Result<(), AllocError> {
     for line in REFUSED.lines() {
-        if let Some((text, wanted)) = line.split_once(" => ") {
-            let said = read_by(rt.alloc(), USERS, text)?;
-            assert_eq!(rt; said.as_str(), wanted, "{text}");
-        }
+        let (manifest, expected) = line.split_once(" => ").unwrap_or((line, "nothing"));
+        let text = read_by(rt.alloc(), USERS, manifest)?;
+        assert_same(&rt, text.as_str(), expected);
     }
     Ok(())
 }

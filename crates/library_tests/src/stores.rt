@@ -1,12 +1,12 @@
 //! Stores that are cut, and values that are merged.
 
+use crate::texts::{assert_same, document_of, joined, store_text};
 use entity_loader::merge_values;
-use entity_store::{Entities, Entity};
-use json_document::{Document, Scratch, read_document, read_tree, read_value};
-use json_response::{write_entity, write_value};
+use json_document::{Document, Scratch, read_tree, read_value};
+use json_response::write_value;
 use level_validate::slice_at_level;
-use std::alloc::Global;
-use std::test::Fail;
+use policy_values::Value;
+use std::alloc::{AllocError, Global};
 
 // Two users, one of whom manages both and owns the photo of the request.
 const DOCUMENT: &str =
@@ -21,45 +21,18 @@ const ALICE: &str =
 const BOB: &str =
     r#"{"ancestors":[],"attrs":{"dept":"d","manager":{"id":["User","bob"]},"name":"m"},"id":["User","bob"],"tags":{}}|"#;
 
-// The document's store cut at the level, a bar behind each entity.
-fn cut(alloc: Global, level: u32) -> Result<String, Fail> {
-    match read_document(alloc, DOCUMENT.as_bytes()) {
-        Ok(document) => {
-            let text = cut_store(alloc, &document, level);
-            drop(document);
-            text
-        }
-        Err(_) => Ok(String::new(alloc)),
-    }
-}
-
-fn cut_store(alloc: Global, document: &Document, level: u32) -> Result<String, Fail> {
+// The document's store cut at a level, a bar behind each entity.
+fn cut(alloc: Global, document: &Document, level: u32) -> Result<String, AllocError> {
     if !document.request.is_whole() {
-        return Ok(String::new(alloc));
+        return String::from_str(alloc, "no request");
     }
     let store = slice_at_level(alloc, &document.request, &document.entities, level)?;
-    let text = written(alloc, &store);
-    drop(store);
-    text
-}
-
-fn written(alloc: Global, store: &Entities) -> Result<String, Fail> {
-    let mut text = String::new(alloc);
-    for entity in store.iter() {
-        add_entity(alloc, &mut text, entity)?;
-    }
-    Ok(text)
-}
-
-fn add_entity(alloc: Global, text: &mut String, entity: &Entity) -> Result<(), Fail> {
-    let written = write_entity(alloc, entity)?.to_string(alloc)?;
-    text.push_str(written.as_str())?;
-    text.push_str("|")?;
-    Ok(())
+    store_text(alloc, &store)
 }
 
 #[test]
-fn stores_are_cut_at_levels(rt: HostRuntime) -> Result<(), Fail> {
+fn stores_are_cut_at_levels(rt: HostRuntime) -> Result<(), AllocError> {
+    let document = document_of(rt.alloc(), DOCUMENT)?;
     let rows: [(u32, &[&str]); 4] = [
         (0, &[]),
         (1, &[PHOTO, ALICE]),
@@ -67,48 +40,34 @@ fn stores_are_cut_at_levels(rt: HostRuntime) -> Result<(), Fail> {
         (3, &[PHOTO, ALICE, BOB]),
     ];
     for (level, entities) in rows {
-        let mut wanted = String::new(rt.alloc());
-        for entity in entities {
-            wanted.push_str(entity)?;
-        }
-        let text = cut(rt.alloc(), level)?;
-        assert_eq!(rt; text.as_str(), wanted.as_str(), "{level}");
+        let expected = joined(rt.alloc(), entities)?;
+        let text = cut(rt.alloc(), &document, level)?;
+        assert_same(&rt, text.as_str(), expected.as_str());
     }
     Ok(())
 }
 
-// The values that two JSON texts say, merged; `none` where they do not merge, and nothing where one says no value.
-fn merged(alloc: Global, a: &str, b: &str) -> Result<String, Fail> {
-    match (value_of(alloc, a)?, value_of(alloc, b)?) {
-        (Some(a), Some(b)) => merged_values(alloc, &a, &b),
-        _ => Ok(String::new(alloc)),
+// The values that two JSON texts say, merged; `none` where they do not merge.
+fn merged(alloc: Global, one: &str, other: &str) -> Result<String, AllocError> {
+    let one = value_of(alloc, one)?;
+    let other = value_of(alloc, other)?;
+    match merge_values(alloc, &one, &other)? {
+        Some(value) => write_value(alloc, &value)?.to_string(alloc),
+        None => String::from_str(alloc, "none"),
     }
 }
 
-fn value_of(alloc: Global, text: &str) -> Result<Option<policy_values::Value>, Fail> {
+// A text that says no value counts as out of memory.
+fn value_of(alloc: Global, text: &str) -> Result<Value, AllocError> {
     let mut scratch = Scratch::new(alloc);
     match read_tree(alloc, text.as_bytes(), &mut scratch)? {
-        Some(tree) => Ok(read_value(alloc, &tree)?),
-        None => Ok(None),
-    }
-}
-
-fn merged_values(
-    alloc: Global,
-    a: &policy_values::Value,
-    b: &policy_values::Value,
-) -> Result<String, Fail> {
-    match merge_values(alloc, a, b)? {
-        Some(value) => {
-            let text = write_value(alloc, &value)?.to_string(alloc)?;
-            Ok(text)
-        }
-        None => Ok(String::from_str(alloc, "none")?),
+        Some(tree) => read_value(alloc, &tree)?.ok_or(AllocError),
+        None => Err(AllocError),
     }
 }
 
 #[test]
-fn values_are_merged(rt: HostRuntime) -> Result<(), Fail> {
+fn values_are_merged(rt: HostRuntime) -> Result<(), AllocError> {
     let rows = [
         (
             r#"{"record":{"a":1}}"#,
@@ -125,9 +84,9 @@ fn values_are_merged(rt: HostRuntime) -> Result<(), Fail> {
         (r#"{"record":{"a":1}}"#, r#"{"record":{"a":2}}"#, "none"),
         (r#"{"record":{}}"#, "[]", "none"),
     ];
-    for (a, b, wanted) in rows {
-        let text = merged(rt.alloc(), a, b)?;
-        assert_eq!(rt; text.as_str(), wanted, "{a} {b}");
+    for (one, other, expected) in rows {
+        let text = merged(rt.alloc(), one, other)?;
+        assert_same(&rt, text.as_str(), expected);
     }
     Ok(())
 }

@@ -1,8 +1,8 @@
 //! Expressions, each with its value or its error.
 
-use super::told;
-use std::alloc::Global;
-use std::test::Fail;
+use super::Evaluated;
+use crate::lines::{assert_same, failures};
+use std::alloc::AllocError;
 
 const LITERALS: &str = r#"true => true
 false => false
@@ -53,7 +53,8 @@ const EARLY_STOPS: &str = r#"{"all":[false,{"neg":"x"}]} => false
 {"if":[1,{"get":[{"var":"resource"},"a"]},2]} => TypeFault"#;
 
 const FIRST_ERRORS: &str =
-    r#"{"+":[true,{"get":[{"var":"resource"},"a"]}]} => MissingEntity Photo::"x"
+    r#"{"record":{"b":{"+":[9223372036854775807,1]},"a":{"get":[{"var":"context"},"missing"]}}} => MissingAttribute
+{"+":[true,{"get":[{"var":"resource"},"a"]}]} => MissingEntity Photo::"x"
 {"+":[{"get":[{"var":"resource"},"a"]},{"neg":-9223372036854775808}]} => MissingEntity Photo::"x"
 {"+":[{"neg":-9223372036854775808},{"get":[{"var":"resource"},"a"]}]} => IntegerOverflow
 {"==":[1,{"get":[{"var":"resource"},"a"]}]} => MissingEntity Photo::"x"
@@ -377,25 +378,9 @@ const CALLS: &str = r#"{"call":[]} => form
 {"contains":[[{"call":["decimal","1.0"]}],{"call":["decimal","1.00"]}]} => true
 [{"call":["duration","1h"]},{"call":["datetime","1970-01-01"]},{"call":["ip","::1"]},{"call":["ip","10.0.0.1"]},{"call":["decimal","1.0"]},{"record":{}}] => [{"record":{}},{"decimal":"1.0000"},{"ip":"10.0.0.1/32"},{"ip":"0:0:0:0:0:0:0:1/128"},{"datetime":0},{"duration":3600000}]"#;
 
-// The lines that do not hold, with what their expressions are.
-fn failures(alloc: Global, table: &str, context: &str) -> Result<String, Fail> {
-    let mut failures = String::new(alloc);
-    for line in table.lines() {
-        let Some((expression, wanted)) = line.split_once(" => ") else {
-            failures.push_str(line)?;
-            continue;
-        };
-        let told = told(alloc, expression, context)?;
-        if told.as_str() != wanted {
-            failures.push_str(format!(in alloc; "{line}, not {told}\n")?.as_str())?;
-        }
-    }
-    Ok(failures)
-}
-
 #[test]
-fn lines_hold(rt: HostRuntime) -> Result<(), Fail> {
-    let tables = [
+fn expressions_have_their_values(rt: HostRuntime) -> Result<(), AllocError> {
+    for table in [
         LITERALS,
         EARLY_STOPS,
         FIRST_ERRORS,
@@ -406,22 +391,9 @@ fn lines_hold(rt: HostRuntime) -> Result<(), Fail> {
         PATTERNS,
         NO_EXPRESSIONS,
         CALLS,
-    ];
-    for table in tables {
-        let failures = failures(rt.alloc(), table, r#"{"record":{"tries":3}}"#)?;
-        assert_eq!(rt; failures.as_str(), "");
+    ] {
+        let failures = failures::<Evaluated>(rt.alloc(), table)?;
+        assert_same(&rt, failures.as_str(), "");
     }
-    Ok(())
-}
-
-// Fields are evaluated in the order of their keys.
-const UNDER_AN_EMPTY_CONTEXT: &str =
-    r#"{"record":{"b":{"+":[9223372036854775807,1]},"a":{"get":[{"var":"context"},"missing"]}}} => MissingAttribute
-{"var":"context"} => {"record":{}}"#;
-
-#[test]
-fn lines_under_an_empty_context_hold(rt: HostRuntime) -> Result<(), Fail> {
-    let failures = failures(rt.alloc(), UNDER_AN_EMPTY_CONTEXT, r#"{"record":{}}"#)?;
-    assert_eq!(rt; failures.as_str(), "");
     Ok(())
 }

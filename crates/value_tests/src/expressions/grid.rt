@@ -1,8 +1,8 @@
 //! Each operator on operands of each kind.
 
-use super::told;
-use std::alloc::Global;
-use std::test::Fail;
+use super::Evaluated;
+use crate::lines::{add_failure, assert_same};
+use std::alloc::{AllocError, Global};
 
 // An operand of each kind, for the left.
 const LEFT: &str = r#"true
@@ -28,8 +28,8 @@ const RIGHT: &str = r#"false
 {"call":["datetime","2024-01-02"]}
 {"call":["duration","2h"]}"#;
 
-// An operator on $, an answer, and a word for each left operand: T is true, F is false, v is the answer, and a dot is
-// TypeFault.
+// An operator on $, an answer, and a word for each left operand: T is true, F is false, v is the answer, and
+// a dot is TypeFault.
 const UNARY: &str = r#"{"not":$} => => F . . . . . . . . .
 {"neg":$} => -3 => . v . . . . . . . .
 {"isEmpty":$} => => . . . . F . . . . .
@@ -93,63 +93,77 @@ const BINARY: &str =
 {"call":["decimal",$,%]} => Arity => vvvvvvvvvv vvvvvvvvvv vvvvvvvvvv vvvvvvvvvv vvvvvvvvvv vvvvvvvvvv vvvvvvvvvv vvvvvvvvvv vvvvvvvvvv vvvvvvvvvv"#;
 
 // What a letter stands for.
-fn wanted<'a>(letter: char, answer: &'a str) -> &'a str {
+fn expected<'a>(letter: char, answer: &'a str) -> &'a str {
     match letter {
         'T' => "true",
         'F' => "false",
         'v' => answer,
-        _ => "TypeFault",
+        '.' => "TypeFault",
+        _ => "no such letter",
     }
 }
 
-// Where a line of the table fails with operands of these, the expression and what it gives.
-fn first_failure(
+// The letters of one left operand, a letter for each right one.
+fn check_word(
+    alloc: Global,
+    expression: &str,
+    answer: &str,
+    rights: &str,
+    word: &str,
+    failures: &mut String,
+) -> Result<(), AllocError> {
+    let mut letters = word.chars();
+    for right in rights.lines() {
+        let asked = expression.replace(alloc, "%", right)?;
+        let expected = expected(letters.next().unwrap_or('-'), answer);
+        add_failure::<Evaluated>(alloc, asked.as_str(), expected, failures)?;
+    }
+    Ok(())
+}
+
+// The words of a line, a word for each left operand.
+fn check_words(
+    alloc: Global,
+    operator: &str,
+    answer: &str,
+    rights: &str,
+    words: &str,
+    failures: &mut String,
+) -> Result<(), AllocError> {
+    let mut words = words.split_whitespace();
+    for left in LEFT.lines() {
+        let expression = operator.replace(alloc, "$", left)?;
+        let word = words.next().unwrap_or("");
+        check_word(alloc, expression.as_str(), answer, rights, word, failures)?;
+    }
+    Ok(())
+}
+
+fn check_operator(
     alloc: Global,
     line: &str,
-    lefts: &str,
     rights: &str,
-) -> Result<Option<String>, Fail> {
-    let Some((operator, behind)) = line.split_once(" => ") else {
-        return Ok(Some(String::from_str(alloc, line)?));
-    };
-    let Some((answer, cells)) = behind.split_once("=> ") else {
-        return Ok(Some(String::from_str(alloc, line)?));
-    };
-    let mut words = cells.split_whitespace();
-    for left in lefts.lines() {
-        let with_left = operator.replace(alloc, "$", left)?;
-        let Some(word) = words.next() else {
-            return Ok(Some(with_left));
-        };
-        let mut letters = word.chars();
-        for right in rights.lines() {
-            let expression = with_left.as_str().replace(alloc, "%", right)?;
-            let Some(letter) = letters.next() else {
-                return Ok(Some(expression));
-            };
-            let told = told(alloc, expression.as_str(), r#"{"record":{}}"#)?;
-            if told.as_str() != wanted(letter, answer.trim_end()) {
-                return Ok(Some(format!(in alloc; "{expression} => {told}")?));
-            }
-        }
-    }
-    Ok(None)
+    failures: &mut String,
+) -> Result<(), AllocError> {
+    let (operator, behind) = line.split_once(" => ").unwrap_or((line, ""));
+    let (answer, words) = behind.split_once("=> ").unwrap_or(("", behind));
+    check_words(alloc, operator, answer.trim_end(), rights, words, failures)
 }
 
-fn failures(alloc: Global, table: &str, lefts: &str, rights: &str) -> Result<String, Fail> {
+// The expressions of a table that have another value.
+fn grid_failures(alloc: Global, table: &str, rights: &str) -> Result<String, AllocError> {
     let mut failures = String::new(alloc);
     for line in table.lines() {
-        if let Some(failure) = first_failure(alloc, line, lefts, rights)? {
-            failures.push_str(failure.as_str())?;
-            failures.push('\n')?;
-        }
+        check_operator(alloc, line, rights, &mut failures)?;
     }
     Ok(failures)
 }
 
 #[test]
-fn operators_ask_for_kinds(rt: HostRuntime) -> Result<(), Fail> {
-    assert_eq!(rt; failures(rt.alloc(), UNARY, LEFT, "-")?.as_str(), "");
-    assert_eq!(rt; failures(rt.alloc(), BINARY, LEFT, RIGHT)?.as_str(), "");
+fn operators_ask_for_kinds(rt: HostRuntime) -> Result<(), AllocError> {
+    let of_one = grid_failures(rt.alloc(), UNARY, "-")?;
+    assert_same(&rt, of_one.as_str(), "");
+    let of_two = grid_failures(rt.alloc(), BINARY, RIGHT)?;
+    assert_same(&rt, of_two.as_str(), "");
     Ok(())
 }

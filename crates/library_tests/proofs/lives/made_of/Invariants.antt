@@ -1,0 +1,4 @@
+use Rattle.library_tests.proofs.lives.made_of.Given as goal
+
+abbrev pub ghosts-made : goal.ghosts-made
+ghosts-made a = record { name = a.blank.name; parts = a.blank.parts }
