@@ -145,12 +145,12 @@ def batch(program, document, cases, ask=ask):
     """The answers to tests with the same entities, or why there are none."""
     asked = {part: document[part] for part in ("schema", "policies")}
     asked |= {"entities": cases[0].stored, "requests": [case.request for case in cases]}
-    status, told = ask(program, ["batch"], asked)
+    status, reported = ask(program, ["batch"], asked)
     if status == 5:
-        return [{"refused": told.strip()}] * len(cases)
+        return [{"refused": reported.strip()}] * len(cases)
     if status != 0:
-        raise Broken(status, f"batch ended with {status}: {told.strip()}")
-    return [json.loads(line) for line in told.split("\n")[:-1]]
+        raise Broken(status, f"batch ended with {status}: {reported.strip()}")
+    return [json.loads(line) for line in reported.split("\n")[:-1]]
 
 
 def run_cases(program, document, cases, coverage, ask=ask):
@@ -183,9 +183,9 @@ def run_lines(program, name):
         wrong = []
         for command in line.commands:
             ran = subprocess.run([program, *command], input=line.document, capture_output=True, check=False)
-            told = ran.stdout.decode(errors="replace")
-            if (ran.returncode, told) != (line.status, line.told):
-                wrong.append(f"{' '.join(command)}: {ran.returncode} {told.rstrip()}")
+            reported = ran.stdout.decode(errors="replace")
+            if (ran.returncode, reported) != (line.status, line.reported):
+                wrong.append(f"{' '.join(command)}: {ran.returncode} {reported.rstrip()}")
         yield Result(name, f"{name}:{number}", "; ".join(wrong))
 
 
@@ -240,7 +240,7 @@ def tested(asked, program):
             return status
     if made.report.refused:
         return tell_report(made, quiet=True)
-    return told(asked, results, coverage)
+    return reported(asked, results, coverage)
 
 
 def run_texts(asked, program, made, texts, results, coverage):
@@ -260,7 +260,7 @@ def run_texts(asked, program, made, texts, results, coverage):
     return 0
 
 
-def told(asked, results, coverage):
+def reported(asked, results, coverage):
     failed = [result for result in results if result.wrong]
     for result in failed:
         print(result)

@@ -8,7 +8,7 @@ import misfits
 from cedar import documents, located
 from visible import visible
 
-MOST = 100  # so many values that are not of their types are told
+MOST = 100  # so many values that are not of their types are reported
 LOOKS = ("check", "level")  # the commands that answer by findings
 
 

@@ -95,8 +95,8 @@ def files_below(folder, ending, made):
             if not name.startswith("."):
                 (found if name.endswith(ending) else others).append(os.path.join(here, name))
     if others:
-        told = ", ".join(sorted(others)[:MOST_OTHERS]) + (", .." if len(others) > MOST_OTHERS else "")
-        made.report.dropped(Place(Source(folder, "")), f"files that do not end with {ending}: {told}")
+        reported = ", ".join(sorted(others)[:MOST_OTHERS]) + (", .." if len(others) > MOST_OTHERS else "")
+        made.report.dropped(Place(Source(folder, "")), f"files that do not end with {ending}: {reported}")
     if not found:
         unread(folder, f"no file in this folder ends with {ending}")
     return sorted(found)

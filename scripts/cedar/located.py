@@ -120,8 +120,8 @@ def spot_of_finding(made, finding):
 
 def in_scope(policy, text):
     """The span of what a finding without a place is about: a type or an id in the scope, else the policy's head."""
-    told = text.partition(policy.name)[2]
+    reported = text.partition(policy.name)[2]
     for name, span in policy.named_in_scope:
-        if f"`{name}`" in told:
+        if f"`{name}`" in reported:
             return span
     return policy.head

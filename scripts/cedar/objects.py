@@ -95,7 +95,7 @@ def uid(u, place, report, text=False):
 
 
 def uid_of_text(text, place, report):
-    """An entity's id in Cedar's text, as User::"alice"; a fault inside is told at the place of the
+    """An entity's id in Cedar's text, as User::"alice"; a fault inside is reported at the place of the
     whole."""
     inner = Report()
     reader = Reader(Source("", text), inner)

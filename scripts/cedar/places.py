@@ -7,7 +7,7 @@ import bisect
 
 from visible import visible
 
-TOLD = 100  # so many refusals are told one by one
+REPORTED = 100  # so many refusals are reported one by one
 
 
 class Source:
@@ -121,11 +121,11 @@ class Report:
     @property
     def is_full(self):
         """Whether what is refused from here on is only counted."""
-        return len(self.refused) >= TOLD
+        return len(self.refused) >= REPORTED
 
     def no(self, place, why):
         """A refusal; its answer is None, in place of what should stand there."""
-        if len(self.refused) < TOLD:
+        if len(self.refused) < REPORTED:
             self.refused[f"{place}: refused: {why}"] = place, why
         else:
             self.refused[len(self.refused)] = None
@@ -138,9 +138,9 @@ class Report:
 
     def placed_lines(self, quiet=False):
         """Notes, and what is refused with its place; with `quiet` the latter alone."""
-        told = [(line, one[0]) for line, one in self.refused.items() if one]
-        more = len(self.refused) - len(told)
-        lines = [(line, None) for line in ([] if quiet else self.notes)] + told
+        reported = [(line, one[0]) for line, one in self.refused.items() if one]
+        more = len(self.refused) - len(reported)
+        lines = [(line, None) for line in ([] if quiet else self.notes)] + reported
         return [(visible(line), place) for line, place in lines] + ([(f"refused: {more} more", None)] if more else [])
 
     def lines(self):

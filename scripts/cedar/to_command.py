@@ -20,7 +20,7 @@ Writes a part of a document (docs/FORMAT.md) in Cedar's form to standard output.
   entities   the entities: JSON
   request    the request: JSON
 
-Source locations (`at`) are left away. What Cedar has no words for is told on standard error with its
+Source locations (`at`) are left away. What Cedar has no words for is reported on standard error with its
 place in the document, and nothing is written then.
 
 Status: 0 done; 1 no document, or not sayable; 2 usage; 8 the text can't be read; 9 nothing can be
@@ -34,9 +34,9 @@ BAD = (AttributeError, IndexError, KeyError, TypeError, ValueError)
 def policies(document, as_json):
     found = listed(document, "policies")
     if as_json:
-        return dumped(to_json.policy_set([told(f"policies[{i}]", checked, p, POLICY) for i, p in enumerate(found)]))
+        return dumped(to_json.policy_set([reported(f"policies[{i}]", checked, p, POLICY) for i, p in enumerate(found)]))
     static = [(i, p) for i, p in enumerate(found) if "link" not in p]
-    return "\n".join(told(f"policies[{i}]", to_text.policy, p, POLICY) for i, p in static)
+    return "\n".join(reported(f"policies[{i}]", to_text.policy, p, POLICY) for i, p in static)
 
 
 def listed(document, part):
@@ -67,30 +67,30 @@ def shadow(declared):
 
 
 def schema(document, as_json):
-    told("schema", shadow, document["schema"])
+    reported("schema", shadow, document["schema"])
     if as_json:
-        return dumped(told("schema", to_json.schema, document["schema"], FORM["schema"]))
-    return told("schema", lambda s: to_text.SchemaWriter(s).text(), document["schema"], FORM["schema"])
+        return dumped(reported("schema", to_json.schema, document["schema"], FORM["schema"]))
+    return reported("schema", lambda s: to_text.SchemaWriter(s).text(), document["schema"], FORM["schema"])
 
 
 def links(document, _):
-    return dumped(told("policies", to_json.links, listed(document, "policies"), FORM["policies"]))
+    return dumped(reported("policies", to_json.links, listed(document, "policies"), FORM["policies"]))
 
 
 def entities(document, _):
     found = enumerate(listed(document, "entities"))
-    return dumped([told(f"entities[{i}]", to_json.entity, e, FORM["entities"]["items"]) for i, e in found])
+    return dumped([reported(f"entities[{i}]", to_json.entity, e, FORM["entities"]["items"]) for i, e in found])
 
 
 def request(document, _):
-    return dumped(told("request", to_json.request, document.get("request", {}), FORM["request"]))
+    return dumped(reported("request", to_json.request, document.get("request", {}), FORM["request"]))
 
 
 def dumped(value):
     return json.dumps(value, ensure_ascii=False, indent=2) + "\n"
 
 
-def told(place, write, part, form=None):
+def reported(place, write, part, form=None):
     """The part as it is written. What has not its form is not: an object in place of a list of conditions would be
     written as none."""
     try:
@@ -128,7 +128,7 @@ def main(words):
             raise Unsayable(report.lines()[0])
         if not isinstance(document, dict) or "schema" not in document:
             raise Unsayable("document: form")
-        sys.stdout.write(told("document", lambda d: PARTS[part[0]](d, as_json), document))
+        sys.stdout.write(reported("document", lambda d: PARTS[part[0]](d, as_json), document))
     except (Unsayable, UnicodeDecodeError) as why:
         return complain(why, 1)
     return 0

@@ -62,12 +62,12 @@ class Browser:
         message |= {"sessionId": self.session} if self.session else {}
         os.write(self.writes, json.dumps(message).encode() + b"\0")
         while True:
-            told = self.message()
-            if told.get("id") == self.number:
-                if "error" in told:
-                    raise Fault(f"{method}: {told['error']['message']}")
-                return told["result"]
-            self.events.append(told)
+            reported = self.message()
+            if reported.get("id") == self.number:
+                if "error" in reported:
+                    raise Fault(f"{method}: {reported['error']['message']}")
+                return reported["result"]
+            self.events.append(reported)
 
     def message(self):
         while b"\0" not in self.rest:
@@ -75,15 +75,15 @@ class Browser:
             if not read:
                 raise Fault("the browser has ended")
             self.rest += read
-        told, _, self.rest = self.rest.partition(b"\0")
-        return json.loads(told)
+        reported, _, self.rest = self.rest.partition(b"\0")
+        return json.loads(reported)
 
     def run(self, script):
         """The value of an expression of the page's script, of a promise what it brings."""
-        told = self.call("Runtime.evaluate", expression=script, awaitPromise=True, returnByValue=True)
-        if "exceptionDetails" in told:
-            raise Fault(told["exceptionDetails"].get("exception", {}).get("description", "an exception"))
-        return told["result"].get("value")
+        reported = self.call("Runtime.evaluate", expression=script, awaitPromise=True, returnByValue=True)
+        if "exceptionDetails" in reported:
+            raise Fault(reported["exceptionDetails"].get("exception", {}).get("description", "an exception"))
+        return reported["result"].get("value")
 
     def until(self, is_so, what, seconds=20):
         """Waits until something is so outside of the page."""

@@ -28,12 +28,12 @@ def replayed(program, document):
 
 def first_refused(program, document):
     """The place of the first edit that `live` refuses, and why; None where none is."""
-    status, told = ask(program, ["live"], document)
+    status, reported = ask(program, ["live"], document)
     if status == 0:
         return None, None
-    refused = re.match("edit ([0-9]+): (.*)", told)
+    refused = re.match("edit ([0-9]+): (.*)", reported)
     if status != 12 or not refused:
-        raise Broken(status, f"live ended with {status}: {told.strip()}")
+        raise Broken(status, f"live ended with {status}: {reported.strip()}")
     return int(refused[1]), refused[2]
 
 

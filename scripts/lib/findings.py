@@ -4,7 +4,7 @@ place, source location, text and help.
 Ids of policies may hold any text, also one that looks like a finding. So the program is given the
 document with other ids, which nobody can have foreseen, and the true ones are put back into what it
 says. It is also given a source location for each expression, by which a finding tells what part of the
-document it is about. So findings that differ in nothing but that part are told once each."""
+document it is about. So findings that differ in nothing but that part are reported once each."""
 import json
 import re
 import secrets
@@ -60,16 +60,16 @@ def findings_of(program, document, words=("check",), ask=ask):
     token = secrets.token_hex(8) + "x"
     policies, marks = document.get("policies", []), []
     renamed = with_ids(policies, token)
-    status, told = ask(program, words, document | {"policies": with_marks(renamed, marks)})
+    status, reported = ask(program, words, document | {"policies": with_marks(renamed, marks)})
     if status in (3, 11):  # with source locations it is nested too deep, or too long
         marks = []
-        status, told = ask(program, words, document | {"policies": renamed})
+        status, reported = ask(program, words, document | {"policies": renamed})
     if status not in (0, 1):
-        raise Broken(status, f"{words[0]} ended with {status}: {told.strip()}")
-    found = list(taken_apart(told, token, [policy["id"] for policy in policies], marks))
+        raise Broken(status, f"{words[0]} ended with {status}: {reported.strip()}")
+    found = list(taken_apart(reported, token, [policy["id"] for policy in policies], marks))
     errors = sum(finding.severity == "error" for finding in found)
-    if not told.endswith(f"errors {errors}, warnings {len(found) - errors}\n"):
-        raise Broken(125, f"what {words[0]} says could not be taken apart: " + told)
+    if not reported.endswith(f"errors {errors}, warnings {len(found) - errors}\n"):
+        raise Broken(125, f"what {words[0]} says could not be taken apart: " + reported)
     return found
 
 
@@ -131,7 +131,7 @@ def with_marked_operands(expression, path, marks):
     }
 
 
-def taken_apart(told, token, ids, marks):
+def taken_apart(reported, token, ids, marks):
     """The findings of a text, in the order of the list of policies."""
     name = rf"for policy `{token}([0-9]+)`"
     head = r"(?:error|warning) \w+(?: at \d+\.\.\d+)?: "
@@ -141,7 +141,7 @@ def taken_apart(told, token, ids, marks):
         rf"(?:\n  help: (.*?))?\n(?={begins}|errors \d+, warnings \d+\n\Z)"
     )
     found = []
-    for match in re.finditer(pattern, told, re.MULTILINE | re.DOTALL):
+    for match in re.finditer(pattern, reported, re.MULTILINE | re.DOTALL):
         severity, kind, mark, own, index, types, help_ = match.groups()
         named = re.match(name, help_ or "") if own is None else None
         if own is None and not named:
@@ -170,10 +170,10 @@ def conformance_of(program, document):
     if not document["requests"]:
         return found
     asked = {"schema": rest["schema"], "requests": document["requests"]}
-    status, told = ask(program, ["batch"], asked)
+    status, reported = ask(program, ["batch"], asked)
     if status != 0:
-        raise Broken(status, f"batch ended with {status}: {told.strip()}")
-    for i, (request, line) in enumerate(zip(document["requests"], told.split("\n"))):
+        raise Broken(status, f"batch ended with {status}: {reported.strip()}")
+    for i, (request, line) in enumerate(zip(document["requests"], reported.split("\n"))):
         why = json.loads(line).get("refused")
         is_partial = None in map(request.get, ENTRIES)  # of which `batch` does not say what is wrong
         if is_partial or why is not None and len(found) < MOST_HELPS:
@@ -185,16 +185,16 @@ def conformance_of(program, document):
 
 def one_conformance(program, document, path):
     """What `request` says of a document with one request, which stands at the path."""
-    status, told = ask(program, ["request"], document)
+    status, reported = ask(program, ["request"], document)
     if status == 0:
         return []
     if status not in (4, 5):
-        raise Broken(status, f"request ended with {status}: {told.strip()}")
+        raise Broken(status, f"request ended with {status}: {reported.strip()}")
     if status == 5:
-        path = entity_path(told, document.get("entities", []))
-        path += member_path(told[len("entity: ") :]) if len(path) > 1 else ()
-        return [Finding("error", "InvalidEntity", told.rstrip("\n"), path)]
-    text, _, help_ = told.rstrip("\n").partition("\n  help: ")
+        path = entity_path(reported, document.get("entities", []))
+        path += member_path(reported[len("entity: ") :]) if len(path) > 1 else ()
+        return [Finding("error", "InvalidEntity", reported.rstrip("\n"), path)]
+    text, _, help_ = reported.rstrip("\n").partition("\n  help: ")
     entry = ENTRY.match(text)
     return [Finding("error", "InvalidRequest", text, path + ((entry[1],) if entry else ()), help=help_ or None)]
 
@@ -204,12 +204,12 @@ def uid(id_):
     return f'{id_[0]}::"{id_[1].translate(ESCAPES)}"'
 
 
-def entity_path(told, entities):
+def entity_path(reported, entities):
     """Where the entity stands that a text begins with."""
     named = [
         (len(uid(entity["id"])), i)
         for i, entity in enumerate(entities)
-        if told.startswith(f"entity: {uid(entity['id'])}: ")
+        if reported.startswith(f"entity: {uid(entity['id'])}: ")
     ]
     return ("entities", max(named)[1]) if named else ("entities",)
 

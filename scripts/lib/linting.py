@@ -43,17 +43,17 @@ def look_at_document(program, data, name, command=None):
     text, faults = faults_in(data, command and command[0])
     starts = [0] + [i + 1 for i, c in enumerate(text) if c == "\n"]
 
-    def told(finding, part, at):
+    def reported(finding, part, at):
         line = bisect.bisect_right(starts, at)
         return reports.LocatedFinding(finding, name, part, line, at - starts[line - 1] + 1)
 
     if faults:
-        return [told(Finding("error", "InvalidDocument", what, ()), part, at) for at, part, what in faults], False
+        return [reported(Finding("error", "InvalidDocument", what, ()), part, at) for at, part, what in faults], False
     value, place = places.read(text)
     value, moved, found = replayed(program, value)
     found += moved(all_findings(program, value, command if command and command[0] == "level" else ("check",)))
-    all_told = [told(finding, written(finding.path), place.find(finding.path)) for finding in found]
-    return sorted(all_told, key=lambda one: (one.line, one.column)), True
+    all_reported = [reported(finding, written(finding.path), place.find(finding.path)) for finding in found]
+    return sorted(all_reported, key=lambda one: (one.line, one.column)), True
 
 
 def look_at_files(program, made):
@@ -62,20 +62,20 @@ def look_at_files(program, made):
         pairs = [one for one in made.report.refused.values() if one]
         return [told_of(Finding("error", "InvalidText", why, ()), place) for place, why in pairs], False
     found = [one for one in all_findings(program, made.document) if one.kind != "UnknownRequest"]
-    all_told = [spotted(finding, located.spot_of_finding(made, finding), made) for finding in found]
+    all_reported = [spotted(finding, located.spot_of_finding(made, finding), made) for finding in found]
     order = {source.name: i for i, source in enumerate(one for each in made.texts.values() for one in each)}
-    return sorted(all_told, key=lambda one: (order.get(one.file, -1), one.line, one.column)), True
+    return sorted(all_reported, key=lambda one: (order.get(one.file, -1), one.line, one.column)), True
 
 
 def told_of(finding, place):
-    """A refused text's finding, told at its place."""
-    told = spotted(finding, located.spot_of(place))
-    told.part = str(place)[len(place.short()) + 2 :]
-    return told
+    """A refused text's finding, reported at its place."""
+    reported = spotted(finding, located.spot_of(place))
+    reported.part = str(place)[len(place.short()) + 2 :]
+    return reported
 
 
 def spotted(finding, spot, made=None):
-    """A finding told at a spot; one of no spot at the schema's beginning."""
+    """A finding reported at a spot; one of no spot at the schema's beginning."""
     if spot is None:
         return reports.LocatedFinding(finding, made.source("schema").name, "", 1, 1)
     return reports.LocatedFinding(finding, spot.source.name, "", *spot.line_column, spot.end_line_column, spot.excerpt())
@@ -124,4 +124,4 @@ def looked(asked, form, is_cedar):
             sys.stderr.write(visible(note) + "\n")
     if not is_whole:
         return missing
-    return 1 if any(told.is_error or "--deny-warnings" in asked.flags for told in found) else 0
+    return 1 if any(reported.is_error or "--deny-warnings" in asked.flags for reported in found) else 0

@@ -43,7 +43,7 @@ def faults_of(document):
 
 
 def known_part(policy):
-    """Of a policy that has not the due form the id alone."""
+    """Of a policy that has not the expected form the id alone."""
     id_ = policy.get("id") if isinstance(policy, dict) else None
     return {"id": id_, "faulty": True} if isinstance(id_, str) else None
 
@@ -59,7 +59,7 @@ def faults_for(command, document):
             yield Fault((member,), f"`{command}` takes `{OTHERS[member]}`, and not `{member}`", name=True)
 
 
-def told(text, command=None):
+def reported(text, command=None):
     """Triples of an offset in the text, a place and what is wrong there."""
     try:
         value, place = places.read(text)
@@ -98,4 +98,4 @@ def faults_in(data, command=None):
         return text, [
             (len(text), "", f"the bytes from here on are no UTF-8 (byte {fault.start} is {data[fault.start]:#04x})")
         ]
-    return text, told(text, command)
+    return text, reported(text, command)

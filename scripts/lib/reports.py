@@ -97,17 +97,17 @@ def uri(name):
     return pathlib.Path(name).as_uri() if os.path.isabs(name) else quote(os.fsencode(name))
 
 
-def result(told):
-    region = {"startLine": told.line, "startColumn": told.column}
-    if told.end:
-        region |= {"endLine": told.end[0], "endColumn": told.end[1]}
-    location = {"physicalLocation": {"artifactLocation": {"uri": uri(told.file)}, "region": region}}
-    if told.part:
-        location["logicalLocations"] = [{"fullyQualifiedName": told.part}]
+def result(reported):
+    region = {"startLine": reported.line, "startColumn": reported.column}
+    if reported.end:
+        region |= {"endLine": reported.end[0], "endColumn": reported.end[1]}
+    location = {"physicalLocation": {"artifactLocation": {"uri": uri(reported.file)}, "region": region}}
+    if reported.part:
+        location["logicalLocations"] = [{"fullyQualifiedName": reported.part}]
     return {
-        "ruleId": told.finding.kind,
-        "level": told.finding.severity,
-        "message": {"text": "\n".join([told.finding.text, *(f"help: {help_}" for help_ in told.helps())])},
+        "ruleId": reported.finding.kind,
+        "level": reported.finding.severity,
+        "message": {"text": "\n".join([reported.finding.text, *(f"help: {help_}" for help_ in reported.helps())])},
         "locations": [location],
     }
 
@@ -124,9 +124,9 @@ def version():
 
 def sarif(found):
     """The findings as SARIF 2.1.0."""
-    rules = [rule(kind) for kind in sorted({told.finding.kind for told in found})]
+    rules = [rule(kind) for kind in sorted({reported.finding.kind for reported in found})]
     driver = {"name": "palvumiose", "version": version(), "rules": rules}
-    run = {"tool": {"driver": driver}, "columnKind": "unicodeCodePoints", "results": [result(told) for told in found]}
+    run = {"tool": {"driver": driver}, "columnKind": "unicodeCodePoints", "results": [result(reported) for reported in found]}
     return {"$schema": "https://json.schemastore.org/sarif-2.1.0.json", "version": "2.1.0", "runs": [run]}
 
 
@@ -139,9 +139,9 @@ def write(found, form=None, named=False):
     if form == "--sarif":
         write_line(json_line(sarif(found), indent=1))
         return
-    for told in found:
-        for line in [json_line(told.members())] if form == "--json" else told.lines(named):
+    for reported in found:
+        for line in [json_line(reported.members())] if form == "--json" else reported.lines(named):
             write_line(line)
-    errors = sum(told.is_error for told in found)
+    errors = sum(reported.is_error for reported in found)
     if form != "--json":
         write_line(f"errors {errors}, warnings {len(found) - errors}")

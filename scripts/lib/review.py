@@ -49,11 +49,11 @@ def reviewed(program, document, ask=ask):
     hold any text."""
     token, policies = secrets.token_hex(8) + "x", document.get("policies", [])
     renamed = document | {"policies": with_ids(policies, token)}
-    status, told = ask(program, ["review"], renamed)
+    status, reported = ask(program, ["review"], renamed)
     if status != 0:
-        raise Broken(status, f"review ended with {status}: {put_back(told, token, [one['id'] for one in policies])}")
+        raise Broken(status, f"review ended with {status}: {put_back(reported, token, [one['id'] for one in policies])}")
     may, levels, environments = {}, {}, {}
-    for line in told.split("\n"):
+    for line in reported.split("\n"):
         found, level = VERDICT.fullmatch(line), LEVEL.fullmatch(line)
         if found:
             environment = found[4], found[3], found[5]

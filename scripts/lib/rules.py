@@ -1,7 +1,7 @@
 """The rules that a document keeps beside its form: declared names, distinct ids, templates and slots,
 depths, and what is its own ancestor.
 
-Each function takes the parts of a document that have the due form, and gives faults (of `form`) with
+Each function takes the parts of a document that have the expected form, and gives faults (of `form`) with
 their places."""
 from form import Fault
 from slips import near, shown
@@ -121,7 +121,7 @@ def on_cycles(direct):
 
 
 def policy_faults(policies):
-    """The faults of policies; one that has not the due form is None, except that its id may be
+    """The faults of policies; one that has not the expected form is None, except that its id may be
     known."""
     first, slots, found = {}, {}, []
     for i, policy in enumerate(policies):
@@ -150,13 +150,13 @@ def depth_faults(policy, path):
 
 
 def edit_faults(edits):
-    """The faults of edits, of which one that has not the due form is None; which are refused, `live` says."""
+    """The faults of edits, of which one that has not the expected form is None; which are refused, `live` says."""
     added = [(i, edit) for i, edit in enumerate(edits) if edit is not None and "effect" in edit]
     return [fault for i, edit in added for fault in depth_faults(edit, ("edits", i))]
 
 
 def slots_of(policy):
-    """The slots of a template; none of a static policy or a link; nothing known of what has not the due
+    """The slots of a template; none of a static policy or a link; nothing known of what has not the expected
     form."""
     if "faulty" in policy:
         return None
@@ -166,10 +166,10 @@ def slots_of(policy):
 
 def link_faults(link, path, slots, policies):
     template = link["link"]
-    due = slots.get(template, set()) if template != link.get("id") else set()
-    if due is None:
+    expected = slots.get(template, set()) if template != link.get("id") else set()
+    if expected is None:
         return []
-    if not due:
+    if not expected:
         later = any(isinstance(p, dict) and p.get("id") == template for p in policies[path[1] :])
         why = (
             "a static policy or a link has this id"
@@ -182,11 +182,11 @@ def link_faults(link, path, slots, policies):
     given = {part for part in ("principal", "resource") if part in link}
     found = [
         Fault(path, f"the template {shown(template)} has a slot for the {part}, and this link no id for it")
-        for part in sorted(due - given)
+        for part in sorted(expected - given)
     ]
     return found + [
         Fault(path + (part,), f"the template {shown(template)} has no slot for the {part}", True)
-        for part in sorted(given - due)
+        for part in sorted(given - expected)
     ]
 
 
@@ -249,7 +249,7 @@ def conditional_depth(depths):
 
 
 def entity_faults(entities):
-    """The faults of stored entities; one that has not the due form is None."""
+    """The faults of stored entities; one that has not the expected form is None."""
     first, direct, found = {}, {}, []
     for i, entity in enumerate(entities):
         if entity is None:

@@ -50,8 +50,8 @@ class Served:
     def ask(self, job, path="/answer"):
         """The status, and the JSON of the body."""
         body = job if isinstance(job, bytes) else json.dumps(job).encode()
-        status, _, told = self.send("POST", path, body, {"Content-Type": "application/json"})
-        return status, json.loads(told)
+        status, _, reported = self.send("POST", path, body, {"Content-Type": "application/json"})
+        return status, json.loads(reported)
 
     def examples(self):
         return json.loads(self.send("GET", "/examples")[2])["examples"]

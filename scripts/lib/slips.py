@@ -108,7 +108,7 @@ def of_member(name, known, definition):
 
 
 def of_value(value, definition):
-    """What was probably meant by a value of another form than is due."""
+    """What was probably meant by a value of another form than is expected."""
     if isinstance(value, float):
         return "; numbers are whole, without a point, an exponent or -0"
     if definition == "type":

@@ -1,4 +1,4 @@
-"""What the page's requests are answered: an answer of the program with all that is told of it, and the same
+"""What the page's requests are answered: an answer of the program with all that is reported of it, and the same
 document in another of the forms."""
 import habits
 import hints
@@ -22,7 +22,7 @@ class BadJob(Exception):
 def checked(job):
     """The form and the texts of a request, each of which can be written as UTF-8."""
     if not isinstance(job, dict) or job.get("form") not in FORMS or not isinstance(job.get("parts"), dict):
-        raise BadJob(f"an object is due with `form`, one of {', '.join(FORMS)}, and `parts`, an object")
+        raise BadJob(f"an object is expected with `form`, one of {', '.join(FORMS)}, and `parts`, an object")
     for name, text in job["parts"].items():
         if name not in reading.PARTS + ("document", "tests") or not isinstance(text, str):
             raise BadJob(f"`parts` has texts: document, tests, {', '.join(reading.PARTS)}")
@@ -51,26 +51,26 @@ def words_of(job):
 
 
 def answer(job, program):
-    """The program's answer, what is told of it, and the document that was answered."""
+    """The program's answer, what is reported of it, and the document that was answered."""
     form, parts = checked(job)
     words = words_of(job)
     read = reading.read(form, parts)
-    told = {"faults": read.faults, "notes": list(read.notes), "findings": [], "warnings": [], "policies": {}}
-    told["answer"] = None
-    told["document"] = read.data.decode() if read.data is not None else None
+    reported = {"faults": read.faults, "notes": list(read.notes), "findings": [], "warnings": [], "policies": {}}
+    reported["answer"] = None
+    reported["document"] = read.data.decode() if read.data is not None else None
     if read.data is None:
-        return told
+        return reported
     ran = program.run(words, read.data)
-    told["answer"] = ran._asdict() | {"words": words}
+    reported["answer"] = ran._asdict() | {"words": words}
     if read.document is not None and not ran.limit:
-        told["findings"] = findings_in(ran, words, read, program)
-        told["warnings"] = [warned(one, read) for one in habits.habits_of(read.document)[: placing.MOST]]
-        told["policies"] = placing.named_policies(ran, words, read)
+        reported["findings"] = findings_in(ran, words, read, program)
+        reported["warnings"] = [warned(one, read) for one in habits.habits_of(read.document)[: placing.MOST]]
+        reported["policies"] = placing.named_policies(ran, words, read)
         if job["command"] == "test" and ran.status == 0:
-            told["tests"] = trials.tested(read, parts, program, told["faults"])
+            reported["tests"] = trials.tested(read, parts, program, reported["faults"])
         if words == ["review"] and ran.status == 0:
-            told["review"] = reviewed_table(read, program)
-    return told
+            reported["review"] = reviewed_table(read, program)
+    return reported
 
 
 def reviewed_table(read, program):
@@ -105,8 +105,8 @@ def values_in(status, read):
 def warned(one, read):
     """A warning that is scripts/lint's own."""
     where = read.span(one.path) if one.path else None
-    told = {"severity": one.severity, "kind": one.kind, "text": one.text, "help": one.help, "policy": one.policy}
-    return told | {"hint": one.hint, "at": None, "spans": [where] if where else []}
+    reported = {"severity": one.severity, "kind": one.kind, "text": one.text, "help": one.help, "policy": one.policy}
+    return reported | {"hint": one.hint, "at": None, "spans": [where] if where else []}
 
 
 def converted(job, _):

@@ -20,8 +20,8 @@ function stateOf(entity) {
 }
 
 function boxOf(entity, column) {
-  const told = (row) => clipped(`${row.kept ? "✓" : "✗"} ${row.name}: ${row.value}`, WIDEST);
-  const rows = entity.rows.slice(0, MOST_ROWS).map((row) => ({ kept: row.kept, text: told(row) }));
+  const reported = (row) => clipped(`${row.kept ? "✓" : "✗"} ${row.name}: ${row.value}`, WIDEST);
+  const rows = entity.rows.slice(0, MOST_ROWS).map((row) => ({ kept: row.kept, text: reported(row) }));
   const left = entity.rows.length - rows.length;
   if (left) rows.push({ kept: true, text: `… ${left} more, in the table` });
   const title = clipped(printedId(entity.uid), WIDEST), state = stateOf(entity);
@@ -88,13 +88,13 @@ const scrolled = (name, inner) =>
   el("div", { class: "scroll", tabindex: "0", role: "region", "aria-label": name }, inner);
 
 function listed(items, text) {
-  const told = items.slice(0, 30).map(text).join(", ");
-  return items.length > 30 ? `${told} and ${items.length - 30} more` : told;
+  const reported = items.slice(0, 30).map(text).join(", ");
+  return items.length > 30 ? `${reported} and ${items.length - 30} more` : reported;
 }
 
 function cells(entity, all) {
-  const told = (row) => (row.kept ? `${row.name}: ${row.value}` : row.name);
-  const names = (kept) => listed(entity.rows.filter((row) => row.kept === kept), told);
+  const reported = (row) => (row.kept ? `${row.name}: ${row.value}` : row.name);
+  const names = (kept) => listed(entity.rows.filter((row) => row.kept === kept), reported);
   const ids = (keys) => listed([...keys], (key) => printedId(all.get(key).uid));
   const up = new Set(entity.ancestors);
   const fallen = [...ancestorsOf(entity, all)].filter((key) => !up.has(key));

@@ -70,10 +70,10 @@ function requestType([kind, root], types, isOpen, isOwn) {
     branch(key.literal ? printedId(key.literal) : key.var, node, types.ofKey(key, kind), key.literal ? null : 0, types);
   const tree = el("ul", { class: "tree" }, root.trie.map(begun));
   const name = `${printedId(kind.action)}: ${kind.principal} on ${kind.resource}`;
-  const told = root.trie.length ? `reads to level ${deepest(tree)}` : "reads nothing";
+  const reported = root.trie.length ? `reads to level ${deepest(tree)}` : "reads nothing";
   return el("details", { class: "kind-of-request", open: isOpen },
     el("summary", {}, el("code", {}, name), " ",
-      el("span", { class: "quiet" }, told + (isOwn ? ", the request’s own type" : ""))),
+      el("span", { class: "quiet" }, reported + (isOwn ? ", the request’s own type" : ""))),
     root.trie.length ? tree : el("p", { class: "quiet" }, "The policies read nothing here."));
 }
 

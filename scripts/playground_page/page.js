@@ -7,7 +7,7 @@ import { entityGraph } from "./graph.js";
 import { manifestTrees } from "./manifest.js";
 import { reviewTable } from "./review.js";
 import { testList, testSummary } from "./tests.js";
-import { decisionBox, findingList, noteList, summary } from "./told.js";
+import { decisionBox, findingList, noteList, summary } from "./reported.js";
 import { own, readJson } from "./values.js";
 
 const WAIT = 300;
@@ -165,7 +165,7 @@ class Page {
   fail(text) {
     byId("summary").className = "summary bad";
     byId("summary").textContent = text;
-    byId("told").replaceChildren();
+    byId("reported").replaceChildren();
     byId("written").textContent = "";
   }
 
@@ -191,7 +191,7 @@ class Page {
     const [kind, text] = reply.tests ? testSummary(reply.tests) : summary(reply, decision, document, this.about);
     byId("summary").className = `summary ${kind}`;
     byId("summary").textContent = text;
-    const told = [
+    const reported = [
       findingList("Faults", reply.faults, this),
       findingList("Findings", reply.findings, this),
       decision ? decisionBox(decision, reply.policies, this) : null,
@@ -202,7 +202,7 @@ class Page {
       findingList("Likely mistakes, by scripts/lint", reply.warnings, this),
       noteList(reply.notes, this),
     ];
-    byId("told").replaceChildren(...told.filter(Boolean));
+    byId("reported").replaceChildren(...reported.filter(Boolean));
     this.write(answer);
     this.underline(reply, decision);
   }
@@ -215,8 +215,8 @@ class Page {
 
   // Underlines what the answer is about, and says at each tab how much.
   underline(reply, decision) {
-    const told = [...reply.faults, ...reply.findings, ...reply.warnings];
-    const found = told.flatMap((one) => one.spans.map((span) => ({ ...span, kind: one.severity || "error" })));
+    const reported = [...reply.faults, ...reply.findings, ...reply.warnings];
+    const found = reported.flatMap((one) => one.spans.map((span) => ({ ...span, kind: one.severity || "error" })));
     const reasons = (decision ? decision.reasons : []).map((id) => own(reply.policies, id)).filter(Boolean);
     const marked = [...found, ...reasons.map((span) => ({ ...span, kind: "reason" }))];
     for (const [part, editor] of this.editors) {

@@ -1,4 +1,4 @@
-"""What the program has written, taken apart into findings, each with the places that it is about. What is told is
+"""What the program has written, taken apart into findings, each with the places that it is about. What is reported is
 what was written; where a document's own expressions have no places, the program is asked once more for them."""
 import json
 import re
@@ -12,7 +12,7 @@ from playground_page.spans import span
 FINDING = re.compile(r"(error|warning) (\w+)(?: at (\d+)\.\.(\d+))?: (.*)")
 POLICY = re.compile(r"for policy `(.*?)`[,:] ")
 LAST = re.compile(r"errors (\d+), warnings (\d+)")
-MOST = 200  # so many findings are told, and so many places of one
+MOST = 200  # so many findings are reported, and so many places of one
 
 
 def has_findings(words, status):
@@ -20,14 +20,14 @@ def has_findings(words, status):
 
 
 def taken_apart(text):
-    """The findings of a text, in its order; None where they can't be told apart, as ids may hold line ends."""
+    """The findings of a text, in its order; None where they can't be reported apart, as ids may hold line ends."""
     found, lines = [], text.rstrip("\n").split("\n")
     for line in lines[:-1]:
         match = FINDING.fullmatch(line)
         if match:
-            severity, kind, start, end, told = match.groups()
+            severity, kind, start, end, reported = match.groups()
             at = [int(start), int(end)] if start else None
-            found.append({"severity": severity, "kind": kind, "at": at, "text": told, "help": None})
+            found.append({"severity": severity, "kind": kind, "at": at, "text": reported, "help": None})
         elif found and line.startswith("  help: "):
             found[-1]["help"] = line[len("  help: ") :]
         elif found:

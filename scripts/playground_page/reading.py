@@ -24,11 +24,11 @@ class CedarTexts:
         }
         self.made = files.make(given)
         report = self.made.report
-        self.faults = [told(*one) for one in report.refused.values() if one]
+        self.faults = [reported(*one) for one in report.refused.values() if one]
         more = len(report.refused) - len(self.faults)
         if more:
             self.faults.append({"text": f"{more} more", "place": "", "spans": []})
-        self.notes = [told(*one) for one in report.notes.values()]
+        self.notes = [reported(*one) for one in report.notes.values()]
         self.document = self.value = None if report.refused else self.made.document
         self.data = documents.text_of(self.document).encode() if self.document is not None else None
         self.policies = {policy.name: policy for policy in self.made.policies}
@@ -74,7 +74,7 @@ def placed(place):
     return span(place.source.name, place.source.text, place.offset())
 
 
-def told(place, text):
+def reported(place, text):
     """What a report says at a place."""
     inside = str(place)[len(place.short()) + 2 :]
     return {"text": text, "place": inside, "spans": [placed(place)]}

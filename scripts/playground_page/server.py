@@ -98,7 +98,7 @@ class Handler(BaseHTTPRequestHandler):
             self.pass_over()
         except (ConnectionError, TimeoutError, socket.timeout):
             raise
-        except Exception as fault:  # whatever it is, the page is told
+        except Exception as fault:  # whatever it is, the page is reported
             status, kind = 500, "application/json"
             body = as_json({"refused": f"this page has a fault of its own: {type(fault).__name__}"})
         self.send(status, kind, body)
@@ -186,5 +186,5 @@ class Handler(BaseHTTPRequestHandler):
         pass
 
 
-def as_json(told):
-    return json.dumps(told, ensure_ascii=False, separators=(",", ":")).encode()
+def as_json(reported):
+    return json.dumps(reported, ensure_ascii=False, separators=(",", ":")).encode()

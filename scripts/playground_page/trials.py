@@ -4,7 +4,7 @@ from cedar.places import Source
 from findings import Broken
 from habits import is_template
 
-from playground_page.reading import CedarTexts, placed, told
+from playground_page.reading import CedarTexts, placed, reported
 
 NONE = "Tests are for Cedar’s text and JSON: a list in the part `tests`, as in docs/FROM_CEDAR.md."
 
@@ -18,7 +18,7 @@ def tested(read, parts, program, faults):
     reader = cases.Reader(read.made, given)
     found = reader.cases(Source("tests", text))
     if read.made.report.refused:
-        faults += [told(*one) for one in read.made.report.refused.values() if one]
+        faults += [reported(*one) for one in read.made.report.refused.values() if one]
         return {"refused": "The tests are not read."}
     policies = read.document.get("policies", [])
     coverage = cases.Coverage([policy["id"] for policy in policies if not is_template(policy)])

@@ -18,7 +18,7 @@ MEMORY = 2 << 30
 
 
 def replied(path, body, program):
-    """The status and what is answered; a fault is told by its name."""
+    """The status and what is answered; a fault is reported by its name."""
     try:
         return 200, WORK[path](json.loads(body), program)
     except BadJob as why:
@@ -27,12 +27,12 @@ def replied(path, body, program):
         return 422, {"refused": "this nests too deep, or is too large, to be read here"}
     except ValueError:
         return 400, {"refused": "the body is no JSON"}
-    except Exception as fault:  # whatever it is, the page is told
+    except Exception as fault:  # whatever it is, the page is reported
         return 500, {"refused": f"this page has a fault of its own: {type(fault).__name__}"}
 
 
-def written(status, told):
-    body = json.dumps(told, ensure_ascii=False, separators=(",", ":")).encode(errors="replace")
+def written(status, reported):
+    body = json.dumps(reported, ensure_ascii=False, separators=(",", ":")).encode(errors="replace")
     sys.stdout.buffer.write(f"{status} {len(body)}\n".encode() + body)
     sys.stdout.buffer.flush()
 
@@ -43,8 +43,8 @@ def main(words):
     sys.setrecursionlimit(10000)
     for line in iter(sys.stdin.buffer.readline, b""):
         path, length = line.decode().split()
-        status, told = replied(path, sys.stdin.buffer.read(int(length)), program)
-        written(status, told)
+        status, reported = replied(path, sys.stdin.buffer.read(int(length)), program)
+        written(status, reported)
 
 
 if __name__ == "__main__":

@@ -26,10 +26,10 @@ def answers(program, name, documents, commands):
     """What is wrong with the answers of documents that say the same."""
     for command in commands:
         found = {form: run(program, command, document) for form, document in documents.items()}
-        due = found["by hand"]
+        expected = found["by hand"]
         for form, answer in found.items():
-            if answer != due and (form == "JSON" or without_places(answer) != without_places(due)):
-                yield f"{name}: {' '.join(command)} {form}: {answer}, by hand: {due}"
+            if answer != expected and (form == "JSON" or without_places(answer) != without_places(expected)):
+                yield f"{name}: {' '.join(command)} {form}: {answer}, by hand: {expected}"
 
 
 def test(program):

@@ -51,7 +51,7 @@ def test(program):
         found = [(line.split(": ")[0].partition(":")[2], marked(lines, i)) for i, line in enumerate(lines) if f" error {kind}: " in line]
         found = [(at.rpartition("policies:")[2], mark) for at, mark in found]
         if status != 1 or (place, snippet) not in found:
-            wrong.append(f"{text}: {place} {snippet} is due: {lines}")
+            wrong.append(f"{text}: {place} {snippet} is expected: {lines}")
     others = (
         (["check"], {"policies": SCOPES, "links": LINKS}, 1, "policies:2:22: error UnrecognizedEntityType: for policy `policy1`"),
         (["check"], {"policies": SCOPES, "links": LINKS}, 1, "policies:2:1: error InvalidActionApplication: for policy `policy1`"),
@@ -62,8 +62,8 @@ def test(program):
         (["nothing"], {}, 2, "usage: "),
         (["manifest"], {}, 0, "{\"perAction\":[]}"),
     )
-    for command, given, due, text in others:
+    for command, given, expected, text in others:
         status, lines = explained(program, command, {"schema": SCHEMA, **given})
-        if status != due or not any(text in line for line in lines):
-            wrong.append(f"{command}: {due} {text} is due: {status} {lines}")
+        if status != expected or not any(text in line for line in lines):
+            wrong.append(f"{command}: {expected} {text} is expected: {status} {lines}")
     return len(CONDITIONS) + len(others), wrong

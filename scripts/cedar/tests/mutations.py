@@ -62,7 +62,7 @@ def tried(program, given, answered):
             return (None if placed else f"a line without a place: {made.lines}"), False
         document = text_of(made)
         for part in to_command.PARTS:
-            to_command.told(part, lambda d, p=part: to_command.PARTS[p](d, False), made.document)
+            to_command.reported(part, lambda d, p=part: to_command.PARTS[p](d, False), made.document)
         if answered:
             status, answer = run(program, ["check"], document)
             str(explain.run(program, ["check"], made))

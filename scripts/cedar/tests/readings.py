@@ -1,4 +1,4 @@
-"""What texts are read as: conditions, scopes and schemas with what is due by hand; texts of extension
+"""What texts are read as: conditions, scopes and schemas with what is expected by hand; texts of extension
 values, which the program takes or not."""
 import json
 
@@ -110,24 +110,24 @@ VALUES = {
 
 
 def conditions():
-    for text, due in CONDITIONS:
-        yield f"permit (principal, action, resource) when {{ {text} }};", {"body": [{"when": json.loads(due)}]}
-    for text, due in SCOPES:
-        yield f"permit ({text});", json.loads(due)
+    for text, expected in CONDITIONS:
+        yield f"permit (principal, action, resource) when {{ {text} }};", {"body": [{"when": json.loads(expected)}]}
+    for text, expected in SCOPES:
+        yield f"permit ({text});", json.loads(expected)
 
 
 def test(program):
     wrong, count = [], 0
-    for text, due in conditions():
+    for text, expected in conditions():
         count += 1
         made = make({"schema": SCHEMA, "policies": text})
-        if made.lines or plain(made.document["policies"]) != [{"id": "policy0", "effect": "permit", **due}]:
+        if made.lines or plain(made.document["policies"]) != [{"id": "policy0", "effect": "permit", **expected}]:
             wrong.append(f"{text}: {made.lines} {plain(made.document['policies'])}")
-    for text, due in SCHEMAS:
+    for text, expected in SCHEMAS:
         count += 1
         made = make({"schema": text})
         refused = any("refused" in line for line in made.lines)
-        if refused != (due is None) or due and made.document["schema"] != json.loads(due):
+        if refused != (expected is None) or expected and made.document["schema"] != json.loads(expected):
             wrong.append(f"{text}: {made.lines} {json.dumps(made.document)}")
     for function, texts in VALUES.items():
         for text in texts.split():

@@ -1,4 +1,4 @@
-"""What is refused: files with a fault each, the place that is told, and words of the text."""
+"""What is refused: files with a fault each, the place that is reported, and words of the text."""
 import json
 
 from cedar.tests.shared import make
@@ -262,7 +262,7 @@ LINKS = (
     ('[{"template_id": "policy1", "link_id": "policy0", "args": {"?principal": "User::\\"a\\""}}]', "1:2: [0]", "two policies have the id `policy0`"),
     ('[{"template_id": "policy1", "link_id": 1, "args": {}}]', "1:40: [0].link_id", "expected a text"),
 )
-# Files with several faults: all are told, and nothing that follows from one of them alone.
+# Files with several faults: all are reported, and nothing that follows from one of them alone.
 SEVERAL = (
     ("policies", "permit (principal, action, resource) when { 1 = 2 } unless { principal.in } when { {a: 1}.a == };", 3),
     ("policies", "permit (principal, action, resource) when { (1 + } when { true };\n" + when("'a'"), 2),

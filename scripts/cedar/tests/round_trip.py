@@ -19,7 +19,7 @@ def to_cedar(d, as_json):
 
 
 NO_FORM = "{}: not of the document's form"
-# What Cedar has no words for: a part, members of the document, and words of what is told.
+# What Cedar has no words for: a part, members of the document, and words of what is reported.
 UNSAYABLE = (
     (
         "policies",
@@ -88,7 +88,7 @@ INSTANTS = (0, -1, 1, 86399999, -62167219200000, -62135596800001, -6213559680000
 
 
 def unsayable():
-    """What is wrong with what is told of documents that Cedar can't say."""
+    """What is wrong with what is reported of documents that Cedar can't say."""
     for part, members, words in UNSAYABLE:
         for as_json in (False, True):
             d = {"schema": {}, **members}
@@ -113,9 +113,9 @@ def instants(program):
             "entities": [{"id": ["U", "a"], "attrs": {"t": {"datetime": milliseconds}}}],
             "request": {"principal": ["U", "a"], "action": ["Action", "a"], "resource": ["U", "b"], "context": {}},
         }
-        due, back = run(program, ["slice"], json.dumps(d).encode()), text_of(make(to_cedar(d, True)))
-        if due[0] != 0 or run(program, ["slice"], back) != due:
-            yield f"{milliseconds}: {due}: {back}"
+        expected, back = run(program, ["slice"], json.dumps(d).encode()), text_of(make(to_cedar(d, True)))
+        if expected[0] != 0 or run(program, ["slice"], back) != expected:
+            yield f"{milliseconds}: {expected}: {back}"
 
 
 def test(program):
@@ -131,13 +131,13 @@ def test(program):
             continue
         given = json.dumps(d).encode()
         for command in COMMANDS:
-            due = run(program, command, given)
-            if command == ["decide"] and due[0] == 0:
+            expected = run(program, command, given)
+            if command == ["decide"] and expected[0] == 0:
                 decided += 1
             for form, made in back.items():
                 answer = run(program, command, text_of(made))
-                if answer != due and (form == "JSON" or without_places(answer) != without_places(due)):
-                    wrong.append(f"{seed} {form} {' '.join(command)}: {answer}, and {due} is due")
+                if answer != expected and (form == "JSON" or without_places(answer) != without_places(expected)):
+                    wrong.append(f"{seed} {form} {' '.join(command)}: {answer}, and {expected} is expected")
     if decided < ANSWERED // 3:
         wrong.append(f"of {ANSWERED} documents no more than {decided} are decided")
     return DOCUMENTS + len(UNSAYABLE) + len(INSTANTS), wrong

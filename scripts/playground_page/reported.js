@@ -1,4 +1,4 @@
-// What is told of an answer: one sentence, the findings with their lines, the decision with its reasons.
+// What is reported of an answer: one sentence, the findings with their lines, the decision with its reasons.
 import { counted, el } from "./dom.js";
 import { own } from "./values.js";
 
@@ -30,8 +30,8 @@ export function summary(reply, decision, document, about) {
   }
   if (answer.status !== 1) return ["bad", STATUS[answer.status] || `The program ended with status ${answer.status}.`];
   const errors = findings.filter((finding) => finding.severity === "error").length;
-  const told = findings.length ? `: ${counted(errors, "error", "errors")}${warned(findings.length - errors)}` : "";
-  return ["bad", `The policies are refused${told}.`];
+  const reported = findings.length ? `: ${counted(errors, "error", "errors")}${warned(findings.length - errors)}` : "";
+  return ["bad", `The policies are refused${reported}.`];
 }
 
 const warned = (count) => (count ? `, ${counted(count, "warning", "warnings")}` : "");
@@ -105,7 +105,7 @@ function item(finding, page) {
 // A list with its title; nothing where the list is empty.
 export function findingList(title, found, page) {
   if (!found.length) return null;
-  const left = `The first ${found.length} are told; all stand below, as the program wrote them.`;
+  const left = `The first ${found.length} are reported; all stand below, as the program wrote them.`;
   return el("section", {}, el("h3", {}, title),
     el("ol", { class: "findings" }, found.map((finding) => item(finding, page))),
     found.length >= MOST ? el("p", {}, left) : null);
@@ -120,10 +120,10 @@ function policyItem(id, page, spans, text) {
 // What was left away or added where Cedar's texts were read.
 export function noteList(found, page) {
   if (!found.length) return null;
-  const told = (note) => el("li", {}, note.spans.map((span) => goTo(span, page)), " ", note.text);
+  const reported = (note) => el("li", {}, note.spans.map((span) => goTo(span, page)), " ", note.text);
   return el("details", { class: "notes" },
     el("summary", {}, `${counted(found.length, "note", "notes")} on how Cedar’s texts were read`),
-    el("ul", {}, found.map(told)));
+    el("ul", {}, found.map(reported)));
 }
 
 // The policies behind a decision, and those that failed.
