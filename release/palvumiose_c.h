@@ -14,7 +14,7 @@ extern "C" {
  *
  * `command` is the words that would stand behind the program's name, with a zero byte between two of them,
  * as `decide`, or `level`, a zero byte and `2`. `document` is the bytes that the program would read. `out`
- * gets the text, or its front where `out` is shorter; behind the text `out` stays as it was. `size` gets the
+ * gets the text, or its prefix where `out` is shorter; behind the text `out` stays as it was. `size` gets the
  * size of the whole text: where it is more than `out` has room for, call again with that much room. The
  * result is the program's status. It is never 8 or 9, since nothing is read or written outside; 10 says that
  * memory ran out, and then there is no text.
