@@ -1,5 +1,5 @@
 -- Expressions without slots, each record of which has a key once.
-use Rattle.std.proofs.Common.{◌≡◌, Bool, true, false, ◌||◌, refl}
+use Rattle.std.proofs.Common.{◌≡◌, false, ◌||◌}
 use Rattle.policy_expressions.specs.Slots.{has_slot, some_has_slot, some_named_has_slot}
 use Rattle.policy_expressions.specs.Tree.{Tree, lit, var, slot, ite, conj, disj, unary, binary, attr, has, like, is_type, call, set, rec, Trees, no_trees, tree, Named, no_named, named}
 use Rattle.policy_expressions.specs.Keys.{IsFresh, HasKeysOnce, HaveKeysOnce, AreKeysOnce}

@@ -1,5 +1,5 @@
 -- The types that expressions have.
-use Rattle.std.proofs.Common.{◌≡◌, inr, ℕ, Bool, true, false, ◌&&◌, List, [], ◌∷◌, is_some, IsTrue, Result, Ok, Err, cond, refl, sym, subst, IfOk, IfSome}
+use Rattle.std.proofs.Common.{◌≡◌, inr, ℕ, Bool, true, false, List, [], ◌∷◌, is_some, IsTrue, Result, Ok, Err, cond, refl, sym, subst, IfOk, IfSome}
 use Rattle.std.specs.Prelude.{option_map}
 use Rattle.std.specs.Result.{result_ok}
 use Rattle.std.proofs.lemmas.Map.Lookups.{exact_bytes}

@@ -1,12 +1,19 @@
 -- Expressions have one shape exactly where they are the same without their marks.
-use Rattle.std.proofs.Common.{◌≡◌, ◌+◌, max, ◌&&◌, ap, refl, sym, ◌∙◌}
+use Rattle.std.proofs.Common.{◌≡◌, ◌+◌, max, Bool, false, ◌&&◌, ap, refl, sym, subst, ◌∙◌}
 use Rattle.std.specs.Bool.{Decides}
 use Rattle.std.specs.Cmp.{IsEquivalence, unsigned_Decides, decided, on_equiv}
 use Rattle.std.proofs.lemmas.Bool.Decides.{Decides-and, Decides-like}
+use Rattle.plain_lemmas.proofs.Booleans.{equal_by_both_ways}
+use Rattle.std.specs.Coded.{Coded}
 use base.Stored.{Gv, gnil, gnum, gcons}
+use Rattle.policy_expressions.specs.contracts.kinds.Literal.{the_row as literals}
+use Rattle.policy_expressions.specs.contracts.kinds.Var.{the_row as variables}
+use Rattle.policy_expressions.specs.contracts.kinds.SlotId.{the_row as slots}
+use Rattle.policy_expressions.specs.contracts.kinds.UnaryOp.{the_row as unary_operators}
+use Rattle.policy_expressions.specs.contracts.kinds.BinaryOp.{the_row as binary_operators}
 use Rattle.policy_expressions.specs.Tree.{Tree, lit, var, slot, ite, conj, disj, unary, binary, attr, has, like, is_type, call, set, rec, Trees, no_trees, tree, Named, no_named, named, depth_of, deepest, deepest_named}
 use Rattle.policy_expressions.specs.Shape.{SameShape, SameShapes, SameNamed}
-use Rattle.typing_spec.specs.Bare.{bare, bare_trees, bare_named, coded_plain, same_stored, same_tree}
+use Rattle.typing_spec.specs.Bare.{bare, bare_trees, bare_named, coded_plain, same_stored, is_same, coded_text, coded_pattern, same_tree, same_trees, same_named}
 use Rattle.policy_expressions.specs.Plain.{unmarked}
 
 module _ {A B : Type 0} where
@@ -58,7 +65,7 @@ module _ {A B : Type 0} where
     same_shape (is_type x s a) (is_type u t b) p = (same_shape x u (cc), cc)
     same_shape (call f xs a) (call g us b) p = (cc, same_shapes xs us (cc))
     same_shape (set xs a) (set us b) p = same_shapes xs us (cc)
-    same_shape (rec xs a) (rec us b) p = same_named xs us (cc)
+    same_shape (rec xs a) (rec us b) p = named_same xs us (cc)
     same_shape x u p = cc
 
     pub same_shapes : (xs : Trees A) (us : Trees B) → bare_trees xs ≡ bare_trees us → SameShapes xs us
@@ -66,10 +73,10 @@ module _ {A B : Type 0} where
     same_shapes (tree x xs) (tree u us) p = (same_shape x u (cc), same_shapes xs us (cc))
     same_shapes xs us p = cc
 
-    pub same_named : (xs : Named A) (us : Named B) → bare_named xs ≡ bare_named us → SameNamed xs us
-    same_named no_named no_named p = tt
-    same_named (named m x xs) (named n u us) p = (cc, same_shape x u (cc), same_named xs us (cc))
-    same_named xs us p = cc
+    pub named_same : (xs : Named A) (us : Named B) → bare_named xs ≡ bare_named us → SameNamed xs us
+    named_same no_named no_named p = tt
+    named_same (named m x xs) (named n u us) p = (cc, same_shape x u (cc), named_same xs us (cc))
+    named_same xs us p = cc
 
 -- the test on stored trees decides whether they are one
 pub stored_decides : (x y : Gv) → Decides (same_stored x y) (x ≡ y)
@@ -80,19 +87,86 @@ stored_decides (gcons a b) (gcons c d) =
     (Decides-and (same_stored a c) (same_stored b d) (stored_decides a c) (stored_decides b d))
 stored_decides x y = (λ h. absurd (cc), λ h. absurd (cc))
 
+-- the test on stored values decides whether they are one
+pub same_decides : {T : Type 0} (c : Coded T) (x y : T) → Decides (is_same c x y) (x ≡ y)
+same_decides c x y =
+    Decides-like (is_same c x y) (c.inj x y) (ap c.code) (stored_decides (c.code x) (c.code y))
+
+no_match : {P : Type 0} → (P → ⊥) → Decides false P
+no_match n = (λ h. absurd (cc), λ h. absurd (n h))
+
+all_three : {P Q R : Type 0} (x y z : Bool) → Decides x P → Decides y Q → Decides z R →
+    Decides (x && (y && z)) (P × Q × R)
+all_three x y z d k l =
+    Decides-like (x && (y && z)) (λ h. (h.0, h.1.0, h.1.1)) (λ h. (h.0, (h.1, h.2)))
+    (Decides-and x (y && z) d (Decides-and y z k l))
+
 -- the test on expressions decides whether they have one shape
-pub same_tree_decides : {A B : Type 0} → (x : Tree A) (u : Tree B) → Decides (same_tree x u) (SameShape x u)
-same_tree_decides x u =
-    let d = stored_decides (coded_plain.code (bare x)) (coded_plain.code (bare u)) in (
-      λ h. same_shape x u (coded_plain.inj (bare x) (bare u) (d.0 h)),
-      λ h. d.1 (ap coded_plain.code (bare_alike x u h)),
-    )
+module _ {A B : Type 0} where
+  mutual
+    pub same_tree_decides : (x : Tree A) (u : Tree B) → Decides (same_tree x u) (SameShape x u)
+    same_tree_decides (lit l a) (lit m b) = same_decides literals.coded l m
+    same_tree_decides (var v a) (var w b) = same_decides variables.coded v w
+    same_tree_decides (slot i a) (slot j b) = same_decides slots.coded i j
+    same_tree_decides (ite x y z a) (ite u v w b) =
+        all_three (same_tree x u) (same_tree y v) (same_tree z w)
+        (same_tree_decides x u) (same_tree_decides y v) (same_tree_decides z w)
+    same_tree_decides (conj x y a) (conj u v b) =
+        Decides-and (same_tree x u) (same_tree y v) (same_tree_decides x u) (same_tree_decides y v)
+    same_tree_decides (disj x y a) (disj u v b) =
+        Decides-and (same_tree x u) (same_tree y v) (same_tree_decides x u) (same_tree_decides y v)
+    same_tree_decides (unary o x a) (unary p u b) =
+        Decides-and (is_same unary_operators.coded o p) (same_tree x u)
+        (same_decides unary_operators.coded o p) (same_tree_decides x u)
+    same_tree_decides (binary o x y a) (binary p u v b) =
+        all_three (is_same binary_operators.coded o p) (same_tree x u) (same_tree y v)
+        (same_decides binary_operators.coded o p) (same_tree_decides x u) (same_tree_decides y v)
+    same_tree_decides (attr x m a) (attr u n b) =
+        Decides-and (same_tree x u) (is_same coded_text m n) (same_tree_decides x u) (same_decides coded_text m n)
+    same_tree_decides (has x m a) (has u n b) =
+        Decides-and (same_tree x u) (is_same coded_text m n) (same_tree_decides x u) (same_decides coded_text m n)
+    same_tree_decides (like x p a) (like u q b) =
+        Decides-and (same_tree x u) (is_same coded_pattern p q)
+        (same_tree_decides x u) (same_decides coded_pattern p q)
+    same_tree_decides (is_type x s a) (is_type u t b) =
+        Decides-and (same_tree x u) (is_same coded_text s t) (same_tree_decides x u) (same_decides coded_text s t)
+    same_tree_decides (call f xs a) (call g us b) =
+        Decides-and (is_same coded_text f g) (same_trees xs us)
+        (same_decides coded_text f g) (same_trees_decides xs us)
+    same_tree_decides (set xs a) (set us b) = same_trees_decides xs us
+    same_tree_decides (rec xs a) (rec us b) = same_named_decides xs us
+    same_tree_decides x u = no_match (λ h. h)
+
+    same_trees_decides : (xs : Trees A) (us : Trees B) → Decides (same_trees xs us) (SameShapes xs us)
+    same_trees_decides no_trees no_trees = (λ h. tt, λ h. refl)
+    same_trees_decides (tree x xs) (tree u us) =
+        Decides-and (same_tree x u) (same_trees xs us) (same_tree_decides x u) (same_trees_decides xs us)
+    same_trees_decides xs us = no_match (λ h. h)
+
+    same_named_decides : (xs : Named A) (us : Named B) → Decides (same_named xs us) (SameNamed xs us)
+    same_named_decides no_named no_named = (λ h. tt, λ h. refl)
+    same_named_decides (named m x xs) (named n u us) =
+        all_three (is_same coded_text m n) (same_tree x u) (same_named xs us)
+        (same_decides coded_text m n) (same_tree_decides x u) (same_named_decides xs us)
+    same_named_decides xs us = no_match (λ h. h)
 
 pub same_stored_equiv : IsEquivalence same_stored
 same_stored_equiv = decided same_stored stored_decides
 
+bare_equiv : {A : Type 0} → IsEquivalence (λ (x y : Tree A). is_same coded_plain (bare x) (bare y))
+bare_equiv = on_equiv (λ x. coded_plain.code (bare x)) same_stored_equiv
+
+-- the test on expressions is that on what they are without marks
+same_bare : {A : Type 0} → (x y : Tree A) → same_tree x y ≡ is_same coded_plain (bare x) (bare y)
+same_bare x y =
+    let d = same_tree_decides x y in
+    let e = same_decides coded_plain (bare x) (bare y) in
+    equal_by_both_ways (same_tree x y) (is_same coded_plain (bare x) (bare y))
+    (λ h. e.1 (bare_alike x y (d.0 h))) (λ h. d.1 (same_shape x y (e.0 h)))
+
 pub same_tree_equiv : {A : Type 0} → IsEquivalence (same_tree {A = A} {B = A})
-same_tree_equiv = on_equiv (λ x. coded_plain.code (bare x)) same_stored_equiv
+same_tree_equiv {A} =
+    subst IsEquivalence (sym (λ i x y. same_bare x y i)) (bare_equiv {A = A})
 
 module _ {A : Type 0} where
   mutual

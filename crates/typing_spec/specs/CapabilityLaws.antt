@@ -8,27 +8,34 @@ use Rattle.std.proofs.lemmas.Map.Steps.{list_any_congr}
 use Rattle.std.proofs.lemmas.Cmp.{and_equiv}
 use Rattle.std.specs.Hash as fed
 use Rattle.std.specs.Hash.DefaultHasher as sip
-use Rattle.typing_spec.specs.Bare.{same_tree}
-use Rattle.typing_spec.specs.BareLaws.{bare_alike, same_shape, stored_decides, same_stored_equiv, same_tree_decides, same_tree_equiv}
+use Rattle.typing_spec.specs.Bare.{coded_text, same_tree}
+use Rattle.typing_spec.specs.BareLaws.{same_decides, same_stored_equiv, same_tree_decides, same_tree_equiv}
 use Rattle.typing_spec.specs.PathLaws.{same_path}
-use Rattle.typing_spec.specs.Capability.{Access, Attribute, Tag, Capability, SameAccess, AreAlike, IsKnown, coded_access, bare_access, same_access, is_alike, has_cap, common, is_covered, same_known, access_fed, capability_fed, print_of}
-
-access_alike : (x y : Access) → SameAccess x y → bare_access x ≡ bare_access y
-access_alike (Attribute m) (Attribute n) h = ap Attribute h
-access_alike (Tag k) (Tag l) h = ap Tag (bare_alike k l h)
-access_alike x y h = absurd h
-
-same_accesses : (x y : Access) → bare_access x ≡ bare_access y → SameAccess x y
-same_accesses (Attribute m) (Attribute n) p = cc
-same_accesses (Tag k) (Tag l) p = same_shape k l (cc)
-same_accesses x y p = cc
+use Rattle.typing_spec.specs.Capability.{Access, Attribute, Tag, Capability, SameAccess, AreAlike, IsKnown, same_access, is_alike, has_cap, common, is_covered, same_known, access_fed, capability_fed, print_of}
 
 pub same_access_decides : (x y : Access) → Decides (same_access x y) (SameAccess x y)
-same_access_decides x y =
-    let d = stored_decides (coded_access.code (bare_access x)) (coded_access.code (bare_access y)) in (
-      λ h. same_accesses x y (coded_access.inj (bare_access x) (bare_access y) (d.0 h)),
-      λ h. d.1 (ap coded_access.code (access_alike x y h)),
-    )
+same_access_decides (Attribute m) (Attribute n) = same_decides coded_text m n
+same_access_decides (Tag k) (Tag l) = same_tree_decides k l
+same_access_decides x y = (λ h. absurd (cc), λ h. absurd h)
+
+same_access_symm : (x y : Access) → same_access x y ≡ same_access y x
+same_access_symm (Attribute m) (Attribute n) = same_stored_equiv.symm (coded_text.code m) (coded_text.code n)
+same_access_symm (Tag k) (Tag l) = same_tree_equiv.symm k l
+same_access_symm (Attribute m) (Tag l) = refl
+same_access_symm (Tag k) (Attribute n) = refl
+
+same_access_trans : (x y z : Access) → same_access x y ≡ true → same_access y z ≡ true → same_access x z ≡ true
+same_access_trans (Attribute m) (Attribute n) (Attribute o) h g =
+    same_stored_equiv.congr (coded_text.code m) (coded_text.code n) (coded_text.code o) h ∙ g
+same_access_trans (Tag k) (Tag l) (Tag m) h g = same_tree_equiv.congr k l m h ∙ g
+same_access_trans x y z h g = cc
+
+same_access_refl : (x : Access) → same_access x x ≡ true
+same_access_refl (Attribute n) = same_stored_equiv.refl (coded_text.code n)
+same_access_refl (Tag k) = same_tree_equiv.refl k
+
+same_access_equiv : IsEquivalence same_access
+same_access_equiv = equiv (record { symm = same_access_symm; trans = same_access_trans }) same_access_refl
 
 pub alike_decides : (k m : Capability) → Decides (is_alike k m) (AreAlike k m)
 alike_decides k m =
@@ -38,7 +45,7 @@ alike_decides k m =
 pub alike_equiv : IsEquivalence is_alike
 alike_equiv =
     and_equiv (on_equiv (λ k. k.on) same_tree_equiv)
-    (on_equiv (λ k. coded_access.code (bare_access k.what)) same_stored_equiv)
+    (on_equiv (λ k. k.what) same_access_equiv)
 
 -- the test for known capabilities decides whether they are known
 pub known_decides : (cs : List Capability) (k : Capability) → Decides (has_cap cs k) (IsKnown cs k)

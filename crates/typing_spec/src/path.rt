@@ -30,9 +30,10 @@ pub(crate) fn feed_path<H: Hasher>(e: &Expr<()>, state: &mut H)
             n.hash(state);
         }
         ExprKind::UnaryApp(_, x) | ExprKind::Like(x, _) | ExprKind::Is(x, _) => feed_path(x, state),
-        ExprKind::Slot(_) | ExprKind::ExtensionFunctionApp(_, _) | ExprKind::Set(_) | ExprKind::Record(_) => {
-            state.write_u32(e.depth())
-        }
+        ExprKind::Slot(_)
+        | ExprKind::ExtensionFunctionApp(_, _)
+        | ExprKind::Set(_)
+        | ExprKind::Record(_) => { state.write_u32(e.depth()) }
     }
 }
 
