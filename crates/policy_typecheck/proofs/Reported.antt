@@ -16,7 +16,6 @@ use Rattle.policy_set.specs.declared.constraint.ActionConstraint.TheVariants.{An
 use Rattle.plain_lemmas.proofs.Booleans.{and_parts_of}
 use Rattle.policy_scope.specs.PlainScope.{is_plain_scope, is_plain_side}
 use Rattle.findings.specs.declared.error.ValidationError.{ValidationError}
-use Rattle.findings.specs.contracts.error.ValidationErrorEq.TheImpl.Laws.{laws-law}
 use Rattle.typecheck_rules.specs.Check.{Check, Success, Irrelevant, Fail, TooDeep, check_of, check_walked}
 use Rattle.typecheck_rules.specs.Walked as walk
 use Rattle.typecheck_rules.specs.Walked.{Walked, findings_of}
@@ -31,6 +30,7 @@ use Rattle.typecheck_walk.specs.Answer.{Reports, errors_of, too_deep}
 use Rattle.policy_typecheck.specs.NoAction.{names_no_action}
 use Rattle.policy_typecheck.specs.Policies.{passes, is_irrelevant, is_too_deep, checks_of, refusals, is_accepted, is_impossible}
 use Rattle.policy_typecheck.specs.Reported.{Reported, reported_by, reported, all_reported, condition_check}
+use Rattle.policy_typecheck.proofs.Same.{error_laws}
 use Rattle.policy_typecheck.proofs.Lists.{once_added}
 
 -- in code as by the definitions
@@ -47,7 +47,7 @@ and_again false b = refl
 
 reported_step : (id : List ℕ) → IsStep (reported id)
 reported_step id = record {
-  once = λ c s. λ j. (record { accepted = and_again (passes c) s.0.accepted j; impossible = and_again (is_irrelevant c) s.0.impossible j }, once_added same_error laws-law s.1 (errors_of id c) j);
+  once = λ c s. λ j. (record { accepted = and_again (passes c) s.0.accepted j; impossible = and_again (is_irrelevant c) s.0.impossible j }, once_added same_error error_laws s.1 (errors_of id c) j);
   skips = λ x s. refl;
   same = λ p w s. same_asked (λ c. reported id c s) ((λ x y. refl), (λ x y. refl)) p w;
 }

@@ -1,17 +1,18 @@
 -- Lists that grow by what they do not hold.
 use Rattle.std.specs.Prelude.{Bool, List, [], ◌∷◌, ◌++◌, fold, if◌then◌else◌}
 use Rattle.std.specs.List.{list_any}
+use Rattle.typing_spec.specs.Bare.{is_same}
 use Rattle.findings.specs.declared.error.ValidationError.{ValidationError}
 use Rattle.findings.specs.declared.error.ValidationWarning.{ValidationWarning}
-use Rattle.findings.specs.contracts.error.ValidationErrorPartialEq.TheImpl as error
-use Rattle.findings.specs.contracts.error.ValidationWarningPartialEq.TheImpl as warning
+use Rattle.findings.specs.contracts.error.ValidationError.{the_row as errors}
+use Rattle.findings.specs.contracts.error.ValidationWarning.{the_row as warnings}
 
--- whether two are equal: in all that they say
+-- whether two are one: the same in all that they say
 abbrev pub same_error : ValidationError → ValidationError → Bool
-same_error = error.ghosts.eq
+same_error = is_same errors.coded
 
 abbrev pub same_warning : ValidationWarning → ValidationWarning → Bool
-same_warning = warning.ghosts.eq
+same_warning = is_same warnings.coded
 
 -- whether a list holds an equal item
 abbrev pub holds : {T : Type 0} → (T → T → Bool) → List T → T → Bool

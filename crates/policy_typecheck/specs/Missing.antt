@@ -2,7 +2,13 @@
 use Rattle.std.specs.Prelude.{◌≡◌, Bool, true, false, List, [], ◌∷◌}
 use Rattle.std.specs.List.{list_any}
 use Rattle.std.specs.Borrow.{Bor}
+use Rattle.findings.specs.declared.error.ValidationError.{ValidationError}
+use Rattle.findings.specs.contracts.error.ValidationErrorPartialEq.TheImpl as error
 use Rattle.policy_typecheck.specs.Added.{holds}
+
+-- whether the code takes two for equal, which is so exactly where they are one
+abbrev pub equal_errors : ValidationError → ValidationError → Bool
+equal_errors = error.ghosts.eq
 
 -- whether a list of given items holds an equal one
 abbrev pub lends : {T : Type 0} → (T → T → Bool) → List (Bor T) → T → Bool

@@ -3,8 +3,9 @@
 ghost use Rattle.std.specs.Prelude.{◌≡◌, ◌++◌, IfOk, OnOk, OnErr, map};
 ghost use Rattle.std.specs.HashSet.{IsUnique};
 ghost use Rattle.policy_typecheck.specs.Added.{added, all_added, holds, same_error, same_warning};
-ghost use Rattle.policy_typecheck.specs.Missing.{lends, GivesSame, unmarked};
+ghost use Rattle.policy_typecheck.specs.Missing.{lends, GivesSame, equal_errors, unmarked};
 
+use finding_laws::laws::{error_equality_is_exact, warning_equality_is_exact};
 use findings::{ValidationError, ValidationWarning};
 use indexmap::IndexSet;
 use std::alloc::{AllocError, Global};
@@ -17,6 +18,7 @@ pub(crate) fn add_warning(
     ensures added { OnOk result (warnings.new.items ≡ added same_warning warnings.old.items warning) }
     ensures unchanged { OnErr result (warnings.new.items ≡ warnings.old.items) }
 {
+    warning_equality_is_exact();
     if warnings.contains(&warning) {
         drop(warning);
         return Ok(());
@@ -44,6 +46,7 @@ fn add_error(
 ) -> Result<(), AllocError>
     ensures { OnOk result (found.new.keys ≡ added same_error found.old.keys error) }
 {
+    error_equality_is_exact();
     found.insert(error)?;
     Ok(())
 }
@@ -57,6 +60,7 @@ pub(crate) fn missing(
     ensures { IfOk result (λ more. errors.now ++ more.items ≡
         all_added same_error errors.now found.keys) }
 {
+    error_equality_is_exact();
     let known = known_among(alloc, errors, &found)?;
     let more = unmarked(alloc, found, known)?;
     Ok(more)
@@ -69,8 +73,8 @@ fn known_among<'a>(
     found: &'a IndexSet<ValidationError>,
 ) -> Result<Vec<bool>, AllocError>
     ensures known { IfOk result (λ known. known.items ≡
-        map (holds same_error errors.now) found.now.keys) }
-    ensures unique { OnOk result (IsUnique same_error found.now) }
+        map (holds equal_errors errors.now) found.now.keys) }
+    ensures unique { OnOk result (IsUnique equal_errors found.now) }
 {
     let held = set_of(alloc, errors)?;
     let mut known = Vec::new(alloc);
@@ -84,7 +88,7 @@ fn set_of<'a>(
     alloc: Global,
     errors: &'a [ValidationError],
 ) -> Result<IndexSet<&'a ValidationError>, AllocError>
-    ensures { IfOk result (λ held. GivesSame same_error held.keys errors.now) }
+    ensures { IfOk result (λ held. GivesSame equal_errors held.keys errors.now) }
 {
     let mut held = IndexSet::new(alloc);
     for error in errors {
@@ -94,7 +98,7 @@ fn set_of<'a>(
 }
 
 fn is_held<'a>(held: &IndexSet<&'a ValidationError>, error: &'a ValidationError) -> bool
-    ensures { result ≡ lends same_error held.now.keys error.now }
+    ensures { result ≡ lends equal_errors held.now.keys error.now }
 {
     held.contains(&error)
 }
