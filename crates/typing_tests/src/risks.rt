@@ -58,28 +58,39 @@ fn resource() -> Part {
     Expr::var(Var::Resource, None, None)
 }
 
-// The risks of the condition, where these are known to be stored.
-fn risks_where<'a>(
-    alloc: Global,
-    stored: &Vec<&'a Part>,
-    condition: &'a Part,
-) -> Result<String, AllocError> {
+// The risks of the condition, where nothing is known to be stored.
+fn risks_alone(alloc: Global, condition: &Part) -> Result<String, AllocError> {
     let manager = manager(alloc)?;
-    let risks = risks_of(alloc, stored, condition)?;
+    let risks = risks_of(alloc, &Vec::new(alloc), condition)?;
     listed(alloc, &risks, &manager, &resource())
 }
 
-// Where nothing is known to be stored.
-fn risks_alone(alloc: Global) -> Result<String, AllocError> {
-    let condition = condition(alloc)?;
-    let none = Vec::new(alloc);
-    risks_where(alloc, &none, &condition)
+// Its risks, where the resource is known to be stored.
+fn risks_with<'a>(
+    alloc: Global,
+    resource: &'a Part,
+    condition: &'a Part,
+) -> Result<String, AllocError> {
+    let manager = manager(alloc)?;
+    let mut stored = Vec::new(alloc);
+    stored.push(resource)?;
+    let risks = risks_of(alloc, &stored, condition)?;
+    listed(alloc, &risks, &manager, resource)
 }
 
 // `has` finds the principal; the manager may be missing, and so may the resource.
 #[test]
 fn risks_are_listed(rt: HostRuntime) -> Result<(), AllocError> {
-    let both = risks_alone(rt.alloc())?;
-    assert_same(&rt, both.as_str(), "missing true false|missing false true|");
+    let condition = condition(rt.alloc())?;
+    let text = risks_alone(rt.alloc(), &condition)?;
+    assert_same(&rt, text.as_str(), "missing true false|missing false true|");
+    Ok(())
+}
+
+#[test]
+fn stored_entities_are_no_risks(rt: HostRuntime) -> Result<(), AllocError> {
+    let condition = condition(rt.alloc())?;
+    let text = risks_with(rt.alloc(), &resource(), &condition)?;
+    assert_same(&rt, text.as_str(), "missing true false|");
     Ok(())
 }
