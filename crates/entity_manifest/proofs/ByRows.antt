@@ -1,9 +1,7 @@
 -- Answers by rows, which never stray.
-use Rattle.std.proofs.Common.{◌≡◌, ℕ, ◌≤◌, List, [], ◌∷◌, Option, Some, None, Result, Ok, Err, refl, subst, arith, inl, inr}
-use Rattle.std.specs.Prelude.{IfOk, IfSome}
+use Rattle.std.proofs.Common.{◌≡◌, ℕ, ◌≤◌, List, [], ◌∷◌, Option, Some, None, refl, arith, inl, inr}
+use Rattle.std.specs.Prelude.{IfSome}
 use Rattle.std.specs.List.{AllZip}
-use Rattle.std.specs.declared.alloc.Global.{Global}
-use Rattle.std.specs.declared.vec.Vec.{Vec}
 use Rattle.byte_streams.specs.Steps.{Rose}
 use Rattle.entity_store.specs.declared.request.Request.{Request}
 use Rattle.entity_store.specs.Store.{Store}
@@ -17,7 +15,7 @@ use Rattle.manifest_computation.specs.Rules.{ReachedConform}
 use Rattle.entity_manifest.specs.declared.answer.BatchAnswer.{BatchAnswer}
 use Rattle.entity_manifest.specs.declared.answer.BatchAnswer.TheVariants.{Partial, Refused, Loading, Decided}
 use Rattle.entity_manifest.specs.Loaded.{IsReported}
-use Rattle.entity_manifest.specs.Answers.{IsLoaderAnswer, AreLoaderAnswers, IsStoreAnswer, IsRowAnswer, is_fault, faults_in, AreCounted}
+use Rattle.entity_manifest.specs.Answers.{IsLoaderAnswer, AreLoaderAnswers, IsRowAnswer}
 use Rattle.entity_manifest.proofs.OneAfterAnother.{goes_on}
 
 -- a loader that never strayed did not stray before

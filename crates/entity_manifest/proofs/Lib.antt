@@ -14,3 +14,4 @@ mod Answered
 mod ByRows
 mod OneAfterAnother
 mod KnownText
+mod OneManifest

@@ -11,9 +11,8 @@ use Rattle.policy_values.specs.Uid.{uid_cmp_total}
 use Rattle.policy_values.specs.Value.{Val}
 use Rattle.entity_store.specs.declared.request.Request.{Request}
 use Rattle.entity_store.specs.declared.request.RequestType.{RequestType}
-use Rattle.entity_store.specs.Request.{request_type_of, request_type_cmp}
+use Rattle.entity_store.specs.Request.{request_type_cmp}
 use Rattle.entity_store.specs.Store.{Store}
-use Rattle.access_tries.specs.Paths.{IsLeast}
 use Rattle.access_tries.specs.Table.{Table}
 use Rattle.policy_set.specs.Response.{outcomes}
 use Rattle.policy_set.specs.Data.{PolicyData}
@@ -38,7 +37,7 @@ use Rattle.entity_manifest.specs.Computed.{ComputedManifestsFit}
 use Rattle.manifest_computation.specs.Enough.{SlicesAreEnough, IsEnough}
 use Rattle.manifest_computation.specs.Laws.{IsTrieFor}
 use Rattle.manifest_computation.specs.Rules.{KeepReachedRules}
-use Rattle.manifest_computation.specs.Slice.{env_of, slice, slice_in}
+use Rattle.manifest_computation.specs.Slice.{slice, slice_in}
 use Rattle.manifest_computation.proofs.Same.{response_same}
 pub use Rattle.manifest_computation.proofs.Covering.{conform_where_reached}
 use Rattle.manifest_computation.proofs.Environments.{are_there}

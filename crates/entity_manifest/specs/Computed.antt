@@ -1,5 +1,5 @@
 -- Loading by computed manifests.
-use Rattle.std.specs.Prelude.{◌≡◌, List, Some, None}
+use Rattle.std.specs.Prelude.{◌≡◌, true, false, List, Some, None}
 use Rattle.byte_streams.specs.Steps.{Rose}
 use Rattle.entity_store.specs.declared.request.Request.{Request}
 use Rattle.entity_store.specs.Store.{Store}
@@ -20,6 +20,7 @@ use Rattle.entity_loading.specs.declared.error.EntitySliceError.{EntitySliceErro
 use Rattle.entity_loading.specs.declared.error.EntitySliceError.TheVariants.{OutOfMemory}
 use Rattle.entity_loading.specs.Blocked.{IsBlocked}
 use Rattle.manifest_core.specs.Manifest.{Manifest, trie_for}
+use Rattle.manifest_core.specs.Same.{same_manifests}
 use Rattle.manifest_computation.specs.Computed.{IsManifestOf}
 use Rattle.manifest_computation.specs.Rules.{ReachedConform}
 use Rattle.entity_manifest.specs.DeclaredPaths.{IsDeclaredTrie}
@@ -63,3 +64,13 @@ ComputedSlicesFit =
     IsManifestOf schema ps m →
     (q : Request) → RequestConforms schema q → (s : Store) → ReachedConform schema ps q s → (t : Table) →
     trie_for m q ≡ Some t → (v : Val) → ¬ IsBlocked t q s v
+
+-- manifests of the same policies are equal
+abbrev pub PoliciesHaveOneManifest : Type 0
+PoliciesHaveOneManifest =
+    (schema : SchemaData) (ps : List PolicyData) (m n : Manifest) →
+    IsManifestOf schema ps m → IsManifestOf schema ps n → same_manifests m n ≡ true
+
+-- no manifest of the policies is equal to the given one
+abbrev pub IsOfOthers : SchemaData → List PolicyData → Manifest → Type 0
+IsOfOthers schema ps given = (m : Manifest) → IsManifestOf schema ps m → same_manifests m given ≡ false

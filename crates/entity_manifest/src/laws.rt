@@ -1,7 +1,9 @@
 //! Laws of loading by computed manifests.
 
-ghost use Rattle.entity_manifest.specs.Computed.{ComputedTriesAreDeclared, ComputedManifestsFit, ComputedSlicesFit, HonestLoadingSucceeds};
+ghost use Rattle.entity_manifest.specs.Computed.{ComputedTriesAreDeclared, ComputedManifestsFit, ComputedSlicesFit, HonestLoadingSucceeds, PoliciesHaveOneManifest};
 ghost use Rattle.entity_manifest.specs.Sticking.{NothingIsBlocked, NothingBlocks};
+
+use access_tries::laws::same_tries_are_equal;
 
 /// A trie of declared paths that asks only ids for ancestors fits what it reaches: where request and store
 /// conform to the schema, no path of it comes to a value from which it cannot go on.
@@ -36,3 +38,10 @@ pub fn honest_loading_succeeds()
 pub fn computed_slices_fit()
     ensures { ComputedSlicesFit }
 {}
+
+/// Manifests of the same policies are equal.
+pub fn policies_have_one_manifest()
+    ensures { PoliciesHaveOneManifest }
+{
+    same_tries_are_equal();
+}

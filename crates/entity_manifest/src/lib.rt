@@ -5,6 +5,7 @@
 
 mod answer;
 pub mod batch_laws;
+mod checked;
 mod decisions;
 pub mod laws;
 mod lines;
@@ -17,6 +18,7 @@ pub use access_tries::{
     AccessPath, AccessTrie, EntityRoot, RootAccessTrie, RootTrieRef, Step, TrieRef,
 };
 pub use answer::BatchAnswer;
+pub use checked::checked_manifest;
 pub use decisions::decide_batch;
 pub use entity_loader::{
     AncestorsRequest, EntityAnswer, EntityLoader, EntityRequest, EntitySlicer, LoadError,

@@ -2,6 +2,7 @@
 
 use crate::manifests::answer_text;
 use crate::texts::{assert_same, document_of, manifest_text};
+use entity_manifest::checked_manifest;
 use manifest_computation::compute_entity_manifest;
 use manifest_core::EntityManifest;
 use std::alloc::{AllocError, Global};
@@ -13,6 +14,10 @@ const NAMES: &str =
 
 const NAMES_READ: &str =
     r#"{"perAction":[[{"action":["Action","view"],"principal":"User","resource":"Photo"},{"trie":[[{"var":"principal"},{"ancestorsTrie":{"trie":[]},"children":[["manager",{"ancestorsTrie":{"trie":[]},"children":[["name",{"ancestorsTrie":{"trie":[]},"children":[],"isAncestor":false}]],"isAncestor":false}]],"isAncestor":false}],[{"var":"resource"},{"ancestorsTrie":{"trie":[]},"children":[["owner",{"ancestorsTrie":{"trie":[]},"children":[["dept",{"ancestorsTrie":{"trie":[]},"children":[],"isAncestor":false}]],"isAncestor":false}]],"isAncestor":false}]]}]]}"#;
+
+// The principal alone is read.
+const PRINCIPAL_READ: &str =
+    r#"{"perAction":[[{"action":["Action","view"],"principal":"User","resource":"Photo"},{"trie":[[{"var":"principal"},{"ancestorsTrie":{"trie":[]},"children":[],"isAncestor":false}]]}]]}"#;
 
 // No attribute is declared; the first ones are; a manager is no entity; there are no photos.
 const NAMES_TYPED: &str =
@@ -103,4 +108,25 @@ fn manifests_are_typed(rt: HostRuntime) -> Result<(), AllocError> {
     assert_lines(&rt, alloc, (NAMES, NAMES_READ), NAMES_TYPED)?;
     assert_typed(&rt, alloc, (TAGS, TAGS_READ), TAGS, TAGS_READ)?;
     assert_lines(&rt, alloc, (TAGS, TAGS_READ), TAGS_TYPED)
+}
+
+// Whether the manifest that a text says is that of a document's policies.
+fn is_of_policies(alloc: Global, text: &str, policies: &str) -> Result<bool, AllocError> {
+    let document = document_of(alloc, policies)?;
+    let given = EntityManifest::from_json_str(alloc, text, &document.schema);
+    let given = given.ok().ok_or(AllocError)?;
+    match checked_manifest(alloc, &document.schema, &document.policies, &given) {
+        Ok(Some(_)) => Ok(true),
+        Ok(None) => Ok(false),
+        Err(_) => Err(AllocError),
+    }
+}
+
+#[test]
+fn manifests_are_of_policies(rt: HostRuntime) -> Result<(), AllocError> {
+    let own = is_of_policies(rt.alloc(), NAMES_READ, NAMES)?;
+    let other = is_of_policies(rt.alloc(), PRINCIPAL_READ, NAMES)?;
+    assert_same(&rt, if own { "its own" } else { "another's" }, "its own");
+    assert_same(&rt, if other { "its own" } else { "another's" }, "another's");
+    Ok(())
 }

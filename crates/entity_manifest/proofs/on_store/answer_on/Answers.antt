@@ -1,4 +1,3 @@
-use Rattle.std.proofs.Common.{◌∙◌}
 use Rattle.entity_manifest.proofs.on_store.answer_on.Goals as goal
 
 pub returns-in-Ok : goal.returns-in-Ok
