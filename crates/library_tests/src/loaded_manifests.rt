@@ -127,6 +127,10 @@ fn manifests_are_of_policies(rt: HostRuntime) -> Result<(), AllocError> {
     let own = is_of_policies(rt.alloc(), NAMES_READ, NAMES)?;
     let other = is_of_policies(rt.alloc(), PRINCIPAL_READ, NAMES)?;
     assert_same(&rt, if own { "its own" } else { "another's" }, "its own");
-    assert_same(&rt, if other { "its own" } else { "another's" }, "another's");
+    assert_same(
+        &rt,
+        if other { "its own" } else { "another's" },
+        "another's",
+    );
     Ok(())
 }
