@@ -4,6 +4,7 @@ import json
 from cedar.json_text import levels
 
 NESTED = 127  # so deep may a document nest
+MARK = "\n"  # between objects
 PLACES, CHAINS, PLAIN = "places", "chains", "plain"
 
 
@@ -139,23 +140,27 @@ def text_of(document, in_one_line=False):
     def lines(opening, items, closing):
         return opening + ("\n  " + ",\n  ".join(items) + "\n" if items else "") + closing
 
+    def listed(items):
+        return "[" + (f"\n  {in_lines(items, compact)}\n" if items else "") + "]"
+
     if in_one_line:
         return compact(document) + "\n"
     schema = document["schema"]
     types = lines("{", [f"{compact(name)}:{compact(t)}" for name, t in schema["entityTypes"].items()], "}")
-    parts = [
-        f'{{"schema":{{"entityTypes":{types},\n"actions":{lines("[", map_list(compact, schema["actions"]), "]")}}}'
-    ]
-    parts += [
-        f'"{member}":{lines("[", map_list(compact, document[member]), "]")}'
-        for member in ("policies", "entities")
-        if member in document
-    ]
+    parts = [f'{{"schema":{{"entityTypes":{types},\n"actions":{listed(schema["actions"])}}}']
+    parts += [f'"{member}":{listed(document[member])}' for member in ("policies", "entities") if member in document]
     parts += [f'"request":{compact(document["request"])}'] if "request" in document else []
     if "requests" in document:
-        parts.append(f'"requests":{lines("[", map_list(compact, document["requests"]), "]")}')
+        parts.append(f'"requests":{listed(document["requests"])}')
     return ",\n".join(parts) + "}\n"
 
 
-def map_list(function, items):
-    return [function(x) for x in items]
+def in_lines(items, compact):
+    """The objects of a list, with a line for each. They are written in one call, which takes half of the time, with a
+    text between each two; where that text is inside of one as well, each object is written by itself."""
+    marked = [MARK] * (2 * len(items) - 1)
+    marked[::2] = items
+    between, text = f",{compact(MARK)},", compact(marked)
+    if text.count(between) == len(items) - 1:
+        return text[1:-1].replace(between, ",\n  ")
+    return ",\n  ".join(map(compact, items))

@@ -9,6 +9,11 @@ UNITS = (("d", 86400000), ("h", 3600000), ("m", 60000), ("s", 1000), ("ms", 1))
 DURATION = re.compile(
     "(-?)" + "".join(f"(?:([0-9]+){unit}(?!s))?" if unit == "m" else f"(?:([0-9]+){unit})?" for unit, _ in UNITS)
 )
+DECIMAL = re.compile(r"(-?)([0-9]+)\.([0-9]{1,4})")
+OCTET = "(?:25[0-5]|2[0-4][0-9]|1[0-9][0-9]|[1-9]?[0-9])"  # 0 to 255
+IPV4 = re.compile(rf"(?:{OCTET}\.){{3}}{OCTET}(?:/(?:3[0-2]|[12]?[0-9]))?")
+IPV6_PREFIX = re.compile("12[0-8]|1[01][0-9]|[1-9]?[0-9]")  # 0 to 128
+GROUP = re.compile("[0-9A-Fa-f]{1,4}")
 DATETIME = re.compile(r"(\d{4})-(\d\d)-(\d\d)(?:T(\d\d):(\d\d):(\d\d)(?:\.\d{3})?(?:Z|[+-](\d\d)(\d\d)))?", re.A)
 
 
@@ -17,7 +22,7 @@ def fits(sign, number):
 
 
 def is_decimal(text):
-    found = re.fullmatch(r"(-?)([0-9]+)\.([0-9]{1,4})", text)
+    found = DECIMAL.fullmatch(text)
     return (
         bool(found)
         and len(found[2].lstrip("0")) < 20
@@ -44,21 +49,16 @@ def is_datetime(text):
     return hour <= 23 and minute <= 59 and second <= 59 and offset_hour <= 23 and offset_minute <= 59
 
 
-def is_number(text, greatest):
-    return bool(re.fullmatch(r"0|[1-9][0-9]{0,2}", text)) and int(text) <= greatest
-
-
 def is_ip(text):
+    if IPV4.fullmatch(text):
+        return True
     address, slash, prefix = text.partition("/")
-    if ":" not in address:
-        parts = address.split(".")
-        return len(parts) == 4 and all(is_number(p, 255) for p in parts) and (not slash or is_number(prefix, 32))
-    if slash and not is_number(prefix, 128):
+    if ":" not in address or slash and not IPV6_PREFIX.fullmatch(prefix):
         return False
     halves = address.split("::")
     groups = [half.split(":") if half else [] for half in halves]
     written = [g for half in groups for g in half]
-    if len(halves) > 2 or not all(re.fullmatch("[0-9A-Fa-f]{1,4}", g) for g in written):
+    if len(halves) > 2 or not all(GROUP.fullmatch(g) for g in written):
         return False
     return len(written) == 8 if len(halves) == 1 else len(written) <= 7
 

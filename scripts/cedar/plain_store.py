@@ -8,8 +8,8 @@ from functools import cached_property
 
 from cedar.extensions import FUNCTIONS, stands_for_value
 from cedar.json_text import LONG
-from cedar.objects import extension_call, is_name
-from cedar.places import Place, Report
+from cedar.objects import is_name
+from cedar.places import Place
 
 ROOM = 40  # so deep may the value of an attribute nest here
 DEPTH = ROOM + 6  # and a text, with what stands around a value and inside of an entity's id or a call
@@ -31,14 +31,6 @@ def unusual(_):
 
 
 DECODER = json.JSONDecoder(object_pairs_hook=tuple, parse_float=unusual, parse_constant=unusual)
-
-
-def once(pairs):
-    """An object in which no member stands twice."""
-    made = dict(pairs)
-    if type(pairs) is not tuple or len(made) != len(pairs):
-        raise Unusual
-    return made
 
 
 class Expected:
@@ -77,8 +69,8 @@ class Members(dict):
 class Reader:
     """Reads the entities of one text."""
 
-    def __init__(self, schema, top):
-        self.schema, self.top, self.report = schema, top, Report()
+    def __init__(self, schema):
+        self.schema = schema
         self.kinds = {}  # what is expected of attributes and of tags, by entity type
 
     def learn(self, kind):
@@ -183,19 +175,24 @@ class Reader:
         if name == "__entity":
             return {"id": self.uid(v)}
         if expected.function or name == "__extn":
-            return self.call(once(v))
+            return self.call(v[0][1] if name == "__extn" else v)
         found = self.values(v, expected.members, room - 1)
         if not ESCAPES.isdisjoint(found):
             raise Unusual
         return {"record": found}
 
-    def call(self, parts):
-        if "__extn" in parts:
-            parts["__extn"] = once(parts["__extn"])
-        found = extension_call(parts, self.top, self.report)
-        if self.report.refused:
+    def call(self, v):
+        """An extension value: `fn` and `arg`, or `args` with one text."""
+        if type(v) is not tuple:
             raise Unusual
-        return self.extension(*found)
+        (first, function), (second, text) = v
+        if first != "fn":
+            first, function, second, text = second, text, first, function
+        if second == "args" and type(text) is list:
+            second, (text,) = "arg", text
+        if first != "fn" or second != "arg" or type(text) is not str:
+            raise Unusual
+        return self.extension(function, text)
 
     def text(self, v, expected, _):
         return self.extension(expected.function, v)
@@ -211,15 +208,14 @@ def read(source, schema, known):
     then also of these."""
     if MINUS_ZERO.search(source.text):
         return None
-    top = Place(source)
-    reader = Reader(schema, top)
+    top, reader = Place(source), Reader(schema)
     try:
         found = [reader.entity(e) for e in listed(DECODER.decode(source.text))]
         if "\\u" in source.text and (SURROGATE_ESCAPE.search(source.text) or not source.is_ascii):
             json.dumps(found, ensure_ascii=False).encode()  # halves of characters are none of UTF-8
     except (Unusual, KeyError, TypeError, ValueError, RecursionError):
         return None
-    places = {tuple(e["id"]): top[i] for i, e in enumerate(found)}
+    places = {tuple(e["id"]): Place(source, None, top, i) for i, e in enumerate(found)}
     if len(places) != len(found) or not known.keys().isdisjoint(places):
         return None
     known.update(places)

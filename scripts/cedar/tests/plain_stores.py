@@ -12,6 +12,7 @@ ATTRIBUTES = (
     '{"age": -9223372036854775808, "name": "\\u00e9\\ud83e\\udd5d", "x": [], "y": {}}',
     '{"when": "2023-02-28", "host": {"__extn": {"fn": "ip", "arg": "::1"}}}',
     '{"when": {"fn": "datetime", "arg": "2023-02-28"}, "x": {"__extn": {"fn": "decimal", "args": ["1.5"]}}}',
+    '{"x": {"__extn": {"arg": "1.5", "fn": "decimal"}}, "when": {"args": ["2023-02-28"], "fn": "datetime"}}',
     '{"best": {"type": "User", "id": "b"}, "x": {"__entity": {"id": "b", "type": "Other"}}}',
     '{"friends": [{"type": "User", "id": "b"}, {"__entity": {"type": "User", "id": "c"}}], "hosts": ["10.0.0.1", "::1"]}',
     '{"mail": {"type": "User", "id": "b", "text": "-0:", "when": "2023-02-28"}, "x": {"type": "User", "id": "b"}}',
@@ -28,6 +29,38 @@ def usual():
             user = f'"attrs": {attributes}, "parents": [{{"type": "Group", "id": "g"}}]{tags}}}'
             yield f'[{GROUP}, {{"uid": {{"type": "User", "id": "a"}}, {user}, {{"uid": {{"type": "N::Other", "id": "a"}}, {user}]'
     yield "[]"
+
+
+REFUSED = (  # values that are calls, but for a part
+    '{"fn": "ip"}',
+    '{"fn": "ip", "arg": "::1", "x": 1}',
+    '{"fn": "ip", "args": ["::1", "::1"]}',
+    '{"fn": "ip", "args": "::1"}',
+    '{"fn": "ip", "arg": 1}',
+    '{"fn": "ip", "arg": "::1", "arg": "::1"}',
+    '{"fn": ["ip"], "arg": "::1"}',
+    '{"fn": "isInRange", "arg": "::1"}',
+    '[["fn", "ip"], ["arg", "::1"]]',
+    '["fn", "ip"]',
+    "{}",
+    "null",
+    '"::1"',
+)
+LINES = (  # lists of objects, and their lines in a document: texts between objects are inside of them too
+    ([], ""),
+    ([{"a": 1}], '{"a":1}'),
+    ([{"a": ["\n"]}, {"\n": "\n"}], '{"a":["\\n"]},\n  {"\\n":"\\n"}'),
+    ([{"a": ["b", "\n", "c"]}, {}], '{"a":["b","\\n","c"]},\n  {}'),
+    ([{}, {"a": ["b", "\n", "\n", "c"]}], '{},\n  {"a":["b","\\n","\\n","c"]}'),
+)
+
+
+def wrong_lines():
+    """The lists of LINES whose text is another."""
+    for items, text in LINES:
+        found = documents.text_of({"schema": {"entityTypes": {}, "actions": []}, "entities": items})
+        if found.partition('"entities":')[2] != (f"[\n  {text}\n]" if items else "[]") + "}\n":
+            yield f"{items}: {found}"
 
 
 def answers(texts):
@@ -57,10 +90,12 @@ def answers(texts):
 def test(_):
     good = list(usual())
     rows = [([text], True) for text in good] + [([text], False) for text, _, _ in ENTITIES if isinstance(text, str)]
+    calls = [f'[{{"uid": {{"type": "User", "id": "a"}}, "attrs": {{"x": {{"__extn": {x}}}}}, "parents": []}}]' for x in REFUSED]
+    rows += [([text], False) for text in calls]
     rows += [([good[0], good[0]], False), ([good[0], "[]"], True)]
-    wrong = []
+    wrong = list(wrong_lines())
     for texts, is_usual in rows:
         quick, slow, took = answers(texts)
         if quick != slow or took != is_usual or isinstance(slow, list) == is_usual:
             wrong.append(f"{texts}: {quick}, and {slow}; read by plain_store: {took}")
-    return len(rows), wrong
+    return len(rows) + len(LINES), wrong
