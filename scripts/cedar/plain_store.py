@@ -1,7 +1,7 @@
 """Reads entities in which nothing is refused, in less time than `entities`.
 
-Where it meets anything else it gives nothing and tells nothing: `entities` then reads the same text. Objects are read
-as tuples of their members, so that none is lost that stands twice."""
+Where it meets anything else it gives nothing and reports nothing: `entities` then reads the same text. Members are
+counted, in the text and where they are read, so that none is lost that is there twice."""
 import json
 import re
 from functools import cached_property
@@ -30,7 +30,17 @@ def unusual(_):
     raise Unusual
 
 
-DECODER = json.JSONDecoder(object_pairs_hook=tuple, parse_float=unusual, parse_constant=unusual)
+def once(pairs):
+    """An object in which no member is there twice."""
+    made = dict(pairs)
+    if len(made) != len(pairs):
+        raise Unusual
+    return made
+
+
+QUICK = json.JSONDecoder(parse_float=unusual, parse_constant=unusual)
+CAREFUL = json.JSONDecoder(object_pairs_hook=once, parse_float=unusual, parse_constant=unusual)
+BEFORE_COLON = (" :", "\t:", "\n:", "\r:")
 
 
 class Expected:
@@ -72,6 +82,7 @@ class Reader:
     def __init__(self, schema):
         self.schema = schema
         self.kinds = {}  # what is expected of attributes and of tags, by entity type
+        self.members = 0  # of all objects that were read
 
     def learn(self, kind):
         if not is_name(kind):
@@ -81,43 +92,40 @@ class Reader:
 
     def uid(self, u):
         """An entity's id: `type` and `id`, perhaps below `__entity`."""
-        if type(u) is tuple and len(u) == 1 and u[0][0] == "__entity":
-            u = u[0][1]
-        if type(u) is not tuple:
+        if len(u) == 1:
+            u = u["__entity"]
+            self.members += 1
+        kind, eid = u["type"], u["id"]
+        if len(u) != 2 or type(eid) is not str:
             raise Unusual
-        (first, kind), (second, eid) = u
-        if first != "type":
-            first, kind, second, eid = second, eid, first, kind
-        if first != "type" or second != "id" or type(eid) is not str:
-            raise Unusual
+        self.members += 2
         if kind not in self.kinds:
             self.learn(kind)
         return [kind, eid]
 
     def entity(self, e):
-        parts = dict(e)
-        uid, attrs, parents = self.uid(parts["uid"]), parts["attrs"], parts["parents"]
-        expected = 4 if "tags" in parts else 3
-        if type(e) is not tuple or not len(e) == len(parts) == expected or type(parents) is not list:
+        uid, attrs, parents = self.uid(e["uid"]), e["attrs"], e["parents"]
+        if len(e) != (4 if "tags" in e else 3) or type(parents) is not list:
             raise Unusual
+        self.members += len(e)
         made = {"id": uid}
         attributes, tags = self.kinds[uid[0]]
         found = self.values(attrs, attributes, ROOM)
         if found:
             made["attrs"] = found
-        if "tags" in parts:
-            found = self.values(parts["tags"], tags, ROOM)
+        if "tags" in e:
+            found = self.values(e["tags"], tags, ROOM)
             if found:
                 made["tags"] = found
         if parents:
             made["parents"] = list(map(self.uid, parents))
         return made
 
-    def values(self, pairs, expected, room):
-        """The values of an object under their names."""
-        made = dict(pairs)
-        if type(pairs) is not tuple or len(made) != len(pairs):
+    def values(self, made, expected, room):
+        """The values of an object under their names, in its own place."""
+        if type(made) is not dict:
             raise Unusual
+        self.members += len(made)
         key = (*made, *map(type, made.values()))
         numbers, others = expected.shapes.get(key) or self.shape(made, expected, key)
         for name in numbers:
@@ -140,10 +148,8 @@ class Reader:
         kind = type(v)
         if kind is int or kind is bool or kind is str and not expected.function:
             return None
-        if kind is tuple and expected.is_entity:
-            return self.reference
-        if kind is tuple:
-            return self.object
+        if kind is dict:
+            return self.reference if expected.is_entity else self.object
         if kind is list:
             return self.set
         if kind is str:
@@ -171,11 +177,13 @@ class Reader:
     def object(self, v, expected, room):
         if not room:
             raise Unusual
-        name = v[0][0] if len(v) == 1 else None
-        if name == "__entity":
+        if len(v) == 1 and "__entity" in v:
             return {"id": self.uid(v)}
-        if expected.function or name == "__extn":
-            return self.call(v[0][1] if name == "__extn" else v)
+        if len(v) == 1 and "__extn" in v:
+            self.members += 1
+            return self.call(v["__extn"])
+        if expected.function:
+            return self.call(v)
         found = self.values(v, expected.members, room - 1)
         if not ESCAPES.isdisjoint(found):
             raise Unusual
@@ -183,15 +191,12 @@ class Reader:
 
     def call(self, v):
         """An extension value: `fn` and `arg`, or `args` with one text."""
-        if type(v) is not tuple:
+        function, text = v["fn"], v.get("arg")
+        if type(v.get("args")) is list:
+            (text,) = v["args"]
+        if len(v) != 2 or type(text) is not str:
             raise Unusual
-        (first, function), (second, text) = v
-        if first != "fn":
-            first, function, second, text = second, text, first, function
-        if second == "args" and type(text) is list:
-            second, (text,) = "arg", text
-        if first != "fn" or second != "arg" or type(text) is not str:
-            raise Unusual
+        self.members += 2
         return self.extension(function, text)
 
     def text(self, v, expected, _):
@@ -208,9 +213,9 @@ def read(source, schema, known):
     then also of these."""
     if MINUS_ZERO.search(source.text):
         return None
-    top, reader = Place(source), Reader(schema)
+    top = Place(source)
     try:
-        found = [reader.entity(e) for e in listed(DECODER.decode(source.text))]
+        found = quickly_read(source.text, schema) or all_read(Reader(schema), CAREFUL.decode(source.text))
         if "\\u" in source.text and (SURROGATE_ESCAPE.search(source.text) or not source.is_ascii):
             json.dumps(found, ensure_ascii=False).encode()  # halves of characters are none of UTF-8
     except (Unusual, KeyError, TypeError, ValueError, RecursionError):
@@ -223,7 +228,17 @@ def read(source, schema, known):
     return found, places.values()
 
 
-def listed(value):
+def quickly_read(text, schema):
+    """The entities, or None where a member may be there twice: fewer were read than the text has ends of names."""
+    ends = text.count('":')
+    if ends != text.count(":") and any(colon in text for colon in BEFORE_COLON):
+        return None
+    reader = Reader(schema)
+    found = all_read(reader, QUICK.decode(text))
+    return found if reader.members == ends else None
+
+
+def all_read(reader, value):
     if type(value) is not list:
         raise Unusual
-    return value
+    return [reader.entity(e) for e in value]

@@ -18,6 +18,7 @@ ATTRIBUTES = (
     '{"mail": {"type": "User", "id": "b", "text": "-0:", "when": "2023-02-28"}, "x": {"type": "User", "id": "b"}}',
     '{"x": [[true, 1, "a"], [{"a": [{"when": "no date"}]}]], "when\\u0032": "no date"}',
 )
+COLONS = '{"age" :1, "name"\t\n: ":", "mail": {"text":":\\":", "x\\":":"\\"", " :": ": "}}'
 TAGS = ("", ', "tags": {}', ', "tags": {"a": "b", "c": "d"}')
 GROUP = '{"parents": [], "attrs": {}, "uid": {"__entity": {"type": "Group", "id": "g"}}, "tags": {"t": ["1h", "2d"]}}'
 
@@ -28,7 +29,13 @@ def usual():
         for tags in TAGS:
             user = f'"attrs": {attributes}, "parents": [{{"type": "Group", "id": "g"}}]{tags}}}'
             yield f'[{GROUP}, {{"uid": {{"type": "User", "id": "a"}}, {user}, {{"uid": {{"type": "N::Other", "id": "a"}}, {user}]'
+    yield with_attributes('{"name": ":"}')
+    yield with_attributes(COLONS)
     yield "[]"
+
+
+def with_attributes(attributes):
+    return f'[{{"uid": {{"type": "User", "id": "a"}}, "attrs": {attributes}, "parents": []}}]'
 
 
 REFUSED = (  # values that are calls, but for a part
@@ -45,6 +52,18 @@ REFUSED = (  # values that are calls, but for a part
     "{}",
     "null",
     '"::1"',
+)
+REPEATED = (  # objects with a member twice, also where colons are inside of texts or have a space before them
+    '{"age": 1, "age": 1}',
+    '{"age":1,"age":1}',
+    '{"age" :1,"age" :1}',
+    '{"age" :1,"name":":","age" :1}',
+    '{"mail":{"text":"a","text":"a"}}',
+    '{"best":{"type":"User","id":"b","id":"b"}}',
+    '{"x":{"__entity":{"type":"User","id":"b","type":"User"}}}',
+    '{"x":{"__entity":{"type":"User","id":"b"},"__entity":{"type":"User","id":"b"}}}',
+    '{"x":[{"a":1,"a":1}]}',
+    '{"a\\u0065":1,"ae":1}',
 )
 LINES = (  # lists of objects, and their lines in a document: texts between objects are inside of them too
     ([], ""),
@@ -90,8 +109,10 @@ def answers(texts):
 def test(_):
     good = list(usual())
     rows = [([text], True) for text in good] + [([text], False) for text, _, _ in ENTITIES if isinstance(text, str)]
-    calls = [f'[{{"uid": {{"type": "User", "id": "a"}}, "attrs": {{"x": {{"__extn": {x}}}}}, "parents": []}}]' for x in REFUSED]
-    rows += [([text], False) for text in calls]
+    calls = [f'{{"x": {{"__extn": {call}}}}}' for call in REFUSED]
+    rows += [([with_attributes(attributes)], False) for attributes in (*calls, *REPEATED)]
+    twice = ('"attrs":{},"attrs":{}', '"attrs":{},"tags":{},"tags":{}')
+    rows += [([f'[{{"uid":{{"type":"Group","id":"g"}},"parents":[],{two}}}]'], False) for two in twice]
     rows += [([good[0], good[0]], False), ([good[0], "[]"], True)]
     wrong = list(wrong_lines())
     for texts, is_usual in rows:
