@@ -26,7 +26,7 @@ output:
                    --principal UID --action UID --resource UID (-l, -a, -r) as User::"alice", and
                    --context FILE (-c): JSON
 
-What a file holds tells its form, not its name; - is standard input. --policies, --links and --entities
+The form of a file is known by its content, not by its name; - is standard input. --policies, --links and --entities
 may be given several times; a folder stands for the .cedar files (entities: .json) in it and below it, by
 their names, and policies are numbered through all files. A request needs entities, if only [].
 
@@ -38,7 +38,7 @@ their names, and policies are numbered through all files. A request needs entiti
   --quiet          (-q) no notes on what is dropped and added
   --program PROGRAM  with --explain, asks this program and not the one that scripts/palvumiose chooses
 
-On standard error stands a line FILE:LINE:COLUMN: .. for what is dropped (annotations; a policy's id is
+Standard error has a line FILE:LINE:COLUMN: .. for what is dropped (annotations; a policy's id is
 the text of its @id, else policy0, policy1, ..), for what is added (entities of actions that the schema
 puts below others), both behind the answer, and for all that is refused: what is no Cedar, and what has
 no counterpart here. Where anything is refused, no document is written.

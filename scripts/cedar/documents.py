@@ -101,7 +101,7 @@ def policies(static, links, report):
     def note(one):
         if one.name in known:
             report.no(
-                one.place, f"two policies have the id `{one.name}`; the other stands at {known[one.name].place.short()}"
+                one.place, f"two policies have the id `{one.name}`; the other is at {known[one.name].place.short()}"
             )
         known.setdefault(one.name, one)
 
@@ -112,7 +112,7 @@ def policies(static, links, report):
     keys = {}  # in a policy set links go by keys
     for p in (p for p in static if p.slots()):
         if keys.setdefault(p.key, p) is not p:
-            report.no(p.place, f"two templates have the key `{p.key}`; the other stands at {keys[p.key].place.short()}")
+            report.no(p.place, f"two templates have the key `{p.key}`; the other is at {keys[p.key].place.short()}")
     templates.update(keys)
     for l in links:
         note(l)

@@ -91,7 +91,7 @@ def store(value, top, schema, report, known):
         if found and found["id"]:
             key = tuple(found["id"])
             if key in known:
-                report.no(top[i]["uid"], f"two entities have this id; the other stands at {known[key].short()}")
+                report.no(top[i]["uid"], f"two entities have this id; the other is at {known[key].short()}")
             known.setdefault(key, top[i])
             made.append((found, top[i]))
     return made

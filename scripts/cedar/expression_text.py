@@ -78,7 +78,7 @@ class ExpressionReader(Reader):
         return names
 
     def attribute(self):
-        return self.name('an attribute\'s name (a reserved word stands in quotes, as in e["in"])')
+        return self.name('an attribute\'s name (a reserved word is written in quotes, as in e["in"])')
 
     def sum(self):
         start = self.next.start
@@ -104,7 +104,7 @@ class ExpressionReader(Reader):
         while self.at("!", "-"):
             signs.append(self.take())
             if signs[-1].text != signs[0].text:
-                raise Stop(signs[-1], "`!` and `-` don't stand side by side: parentheses are needed")
+                raise Stop(signs[-1], "`!` and `-` can't be side by side: parentheses are needed")
             if len(signs) > 4:
                 raise Stop(signs[-1], f"more than four `{signs[0].text}` in a row")
         if (
@@ -166,7 +166,7 @@ class ExpressionReader(Reader):
         if token.kind == "text":
             return self.node("literal", (self.unescaped(self.take()),), token.start)
         if token.kind == "slot":
-            self.no(self.take(), "a slot stands in the scope alone")
+            self.no(self.take(), "a slot may be in the scope only")
             return self.node("literal", (True,), token.start)
         if self.took("("):
             made = self.expr()
@@ -190,7 +190,7 @@ class ExpressionReader(Reader):
         if name in nodes.VARIABLES and not self.at("("):
             return self.node("var", (name,), token.start)
         if not self.took("("):
-            raise Stop(token, f'`{name}` is no variable; an entity is written Type::"id", and a text stands in quotes')
+            raise Stop(token, f'`{name}` is no variable; an entity is written Type::"id", and a text is written in quotes')
         arguments = self.separated(")", self.expr)
         if name in nodes.METHODS or name in nodes.OPERATOR_METHODS:
             self.no(token, f"`{name}` is a method: e.{name}(..)")
@@ -208,7 +208,7 @@ class ExpressionReader(Reader):
             name = (
                 self.unescaped(self.take())
                 if token.kind == "text"
-                else self.name("a member's name (a reserved word stands in quotes)")
+                else self.name("a member's name (a reserved word is written in quotes)")
             )
             if name in known:
                 self.no(token, f"the record has two members `{name}`")

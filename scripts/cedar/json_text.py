@@ -97,7 +97,7 @@ def tested(value, top, report):
             no(place, "a text with half of a surrogate pair")
         elif isinstance(x, dict):
             for name in getattr(x, "repeated", ()):
-                no(place[name], "a member that stands twice")
+                no(place[name], "a member that is there twice")
             for name in x:
                 if SURROGATE.search(name):
                     no(place, "a member's name with half of a surrogate pair")

@@ -176,7 +176,7 @@ class PolicyReader:
         if op == "Var":
             return Node("var", (x,)) if x in nodes.VARIABLES else self.no(place, f"no variable: {shown(x)}")
         if op == "Slot":
-            return self.no(place, "a slot stands in the scope alone")
+            return self.no(place, "a slot may be in the scope only")
         if op in ("!", "neg", "isEmpty"):
             return (
                 Node("not" if op == "!" else op, (self.expr(x["arg"], place["arg"]),))

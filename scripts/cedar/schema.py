@@ -184,7 +184,7 @@ class Schema:
     def common(self, full, place=None):
         """A common type's meaning, which is found out once."""
         if full in self.open:
-            return self.no(place or self.commons[full][2], f"the common type `{full}` stands for itself")
+            return self.no(place or self.commons[full][2], f"the common type `{full}` is defined by itself")
         if full not in self.resolved:
             body, home, at = self.commons[full]
             self.open.append(full)

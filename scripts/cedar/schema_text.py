@@ -54,7 +54,7 @@ class SchemaReader(Reader):
         if text is not None:
             raise Stop(token, "expected a namespace, found an entity")
         if space in self.spaces:
-            self.no(token, f"the namespace `{space}` stands twice")
+            self.no(token, f"the namespace `{space}` is there twice")
         self.spaces.add(space)
         self.part(space, token, annotations)
         self.expect("{")
@@ -114,7 +114,7 @@ class SchemaReader(Reader):
     def name_or_text(self, what):
         if self.next.kind == "text":
             return self.unescaped(self.take())
-        return self.name(f"{what} (a reserved word stands in quotes)", RESERVED)
+        return self.name(f"{what} (a reserved word is written in quotes)", RESERVED)
 
     # What is declared. Each has one path or more, as one declaration may have several names.
 
@@ -186,7 +186,7 @@ class SchemaReader(Reader):
                 self.due("`principal`, `resource` or `context`")
             member = {"principal": "principalTypes", "resource": "resourceTypes"}.get(token.text, token.text)
             if member in made:
-                self.no(token, f"`{token.text}` stands twice")
+                self.no(token, f"`{token.text}` is there twice")
             self.expect(":")
             here = self.note(paths, member)
             made[member] = self.type_of(here) if member == "context" else self.entity_types(here)
@@ -194,7 +194,7 @@ class SchemaReader(Reader):
         self.separated("}", one)
         for word in ("principal", "resource"):
             if f"{word}Types" not in made:
-                self.no(opening, f"`{word}` is missing: Cedar wants `principal` and `resource`")
+                self.no(opening, f"`{word}` is missing: Cedar needs `principal` and `resource`")
                 made[f"{word}Types"] = []
         return made
 

@@ -27,7 +27,7 @@ SLIPS = {  # what is no token of Cedar, or has no place, and what is written in 
     "not": "write `!`",
     "AND": "write `&&`",
     "OR": "write `||`",
-    "'": "texts stand in double quotes",
+    "'": "texts are written in double quotes",
     "#": "comments begin with `//`",
     "&": "write `&&`",
     "|": "write `||`",
@@ -146,7 +146,7 @@ class Reader:
                 text = self.unescaped(self.take())
                 self.expect(")")
             if name in found:
-                self.no(token, f"the annotation `@{name}` stands twice")
+                self.no(token, f"the annotation `@{name}` is there twice")
             found[name] = (text, token)
         return found
 
@@ -168,7 +168,7 @@ class Reader:
 
     def character(self, piece, offset):
         if piece[0] != "\\":
-            return piece if piece != "\r" else self.bad_escape(offset, "a carriage return stands in a text as `\\r`")
+            return piece if piece != "\r" else self.bad_escape(offset, "a carriage return is written in a text as `\\r`")
         digits = re.fullmatch(r"\\u\{([0-9A-Fa-f][0-9A-Fa-f_]*)\}|\\x([0-7][0-9A-Fa-f])", piece)
         if digits:
             hexadecimal = (digits[1] or digits[2]).replace("_", "")

@@ -164,7 +164,7 @@ def object_faults(value, schema, path, definition):
     found = [
         Fault(
             path + (name,),
-            f"no member {slips.shown(name)} stands here" + slips.of_member(name, known, definition),
+            f"no member {slips.shown(name)} belongs here" + slips.of_member(name, known, definition),
             True,
         )
         for name in strange

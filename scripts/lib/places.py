@@ -43,7 +43,7 @@ def read(text):
     value, place, at = part(text, skip(text, 0), 0)
     at = skip(text, at)
     if at < len(text):
-        raise NoJson(at, "the document has ended, and more stands behind it" + slip(text, at))
+        raise NoJson(at, "the document has ended, and more follows it" + slip(text, at))
     return value, place
 
 
@@ -80,7 +80,7 @@ def string(text, at):
             raise NoJson(at, "this text has no closing double quote") from None
         if kind.startswith("Invalid control"):
             raise NoJson(
-                where, "a line end or another control character stands in a text; write it as \\n, \\t or \\u00XX"
+                where, "a text has a line end or another control character; write it as \\n, \\t or \\u00XX"
             ) from None
         raise NoJson(where, 'this is no escape of JSON: \\" \\\\ \\/ \\b \\f \\n \\r \\t \\uXXXX are') from None
     if HALF.search(value):
@@ -158,7 +158,7 @@ def slip(text, at):
     for pattern, said in (
         (r"//|/\*|#", "JSON has no comments"),
         ("\ufeff", "a byte order mark: the document has to be saved without"),
-        (r"'", "texts stand in double quotes"),
+        (r"'", "texts are written in double quotes"),
         (r"True\b|False\b", "it is true, false, in small letters"),
         (r"None\b|nil\b|undefined\b", "it is null"),
         (r"NaN|[-+]?Infinity|\+|\.[0-9]|[0-9]", "JSON has no such number"),

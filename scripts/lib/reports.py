@@ -12,7 +12,7 @@ from visible import json_line, visible
 RULES = {
     "EmptySetForbidden": "An empty set literal has no type.",
     "EntityDerefLevelViolation": "The policy asks for entities further from the request than the level allows.",
-    "FunctionArgumentValidation": "The text of an extension value stands for no value.",
+    "FunctionArgumentValidation": "The text of an extension value has no value.",
     "IdleAction": "The action applies to nothing, and is no group.",
     "ImpossiblePolicy": "The policy's condition is false for all valid requests.",
     "IncompatibleTypes": "Types that have to be the same are not.",

@@ -174,7 +174,7 @@ def link_faults(link, path, slots, policies):
         why = (
             "a static policy or a link has this id"
             if template in slots and template != link.get("id")
-            else "it has to stand earlier in the list"
+            else "it has to be earlier in the list"
             if later
             else "there is none" + near(template, slots)
         )

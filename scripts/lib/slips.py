@@ -86,9 +86,9 @@ def near(word, words):
 ALONE = {
     "enum": 'an enumerated type has the member "enum" alone',
     "link": 'a link has the members "id", "link", "principal" and "resource" alone',
-    "is": '"is" stands alone, or with "in"',
+    "is": '"is" is used alone, or with "in"',
     "remove": 'an edit that removes has the member "remove" alone',
-    "==": '"==" stands alone',
+    "==": '"==" is used alone',
 }
 
 

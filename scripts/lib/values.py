@@ -36,7 +36,7 @@ def ip(text):
         )
     most = 32 if version == 4 else 128
     if slash and not (re.fullmatch("0|[1-9][0-9]{0,2}", prefix) and int(prefix) <= most):
-        return f"behind the / of an IPv{version} address stands a prefix, a number to {most}"
+        return f"after the / of an IPv{version} address comes a prefix, a number to {most}"
     return None
 
 

@@ -71,7 +71,7 @@ function mayReplace(page, names) {
   const lost = names.filter((name) => page.textOf(name).trim());
   if (!page.edited || !lost.length) return Promise.resolve(true);
   const dialog = byId("loss");
-  byId("loss-text").textContent = `This replaces what stands in ${lost.join(", ")}.`;
+  byId("loss-text").textContent = `This replaces what is in ${lost.join(", ")}.`;
   dialog.returnValue = "no";
   dialog.showModal();
   return new Promise((done) => {

@@ -9,7 +9,7 @@ const CHARACTER = 7.3, ROW = 18, PAD = 10, WIDEST = 32, MOST_ROWS = 10, MOST_DRA
 const STATES = {
   kept: ["✓ kept", "kept"],
   ancestor: ["✓ as an ancestor", "as an ancestor alone"],
-  away: ["✗ fell away", "fell away"],
+  away: ["✗ left out", "left out"],
   absent: ["not in the store", "not in the store"],
 };
 
@@ -103,7 +103,7 @@ function cells(entity, all) {
 }
 
 function table(all) {
-  const heads = ["entity", "in the slice", "attributes and tags kept", "fell away", "ancestors kept", "fell away"];
+  const heads = ["entity", "in the slice", "attributes and tags kept", "left out", "ancestors kept", "left out"];
   const listed = [...all.values()].filter((entity) => entity.listed || entity.kept);
   const shown = listed.sort((a, b) => b.kept - a.kept).slice(0, MOST_LISTED);
   const row = (entity) => el("tr", { class: entity.kept ? "kept" : "away" },
@@ -113,7 +113,7 @@ function table(all) {
     el("tbody", {}, shown.map(row)));
   const left = listed.length - shown.length;
   return el("details", {}, el("summary", {}, "The same as a table"), scrolled("The entities as a table", whole),
-    left ? el("p", {}, `${left} more stand in the entities alone.`) : null);
+    left ? el("p", {}, `${left} more are in the entities alone.`) : null);
 }
 
 export function entityGraph(all) {
@@ -124,7 +124,7 @@ export function entityGraph(all) {
     el("p", { class: "quiet", id: "graph-hint" },
       el("span", { class: "key kept" }, "✓ kept"), " is in the slice, ",
       el("span", { class: "key ancestor" }, "✓ as an ancestor"), " is named there as an ancestor, ",
-      el("span", { class: "key away" }, "✗ fell away"), " is not in it: each policy comes out the same without. ",
-      "A full line leads to an ancestor that is kept, a dashed one to a parent that fell away."),
+      el("span", { class: "key away" }, "✗ left out"), " is not in it: each policy comes out the same without. ",
+      "A full line leads to an ancestor that is kept, a dashed one to a parent that is left out."),
     drawing(all), table(all));
 }

@@ -89,5 +89,5 @@ export function manifestTrees(manifest, document) {
     el("h3", {}, `${counted(manifest.perAction.length, "type", "types")} of requests`),
     el("p", { class: "quiet" }, "A level says how many steps from the request the entities are that are read: ",
       [0, 1, 2, 3].map((level) => [badge(level), " "]).flat(), badge(null), " an id that a policy names."),
-    trees, left ? el("p", {}, `${left} more stand below, as the program wrote them.`) : null);
+    trees, left ? el("p", {}, `${left} more are below, as the program wrote them.`) : null);
 }

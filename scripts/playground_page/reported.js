@@ -16,7 +16,7 @@ const LIMITS = {
   time: ({ seconds }) => `Stopped: the answer took more than ${seconds} s, the limit of this page.`,
   memory: ({ mebibytes }) =>
     `Stopped: the answer needed more than ${mebibytes} MiB, the limit of this page; nothing was written.`,
-  length: () => "Stopped: the answer is longer than this page shows; below stands its beginning.",
+  length: () => "Stopped: the answer is longer than this page shows; its beginning is below.",
 };
 
 // How it is: good, bad or a Deny; and the sentence.
@@ -105,7 +105,7 @@ function item(finding, page) {
 // A list with its title; nothing where the list is empty.
 export function findingList(title, found, page) {
   if (!found.length) return null;
-  const left = `The first ${found.length} are reported; all stand below, as the program wrote them.`;
+  const left = `The first ${found.length} are reported; all are below, as the program wrote them.`;
   return el("section", {}, el("h3", {}, title),
     el("ol", { class: "findings" }, found.map((finding) => item(finding, page))),
     found.length >= MOST ? el("p", {}, left) : null);

@@ -12,7 +12,7 @@ function list(title, items) {
   if (!items.length) return null;
   const left = items.length - 100;
   return [el("h3", {}, title), el("ul", {}, items.slice(0, 100).map((item) => el("li", {}, el("code", {}, item)))),
-    left > 0 ? el("p", {}, `${left} more stand below.`) : null];
+    left > 0 ? el("p", {}, `${left} more are below.`) : null];
 }
 
 export function reviewTable({ actions, rows, never, unreached }) {
