@@ -5,6 +5,7 @@ from cedar.json_text import levels
 
 NESTED = 127  # so deep may a document nest
 MARK = "\n"  # between objects
+AT_ONCE = 100  # so many are written in one call: fewer calls take more time, and so do longer texts
 PLACES, CHAINS, PLAIN = "places", "chains", "plain"
 
 
@@ -156,8 +157,13 @@ def text_of(document, in_one_line=False):
 
 
 def in_lines(items, compact):
-    """The objects of a list, with a line for each. They are written in one call, which takes half of the time, with a
-    text between each two; where that text is inside of one as well, each object is written by itself."""
+    """The objects of a list, with a line for each."""
+    return ",\n  ".join([joined(items[i : i + AT_ONCE], compact) for i in range(0, len(items), AT_ONCE)])
+
+
+def joined(items, compact):
+    """The same of a few objects, written in one call with a text between each two; where that text is inside of one as
+    well, each object is written by itself."""
     marked = [MARK] * (2 * len(items) - 1)
     marked[::2] = items
     between, text = f",{compact(MARK)},", compact(marked)
