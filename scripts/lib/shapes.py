@@ -234,6 +234,17 @@ def same_guards(size):
     )
 
 
+def if_guards(size):
+    """guards on an optional attribute of as many conditionals, each with another id in its test"""
+
+    def chosen(i):
+        principal = {"var": "principal"}
+        return {"if": [{"==": [principal, {"id": ["User", str(i)]}]}, principal, principal]}
+
+    reads = [{"all": [{"has": [chosen(i), "a"]}, {"<": [{"get": [chosen(i), "a"]}, i]}]} for i in range(size)]
+    return document([permit(0, halved(reads, "all"))], types=with_attributes({"a": {"optional": "Long"}}))
+
+
 def faults(size):
     """undeclared attributes that one policy reads"""
     return document([permit(0, halved([{"<": [get("principal", f"x{i}"), i]} for i in range(size)], "any"))])
