@@ -8,7 +8,7 @@ use policy_expressions::{Expr, ExprKind, Literal, SlotId};
 use policy_set::{
     ActionConstraint, Effect, Policy, PrincipalOrResourceConstraint, Template, TemplateError,
 };
-use policy_typecheck::{PolicyCheck, Typechecker};
+use policy_typecheck::{PolicyCheck, Typechecker, Verdict};
 use policy_values::Text;
 use schema_core::{Type, ValidationMode, ValidatorSchema};
 use std::alloc::{AllocError, Global};
@@ -115,6 +115,46 @@ fn policies_are_checked_in_environments(rt: HostRuntime) -> Result<(), AllocErro
         checks.as_str(),
         "Group success success|User success success|l success false|s irrelevant true|",
     );
+    Ok(())
+}
+
+// Whether the policy may be true in each environment of the schema.
+fn add_verdicts(
+    alloc: Global,
+    typechecker: &Typechecker<'_, '_>,
+    schema: &ValidatorSchema,
+    policy: &Policy,
+    text: &mut String,
+) -> Result<(), AllocError> {
+    if policy.condition().depth() > 200 {
+        return text.push_str("too deep|");
+    }
+    for env in schema.unlinked_request_envs(alloc)? {
+        let verdict = match typechecker.verdict(alloc, policy, &env)? {
+            Verdict::Never => "never",
+            Verdict::May => "may",
+        };
+        write!(text, "{} {verdict}|", policy.id())?;
+    }
+    Ok(())
+}
+
+fn verdicts_of(alloc: Global, document: &Document) -> Result<String, AllocError> {
+    let objects = all_objects(alloc)?;
+    let extensions = ExtensionSchemas::all_available(alloc, &objects)?;
+    let typechecker = Typechecker::new(&document.schema, &extensions, ValidationMode::Strict);
+    let mut text = String::new(alloc);
+    for policy in document.policies.policies() {
+        add_verdicts(alloc, &typechecker, &document.schema, policy, &mut text)?;
+    }
+    Ok(text)
+}
+
+#[test]
+fn verdicts_on_policies(rt: HostRuntime) -> Result<(), AllocError> {
+    let document = document_of(rt.alloc(), POLICIES)?;
+    let verdicts = verdicts_of(rt.alloc(), &document)?;
+    assert_same(&rt, verdicts.as_str(), "l may|s never|");
     Ok(())
 }
 
