@@ -27,8 +27,8 @@ output:
                    --context FILE (-c): JSON
 
 The form of a file is known by its content, not by its name; - is standard input. --policies, --links and --entities
-may be given several times; a folder stands for the .cedar files (entities: .json) in it and below it, by
-their names, and policies are numbered through all files. A request needs entities, if only [].
+may be given several times. A folder stands for the .cedar files (entities: .json) in it and below it, by
+their names. Policies are numbered through all files. A request needs entities, if only [].
 
   --explain COMMAND [WORD]  the last words of the call: answers the document by scripts/palvumiose
                    COMMAND, with each finding's place as FILE:LINE:COLUMN, its line and carets
@@ -39,9 +39,9 @@ their names, and policies are numbered through all files. A request needs entiti
   --program PROGRAM  with --explain, asks this program and not the one that scripts/palvumiose chooses
 
 Standard error has a line FILE:LINE:COLUMN: .. for what is dropped (annotations; a policy's id is
-the text of its @id, else policy0, policy1, ..), for what is added (entities of actions that the schema
-puts below others), both behind the answer, and for all that is refused: what is no Cedar, and what has
-no counterpart here. Where anything is refused, no document is written.
+the text of its @id, else policy0, policy1, ..), and for what is added (entities of actions that the schema
+puts below others), both after the answer. It has one for all that is refused: what is not Cedar, and what
+has no counterpart here. Where anything is refused, no document is written.
 
 Lines and columns count from 1, columns in characters. `at` in the document counts bytes of the
 policies' text, from 0.
