@@ -51,6 +51,9 @@ with --explain else that of the program. Nothing of this is proved.
 """
 
 
+KEPT = []  # what was read, to the end of the process: freeing it takes a tenth of the time
+
+
 def parsed(given):
     """The words, and the command that is to be explained."""
     made = words.parsed(given, words.FROM_CEDAR, ("--quiet", "-q", "--line"), ("--program",), last="--explain")
@@ -82,6 +85,7 @@ def main(given, program=None):
     sys.setrecursionlimit(10000)
     gc.disable()  # what is read is kept to the end, and looking through it takes half of the time
     made, quiet = files.make(asked.given), bool({"--quiet", "-q"} & asked.flags)
+    KEPT.append(made)
     if made.report.refused:
         return tell_report(made, quiet)
     try:

@@ -241,4 +241,6 @@ def quickly_read(text, schema):
 def all_read(reader, value):
     if type(value) is not list:
         raise Unusual
-    return [reader.entity(e) for e in value]
+    for i, e in enumerate(value):
+        value[i] = reader.entity(e)  # in place, so that memory is used again
+    return value
