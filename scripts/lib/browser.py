@@ -53,7 +53,11 @@ class Browser:
         self.process.wait()
         os.close(self.writes)
         os.close(self.reads)
-        self.folder.cleanup()
+        for _ in range(50):
+            try:
+                return self.folder.cleanup()
+            except OSError:  # a process that the browser began still writes
+                time.sleep(0.1)
 
     def call(self, method, **given):
         """The result of a call; what happens meanwhile is kept in `events`."""

@@ -1,4 +1,4 @@
-// The entities of a document beside those of a slice: what is kept of each, and what fell away. All of it is read from
+// The entities of a document beside those of a slice: what is kept of each, and what is left out. All of it is read from
 // the document and from the answer.
 import { keyOf, memberName, own, printed } from "./values.js";
 

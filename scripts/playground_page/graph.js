@@ -44,7 +44,7 @@ function drawnBox(box) {
     lines);
 }
 
-// The lines: to each ancestor that is kept, and to each parent that fell away.
+// The lines: to each ancestor that is kept, and to each parent that is left out.
 function linesOf(boxes) {
   const lines = [];
   for (const from of boxes.values()) {
@@ -124,7 +124,7 @@ export function entityGraph(all) {
     el("p", { class: "quiet", id: "graph-hint" },
       el("span", { class: "key kept" }, "✓ kept"), " is in the slice, ",
       el("span", { class: "key ancestor" }, "✓ as an ancestor"), " is named there as an ancestor, ",
-      el("span", { class: "key away" }, "✗ left out"), " is not in it: each policy comes out the same without. ",
+      el("span", { class: "key away" }, "✗ left out"), " is not in it: each policy has the same outcome without. ",
       "A full line leads to an ancestor that is kept, a dashed one to a parent that is left out."),
     drawing(all), table(all));
 }
