@@ -1,6 +1,5 @@
 -- What is found of conditions holds of decisions.
-use Rattle.std.proofs.Common.{◌≡◌, Bool, true, false, not, ◌&&◌, ◌||◌, List, [], ◌∷◌, Option, Some, None, IfSome, IsSomeAnd, ◌⊎◌, inl, inr, cond, find, refl, sym, ap, subst, ◌∙◌, if◌then◌else◌}
-use Rattle.std.specs.List.{AllByRecursion}
+use Rattle.std.proofs.Common.{◌≡◌, Bool, true, false, not, ◌&&◌, ◌||◌, List, [], ◌∷◌, Option, Some, None, IsSomeAnd, ◌⊎◌, inl, inr, cond, find, refl, sym, ap, ◌∙◌, if◌then◌else◌}
 use Rattle.std.specs.List.{list_any}
 use Rattle.plain_lemmas.proofs.Booleans.{or_assoc, or_false, or_left_true, or_right_true, or_weaker_right, or_cases, or_false_parts}
 use Rattle.plain_lemmas.proofs.Options.{some_injective}
@@ -8,22 +7,15 @@ use Rattle.policy_values.specs.Keyed.{has_key}
 use Rattle.policy_values.specs.Uid.{text_cmp}
 use Rattle.entity_store.specs.declared.request.Request.{Request}
 use Rattle.entity_store.specs.Store.{Store}
-use Rattle.schema_core.specs.EnvData.{EnvData, declared_action}
-use Rattle.schema_core.specs.Faults.{IsSchema}
+use Rattle.schema_core.specs.EnvData.{EnvData}
 use Rattle.schema_core.specs.Schema.{SchemaData}
-use Rattle.policy_core.specs.Eval.{eval}
 use Rattle.policy_core.specs.Laws.{ShapeDecides}
 use Rattle.policy_expressions.specs.Shape.{SameShape}
 use Rattle.policy_expressions.specs.Tree.{Mark}
-use Rattle.policy_expressions.specs.Keys.{HasKeysOnce}
-use Rattle.policy_set.specs.Condition.{IsPolicy}
 use Rattle.policy_set.specs.Data.{PolicyData}
-use Rattle.policy_set.specs.PolicySet.{AreKeyedOnce, PolicySetData, policy_at}
+use Rattle.policy_set.specs.PolicySet.{PolicySetData, policy_at}
 use Rattle.policy_set.specs.Response.{outcome}
 use Rattle.typing_spec.specs.Conforms.{RequestConforms, StoreConforms}
-use Rattle.typing_spec.specs.Typing.{Typing, types}
-use Rattle.condition_truth.specs.Outlined.{AreSides, OutlineDecides, asked_of}
-use Rattle.condition_truth.specs.Outlines.{outline}
 use Rattle.condition_truth.specs.Truth.{is_yes}
 use Rattle.condition_compare.specs.Decisions.{allows, permits_after, forbids_after, sides_in, AllowsAtMost as ConditionsAllowAtMost}
 use Rattle.condition_compare.specs.Worlds.{World}
@@ -102,45 +94,34 @@ module _ (schema : SchemaData) (env : EnvData) (others : PolicySetData) where
         let no = or_false_parts (t p) (list_any t (own_of ps cs g)) k in
         own_covers ps cs g (ap (λ b. b || list_any t ps) (sym no.0) ∙ h) no.1
 
-  own_policies : (P : PolicyData → Type 0) (ps : List PolicyData) (cs : List Condition) (g : Gathered ps cs) → AllByRecursion P ps → AllByRecursion P (own_of ps cs g)
-  own_policies P _ _ none h = tt
-  own_policies P _ _ (shared {p = p} {ps = ps} {cs = cs} s g) h = own_policies P ps cs g h.1
-  own_policies P _ _ (own {p = p} {c = c} {ps = ps} {cs = cs} s g) h = (h.0, own_policies P ps cs g h.1)
-
 -- ---- conditions
 
-module _ (decides : OutlineDecides) (schema : SchemaData) (ok : IsSchema schema) (env : EnvData) (q : Request) (conforms : RequestConforms schema q) (of : IsOfEnvironment schema env q) (s : Store) (stored : StoreConforms schema s) (permitted forbidden : Bool) where
+module _ (schema : SchemaData) (env : EnvData) (q : Request) (conforms : RequestConforms schema q) (of : IsOfEnvironment schema env q) (s : Store) (stored : StoreConforms schema s) (permitted forbidden : Bool) where
   abbrev world : World
   world = record { permitted = permitted; forbidden = forbidden; request = q; store = s }
 
-  typed_yes : (o : Option Typing) (p : PolicyData) (c : Condition) → IfSome o (λ x. AreSides (eval p.condition q s) (outline (asked_of q s) x.tree)) → IsSomeAnd o (λ x. x.tree ≡ c.typed) → is_yes (outcome p q s) ≡ (sides_in world c).yes
-  typed_yes None p c h k = absurd k
-  typed_yes (Some x) p c h k = h.yes ∙ ap (λ t. (outline (asked_of q s) t).yes) k
-
-  one_yes : (p : PolicyData) (c : Condition) → IsPolicy p → HasKeysOnce p.condition → IsConditionOf schema env p c → is_yes (outcome p q s) ≡ (sides_in world c).yes
-  one_yes p c policy keyed is = typed_yes (types schema (declared_action of.0) [] p.condition) p c
-      (decides schema ok of.0 q conforms of.2 s stored p.condition policy.no_slot keyed)
-      (subst (λ v. IsSomeAnd (types schema v [] p.condition) (λ x. x.tree ≡ c.typed)) of.1 is.typed)
+  one_yes : (p : PolicyData) (c : Condition) → IsConditionOf schema env p c → is_yes (outcome p q s) ≡ (sides_in world c).yes
+  one_yes p c is = (is.same q conforms of s stored).yes
 
   module _ (others : PolicySetData) where
-    permits_are : (ps : List PolicyData) (cs : List Condition) (g : AreConditionsBut schema env others ps cs) → AllByRecursion IsPolicy ps → AreKeyedOnce ps → (b : Bool) → permits_after world b cs ≡ b || list_any (permits_there q s) (own_of schema env others ps cs g)
-    permits_are _ _ none policies keyed b = sym (or_false b)
-    permits_are _ _ (shared {p = p} {ps = ps} {cs = cs} h g) policies keyed b = permits_are ps cs g policies.1 keyed.1 b
-    permits_are _ _ (own {p = p} {c = c} {ps = ps} {cs = cs} h g) policies keyed b =
-        permits_are ps cs g policies.1 keyed.1 (if c.permits then b || (sides_in world c).yes else b)
+    permits_are : (ps : List PolicyData) (cs : List Condition) (g : AreConditionsBut schema env others ps cs) → (b : Bool) → permits_after world b cs ≡ b || list_any (permits_there q s) (own_of schema env others ps cs g)
+    permits_are _ _ none b = sym (or_false b)
+    permits_are _ _ (shared {p = p} {ps = ps} {cs = cs} h g) b = permits_are ps cs g b
+    permits_are _ _ (own {p = p} {c = c} {ps = ps} {cs = cs} h g) b =
+        permits_are ps cs g (if c.permits then b || (sides_in world c).yes else b)
         ∙ one_permits c.permits b (sides_in world c).yes (list_any (permits_there q s) (own_of schema env others ps cs g))
-        ∙ (λ i. b || ((h.permits i && sym (one_yes p c policies.0 keyed.0 h) i) || list_any (permits_there q s) (own_of schema env others ps cs g)))
+        ∙ (λ i. b || ((h.permits i && sym (one_yes p c h) i) || list_any (permits_there q s) (own_of schema env others ps cs g)))
 
-    forbids_are : (ps : List PolicyData) (cs : List Condition) (g : AreConditionsBut schema env others ps cs) → AllByRecursion IsPolicy ps → AreKeyedOnce ps → (b : Bool) → forbids_after world b cs ≡ b || list_any (forbids_there q s) (own_of schema env others ps cs g)
-    forbids_are _ _ none policies keyed b = sym (or_false b)
-    forbids_are _ _ (shared {p = p} {ps = ps} {cs = cs} h g) policies keyed b = forbids_are ps cs g policies.1 keyed.1 b
-    forbids_are _ _ (own {p = p} {c = c} {ps = ps} {cs = cs} h g) policies keyed b =
-        forbids_are ps cs g policies.1 keyed.1 (if c.permits then b else b || (sides_in world c).yes)
+    forbids_are : (ps : List PolicyData) (cs : List Condition) (g : AreConditionsBut schema env others ps cs) → (b : Bool) → forbids_after world b cs ≡ b || list_any (forbids_there q s) (own_of schema env others ps cs g)
+    forbids_are _ _ none b = sym (or_false b)
+    forbids_are _ _ (shared {p = p} {ps = ps} {cs = cs} h g) b = forbids_are ps cs g b
+    forbids_are _ _ (own {p = p} {c = c} {ps = ps} {cs = cs} h g) b =
+        forbids_are ps cs g (if c.permits then b else b || (sides_in world c).yes)
         ∙ one_forbids c.permits b (sides_in world c).yes (list_any (forbids_there q s) (own_of schema env others ps cs g))
-        ∙ (λ i. b || ((not (h.permits i) && sym (one_yes p c policies.0 keyed.0 h) i) || list_any (forbids_there q s) (own_of schema env others ps cs g)))
+        ∙ (λ i. b || ((not (h.permits i) && sym (one_yes p c h) i) || list_any (forbids_there q s) (own_of schema env others ps cs g)))
 
-module _ (decides : OutlineDecides) (shapes : ShapeDecides (Mark (Unit {0})) (Mark (Unit {0}))) (schema : SchemaData) (ok : IsSchema schema) (env : EnvData)
-    (before after : PolicySetData) (bp : AllByRecursion IsPolicy before.policies) (bk : AreKeyedOnce before.policies) (ap' : AllByRecursion IsPolicy after.policies) (ak : AreKeyedOnce after.policies)
+module _ (shapes : ShapeDecides (Mark (Unit {0})) (Mark (Unit {0}))) (schema : SchemaData) (env : EnvData)
+    (before after : PolicySetData)
     (bs as' : List Condition) (b : AreConditionsBut schema env after before.policies bs) (a : AreConditionsBut schema env before after.policies as') where
   module _ (q : Request) (conforms : RequestConforms schema q) (of : IsOfEnvironment schema env q) (s : Store) (stored : StoreConforms schema s) where
     abbrev P : PolicyData → Bool
@@ -176,12 +157,12 @@ module _ (decides : OutlineDecides) (shapes : ShapeDecides (Mark (Unit {0})) (Ma
         (own_within schema env before t same after.policies as' a) (own_covers schema env before t same after.policies as' a))
 
     before_is : allows w bs ≡ list_any P before.policies && not (list_any F before.policies)
-    before_is = λ i. (permits_are decides schema ok env q conforms of s stored permitted forbidden after before.policies bs b bp bk permitted ∙ of_before P same_permit) i
-        && not ((forbids_are decides schema ok env q conforms of s stored permitted forbidden after before.policies bs b bp bk forbidden ∙ of_before F same_forbid) i)
+    before_is = λ i. (permits_are schema env q conforms of s stored permitted forbidden after before.policies bs b permitted ∙ of_before P same_permit) i
+        && not ((forbids_are schema env q conforms of s stored permitted forbidden after before.policies bs b forbidden ∙ of_before F same_forbid) i)
 
     after_is : allows w as' ≡ list_any P after.policies && not (list_any F after.policies)
-    after_is = λ i. (permits_are decides schema ok env q conforms of s stored permitted forbidden before after.policies as' a ap' ak permitted ∙ of_after P same_permit) i
-        && not ((forbids_are decides schema ok env q conforms of s stored permitted forbidden before after.policies as' a ap' ak forbidden ∙ of_after F same_forbid) i)
+    after_is = λ i. (permits_are schema env q conforms of s stored permitted forbidden before after.policies as' a permitted ∙ of_after P same_permit) i
+        && not ((forbids_are schema env q conforms of s stored permitted forbidden before after.policies as' a forbidden ∙ of_after F same_forbid) i)
 
   pub at_most : ConditionsAllowAtMost bs as' → AllowsAtMost schema env before.policies after.policies
   at_most most q conforms of s stored h =

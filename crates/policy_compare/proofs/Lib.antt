@@ -1,3 +1,4 @@
+pub mod ActionTest
 pub mod Decided
 pub mod Compared
 pub mod Owned

@@ -1,14 +1,21 @@
 -- What the check of a condition leaves is the condition, typed.
-use Rattle.std.proofs.Common.{◌≡◌, ℕ, Bool, true, false, List, [], Option, Some, None, IsSomeAnd, refl, sym, ap, ◌∙◌, nat_lt, if◌then◌else◌}
+use Rattle.std.proofs.Common.{◌≡◌, ℕ, Bool, true, false, List, [], Option, Some, None, IfSome, IsSomeAnd, subst, refl, sym, ap, ◌∙◌, nat_lt, if◌then◌else◌}
 use Rattle.plain_lemmas.proofs.Options.{some_injective}
 use Rattle.findings.specs.Finding.{Finding}
 use Rattle.schema_types.specs.declared.kinds.Primitive.TheVariants.{Bool as BoolType}
 use Rattle.schema_types.specs.Ty.{Ty, true_type, false_type, primitive}
-use Rattle.schema_core.specs.EnvData.{EnvData}
+use Rattle.schema_core.specs.EnvData.{EnvData, declared_action}
+use Rattle.schema_core.specs.Faults.{IsSchema}
 use Rattle.schema_core.specs.Schema.{SchemaData}
 use Rattle.policy_expressions.specs.Tree.{depth_of}
 use Rattle.policy_expressions.specs.Plain.{Plain}
 use Rattle.typing_spec.specs.Typing.{Typed, Typing, types}
+use Rattle.policy_core.specs.Eval.{eval}
+use Rattle.policy_expressions.specs.Keys.{HasKeysOnce}
+use Rattle.policy_expressions.specs.Slots.{has_slot}
+use Rattle.condition_truth.specs.Outlined.{AreSides, OutlineDecides, asked_of}
+use Rattle.condition_truth.specs.Outlines.{outline}
+use Rattle.policy_compare.specs.Conditions.{HasSidesOf}
 use Rattle.typecheck_rules.specs.Check.{Check, Success, Irrelevant, Fail, TooDeep, check_of, check_by, checked, condition_walked, CheckIsExact}
 use Rattle.typecheck_rules.specs.Walked.{findings_of}
 use Rattle.typecheck_walk.specs.Answer.{Reports}
@@ -53,3 +60,13 @@ module _ (exact : CheckIsExact) (schema : SchemaData) (env : EnvData) (e : Plain
       by : (b : Bool) → left_in (if b then TooDeep else check_by (types schema env [] e) fs) ≡ Some v → IsSomeAnd (types schema env [] e) (λ x. x.tree ≡ v)
       by true k = absurd (cc k)
       by false k = by_typing (types schema env [] e) fs v k
+
+module _ (decides : OutlineDecides) (exact : CheckIsExact) (schema : SchemaData) (ok : IsSchema schema) (env : EnvData) (e : Plain) (plain : has_slot e ≡ false) (keyed : HasKeysOnce e) (id : List ℕ) (r : PolicyCheck) (tells : Reports id (checked schema env e) r) where
+  pub has_sides : (v : Typed) → left_by r ≡ Some v → HasSidesOf schema env e v
+  has_sides v h q conforms of s stored =
+      by (types schema (declared_action of.0) [] e) (decides schema ok of.0 q conforms of.2 s stored e plain keyed)
+      (subst (λ w. IsSomeAnd (types schema w [] e) (λ x. x.tree ≡ v)) of.1 (is_typed exact schema env e id r tells v h))
+    where
+      by : (o : Option Typing) → IfSome o (λ x. AreSides (eval e q s) (outline (asked_of q s) x.tree)) → IsSomeAnd o (λ x. x.tree ≡ v) → AreSides (eval e q s) (outline (asked_of q s) v)
+      by None a b = absurd b
+      by (Some x) a b = subst (λ t. AreSides (eval e q s) (outline (asked_of q s) t)) b a

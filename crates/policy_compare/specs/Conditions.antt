@@ -4,15 +4,21 @@ use Rattle.entity_store.specs.declared.request.Request.{Request}
 use Rattle.entity_store.specs.Store.{Store}
 use Rattle.schema_core.specs.EnvData.{EnvData}
 use Rattle.schema_core.specs.Schema.{SchemaData}
+use Rattle.policy_core.specs.Eval.{eval}
+use Rattle.policy_expressions.specs.Plain.{Plain}
 use Rattle.policy_expressions.specs.Shape.{SameShape}
 use Rattle.policy_set.specs.Data.{PolicyData}
 use Rattle.policy_set.specs.PolicySet.{PolicySetData, policy_at}
 use Rattle.policy_set.specs.Response.{outcome}
 use Rattle.policy_set.specs.declared.constraint.Effect.{Effect}
 use Rattle.policy_set.specs.declared.constraint.Effect.TheVariants.{Permit, Forbid}
-use Rattle.typing_spec.specs.Typing.{types}
+use Rattle.typing_spec.specs.Conforms.{RequestConforms, StoreConforms}
+use Rattle.typing_spec.specs.Typing.{Typed}
+use Rattle.condition_truth.specs.Outlined.{AreSides, asked_of}
+use Rattle.condition_truth.specs.Outlines.{outline}
 use Rattle.condition_truth.specs.Truth.{is_yes}
 use Rattle.condition_compare.specs.declared.condition.Condition.{Condition}
+use Rattle.policy_compare.specs.Compared.{IsOfEnvironment}
 
 abbrev pub is_permit : Effect → Bool
 is_permit Permit = true
@@ -32,10 +38,16 @@ IsShared others p =
     IsSomeAnd (policy_at others p.id) (λ r. (r.effect ≡ p.effect) × SameShape p.condition r.condition)
 
 module _ (schema : SchemaData) (env : EnvData) where
-  -- the condition is that of the policy, typed
+  -- on every request of the environment and every store, where both conform, the typed condition is true where
+  -- the expression is, and false where that is
+  abbrev pub HasSidesOf : Plain → Typed → Type 0
+  HasSidesOf e t = (q : Request) → RequestConforms schema q → IsOfEnvironment schema env q →
+      (s : Store) → StoreConforms schema s → AreSides (eval e q s) (outline (asked_of q s) t)
+
+  -- so is the condition where that of the policy is
   pub record IsConditionOf (p : PolicyData) (c : Condition) : Type 0 where
     pub permits : c.permits ≡ is_permit p.effect
-    pub typed : IsSomeAnd (types schema env [] p.condition) (λ x. x.tree ≡ c.typed)
+    pub same : HasSidesOf p.condition c.typed
 
   -- the conditions are those of the policies, in their order, but for some that the other set has, too
   pub data AreConditionsBut (others : PolicySetData) : List PolicyData → List Condition → Type 0 where

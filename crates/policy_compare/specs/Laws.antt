@@ -1,27 +1,18 @@
 -- What is found of conditions holds of decisions.
 use Rattle.std.specs.Prelude.{List}
-use Rattle.std.specs.List.{AllByRecursion}
 use Rattle.schema_core.specs.EnvData.{EnvData}
-use Rattle.schema_core.specs.Faults.{IsSchema}
 use Rattle.schema_core.specs.Schema.{SchemaData}
-use Rattle.policy_set.specs.Condition.{IsPolicy}
-use Rattle.policy_set.specs.PolicySet.{AreKeyedOnce, PolicySetData}
+use Rattle.policy_set.specs.PolicySet.{PolicySetData}
 use Rattle.condition_compare.specs.Decisions.{AllowsAtMost as ConditionsAllowAtMost}
 use Rattle.condition_compare.specs.declared.condition.Condition.{Condition}
 use Rattle.policy_compare.specs.Compared.{AllowsAtMost}
 use Rattle.policy_compare.specs.Conditions.{AreConditionsBut}
 
--- each policy has its own condition, without slots, and each record in it has each of its keys once
-pub record AreWhole (s : PolicySetData) : Type 0 where
-  pub policies : AllByRecursion IsPolicy s.policies
-  pub keys : AreKeyedOnce s.policies
-
 -- where the conditions of one set, but for policies of both, allow at most what those of another allow, so do
 -- the policies; both ways round
 abbrev pub ComparisonHolds : Type 0
 ComparisonHolds =
-    (schema : SchemaData) → IsSchema schema → (env : EnvData) →
-    (before after : PolicySetData) → AreWhole before → AreWhole after → (old new : List Condition) →
+    (schema : SchemaData) (env : EnvData) (before after : PolicySetData) (old new : List Condition) →
     AreConditionsBut schema env after before.policies old →
     AreConditionsBut schema env before after.policies new →
     (ConditionsAllowAtMost old new → AllowsAtMost schema env before.policies after.policies)

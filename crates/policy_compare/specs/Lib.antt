@@ -1,3 +1,4 @@
+pub mod ActionTest
 pub mod Compared
 pub mod Conditions
 pub mod Edits

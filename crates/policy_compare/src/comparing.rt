@@ -1,18 +1,24 @@
 //! What an edit changes in an environment.
 
-ghost use Rattle.std.specs.Prelude.{◌≡◌, true, IfOk, IfSome, map};
+ghost use Rattle.std.specs.Prelude.{◌≡◌, true, false, IfOk, IfSome, map};
 ghost use Rattle.std.specs.Map.Iter.{deref};
 ghost use Rattle.policy_set.specs.Data.{PolicyData};
 ghost use Rattle.schema_core.specs.RequestEnvs.{env_data_of};
 ghost use Rattle.policy_compare.specs.Compared.{AllowsAtMost};
-ghost use Rattle.policy_compare.specs.Conditions.{IsConditionOf, is_permit};
+ghost use Rattle.policy_expressions.specs.Slots.{has_slot};
+ghost use Rattle.policy_compare.specs.Conditions.{HasSidesOf, IsConditionOf, is_permit};
 ghost use Rattle.policy_compare.specs.Edits.{AreConditions, IsEdit};
 
 use crate::Edit;
+use crate::action::{condition_for_any, lists_action};
 use crate::laws::comparison_holds;
 use condition_compare::{Comparison, Condition, compare_conditions};
-use policy_set::laws::{have_keys_once, is_policy_set};
+use condition_truth::laws::outline_decides;
+use policy_expressions::laws::keys_are_once;
+use policy_expressions::{BuildError, Expr};
 use policy_set::{Effect, Policy};
+use policy_values::Text;
+use schema_types::Type;
 use std::alloc::AllocError;
 use typecheck_rules::laws::check_is_exact;
 use typecheck_walk::{PolicyCheck, Setting, check_condition};
@@ -39,11 +45,6 @@ pub fn compare_in<'a>(
         (env_data_of at.now.env.now) edit.now.after.now.policies edit.now.before.now.policies) }
 {
     comparison_holds();
-    let _actions = at.schema.action_ids();
-    is_policy_set(edit.before);
-    have_keys_once(edit.before);
-    is_policy_set(edit.after);
-    have_keys_once(edit.after);
     let Some(removed) = conditions_in(at, &edit.removed)? else {
         return Ok(NOTHING);
     };
@@ -83,11 +84,51 @@ fn condition_in<'a>(
     ensures { IfOk result (λ o. IfSome o
         (IsConditionOf at.now.schema.now (env_data_of at.now.env.now) policy.now)) }
 {
+    match typed_of(at, policy)? {
+        Some(typed) => Ok(Some(Condition {
+            permits: is_permit(policy.effect()),
+            typed,
+        })),
+        None => Ok(None),
+    }
+}
+
+// The policy's condition, typed: without the test of the action, where this is true in the environment.
+fn typed_of<'a>(
+    at: &Setting<'a, '_, '_, '_>,
+    policy: &'a Policy,
+) -> Result<Option<Expr<Option<Type>>>, AllocError>
+    ensures { IfOk result (λ o. IfSome o
+        (HasSidesOf at.now.schema.now (env_data_of at.now.env.now) policy.now.condition)) }
+{
+    if lists_action(policy.action_constraint(), at.env) {
+        match condition_for_any(at.alloc, policy.condition()) {
+            Ok(condition) => return typed_in(at, policy.id(), &condition),
+            Err(BuildError::OutOfMemory) => return Err(AllocError),
+            // It is no deeper than the condition that is there.
+            Err(BuildError::Nested) => {}
+        }
+    }
+    typed_in(at, policy.id(), policy.condition())
+}
+
+// An expression without slots, typed in the environment; none where it has no type there.
+fn typed_in<'a>(
+    at: &Setting<'a, '_, '_, '_>,
+    policy_id: &Text,
+    condition: &Expr<()>,
+) -> Result<Option<Expr<Option<Type>>>, AllocError>
+    requires { has_slot condition.now ≡ false }
+    ensures { IfOk result (λ o. IfSome o
+        (HasSidesOf at.now.schema.now (env_data_of at.now.env.now) condition.now)) }
+{
     check_is_exact();
-    let permits = is_permit(policy.effect());
-    match check_condition(at, policy.id(), policy.condition())? {
-        PolicyCheck::Success(typed) => Ok(Some(Condition { permits, typed })),
-        PolicyCheck::Irrelevant(typed) => Ok(Some(Condition { permits, typed })),
+    outline_decides();
+    keys_are_once(condition);
+    let _actions = at.schema.action_ids();
+    match check_condition(at, policy_id, condition)? {
+        PolicyCheck::Success(typed) => Ok(Some(typed)),
+        PolicyCheck::Irrelevant(typed) => Ok(Some(typed)),
         PolicyCheck::Fail(errors) => {
             drop(errors);
             Ok(None)

@@ -2,13 +2,11 @@
 
 ghost use Rattle.policy_compare.specs.Laws.{ComparisonHolds};
 
-use condition_truth::laws::outline_decides;
 use policy_core::laws::shape_decides;
 
 /// What is found of the conditions that only one of two sets has holds of their decisions.
 pub fn comparison_holds()
     ensures { ComparisonHolds }
 {
-    outline_decides();
     shape_decides::<(), ()>();
 }

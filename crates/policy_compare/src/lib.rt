@@ -1,6 +1,7 @@
 //! What an edit of policies changes: from what is found of conditions to decisions.
 #![tactic(auto)]
 
+mod action;
 mod comparing;
 mod edit;
 pub mod laws;

@@ -20,9 +20,7 @@ returns c =
     let added = map deref c.args.edit.now.added.items in
     let old : AreConditions schema env removed c.in-Some.removed.items = subst (λ o. IfSome o (λ cs. AreConditions schema env removed cs.items)) c.in-Some.is c.in_ok-removed.ensures in
     let new : AreConditions schema env added c.in-Some-2.added.items = subst (λ o. IfSome o (λ cs. AreConditions schema env added cs.items)) c.in-Some-2.is c.in_ok-added.ensures in
-    let holds = c.comparison_holds.ensures schema c.action_ids-actions.ensures.schema env before after
-    (record { policies = c.is_policy_set.ensures.policies; keys = c.have_keys_once.ensures })
-    (record { policies = c.is_policy_set-2.ensures.policies; keys = c.have_keys_once-2.ensures })
+    let holds = c.comparison_holds.ensures schema env before after
     c.in-Some.removed.items c.in-Some-2.added.items
     (gathered schema env after before.policies removed c.requires.removed c.in-Some.removed.items old)
     (gathered schema env before after.policies added c.requires.added c.in-Some-2.added.items new) in
