@@ -1,4 +1,6 @@
 mod Added
+mod AllRows
+mod Equals
 mod Floats
 mod Honest
 pub mod InOrder
@@ -7,6 +9,8 @@ mod Lookups
 mod Made
 mod Placed
 mod Reached
+mod Right
+mod Shuffled
 mod SortedEntities
 mod SortedJson
 mod SortedValues

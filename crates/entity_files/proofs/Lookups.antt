@@ -23,7 +23,7 @@ use Rattle.sqlite.specs.State.{State, HasCleanDisk, Shown, ShowsRows, FailsToQue
 use Rattle.sqlite_tied.specs.Compute.{everything}
 use Rattle.sqlite.specs.Listing.{understood, reads_listing}
 use Rattle.sqlite.proofs.Callers.{IsPlain, command_of, reads_as}
-use Rattle.entity_files.specs.Table.{entity, entity_schema, is_of, cell, AreCells, IsConnectionSound, IsReady, RowsStay, known_rows, Continues}
+use Rattle.entity_files.specs.Table.{entity, entity_schema, is_of, cell, cells, AreCells, AreAllCells, IsConnectionSound, IsReady, RowsStay, known_rows, Continues}
 use Rattle.entity_files.specs.Rows.{row_entities, known_entities, IsRowFound}
 use Rattle.policy_values.specs.declared.entity_uid.EntityUID.{EntityUID}
 use Rattle.entity_store.specs.Store.{StoredEntity, entity_at}
@@ -96,6 +96,41 @@ pub finds_if : (old new : State) (kind eid : List ℕ) (r : Result (Vec Row Glob
 finds_if old new kind eid (Ok rows) has h = finds old new kind eid rows.items has h
 finds_if old new kind eid (Err e) has h = tt
 
+-- ---- all rows
+
+abbrev pub all_text : List ℕ
+all_text = codes "SELECT type, eid, json FROM entity"
+
+abbrev all_query : Query
+all_query = record query { filter = []; project = col 1 2 ∷ col 1 3 ∷ col 1 4 ∷ [] }
+
+all_is : (command_of (understood entity_schema all_text) ≡ Select (record { lets = []; body = all_query }) (codes "type" ∷ codes "eid" ∷ codes "json" ∷ [])) × (reads_listing entity_schema all_text ≡ false)
+unfolding understood everything
+all_is = (refl, refl)
+
+all_plain : IsPlain (understood entity_schema all_text)
+unfolding understood everything
+all_plain = (refl, refl)
+
+-- each row shows its type, its eid and its text
+shows_all : (table : List Row) → map (λ (o : Output). o.1) (map (output all_query) (flat_map (λ r. ([] ∷ r ∷ []) ∷ []) table)) ≡ map cells table
+shows_all [] = refl
+shows_all (r ∷ table) = ap (λ xs. cells r ∷ xs) (shows_all table)
+
+finds_all : (old new : State) (rows : List Row) → old.now.schema ≡ entity_schema → Shown all_text [] old new rows → AreAllCells (old.now.trees 0) rows
+finds_all old new rows has h =
+    let got = reads_as all_text [] old new entity_schema has _ all_is.0 all_plain all_is.1 rows h in
+    let a : IsAnswer all_query (overlay old.now.trees []) [] rows = got.answer Null in
+    let kept : a.kept ≡ map (output all_query) (flat_map (λ r. ([] ∷ r ∷ []) ∷ []) (old.now.trees 0)) = a.distinct ∙ ap (map (output all_query)) a.grouped in
+    let seconds = IsPermutation-map (λ (o : Output). o.1) a.kept a.ordered a.same in
+    let same : map (λ (o : Output). o.1) a.kept ≡ map cells (old.now.trees 0) = ap (map (λ (o : Output). o.1)) kept ∙ shows_all (old.now.trees 0) in
+    subst (λ xs. IsPermutation xs rows) same (subst (IsPermutation (map (λ (o : Output). o.1) a.kept)) (sym a.shown) seconds)
+
+finds_all_if : (old new : State) (r : Result (Vec Row Global) Error) → old.now.schema ≡ entity_schema
+    → IfOk r (λ rows. Shown all_text [] old new rows.items) → IfOk r (λ rows. AreAllCells (old.now.trees 0) rows.items)
+finds_all_if old new (Ok rows) has h = finds_all old new rows.items has h
+finds_all_if old new (Err e) has h = tt
+
 -- what a call that only reads leaves: all as it was, or all as it was committed
 abbrev Leaves : State → State → Type 0
 Leaves old new = IsTrue new.is_open → IsTrue old.is_open × (IsReady old → HasCleanDisk old → (new.now ≡ old.now) × (new.committed ≡ old.now))
@@ -113,37 +148,52 @@ shows_leaves : (old new : State) (sql : List ℕ) (c : Compiled) (params : Row) 
 shows_leaves old new sql c params rows None plain h is = unchanged old new h.3 is
 shows_leaves old new sql c params rows (Some what) plain h is = let was = h.1.shown.was_open in (was, λ ready clean. absurd (let e = plain ready (clean, was) in cc))
 
-plain_of : (old : State) (c : Compiled) → understood old.now.schema select_text ≡ Ok c → IsReady old → IsConnectionSound old → c.returning ≡ None
-plain_of old c is ready told = (subst IsPlain (sym (ap (λ s. understood s select_text) (ready told).0) ∙ is) select_plain).0
-
 fails_leaves : (old new : State) (sql : List ℕ) (c : Compiled) (params : Row) (e : Error) (k : Option Returning) → FailsToShow old new sql c params e k → Leaves old new
 fails_leaves old new sql c params e None h is = unchanged old new h.3 is
 fails_leaves old new sql c params e (Some what) (inl h) is = unchanged old new h.1 is
 fails_leaves old new sql c params e (Some what) (inr h) is = failed old new _ e h is
 
-leaves : (old new : State) (params : Row) (r : Result (Vec Row Global) Error) → IfOk r (λ rows. Shown select_text params old new rows.items) → IfErr r (FailsToQuery select_text params old new) → Leaves old new
-unfolding Shown FailsToQuery IsNotRun
-leaves old new params (Ok rows) h none is = shows_leaves old new select_text h.0 _ rows.items h.0.returning (plain_of old h.0 h.1.is) h.2 is
-leaves old new params (Err e) none (inl (inl h)) is = unchanged old new h.1 is
-leaves old new params (Err e) none (inl (inr h)) is = failed old new ⊥ e h is
-leaves old new params (Err e) none (inr h) is = fails_leaves old new select_text h.0 _ e h.0.returning h.2 is
-
 was_clean : (old new : State) (C : Trees → Type 0) → Survives old new C → HasCleanDisk new → HasCleanDisk old
 was_clean old new C h clean = omega (arith, h.clean, clean)
 
--- what a look-up keeps and says, where its clauses hold
+-- a query that only reads, of the table of entities
+module _ (sql : List ℕ) (plain : IsPlain (understood entity_schema sql)) where
+  plain_of : (old : State) (c : Compiled) → understood old.now.schema sql ≡ Ok c → IsReady old → IsConnectionSound old → c.returning ≡ None
+  plain_of old c is ready told = (subst IsPlain (sym (ap (λ s. understood s sql) (ready told).0) ∙ is) plain).0
+
+  leaves : (old new : State) (params : Row) (r : Result (Vec Row Global) Error) → IfOk r (λ rows. Shown sql params old new rows.items) → IfErr r (FailsToQuery sql params old new) → Leaves old new
+  unfolding Shown FailsToQuery IsNotRun
+  leaves old new params (Ok rows) h none is = shows_leaves old new sql h.0 _ rows.items h.0.returning (plain_of old h.0 h.1.is) h.2 is
+  leaves old new params (Err e) none (inl (inl h)) is = unchanged old new h.1 is
+  leaves old new params (Err e) none (inl (inr h)) is = failed old new ⊥ e h is
+  leaves old new params (Err e) none (inr h) is = fails_leaves old new sql h.0 _ e h.0.returning h.2 is
+
+  -- what it keeps and shows, where its clauses hold
+  pub reads : (Shows : Database → List Row → Type 0) (old new : State) (params : Row) (r : Result (Vec Row Global) Error) (C : Trees → Type 0)
+      → (old.now.schema ≡ entity_schema → IfOk r (λ rows. Shown sql params old new rows.items) → IfOk r (λ rows. Shows old.now rows.items)) → IsReady old → Survives old new C
+      → (HasCleanDisk new → IfOk r (λ rows. Shown sql params old new rows.items)) → (HasCleanDisk new → IfErr r (FailsToQuery sql params old new))
+      → IsReady new × RowsStay old new × (IsConnectionSound new → IfOk r (λ rows. Shows new.now rows.items))
+  reads Shows old new params r C means ready survives ok err =
+      let before = λ (t : IsConnectionSound new). was_clean old new C survives t.0 in
+      let left = λ (t : IsConnectionSound new). leaves old new params r (ok t.0) (err t.0) t.1 in
+      let kept = λ (t : IsConnectionSound new). (left t).1 ready (before t) in
+      let was = λ (t : IsConnectionSound new). ready (before t, (left t).0) in (
+        λ t. (ap (λ (d : Database). d.schema) (kept t).0 ∙ (was t).0, (kept t).1 ∙ sym (kept t).0),
+        λ t. ((before t, (left t).0), ap (λ (d : Database). d.trees 0) (kept t).0),
+        λ t. subst (λ (d : Database). IfOk r (λ rows. Shows d rows.items)) (sym (kept t).0) (means (was t).0 (ok t.0)),
+      )
+
+-- what a look-up keeps and says
 pub told : (old new : State) (kind eid : List ℕ) (r : Result (Vec Row Global) Error) (C : Trees → Type 0) → IsReady old → Survives old new C
     → (HasCleanDisk new → IfOk r (λ rows. Shown select_text (given kind eid) old new rows.items)) → (HasCleanDisk new → IfErr r (FailsToQuery select_text (given kind eid) old new))
     → IsReady new × RowsStay old new × (IsConnectionSound new → IfOk r (λ rows. AreCells (new.now.trees 0) kind eid rows.items))
-told old new kind eid r C ready survives ok err =
-    let before = λ (t : IsConnectionSound new). was_clean old new C survives t.0 in
-    let left = λ (t : IsConnectionSound new). leaves old new (given kind eid) r (ok t.0) (err t.0) t.1 in
-    let kept = λ (t : IsConnectionSound new). (left t).1 ready (before t) in
-    let was = λ (t : IsConnectionSound new). ready (before t, (left t).0) in (
-      λ t. (ap (λ (d : Database). d.schema) (kept t).0 ∙ (was t).0, (kept t).1 ∙ sym (kept t).0),
-      λ t. ((before t, (left t).0), ap (λ (d : Database). d.trees 0) (kept t).0),
-      λ t. subst (λ (d : Database). IfOk r (λ rows. AreCells (d.trees 0) kind eid rows.items)) (sym (kept t).0) (finds_if old new kind eid r (was t).0 (ok t.0)),
-    )
+told old new kind eid r C = reads select_text select_plain (λ d rows. AreCells (d.trees 0) kind eid rows) old new (given kind eid) r C (finds_if old new kind eid r)
+
+-- what the query of all rows keeps and says
+pub told_all : (old new : State) (r : Result (Vec Row Global) Error) (C : Trees → Type 0) → IsReady old → Survives old new C
+    → (HasCleanDisk new → IfOk r (λ rows. Shown all_text [] old new rows.items)) → (HasCleanDisk new → IfErr r (FailsToQuery all_text [] old new))
+    → IsReady new × RowsStay old new × (IsConnectionSound new → IfOk r (λ rows. AreAllCells (new.now.trees 0) rows.items))
+told_all old new r C = reads all_text all_plain (λ d rows. AreAllCells (d.trees 0) rows) old new [] r C (finds_all_if old new r)
 
 by_bools : {A : Type 0} (a b : Bool) (x t : A) → (if a && b then Some x else None) ≡ Some t → (a ≡ true) × (b ≡ true) × (x ≡ t)
 by_bools true true x t e = (refl, refl, cc)
@@ -160,7 +210,7 @@ unfolding doubt
 is_clean true e = refl
 is_clean false e = absurd (omega (arith, e))
 
-reported_of : (s : State) (t : List Row) → known_rows s ≡ Some t → IsConnectionSound s × (s.now.trees 0 ≡ t)
+pub reported_of : (s : State) (t : List Row) → known_rows s ≡ Some t → IsConnectionSound s × (s.now.trees 0 ≡ t)
 reported_of s t e = let h = by_bools s.is_clean s.is_open (s.now.trees 0) t e in ((clean_is s.is_clean h.0, h.1), h.2)
 
 map_some : {X Y : Type 0} (f : X → Y) (o : Option X) (y : Y) → option_map f o ≡ Some y → (x : X) × (o ≡ Some x) × (f x ≡ y)

@@ -49,7 +49,7 @@ repeated_later x xs u (i, at, earlier) = (suc i, at, Contains-append_right (x �
 only_one : (x u : EntityUID) → Contains (x ∷ []) u → x ≡ u
 only_one x u (k, lt, is) = let first : k ≡ zero = omega (arith, lt) in cc
 
-different_once : (es : List StoredEntity) → are_different es ≡ true → (u : EntityUID) → IsRepeated (ids_of es) u → ⊥
+pub different_once : (es : List StoredEntity) → are_different es ≡ true → (u : EntityUID) → IsRepeated (ids_of es) u → ⊥
 different_once [] h u (i, at, earlier) = absurd (cc)
 different_once (e ∷ es) h u (zero, at, (k, lt, is)) = absurd (omega (arith, lt))
 different_once (e ∷ es) h u (suc i, at, earlier) =
@@ -67,7 +67,7 @@ different_once (e ∷ es) h u (suc i, at, earlier) =
         clash (entity_at es e.uid) parts.0 (subst (λ v. IsSome (entity_at es v)) (sym (only_one e.uid u here)) (placed_at es i u at))
     by (inr there) later = later there
 
-once_different : (es : List StoredEntity) → ((u : EntityUID) → IsRepeated (ids_of es) u → ⊥) → are_different es ≡ true
+pub once_different : (es : List StoredEntity) → ((u : EntityUID) → IsRepeated (ids_of es) u → ⊥) → are_different es ≡ true
 once_different [] once = refl
 once_different (e ∷ es) once = by (entity_at es e.uid) refl (once_different es (λ u r. once u (repeated_later e.uid (ids_of es) u r)))
   where

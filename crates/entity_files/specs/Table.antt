@@ -73,6 +73,14 @@ is_of kind eid r =
 abbrev pub cell : Row → Row
 cell r = column r 4 ∷ []
 
+-- what a query of all rows shows of the row: its type, its eid and its text
+abbrev pub cells : Row → Row
+cells r = column r 2 ∷ column r 3 ∷ column r 4 ∷ []
+
+-- what it shows of each of the table's rows, in some order
+abbrev pub AreAllCells : List Row → List Row → Type 0
+AreAllCells table rows = IsPermutation (map cells table) rows
+
 -- the texts of the table's rows for the type and the eid, in some order
 abbrev pub AreCells : List Row → List ℕ → List ℕ → List Row → Type 0
 AreCells table kind eid rows = IsPermutation (map cell (filter (is_of kind eid) table)) rows

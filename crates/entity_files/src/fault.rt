@@ -1,6 +1,7 @@
 //! What is wrong with a database, in few words.
 ghost use Rattle.std.specs.Prelude.{◌≡◌};
 ghost use Rattle.entity_files.specs.declared.fault.FileError.TheVariants.{OutOfMemory};
+ghost use Rattle.entity_files.specs.Rows.{IsDatabaseError};
 
 use sqlite::{Error, ErrorCode};
 use std::alloc::{AllocError, Global};
@@ -36,7 +37,9 @@ fn words_of(alloc: Global, error: &Error) -> Result<String, AllocError> {
 }
 
 /// That the database failed. The error is let go of here, so that callers hold a text.
-pub(crate) fn database_error(alloc: Global, error: Error) -> FileError {
+pub(crate) fn database_error(alloc: Global, error: Error) -> FileError
+    ensures { IsDatabaseError result }
+{
     if let Error::SqliteFailure(ErrorCode::OutOfMemory) = error {
         return FileError::OutOfMemory;
     }

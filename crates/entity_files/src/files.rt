@@ -1,8 +1,9 @@
 //! Files with the table of entities.
-ghost use Rattle.std.specs.Prelude.{◌≡◌, None, IfOk};
+ghost use Rattle.std.specs.Prelude.{◌≡◌, None, IfErr, IfOk};
 ghost use Rattle.sqlite.specs.Files.{file_state, IsOpened};
 ghost use Rattle.sqlite.specs.State.{HasCleanDisk};
 ghost use Rattle.conformance.specs.StoreRules.{first_store_fault};
+ghost use Rattle.entity_files.specs.Rows.{IsOpeningError};
 ghost use Rattle.entity_files.specs.Table.{IsReady};
 
 use crate::fault::database_error;
@@ -19,7 +20,8 @@ fn connect<S: Start>(
     path: &str,
     start: S,
 ) -> Result<Connection<FileStore<FileFrom<S>>>, FileError>
-    ensures { IfOk result (λ c. HasCleanDisk (file_state c) → IsOpened c) }
+    ensures opened { IfOk result (λ c. HasCleanDisk (file_state c) → IsOpened c) }
+    ensures error { IfErr result IsOpeningError }
 {
     match Connection::open_from(rt, path, false, start) {
         Ok(conn) => Ok(conn),
@@ -44,7 +46,9 @@ fn is_no_file(rt: &HostRuntime, path: &str) -> bool {
 }
 
 // That there is no file to open.
-fn no_file(rt: &HostRuntime) -> FileError {
+fn no_file(rt: &HostRuntime) -> FileError
+    ensures { IsOpeningError result }
+{
     database_error(rt.alloc(), Error::SqliteFailure(ErrorCode::CannotOpen))
 }
 
@@ -54,13 +58,30 @@ pub fn open<S: Start>(
     path: &str,
     start: S,
 ) -> Result<Connection<FileStore<FileFrom<S>>>, FileError>
-    ensures { IfOk result (λ c. IsReady (file_state c)) }
+    ensures ready { IfOk result (λ c. IsReady (file_state c)) }
+    ensures error { IfErr result IsOpeningError }
 {
     // An open would make a file that is not there, and wait for what a pipe may bring.
     if !is_file(rt, path) {
         return Err(no_file(rt));
     }
     over(connect(rt, path, start)?)
+}
+
+/// The database in a file, which is made where there is none, where it has the table of entities and nothing
+/// else.
+pub fn make<S: Start>(
+    rt: &HostRuntime,
+    path: &str,
+    start: S,
+) -> Result<Connection<FileStore<FileFrom<S>>>, FileError>
+    ensures ready { IfOk result (λ c. IsReady (file_state c)) }
+    ensures error { IfErr result IsOpeningError }
+{
+    if is_no_file(rt, path) {
+        return Err(no_file(rt));
+    }
+    blank_or_made(rt.alloc(), connect(rt, path, start)?)
 }
 
 // Writes the entities into the file, which is made where there is none.
@@ -70,12 +91,8 @@ fn write_into_file<S: Start>(
     start: S,
     entities: &Vec<Entity>,
 ) -> Result<(), FileError> {
-    if is_no_file(rt, path) {
-        return Err(no_file(rt));
-    }
-    let alloc = rt.alloc();
-    let mut conn = blank_or_made(alloc, connect(rt, path, start)?)?;
-    let written = write_entities(alloc, entities, &mut conn);
+    let mut conn = make(rt, path, start)?;
+    let written = write_entities(rt.alloc(), entities, &mut conn);
     // What was committed is found by the next open, whether or not the log is copied into the file.
     let _ = conn.close();
     written

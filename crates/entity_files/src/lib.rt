@@ -17,11 +17,11 @@ mod writing;
 
 pub use fault::FileError;
 pub use fetched::Fetched;
-pub use files::{import_into_file, open, read_file};
+pub use files::{import_into_file, make, open, read_file};
 pub use find::{FindError, find_entity};
 pub use loader::FetchedLoader;
 pub use opening::{blank_or_made, is_ready, over};
-pub use rows::all_entities;
+pub use rows::{all_entities, check_rows};
 pub use schema::has_entity_table;
 pub use store::check_store;
-pub use writing::import;
+pub use writing::{import, write_entities};

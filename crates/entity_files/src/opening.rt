@@ -1,7 +1,8 @@
 //! Databases with the table of entities.
-ghost use Rattle.std.specs.Prelude.{IfOk, IsTrue};
+ghost use Rattle.std.specs.Prelude.{IfErr, IfOk, IsTrue};
 ghost use Rattle.sqlite.specs.Held.{state};
 ghost use Rattle.sqlite.specs.State.{HasCleanDisk, Opens};
+ghost use Rattle.entity_files.specs.Rows.{IsOpeningError};
 ghost use Rattle.entity_files.specs.Table.{IsReady};
 
 use crate::fault::database_error;
@@ -25,7 +26,8 @@ pub fn is_ready<S: Alter>(conn: &Connection<S>) -> bool
 /// A database that was just opened, where it has the table of entities and nothing else.
 pub fn over<S: Alter + Drop>(conn: Connection<S>) -> Result<Connection<S>, FileError>
     requires { HasCleanDisk (state S.Store conn) → Opens (state S.Store conn) }
-    ensures { IfOk result (λ c. IsReady (state S.Store c)) }
+    ensures ready { IfOk result (λ c. IsReady (state S.Store c)) }
+    ensures error { IfErr result IsOpeningError }
 {
     if !has_entity_table(&conn) {
         return Err(FileError::OtherSchema);
@@ -51,7 +53,8 @@ pub fn blank_or_made<S: Alter + Drop>(
     alloc: Global,
     mut conn: Connection<S>,
 ) -> Result<Connection<S>, FileError>
-    ensures { IfOk result (λ c. IsReady (state S.Store c)) }
+    ensures ready { IfOk result (λ c. IsReady (state S.Store c)) }
+    ensures error { IfErr result IsOpeningError }
 {
     if let Err(error) = make(&mut conn) {
         return Err(database_error(alloc, error));

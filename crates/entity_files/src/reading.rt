@@ -8,7 +8,10 @@ ghost use Rattle.policy_values.specs.Uid.{uid_eq};
 ghost use Rattle.json_values.specs.Json.{has_only};
 ghost use Rattle.json_trees.specs.Trees.{tree_view};
 ghost use Rattle.entity_files.specs.Entities.{entity_in, entity_names, entity_of, given_entity_of, links_in};
-ghost use Rattle.entity_files.specs.Rows.{cell_entity, IsRowFound};
+ghost use Rattle.sqlite_value.specs.Value.{owned};
+ghost use Rattle.sqlite.specs.declared.types.Value.TheVariants.{Text};
+ghost use Rattle.entity_files.specs.Table.{equals};
+ghost use Rattle.entity_files.specs.Rows.{cell_entity, is_shown, shown_entity, IsRowFound};
 
 use crate::FindError;
 use entity_store::Entity;
@@ -85,13 +88,50 @@ fn read_text(alloc: Global, text: &[u8]) -> Result<Option<Entity>, AllocError>
     }
 }
 
-// The entity that a row with a text alone spells, where it spells one.
-fn read_row(alloc: Global, row: &Row) -> Result<Option<Entity>, AllocError>
-    ensures { IfOk result (λ o. o ≡ cell_entity (column row.now 0)) }
+// The entity that the text at the index spells, where it spells one.
+fn read_cell(alloc: Global, row: &Row, index: usize) -> Result<Option<Entity>, AllocError>
+    ensures { IfOk result (λ o. o ≡ cell_entity (column row.now index)) }
 {
-    match row.get_ref(0) {
+    match row.get_ref(index) {
         Ok(ValueRef::Text(text)) => read_text(alloc, text),
         _ => Ok(None),
+    }
+}
+
+// Whether the text stands at the index.
+fn has_text(row: &Row, index: usize, text: &str) -> bool
+    ensures { result ≡ equals (column row.now index) (Text text.now) }
+{
+    match row.get_ref(index) {
+        Ok(ValueRef::Text(there)) => there.cmp(text.as_bytes()) == Ordering::Equal,
+        Ok(ValueRef::Null) => false,
+        Ok(ValueRef::Int(_)) => false,
+        Ok(ValueRef::Real(_)) => false,
+        Ok(ValueRef::Blob(_)) => false,
+        Err(_) => false,
+    }
+}
+
+// Whether the row shows the type and the eid of the id.
+fn is_shown(row: &Row, uid: &EntityUID) -> bool
+    ensures { result ≡ is_shown uid.now row.now }
+{
+    has_text(row, 0, uid.entity_type().as_str()) && has_text(row, 1, uid.eid().as_str())
+}
+
+/// The entity that a row spells: its type, its eid and its text.
+pub(crate) fn read_shown(alloc: Global, row: &Row) -> Result<Option<Entity>, AllocError>
+    ensures { IfOk result (λ o. o ≡ shown_entity row.now) }
+{
+    match read_cell(alloc, row, 2)? {
+        Some(entity) => {
+            if is_shown(row, entity.uid()) {
+                Ok(Some(entity))
+            } else {
+                Ok(None)
+            }
+        }
+        None => Ok(None),
     }
 }
 
@@ -106,7 +146,7 @@ fn read_only(alloc: Global, row: &Row, uid: &EntityUID) -> Result<Entity, FindEr
     ensures spelled { IfOk result (λ e. cell_entity (column row.now 0) ≡ Some e) }
     ensures id { IfOk result (λ e. e.uid ≡ uid.now) }
 {
-    match read_row(alloc, row)? {
+    match read_cell(alloc, row, 0)? {
         Some(entity) => {
             if is_same(entity.uid(), uid) {
                 Ok(entity)

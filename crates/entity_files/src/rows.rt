@@ -1,19 +1,31 @@
 //! All rows of the table as a store.
+ghost use Rattle.std.specs.Prelude.{◌≡◌, Some, IfOk};
 ghost use Rattle.sqlite.specs.Held.{state};
-ghost use Rattle.entity_files.specs.Table.{IsReady};
+ghost use Rattle.entity_store.specs.FromParents.{IsFromParents};
+ghost use Rattle.entity_files.specs.Rows.{AreAll, AreAllShown, AreRead, IsRight, OfRows, RowsConform, shown_entity};
+ghost use Rattle.entity_files.specs.Table.{AreAllCells, IsConnectionSound, IsReady, RowsStay};
 
 use crate::fault::database_error;
-use crate::{FileError, FindError, find_entity, is_ready};
+use crate::reading::read_shown;
+use crate::{FileError, FindError, check_store, find_entity, is_ready};
 use entity_store::{Entities, EntitiesError, Entity};
 use json_values::read_type_name;
 use policy_values::{Eid, EntityUID, Text};
+use schema_core::ValidatorSchema;
 use sqlite::{Alter, Connection, Error, Row};
 use std::alloc::{AllocError, Global};
 
 const NO_NAME: &str = "the type of a row is no name";
 
-fn select_ids<S: Alter>(conn: &mut Connection<S>) -> Result<Vec<Row>, Error> {
-    conn.query_all("SELECT type, eid FROM entity", &[])
+// What the query of all rows shows: while the connection is open and its disk clean, it is the table's.
+fn select_all<S: Alter>(conn: &mut Connection<S>) -> Result<Vec<Row>, Error>
+    requires { IsReady (state S.Store conn.old) }
+    ensures ready { IsReady (state S.Store conn.new) }
+    ensures goes_on { RowsStay (state S.Store conn.old) (state S.Store conn.new) }
+    ensures honest { IsConnectionSound (state S.Store conn.new) →
+        IfOk result (λ rows. AreAllCells ((state S.Store conn.new).now.trees 0) rows.items) }
+{
+    conn.query_all("SELECT type, eid, json FROM entity", &[])
 }
 
 // Why the row with this id is refused.
@@ -65,48 +77,29 @@ pub(crate) fn find_row<S: Alter>(
     }
 }
 
-// The entity of the row with this id.
-fn read_entity<S: Alter>(
-    alloc: Global,
-    conn: &mut Connection<S>,
-    uid: &EntityUID,
-) -> Result<Entity, FileError>
-    requires { IsReady (state S.Store conn.old) }
-    ensures { IsReady (state S.Store conn.new) }
+// The entity of a row that the query of all rows shows.
+fn read_row(alloc: Global, row: &Row) -> Result<Entity, FileError>
+    ensures { IsRight (λ e. shown_entity row.now ≡ Some e) result }
 {
-    match find_row(alloc, conn, uid)? {
+    match read_shown(alloc, row)? {
         Some(entity) => Ok(entity),
-        None => Err(no_entity(alloc, uid)),
+        None => Err(no_entity(alloc, &read_id(alloc, row)?)),
     }
 }
 
-// The entity of the row.
-fn read_row<S: Alter>(
-    alloc: Global,
-    conn: &mut Connection<S>,
-    row: &Row,
-) -> Result<Entity, FileError>
-    requires { IsReady (state S.Store conn.old) }
-    ensures { IsReady (state S.Store conn.new) }
-{
-    let uid = read_id(alloc, row)?;
-    read_entity(alloc, conn, &uid)
-}
-
 // The entities of the rows.
-fn read_all<S: Alter>(
-    alloc: Global,
-    conn: &mut Connection<S>,
-    rows: &Vec<Row>,
-) -> Result<Vec<Entity>, FileError>
-    requires { IsReady (state S.Store conn.old) }
-    ensures { IsReady (state S.Store conn.new) }
+fn read_all(alloc: Global, rows: &Vec<Row>) -> Result<Vec<Entity>, FileError>
+    ensures { AreRead rows.now.items result }
 {
     let mut entities = Vec::new(alloc);
     for row in rows {
-        let entity = read_row(alloc, conn, row)?;
-        if entities.push(entity).is_err() {
-            return Err(FileError::OutOfMemory);
+        match read_row(alloc, row) {
+            Ok(entity) => {
+                if entities.push(entity).is_err() {
+                    return Err(FileError::OutOfMemory);
+                }
+            }
+            Err(error) => return Err(error),
         }
     }
     Ok(entities)
@@ -125,7 +118,9 @@ fn cycle(alloc: Global, uid: &EntityUID) -> FileError {
 }
 
 // The store that is made of the entities of rows.
-fn store_of(alloc: Global, entities: Vec<Entity>) -> Result<Entities, FileError> {
+fn store_of(alloc: Global, entities: Vec<Entity>) -> Result<Entities, FileError>
+    ensures { IsRight (IsFromParents entities.items) result }
+{
     match Entities::from_parents(alloc, entities) {
         Ok(store) => Ok(store),
         Err(EntitiesError::Duplicate(uid)) => Err(no_entity(alloc, &uid)),
@@ -134,22 +129,53 @@ fn store_of(alloc: Global, entities: Vec<Entity>) -> Result<Entities, FileError>
     }
 }
 
-/// The store that is made of the entities of all rows of the table.
+// The store of what the query of all rows shows.
+fn store_of_rows(alloc: Global, rows: Vec<Row>) -> Result<Entities, FileError>
+    ensures { IsRight (AreAllShown rows.items) result }
+{
+    match read_all(alloc, &rows) {
+        Ok(entities) => {
+            drop(rows);
+            store_of(alloc, entities)
+        }
+        Err(error) => Err(error),
+    }
+}
+
+/// The store that is made of the entities of all rows of the table: while the connection is open and its disk
+/// has returned what was written, each row spells its entity, and the store is made of all of these.
 ///
-/// Errs with `OtherSchema` also where a transaction is open, and with `Refused` where an id is its own
-/// ancestor, with the least such id.
+/// Errs with `OtherSchema` also where a transaction is open, with `Row` where a row is not the entity with its
+/// type and eid, and with `Refused` where an id is its own ancestor, with the least such id.
 pub fn all_entities<S: Alter>(
     alloc: Global,
     conn: &mut Connection<S>,
-) -> Result<Entities, FileError> {
-    let rows = match select_ids(conn) {
-        Ok(rows) => rows,
-        Err(error) => return Err(database_error(alloc, error)),
-    };
+) -> Result<Entities, FileError>
+    ensures read { OfRows (state S.Store conn.new) (λ rows. IsRight (AreAll rows) result) }
+    ensures goes_on { RowsStay (state S.Store conn.old) (state S.Store conn.new) }
+{
     if !is_ready(conn) {
         return Err(FileError::OtherSchema);
     }
-    let entities = read_all(alloc, conn, &rows)?;
-    drop(rows);
-    store_of(alloc, entities)
+    match select_all(conn) {
+        Ok(rows) => store_of_rows(alloc, rows),
+        Err(error) => Err(database_error(alloc, error)),
+    }
+}
+
+/// Checks that the store of all rows conforms: while the connection is open and its disk has returned what was
+/// written, it succeeds only where it does.
+///
+/// Errs as `all_entities` does, and with `Refused`, with the first rule that is broken.
+pub fn check_rows<S: Alter>(
+    alloc: Global,
+    schema: &ValidatorSchema,
+    conn: &mut Connection<S>,
+) -> Result<(), FileError>
+    ensures checked { OfRows (state S.Store conn.new) (λ rows.
+        IsRight (λ _. RowsConform schema.now rows) result) }
+    ensures goes_on { RowsStay (state S.Store conn.old) (state S.Store conn.new) }
+{
+    let entities = all_entities(alloc, conn)?;
+    check_store(alloc, schema, &entities)
 }

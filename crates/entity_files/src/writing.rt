@@ -129,7 +129,7 @@ fn missing_ones<'a, S: Alter>(
 
 /// Writes a row for each entity with its parents that has none yet, in one transaction: all of them or none.
 /// Errs with `Refused` where the row of one of the ids is another entity.
-pub(crate) fn write_entities<S: Alter>(
+pub fn write_entities<S: Alter>(
     alloc: Global,
     entities: &Vec<Entity>,
     conn: &mut Connection<S>,
