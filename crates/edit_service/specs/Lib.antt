@@ -5,4 +5,5 @@ pub mod Faults
 pub mod Documents
 pub mod Changes
 pub mod Texts
+pub mod Forbids
 pub mod Run

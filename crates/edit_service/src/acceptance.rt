@@ -1,4 +1,4 @@
-//! Findings on the policies before and after.
+//! Findings on policies: those of a document, and those before and after an edit.
 ghost use Rattle.std.specs.Prelude.{◌≡◌, ◌++◌, IfOk, MatchOption, string_bytes};
 ghost use Rattle.finding_messages.specs.Written.{findings_text};
 ghost use Rattle.policy_validate.specs.Accepted.{IsAccepted, findings_of};
@@ -29,7 +29,11 @@ pub(crate) fn refused(alloc: Global, document: &EditDocument) -> Result<Option<R
 }
 
 // The reply on the findings, below a headline.
-fn refusal(alloc: Global, headline: &str, found: &ValidationResult) -> Result<Reply, AllocError>
+pub(crate) fn refusal(
+    alloc: Global,
+    headline: &str,
+    found: &ValidationResult,
+) -> Result<Reply, AllocError>
     ensures status { IfOk result (λ r. r.status ≡ status.Findings) }
     ensures text { IfOk result (λ r. string_bytes r.text ≡ headline.now ++ findings_text found.now) }
 {
@@ -41,7 +45,7 @@ fn refusal(alloc: Global, headline: &str, found: &ValidationResult) -> Result<Re
 }
 
 // The findings on a set; none, where it is accepted.
-fn errors_of(
+pub(crate) fn errors_of(
     alloc: Global,
     schema: &ValidatorSchema,
     policies: &PolicySet,

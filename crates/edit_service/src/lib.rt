@@ -1,5 +1,5 @@
-//! What edits of policies change, as a service: a document with two sets of policies, and a line for each
-//! environment of its schema.
+//! What edits of policies change, and which forbids may end with an error, as a service: a document, and lines for each
+//! environment of its schema, or for each forbid.
 #![tactic(auto)]
 
 mod acceptance;
@@ -7,6 +7,7 @@ mod change;
 mod changes;
 mod document;
 mod fault;
+mod forbids;
 mod reply;
 mod runner;
 mod source;

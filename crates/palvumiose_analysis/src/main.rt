@@ -1,4 +1,4 @@
-//! The program: what an edit of policies changes, from standard input to standard output.
+//! The program: what an edit of policies changes, and which forbids fail open, from standard input to standard output.
 #![tactic(auto)]
 
 use byte_streams::{StdSink, StdSource};
