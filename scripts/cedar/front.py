@@ -16,7 +16,7 @@ from script import bytes_of, complain, program_at, run  # noqa: E402
 from dataclasses import dataclass  # noqa: E402
 
 import linting  # noqa: E402
-from cedar import cases, compare, directory, documents, explain, files, words  # noqa: E402
+from cedar import cases, compare, directory, documents, explain, fail_open, files, words  # noqa: E402
 from cedar.command import tell_report  # noqa: E402
 from findings import Broken  # noqa: E402
 from refusals import faults_in  # noqa: E402
@@ -131,6 +131,7 @@ OTHERS = {
     "lint": linting.main,
     "test": cases.main,
     "compare": compare.main,
+    "fail-open": fail_open.main,
     "directory": directory.main,
     "document": document,
 }
