@@ -9,6 +9,7 @@ import reports
 from cedar import files, located, words
 from edits import replayed
 from findings import Broken, Finding, conformance_of, findings_of
+from forbids import open_forbids
 from habits import habits_of
 from misfits import misfits_of
 from refusals import faults_in, written
@@ -27,7 +28,7 @@ def all_findings(program, value, words=("check",)):
     policies it is what `check` finds, or these words."""
     broken = conformance_of(program, value)
     found = findings_of(program, value, words) + broken + values_of(value, broken)
-    return hints.give(found, value["schema"]) + habits_of(value)
+    return hints.give(found, value["schema"]) + habits_of(value) + open_forbids(value)
 
 
 def values_of(value, broken):
