@@ -47,27 +47,25 @@ impl Turn {
     }
 }
 
-/// The witness that a request and a store are, if they are one: the request is whole and of the environment,
-/// both conform, and the decision is turned.
+/// The request and the store, if they are a witness: the request is whole and of the environment, both
+/// conform, and the decision is turned.
 pub fn confirmed(
     at: &Setting<'_, '_, '_, '_>,
     edit: &Edit<'_>,
     turn: Turn,
-    request: Request,
-    entities: Entities,
+    shown: Witness,
 ) -> Result<Option<Witness>, AllocError>
     ensures { IfOk result (λ o. IfSome o (IsWitness at.now.schema.now (env_data_of at.now.env.now)
         edit.now.before.now.policies edit.now.after.now.policies turn)) }
 {
-    if is_turned(at.alloc, edit, turn, &request, &entities)?
-        && is_of_environment(at.schema, at.env, &request)?
-        && request_conforms(at.alloc, at.schema, &request)?
-        && store_conforms(at.schema, &entities)?
+    if is_turned(at.alloc, edit, turn, &shown.request, &shown.entities)?
+        && is_of_environment(at.schema, at.env, &shown.request)?
+        && request_conforms(at.alloc, at.schema, &shown.request)?
+        && store_conforms(at.schema, &shown.entities)?
     {
-        return Ok(Some(Witness { request, entities }));
+        return Ok(Some(shown));
     }
-    drop(request);
-    drop(entities);
+    drop(shown);
     Ok(None)
 }
 
@@ -93,8 +91,8 @@ fn is_turned(
     Ok(before == turn.before() && after == turn.after())
 }
 
-/// The decision by policies on a whole request.
-pub(crate) fn decision_by(
+// The decision by policies on a whole request.
+fn decision_by(
     alloc: Global,
     policies: &PolicySet,
     request: &Request,
