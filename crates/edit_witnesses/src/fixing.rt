@@ -6,7 +6,7 @@ use crate::neighbours::{
     another, element_by, matched, range_by, shifted, with_element, without_element,
 };
 use crate::paths::{
-    assign, assign_tag, holds, id_at, member_type, put_member, value_of, value_or_default,
+    assign, assign_tag, holds, id_at, path_type, put_member, value_of, value_or_default,
 };
 use crate::place::Place;
 use crate::world::World;
@@ -88,8 +88,11 @@ fn fix_test(
         ExprKind::BinaryApp(BinaryOp::Contains, x, y) => {
             fix_contains(at, shown, world, x, y, wanted)
         }
-        ExprKind::BinaryApp(BinaryOp::ContainsAll | BinaryOp::ContainsAny, x, y) => {
-            fix_contains_some(at, shown, world, x, y, wanted)
+        ExprKind::BinaryApp(BinaryOp::ContainsAll, x, y) => {
+            fix_contains_all(at, shown, world, x, y, wanted)
+        }
+        ExprKind::BinaryApp(BinaryOp::ContainsAny, x, y) => {
+            fix_contains_any(at, shown, world, x, y, wanted)
         }
         ExprKind::BinaryApp(BinaryOp::HasTag, x, key) => {
             fix_tag(at, shown, world, x, key, wanted)
@@ -277,7 +280,7 @@ fn fix_in(
     }
 }
 
-// Takes an entity out of all others, or makes it another.
+// Makes what an entity is in another, takes the entity out of all others, or makes it another.
 fn fix_not_in(
     at: &Place<'_, '_>,
     shown: &Witness,
@@ -285,22 +288,19 @@ fn fix_not_in(
     x: &Expr<()>,
     y: &Expr<()>,
 ) -> Result<bool, AllocError> {
+    if world.dice.flip() && copy_to(at, shown, world, y, y, false)? {
+        return Ok(true);
+    }
     let Some(uid) = id_at(at, shown, x)? else {
         return Ok(false);
     };
-    let has_parents = match world.entities.get(&uid) {
-        Some(drafted) => !drafted.parents.is_empty(),
-        None => false,
-    };
-    if has_parents {
-        if let Some(drafted) = world.entities.get_mut(&uid) {
-            drafted.parents.clear();
-        }
+    if let Some(drafted) = world.entities.get_mut(&uid)
+        && !drafted.parents.is_empty()
+    {
+        drafted.parents.clear();
         return Ok(true);
     }
-    let number = world.dice.throw();
-    let value = another(at, &Value::entity_uid(uid), number)?;
-    Ok(assign_some(at, shown, world, x, value)? || empty(at, shown, world, y)?)
+    copy_to(at, shown, world, x, x, false)
 }
 
 // Puts the empty set where a path leads.
@@ -314,17 +314,14 @@ fn empty(
     assign(at, shown, world, e, Some(none))
 }
 
-// Adds an element of the type to the set where a path leads.
+// Adds another element of the type to the set where a path leads.
 fn add_default(
     at: &Place<'_, '_>,
     shown: &Witness,
     world: &mut World,
     e: &Expr<()>,
 ) -> Result<bool, AllocError> {
-    let ExprKind::GetAttr(x, key) = e.kind() else {
-        return Ok(false);
-    };
-    let Some(ty) = member_type(at, x, key) else {
+    let Some(ty) = path_type(at, shown, e)? else {
         return Ok(false);
     };
     let TypeKind::Set {
@@ -333,9 +330,13 @@ fn add_default(
     else {
         return Ok(false);
     };
-    match default_value(at, element)? {
-        Some(element) => add_to(at, shown, world, e, element),
-        None => Ok(false),
+    let Some(element) = default_value(at, element)? else {
+        return Ok(false);
+    };
+    let number = world.dice.throw();
+    match another(at, &element, number)? {
+        Some(other) if number % 2 == 0 => add_to(at, shown, world, e, other),
+        _ => add_to(at, shown, world, e, element),
     }
 }
 
@@ -386,8 +387,8 @@ fn fix_contains(
     Ok(assign_some(at, shown, world, x, rest)? || assign_some(at, shown, world, y, other)?)
 }
 
-// Makes two sets the same, or one of them empty.
-fn fix_contains_some(
+// Makes the first set have the elements of the second, or not all of them.
+fn fix_contains_all(
     at: &Place<'_, '_>,
     shown: &Witness,
     world: &mut World,
@@ -398,7 +399,41 @@ fn fix_contains_some(
     if wanted {
         return Ok(copy_to(at, shown, world, x, y, true)? || copy_to(at, shown, world, y, x, true)?);
     }
-    Ok(empty(at, shown, world, x)? || empty(at, shown, world, y)?)
+    if world.dice.flip() && add_default(at, shown, world, y)? {
+        return Ok(true);
+    }
+    let (Some(set), Some(other)) = (value_of(at, shown, x)?, value_of(at, shown, y)?) else {
+        return Ok(false);
+    };
+    let number = world.dice.throw();
+    let Some(element) = element_by(at.alloc, &other, number)? else {
+        return Ok(false);
+    };
+    let rest = without_element(at.alloc, &set, &element)?;
+    assign_some(at, shown, world, x, rest)
+}
+
+// Makes the first set have an element of the second, or makes one of them empty.
+fn fix_contains_any(
+    at: &Place<'_, '_>,
+    shown: &Witness,
+    world: &mut World,
+    x: &Expr<()>,
+    y: &Expr<()>,
+    wanted: bool,
+) -> Result<bool, AllocError> {
+    if !wanted {
+        return Ok(empty(at, shown, world, x)? || empty(at, shown, world, y)?);
+    }
+    let number = world.dice.throw();
+    let element = match value_of(at, shown, y)? {
+        Some(other) => element_by(at.alloc, &other, number)?,
+        None => None,
+    };
+    match element {
+        Some(element) => add_to(at, shown, world, x, element),
+        None => add_default(at, shown, world, y),
+    }
 }
 
 // Gives an entity a tag, or takes it.

@@ -76,10 +76,26 @@ fn attributes_of<'a>(at: &Place<'_, 'a>, ty: &'a Type) -> Option<&'a Attributes>
     }
 }
 
-/// The type of an attribute of what stands at a path.
-pub(crate) fn member_type<'a>(at: &Place<'_, 'a>, e: &Expr<()>, key: &Text) -> Option<&'a Type> {
+// The type of an attribute of what stands at a path.
+fn member_type<'a>(at: &Place<'_, 'a>, e: &Expr<()>, key: &Text) -> Option<&'a Type> {
     let attribute = attributes_at(at, e)?.get_attr(key)?;
     Some(&attribute.attr_type)
+}
+
+/// The type of what stands at a path.
+pub(crate) fn path_type<'a>(
+    at: &Place<'_, 'a>,
+    shown: &Witness,
+    e: &Expr<()>,
+) -> Result<Option<&'a Type>, AllocError> {
+    match e.kind() {
+        ExprKind::GetAttr(x, key) => Ok(member_type(at, x, key)),
+        ExprKind::BinaryApp(BinaryOp::GetTag, x, _) => match id_at(at, shown, x)? {
+            Some(uid) => Ok(tag_type(at, &uid)),
+            None => Ok(None),
+        },
+        _ => Ok(None),
+    }
 }
 
 /// The value, or else one of the type of the attribute.
@@ -110,6 +126,10 @@ pub(crate) fn assign(
         ExprKind::BinaryApp(BinaryOp::GetTag, x, key) => {
             assign_tag(at, shown, world, x, key, value)
         }
+        ExprKind::BinaryApp(BinaryOp::Add, x, y) => match less(at, shown, value, y)? {
+            Some(value) => assign(at, shown, world, x, Some(value)),
+            None => Ok(false),
+        },
         ExprKind::GetAttr(x, key) => {
             let Some(holder) = value_of(at, shown, x)? else {
                 drop(value);
@@ -124,6 +144,25 @@ pub(crate) fn assign(
             }
         }
         _ => Ok(false),
+    }
+}
+
+// The number without what an expression comes to.
+fn less(
+    at: &Place<'_, '_>,
+    shown: &Witness,
+    value: Option<Value>,
+    y: &Expr<()>,
+) -> Result<Option<Value>, AllocError> {
+    let (Some(value), Some(other)) = (value, value_of(at, shown, y)?) else {
+        return Ok(None);
+    };
+    match (value.kind(), other.kind()) {
+        (ValueKind::Long(n), ValueKind::Long(m)) => match n.checked_sub(*m) {
+            Some(n) => Ok(Some(Value::long(n))),
+            None => Ok(None),
+        },
+        _ => Ok(None),
     }
 }
 
