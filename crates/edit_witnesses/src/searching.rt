@@ -15,9 +15,12 @@ use std::alloc::AllocError;
 use typecheck_walk::Setting;
 
 // How often the search begins anew, by other choices, and how many changes it makes each time.
-const ATTEMPTS: u64 = 6;
+const ATTEMPTS: u64 = 8;
 
 const CHANGES: u64 = 48;
+
+// From this attempt on, entities are taken away, too, so that conditions err.
+const FORGETFUL: u64 = 4;
 
 /// A witness of an edit in an environment, if one is found. The budget is of stores that are tried, and falls.
 pub fn find_witness<'a>(
@@ -68,7 +71,11 @@ fn attempt<'a>(
         let Some((condition, wanted)) = plan.goal(at, &shown, target, &mut world.dice)? else {
             return Ok(Some(shown));
         };
-        fix(at, &shown, &mut world, condition, wanted)?;
+        if seed >= FORGETFUL && !wanted && world.dice.throw() % 4 == 0 {
+            world.forget()?;
+        } else {
+            fix(at, &shown, &mut world, condition, wanted)?;
+        }
     }
     Ok(None)
 }

@@ -74,6 +74,17 @@ impl World {
         Ok(())
     }
 
+    /// Takes away the entity of the principal, or of the resource.
+    pub(crate) fn forget(&mut self) -> Result<(), AllocError> {
+        let uid = if self.dice.flip() {
+            self.principal.try_clone()?
+        } else {
+            self.resource.try_clone()?
+        };
+        self.entities.remove(&uid);
+        Ok(())
+    }
+
     /// The request and the store; none, where an entity would be its own ancestor.
     pub(crate) fn shown(&self, at: &Place<'_, '_>) -> Result<Option<Witness>, AllocError> {
         let mut entities = Vec::new(at.alloc);
