@@ -24,7 +24,7 @@ FLAGS = ("--coverage", "--quiet", "-q")
 
 @dataclass
 class Case:
-    """A test: where it stands, its request and entities, and what is expected."""
+    """A test: where it is, its request and entities, and what is expected."""
 
     place: Place
     name: str

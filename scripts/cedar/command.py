@@ -27,7 +27,7 @@ output:
                    --context FILE (-c): JSON
 
 The form of a file is known by its content, not by its name; - is standard input. --policies, --links and --entities
-may be given several times. A folder stands for the .cedar files (entities: .json) in it and below it, by
+may be given several times. A folder means the .cedar files (entities: .json) in it and below it, by
 their names. Policies are numbered through all files. A request needs entities, if only [].
 
   --explain COMMAND [WORD]  the last words of the call: answers the document by scripts/palvumiose

@@ -122,8 +122,8 @@ def policies(static, links, report):
             report.no(l.place, f"there is no template with the id `{l.template}`")
             continue
         if template.slots() != set(l.values):
-            due = ", ".join(f"`?{s}`" for s in sorted(template.slots()))
-            report.no(l.place, f"expected values for {due}, the slots of the template `{l.template}`")
+            expected = ", ".join(f"`?{s}`" for s in sorted(template.slots()))
+            report.no(l.place, f"expected values for {expected}, the slots of the template `{l.template}`")
         made.append({"id": l.name, "link": template.name, **l.values})
     return made
 

@@ -5,7 +5,7 @@ from cedar.objects import extension_call, is_list, members, plain_uid, shown, ui
 
 
 class Values:
-    """Reads values by their types, which stand as in the document, without `optional`; None for a type that is not
+    """Reads values by their types, which are as in the document, without `optional`; None for a type that is not
     known."""
 
     def __init__(self, report):

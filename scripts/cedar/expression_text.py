@@ -149,9 +149,9 @@ class ExpressionReader(Reader):
     def method(self, left, name, token, start):
         arguments = self.separated(")", self.expr)
         if name in nodes.OPERATOR_METHODS:
-            due = nodes.OPERATOR_METHODS[name]
-            if len(arguments) != due:
-                self.no(token, f"`{name}` takes {['no argument', 'one argument'][due]}, not {len(arguments)}")
+            expected = nodes.OPERATOR_METHODS[name]
+            if len(arguments) != expected:
+                self.no(token, f"`{name}` takes {['no argument', 'one argument'][expected]}, not {len(arguments)}")
             return self.node(name, (left, *arguments), start)
         if name in nodes.CONSTRUCTORS:
             self.no(token, f"`{name}` is a function: {name}(..)")

@@ -1,4 +1,4 @@
-"""The texts of extension values, as docs/FORMAT.md has them: which ones stand for a value."""
+"""The texts of extension values, as docs/FORMAT.md has them: which ones are a value."""
 import datetime
 import re
 

@@ -1,4 +1,4 @@
-"""The files of one call: reads each in its form, which what it holds tells, and makes the document."""
+"""The files of one call: reads each in its form, which is known by what it holds, and makes the document."""
 import bisect
 import errno
 import os
@@ -28,7 +28,7 @@ class Made:
         return self.texts[word][0] if self.texts.get(word) else None
 
     def source_at(self, byte):
-        """The text of policies in which an `at` of the document stands, and the offset there."""
+        """The text of policies in which an `at` of the document is, and the offset there."""
         texts = [text for text in self.texts.get("policies", []) if not text.is_json]
         if not texts:
             return None, 0
@@ -46,7 +46,7 @@ def bytes_in(name):
 
 
 def opened(name, made):
-    """The text of a file, as a source; None where there is none. What is a source already is one as it stands."""
+    """The text of a file, as a source; None where there is none. What is a source already is taken as it is."""
     source = name if isinstance(name, Source) else source_of(name, made)
     if source is not None and source.text.startswith("\ufeff"):
         return made.report.no(Place(source, 0), "a byte order mark, which Cedar does not read")
@@ -135,7 +135,7 @@ def read_schema(given, made):
 
 
 def read_policies(given, made):
-    """The policies and links. Texts are as if they stood in one, one behind another: in numbers of policies, and in the
+    """The policies and links. Texts are as if they were one, one behind another: in numbers of policies, and in the
     bytes of places."""
     static, links, base = [], [], 0
     for source in sources("policies", given, made):
@@ -210,7 +210,7 @@ def read_requests(given, made, schema):
 
 
 def make(given, optional=()):
-    """The document of the files that are given by their words, each word with a name or a list of names; it stands only
+    """The document of the files that are given by their words, each word with a name or a list of names; it counts only
     where the report refuses nothing. Of a request the parts that are optional may be absent."""
     made = Made()
     schema = read_schema(given, made)

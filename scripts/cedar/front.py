@@ -53,7 +53,7 @@ OPTIONAL = {"list": ("principal",)}  # what of the request may be absent
 
 
 def parsed(command, given):
-    """The words of a command; its own stand in `rest`."""
+    """The words of a command; its own are in `rest`."""
     asked = words.parsed(given, words.FRONT, FLAGS, ("--program",))
     expected = COMMANDS[command]
     words.check(asked.given, OPTIONAL.get(command, ()))

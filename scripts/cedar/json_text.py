@@ -1,4 +1,4 @@
-"""JSON with places: reads a file's text, and finds where the value of a path stands in it."""
+"""JSON with places: reads a file's text, and finds where the value of a path is in it."""
 import json
 import re
 from collections import Counter
@@ -12,7 +12,7 @@ SURROGATE = re.compile("[\ud800-\udfff]")
 
 
 class Object(dict):
-    """An object with members that stand in it more than once: their names."""
+    """An object with members that are in it more than once: their names."""
 
     repeated = ()
 
@@ -69,7 +69,7 @@ def load(source, report):
 
 
 def sound(value, source):
-    """Whether `tested` has nothing to say, found out without places; halves of characters stand only
+    """Whether `tested` has nothing to say, found out without places; halves of characters are only
     where there are escapes."""
     if "\\u" in source.text:
         return False
@@ -111,14 +111,14 @@ def tested(value, top, report):
 
 
 class Finder:
-    """Finds where the parts of a text stand. What was once looked through is known."""
+    """Finds where the parts of a text are. What was once looked through is known."""
 
     def __init__(self):
         self.known = {}  # the steps out of an object or a list, by its offset
 
     def __call__(self, text, path):
-        """The offset of the value at the end of a path, as far as the path goes; a name that stands twice counts
-        where it stands last."""
+        """The offset of the value at the end of a path, as far as the path goes; a name that is there twice counts
+        where it is last."""
         at = SPACE.match(text, 0).end()
         for step in path:
             if at not in self.known:

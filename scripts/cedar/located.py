@@ -84,7 +84,7 @@ def inside(place, steps):
     return place
 
 
-VALUES = {"attrs", "tags", "context"}  # the members below which values stand
+VALUES = {"attrs", "tags", "context"}  # the members below which values are
 
 
 def cedar_steps(path):

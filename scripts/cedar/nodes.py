@@ -34,7 +34,7 @@ class Node:
 
 
 class Policy:
-    """A static policy or a template: its scope's parts stand as in the document, absent ones are not
+    """A static policy or a template: its scope's parts are as in the document, absent ones are not
     there.
 
     `key` is its key in a policy set; of text `head` is the span from its effect to its scope's end, and

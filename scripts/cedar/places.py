@@ -12,14 +12,14 @@ REPORTED = 100  # so many refusals are reported one by one
 
 class Source:
     """A file that was read: its name, its text, and where its lines and the steps of its paths
-    stand."""
+    are."""
 
     def __init__(self, name, text):
         self.name, self.text = name, text
         self.finder = None  # of a path's offset: of JSON, or of a schema's text
         self.is_json = False
         self.depth = None  # how deep its JSON nests, where that is known
-        self.base = 0  # how many bytes stand before it, where several texts are one
+        self.base = 0  # how many bytes are before it, where several texts are one
         self.is_ascii = text.isascii()
         self.lines = self.line_bytes = None
 
@@ -42,14 +42,14 @@ class Source:
         return line + 1, offset - self.lines[line] + 1
 
     def byte(self, offset):
-        """How many bytes stand before a character."""
+        """How many bytes are before a character."""
         if self.is_ascii:
             return offset
         line = self.line_of(offset)
         return self.line_bytes[line] + len(self.text[self.lines[line] : offset].encode())
 
     def offset(self, byte):
-        """The character at which a byte stands, or the text's end."""
+        """The character at which a byte is, or the text's end."""
         if self.is_ascii:
             return min(byte, len(self.text))
         if self.lines is None:
@@ -98,7 +98,7 @@ class Place:
 
 
 def spelled(path):
-    """Steps as `staticPolicies.policy0.conditions[0]`; a name that is no identifier stands in brackets
+    """Steps as `staticPolicies.policy0.conditions[0]`; a name that is no identifier is in brackets
     and quotes."""
     text = ""
     for step in path:
@@ -124,7 +124,7 @@ class Report:
         return len(self.refused) >= REPORTED
 
     def no(self, place, why):
-        """A refusal; its answer is None, in place of what should stand there."""
+        """A refusal; its answer is None, in place of what should be there."""
         if len(self.refused) < REPORTED:
             self.refused[f"{place}: refused: {why}"] = place, why
         else:

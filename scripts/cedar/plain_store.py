@@ -12,7 +12,7 @@ from cedar.objects import is_name
 from cedar.places import Place
 
 ROOM = 40  # so deep may the value of an attribute nest here
-DEPTH = ROOM + 6  # and a text, with what stands around a value and inside of an entity's id or a call
+DEPTH = ROOM + 6  # and a text, with what is around a value and inside of an entity's id or a call
 MOST_SHAPES = 1000  # of the objects of one type
 TEXTS = frozenset((str,))
 MINUS_ZERO = re.compile(r"-0(?=[\s,\]}])")  # a number that is refused, and 0 for Python
@@ -44,7 +44,7 @@ BEFORE_COLON = (" :", "\t:", "\n:", "\r:")
 
 
 class Expected:
-    """The type that a value should have, as far as it tells how the value is read."""
+    """The type that a value should have, as far as it says how the value is read."""
 
     def __init__(self, t):
         self.function = FUNCTIONS.get(t) if isinstance(t, str) else None
@@ -144,7 +144,7 @@ class Reader:
         return found
 
     def way(self, v, expected):
-        """How a value is read, or None where it is as it stands, or a whole number."""
+        """How a value is read, or None where it is taken as it is, or a whole number."""
         kind = type(v)
         if kind is int or kind is bool or kind is str and not expected.function:
             return None

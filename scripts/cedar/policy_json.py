@@ -11,7 +11,7 @@ SET_PARTS = ("staticPolicies", "templates", "templateLinks")
 
 
 def read(value, top, report, before=0):
-    """Static policies and templates, and links; other policies stand before them."""
+    """Static policies and templates, and links; other policies are before them."""
     if isinstance(value, dict) and "effect" in value:
         return [p for p in [PolicyReader(report).policy(f"policy{before}", value, top)] if p], []
     if not isinstance(value, dict):
@@ -222,7 +222,7 @@ class PolicyReader:
         return self.no(place, f"`{op}` has no counterpart")
 
     def value(self, v, place):
-        """A value that stands in an expression: sets and records are literals of their parts, extension
+        """A value in an expression: sets and records are literals of their parts, extension
         values are calls."""
         made = None
         if isinstance(v, (bool, int, str)):

@@ -6,7 +6,7 @@ from cedar.tokens import Stop
 
 class PolicyReader(ExpressionReader):
     def policies(self, before):
-        """All policies of the text, which others stand before; of one with a fault the rest is passed over, up to its
+        """All policies of the text, which others are before; of one with a fault the rest is passed over, up to its
         `;`."""
         found = []
         while self.next.kind != "end":

@@ -10,7 +10,7 @@ RESERVED_TYPES = frozenset(("Bool", "Boolean", "Entity", "Extension", "Long", "R
 SLIPS = {"Boolean": "Bool", "boolean": "Bool", "Int": "Long", "Integer": "Long", "int": "Long", "Number": "Long"}
 KINDS = {"Set": "element", "Entity": "name", "Extension": "name", "EntityOrCommon": "name"}
 NESTED = 127  # so deep may JSON nest
-DEEPEST = 60  # so deep may common types stand one in another
+DEEPEST = 60  # so deep may common types be one in another
 MOST = 1000000  # so many parts may a schema have, common types written out
 
 
@@ -34,7 +34,7 @@ def measured(value, known):
 
 
 def candidates(name, space):
-    """What a name may stand for, the nearest first: one of its own namespace, then one of the empty
+    """What a name may mean, the nearest first: one of its own namespace, then one of the empty
     namespace."""
     return [f"{space}::{name}", name] if space and "::" not in name else [name]
 
@@ -131,7 +131,7 @@ class Schema:
         return found
 
     def entity_names(self, names, space, place):
-        """Names of entity types; one that stands twice counts once."""
+        """Names of entity types; one that is there twice counts once."""
         if not is_list(names, place, self.report, "entity types"):
             return []
         return list(dict.fromkeys(self.entity_name(n, space, place[i]) for i, n in enumerate(names)))

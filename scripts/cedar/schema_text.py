@@ -91,7 +91,7 @@ class SchemaReader(Reader):
         for at, name in names:
             if name in known:
                 self.no(at, f"`{name}` is declared twice")
-            # what stands where the rest has a fault
+            # what is there where the rest has a fault
             known[name] = {"type": "Record", "attributes": {}} if token.text == "type" else {}
             paths.append((space, member, name))
             self.mark(paths[-1], at)
@@ -210,7 +210,7 @@ class SchemaReader(Reader):
         return self.separated("]", one) if self.took("[") else [one()]
 
     def type_path(self):
-        """A type's name; Cedar's own stand behind `__cedar::`."""
+        """A type's name; Cedar's own are behind `__cedar::`."""
         if self.at("__cedar"):
             token = self.take()
             self.expect("::")
@@ -264,7 +264,7 @@ def texts(annotations):
 
 
 def read(source, report):
-    """Cedar's JSON schema; the source learns where its parts stand."""
+    """Cedar's JSON schema; the source learns where its parts are."""
     reader = SchemaReader(source, report)
     value = reader.schema()
     source.finder = reader.find

@@ -40,7 +40,7 @@ def key(text):
     return text if is_name(text, single=True) else quoted(text)
 
 
-# Expressions: each is written with how tightly it holds together; a looser one stands in parentheses.
+# Expressions: each is written with how tightly it holds together; a looser one is in parentheses.
 
 
 def expression(e, level=0):

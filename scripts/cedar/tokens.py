@@ -125,7 +125,7 @@ class Reader:
         return "::".join(parts), None
 
     def separated(self, closing, one):
-        """What stands before a closing mark, separated by commas; one may stand behind the last."""
+        """What is before a closing mark, separated by commas; one may be behind the last."""
         found = []
         while not self.at(closing):
             found.append(one())
@@ -135,7 +135,7 @@ class Reader:
         return found
 
     def annotations(self):
-        """`@name("text")` and `@name`, each with its token; a name that stands twice is refused."""
+        """`@name("text")` and `@name`, each with its token; a name that is there twice is refused."""
         found = {}
         while self.took("@"):
             token = self.next
@@ -151,7 +151,7 @@ class Reader:
         return found
 
     def unescaped(self, token, pattern=False):
-        """The text that stands in quotes; of a pattern its parts, texts and None for the wildcard."""
+        """The text in quotes; of a pattern its parts, texts and None for the wildcard."""
         parts, place = [""], token.start + 1
         for piece in ESCAPE.findall(token.text[1:-1]):
             if pattern and piece == "*":

@@ -7,7 +7,7 @@ from findings import Broken, Finding, ask
 def replayed(program, document):
     """The document with policies in place of edits; a function that puts the places of findings back into the edits; and
     the first edit that is refused, as a finding. Of the edits those before it are made; an edit that is refused for what is
-    found of its entry stands among the policies too, so that this is found again."""
+    found of its entry is among the policies too, so that this is found again."""
     if "edits" not in document:
         return document, lambda found: found, []
     refused, why = first_refused(program, document)

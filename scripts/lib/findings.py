@@ -3,7 +3,7 @@ place, source location, text and help.
 
 Ids of policies may hold any text, also one that looks like a finding. So the program is given the
 document with other ids, which nobody can have foreseen, and the true ones are put back into what it
-says. It is also given a source location for each expression, by which a finding tells what part of the
+says. It is also given a source location for each expression, by which a finding says what part of the
 document it is about. So findings that differ in nothing but that part are reported once each."""
 import json
 import re
@@ -184,7 +184,7 @@ def conformance_of(program, document):
 
 
 def one_conformance(program, document, path):
-    """What `request` says of a document with one request, which stands at the path."""
+    """What `request` says of a document with one request, which is at the path."""
     status, reported = ask(program, ["request"], document)
     if status == 0:
         return []
@@ -205,7 +205,7 @@ def uid(id_):
 
 
 def entity_path(reported, entities):
-    """Where the entity stands that a text begins with."""
+    """Where the entity is that a text begins with."""
     named = [
         (len(uid(entity["id"])), i)
         for i, entity in enumerate(entities)

@@ -11,7 +11,7 @@ SCHEMA = json.loads(
     (pathlib.Path(__file__).resolve().parents[2] / "docs/schema/document.schema.json").read_text(encoding="utf-8")
 )
 TYPES = {"object": dict, "array": list, "string": str, "integer": int, "null": type(None)}
-DUE = {
+EXPECTED = {
     "name": "the name of a type: components of letters, digits and _ joined by ::, none of them __cedar",
     "uid": 'an id, ["Type","eid"]',
     "reference": 'an id, ["Type","eid"], or "?", the slot of this part',
@@ -81,12 +81,12 @@ def form_faults(value, schema=SCHEMA, path=(), definition=None):
     return [] if fits else [unfit(value, path, definition, schema)]
 
 
-def due_of(schema):
-    """What a schema wants, in a few words."""
+def expected_of(schema):
+    """What a schema expects, in a few words."""
     if "$ref" in schema:
-        return DUE[schema["$ref"].rsplit("/", 1)[1]]
+        return EXPECTED[schema["$ref"].rsplit("/", 1)[1]]
     if "anyOf" in schema:
-        return ", or ".join(map(due_of, schema["anyOf"]))
+        return ", or ".join(map(expected_of, schema["anyOf"]))
     if "enum" in schema:
         return " or ".join(map(json.dumps, schema["enum"]))
     members = schema.get("required", [])
@@ -100,8 +100,8 @@ def unfit(value, path, definition, schema):
     slip = slips.of_value(value, named)
     if slip and named in NOUNS:
         return Fault(path, f"{slips.shown(value)} is no {NOUNS[named]}{slip}")
-    due = DUE[definition] if definition in DUE else due_of(schema)
-    return Fault(path, f"expected {due}; found {slips.shown(value)}{slip}")
+    expected = EXPECTED[definition] if definition in EXPECTED else expected_of(schema)
+    return Fault(path, f"expected {expected}; found {slips.shown(value)}{slip}")
 
 
 def nearest(value, schema, path, definition):
@@ -122,7 +122,7 @@ def nearest(value, schema, path, definition):
 
 
 def operand_faults(value, schema, path, definition):
-    """The faults in what stands under an operator that is written otherwise here."""
+    """The faults in what is under an operator that is written otherwise here."""
     if definition != "expression" or not isinstance(value, dict):
         return []
     lists = [(name, inner) for name, inner in value.items() if name in slips.OPERATORS and isinstance(inner, list)]
@@ -188,7 +188,7 @@ def object_faults(value, schema, path, definition):
 def name_faults(name, schema, path):
     if not form_faults(name, schema.get("propertyNames", {})):
         return []
-    return [Fault(path + (name,), f"expected {DUE['name']}; found {slips.shown(name)}", True)]
+    return [Fault(path + (name,), f"expected {EXPECTED['name']}; found {slips.shown(name)}", True)]
 
 
 def text_faults(kind, text, path):
@@ -202,8 +202,8 @@ def list_faults(value, schema, path, definition):
     least, most = schema.get("minItems", 0), len(first) if rest is False else len(value)
     found = []
     if not least <= len(value) <= most:
-        due = DUE.get(definition, f"a list of {least}{' or more' if rest is not False else ''}")
-        found.append(Fault(path, f"expected {due}; found a list of {len(value)}" + slips.of_value(value, definition)))
+        expected = EXPECTED.get(definition, f"a list of {least}{' or more' if rest is not False else ''}")
+        found.append(Fault(path, f"expected {expected}; found a list of {len(value)}" + slips.of_value(value, definition)))
     elif path[-1:] == ("if",) and least == 3 and len(value) % 2 == 0:
         found.append(
             Fault(

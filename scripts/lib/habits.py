@@ -81,7 +81,7 @@ def compact(value):
 
 
 def ids_in(part):
-    """All ids that stand in a scope of actions or a body, as pairs."""
+    """All ids in a scope of actions or a body, as pairs."""
     if isinstance(part, list):
         if len(part) == 2 and all(isinstance(text, str) for text in part):
             yield tuple(part)
@@ -109,7 +109,7 @@ def unknown_entries(document):
 
 
 def unknown_in(request, path, ends):
-    """The entries of one request, which stands at the path, that are unknown, and what follows."""
+    """The entries of one request, which is at the path, that are unknown, and what follows."""
     unknown = [entry for entry in ("principal", "action", "resource", "context") if request.get(entry) is None]
     if not unknown:
         return []

@@ -61,14 +61,14 @@ def look_at_files(program, made):
     """The same of what is made of Cedar's files."""
     if made.report.refused:
         pairs = [one for one in made.report.refused.values() if one]
-        return [told_of(Finding("error", "InvalidText", why, ()), place) for place, why in pairs], False
+        return [reported_of(Finding("error", "InvalidText", why, ()), place) for place, why in pairs], False
     found = [one for one in all_findings(program, made.document) if one.kind != "UnknownRequest"]
     all_reported = [spotted(finding, located.spot_of_finding(made, finding), made) for finding in found]
     order = {source.name: i for i, source in enumerate(one for each in made.texts.values() for one in each)}
     return sorted(all_reported, key=lambda one: (order.get(one.file, -1), one.line, one.column)), True
 
 
-def told_of(finding, place):
+def reported_of(finding, place):
     """A refused text's finding, reported at its place."""
     reported = spotted(finding, located.spot_of(place))
     reported.part = str(place)[len(place.short()) + 2 :]

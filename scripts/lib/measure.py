@@ -1,8 +1,8 @@
 """Measures one run of a program: the seconds of the processor, the most memory that it had, its status.
-As a command, `measure.py FILE PROGRAM [WORD..]` prints the least seconds of three runs on a file, the
-most MiB, and the status where it is not 0, as cells of a table.
+As a command, `measure.py FILE PROGRAM [WORD..]` prints the seconds of the fastest of three runs on a file,
+the most MiB, and the status where it is not 0, as cells of a table.
 
-The most memory that wait4 tells of a child has a floor: what this interpreter had when it made the
+The most memory that wait4 reports of a child has a floor: what this interpreter had when it made the
 child. So the program is stopped at its first write, by a pipe that is full, and what the kernel knows
 of its own memory is read then, when each of its threads waits; it has made the whole text before it writes."""
 import contextlib

@@ -1,5 +1,5 @@
 """Values that are not of their types: where inside an entity or a context, what is expected there, and what was found.
-All of a document that has its form; the program tells the first alone, and no more than the attribute."""
+All of a document that has its form; the program reports the first alone, and no more than the attribute."""
 import difflib
 import json
 from dataclasses import dataclass

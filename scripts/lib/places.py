@@ -1,4 +1,4 @@
-"""JSON with places: the value of a text, and where in the text each part of it stands. Read as the
+"""JSON with places: the value of a text, and where in the text each part of it is. Read as the
 program reads it."""
 import re
 from json.decoder import scanstring
@@ -149,7 +149,7 @@ def follows(text, at, close):
 
 
 def slip(text, at):
-    """In brackets, what it may be that stands here in place of JSON."""
+    """In brackets, what it may be that is here in place of JSON."""
     rest = text[at : at + 40]
     if not rest:
         return ", and the text ends"

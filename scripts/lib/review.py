@@ -14,7 +14,7 @@ MOST = 20  # so many types of requests are listed
 
 @dataclass
 class Review:
-    """The verdicts by policy and type of requests, and the levels; policies stand as their places in the list."""
+    """The verdicts by policy and type of requests, and the levels; policies are given by their places in the list."""
 
     policies: list
     may: dict  # of a place the types of requests on which it may be true

@@ -86,7 +86,7 @@ def tell_tests(found):
 
 
 def taken_out(words, option="--program"):
-    """What stands behind an option, or None, and the other words."""
+    """What is behind an option, or None, and the other words."""
     if option not in words[:-1]:
         return None, words
     i = words.index(option)

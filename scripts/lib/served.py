@@ -41,7 +41,7 @@ class Served:
             try:
                 connection.request(method, path, body, dict(headers))
             except (BrokenPipeError, ConnectionResetError):
-                pass  # refused before all was sent; the answer tells
+                pass  # refused before all was sent; the answer says so
             reply = connection.getresponse()
             return reply.status, dict(reply.getheaders()), reply.read()
         finally:

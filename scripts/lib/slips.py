@@ -93,7 +93,7 @@ ALONE = {
 
 
 def of_member(name, known, definition):
-    """What was probably meant by a member that has no meaning where it stands."""
+    """What was probably meant by a member that has no meaning where it is."""
     if name in ALONE and definition in (None, "scope", "policy", "link"):
         return f"; {ALONE[name]}"
     if definition in ("expression", "value") and name in OPERATORS:

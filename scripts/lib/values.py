@@ -11,7 +11,7 @@ MILLISECONDS = (86400000, 3600000, 60000, 1000, 1)
 
 
 def whole(digits):
-    """The number that digits, perhaps with - in front, stand for; of too many digits any that is out of
+    """The number that digits mean, perhaps with - before them; of too many digits any that is out of
     range."""
     short = digits.lstrip("-").lstrip("0") or "0"
     return (-1 if digits.startswith("-") else 1) * (int(short) if len(short) <= 30 else 10**30)

@@ -13,7 +13,7 @@ JSON = {
     "schema": "schema.json",
     "policies": "policies.json",
     "entities": "entities.json",
-}  # links stand in the policy set
+}  # links are in the policy set
 GROUPS = (
     ("Small documents", "*.json"),
     ("Policies with findings", "check/*.json"),

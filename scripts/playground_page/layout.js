@@ -1,4 +1,4 @@
-// Where the boxes of a graph stand: in columns, each above all that lead to it, and by which points the lines lead
+// Where the boxes of a graph are: in columns, each above all that lead to it, and by which points the lines lead
 // that pass by a column.
 export const BETWEEN = 70, GAP = 20, LANE = 10;
 
@@ -29,7 +29,7 @@ function lanes(lines, columns) {
   }
 }
 
-// Gives each box its x and y; boxes have a key, a column, a weight (the least stands uppermost), a width and a height.
+// Gives each box its x and y; boxes have a key, a column, a weight (the smallest is uppermost), a width and a height.
 export function arrange(boxes, lines) {
   const columns = [];
   for (const box of boxes) {

@@ -63,7 +63,7 @@ def placed_in_texts(finding, reading):
 
 
 def placed_in_document(found, reading, program, words):
-    """The findings on a document as it stands: the program is asked again with a place for each expression."""
+    """The findings on a document as it is: the program is asked again with a place for each expression."""
     try:
         marked = findings.findings_of(program.path, reading.document, tuple(words), program.ask) if found else []
     except findings.Broken:

@@ -96,7 +96,7 @@ def named(path):
 
 
 def line_of_release(word):
-    """What stands behind a word in the file that tells of the release."""
+    """What is behind a word in the .about file of the release."""
     try:
         lines = pathlib.Path(f"{RELEASE}.about").read_text(encoding="utf-8").splitlines()
     except OSError:

@@ -1,4 +1,4 @@
-"""What stands in the page's fields, as a document: of Cedar's texts by scripts/cedar, or a document as it is. Each
+"""What is in the page's fields, as a document: of Cedar's texts by scripts/cedar, or a document as it is. Each
 has `data`, the document's bytes (None where Cedar's texts make none), `value`, their JSON (None where they have none),
 `document`, the same (None where it has a fault), `faults` and `notes`, each with its span, and finds the span of a
 part of the document."""
@@ -34,18 +34,18 @@ class CedarTexts:
         self.policies = {policy.name: policy for policy in self.made.policies}
 
     def span(self, path):
-        """The span of a part of the document; None where it stands in none of the texts."""
+        """The span of a part of the document; None where it is in none of the texts."""
         place = place_of(self.made, path) if path else None
         return placed(place) if place else None
 
     def policy_span(self, index):
-        """The span of a policy: its effect and scope, where it stands in Cedar's text."""
+        """The span of a policy: its effect and scope, where it is in Cedar's text."""
         policy = self.made.policies[index]
         return span("policies", policy.place.source.text, *policy.head) if policy.head else placed(policy.place)
 
 
 class DocumentText:
-    """A document as it stands in the page."""
+    """A document as the page has it."""
 
     notes = ()
 

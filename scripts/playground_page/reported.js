@@ -3,7 +3,7 @@ import { counted, el } from "./dom.js";
 import { own } from "./values.js";
 
 const MOST = 200;
-const BEFORE = 20; // so many characters stand in front of what is marked, so that this is seen on narrow screens
+const BEFORE = 20; // so many characters are shown before what is marked, so that this is seen on narrow screens
 const STATUS = {
   2: "The program did not take the command.",
   3: "This is no document.",

@@ -1,4 +1,4 @@
-"""Where something stands in a text of the page. Offsets inside python count characters; those of a span count units
+"""Where something is in a text of the page. Offsets inside python count characters; those of a span count units
 of UTF-16, as the page's script does."""
 import json
 import re

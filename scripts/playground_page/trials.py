@@ -1,4 +1,4 @@
-"""Tests of the policies that stand in the page, as scripts/palvumiose test reads and runs them."""
+"""Tests of the policies in the page, as scripts/palvumiose test reads and runs them."""
 from cedar import cases
 from cedar.places import Source
 from findings import Broken

@@ -80,8 +80,8 @@ def test(program):
     wrong, answered = [], 0
     for i in range(MUTANTS):
         given = mutant(r, r.choice(forms(r.choice(folders), "0")))
-        fault, stands = tried(program, given, answered < ANSWERED)
-        answered += stands
+        fault, has_document = tried(program, given, answered < ANSWERED)
+        answered += has_document
         if fault:
             wrong.append(f"{i}: {fault}: " + str({word: text[:200] for word, text in given.items()}))
     return MUTANTS, wrong

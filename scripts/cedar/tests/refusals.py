@@ -291,9 +291,9 @@ def test(_):
         front = place if place[:1] in (":", "") else f"{word}:{place}: refused"
         if not any(line.startswith(word) and front in line and words in line for line in lines):
             wrong.append(f"expected {given[word] if word in given else given}: {lines}, and {word}:{place} {words}")
-    for word, text, due in SEVERAL:
+    for word, text, expected in SEVERAL:
         count += 1
         lines = [line for line in make({"schema": SCHEMA, word: text}).lines if ": refused: " in line]
-        if len(lines) != due:
-            wrong.append(f"expected {text}: {due} refusals: {lines}")
+        if len(lines) != expected:
+            wrong.append(f"expected {text}: {expected} refusals: {lines}")
     return count, wrong
