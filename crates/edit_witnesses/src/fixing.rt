@@ -64,6 +64,9 @@ fn fix_test(
     e: &Expr<()>,
     wanted: bool,
 ) -> Result<bool, AllocError> {
+    if provide(at, shown, world, e)? {
+        return Ok(true);
+    }
     match e.kind() {
         ExprKind::HasAttr(x, key) if wanted => give(at, shown, world, x, key),
         ExprKind::HasAttr(x, key) => take(at, shown, world, x, key),
@@ -103,6 +106,36 @@ fn fix_test(
         }
         _ => assign(at, shown, world, e, Some(Value::bool(wanted))),
     }
+}
+
+// Puts what an operand lacks, where one errs; answers whether something is changed.
+fn provide(
+    at: &Place<'_, '_>,
+    shown: &Witness,
+    world: &mut World,
+    e: &Expr<()>,
+) -> Result<bool, AllocError> {
+    match e.kind() {
+        ExprKind::BinaryApp(_, x, y) => {
+            Ok(provide_one(at, shown, world, x)? || provide_one(at, shown, world, y)?)
+        }
+        ExprKind::HasAttr(x, _) | ExprKind::Like(x, _) | ExprKind::UnaryApp(_, x) => {
+            provide_one(at, shown, world, x)
+        }
+        _ => Ok(false),
+    }
+}
+
+fn provide_one(
+    at: &Place<'_, '_>,
+    shown: &Witness,
+    world: &mut World,
+    x: &Expr<()>,
+) -> Result<bool, AllocError> {
+    if value_of(at, shown, x)?.is_some() {
+        return Ok(false);
+    }
+    assign(at, shown, world, x, None)
 }
 
 // Puts a value where a path leads, if there is a value.
