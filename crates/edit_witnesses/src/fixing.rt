@@ -79,31 +79,35 @@ fn fix_test(
             };
             assign_some(at, shown, world, x, value)
         }
-        ExprKind::BinaryApp(BinaryOp::Eq, x, y) => fix_equal(at, shown, world, x, y, wanted),
-        ExprKind::BinaryApp(BinaryOp::Less, x, y) => {
-            fix_order(at, shown, world, x, y, if wanted { -1 } else { 0 })
-        }
-        ExprKind::BinaryApp(BinaryOp::LessEq, x, y) => {
-            fix_order(at, shown, world, x, y, if wanted { 0 } else { 1 })
-        }
-        ExprKind::BinaryApp(BinaryOp::In, x, y) if wanted => fix_in(at, shown, world, x, y),
-        ExprKind::BinaryApp(BinaryOp::In, x, y) => fix_not_in(at, shown, world, x, y),
-        ExprKind::BinaryApp(BinaryOp::Contains, x, y) => {
-            fix_contains(at, shown, world, x, y, wanted)
-        }
-        ExprKind::BinaryApp(BinaryOp::ContainsAll, x, y) => {
-            fix_contains_all(at, shown, world, x, y, wanted)
-        }
-        ExprKind::BinaryApp(BinaryOp::ContainsAny, x, y) => {
-            fix_contains_any(at, shown, world, x, y, wanted)
-        }
-        ExprKind::BinaryApp(BinaryOp::HasTag, x, key) => {
-            fix_tag(at, shown, world, x, key, wanted)
-        }
         ExprKind::UnaryApp(UnaryOp::IsEmpty, x) => fix_empty(at, shown, world, x, wanted),
         ExprKind::ExtensionFunctionApp(name, args) => {
             fix_call(at, shown, world, name, args, wanted)
         }
+        _ => fix_binary(at, shown, world, e, wanted),
+    }
+}
+
+// The same of a test of two operands, or of a boolean that stands somewhere.
+fn fix_binary(
+    at: &Place<'_, '_>,
+    shown: &Witness,
+    world: &mut World,
+    e: &Expr<()>,
+    wanted: bool,
+) -> Result<bool, AllocError> {
+    let ExprKind::BinaryApp(op, x, y) = e.kind() else {
+        return assign(at, shown, world, e, Some(Value::bool(wanted)));
+    };
+    match op {
+        BinaryOp::Eq => fix_equal(at, shown, world, x, y, wanted),
+        BinaryOp::Less => fix_order(at, shown, world, x, y, if wanted { -1 } else { 0 }),
+        BinaryOp::LessEq => fix_order(at, shown, world, x, y, if wanted { 0 } else { 1 }),
+        BinaryOp::In if wanted => fix_in(at, shown, world, x, y),
+        BinaryOp::In => fix_not_in(at, shown, world, x, y),
+        BinaryOp::Contains => fix_contains(at, shown, world, x, y, wanted),
+        BinaryOp::ContainsAll => fix_contains_all(at, shown, world, x, y, wanted),
+        BinaryOp::ContainsAny => fix_contains_any(at, shown, world, x, y, wanted),
+        BinaryOp::HasTag => fix_tag(at, shown, world, x, y, wanted),
         _ => assign(at, shown, world, e, Some(Value::bool(wanted))),
     }
 }
