@@ -74,9 +74,9 @@ def line_files():
 
 
 def example_documents():
-    """The files with documents; examples/cedar and examples/first have Cedar's own JSON besides, and
-    examples/analysis a document of an edit."""
-    others = {"cedar", "first", "analysis"}
+    """The files with documents; examples/cedar and examples/first have Cedar's own JSON besides,
+    examples/analysis a document of an edit, and examples/bulk parts of documents."""
+    others = {"cedar", "first", "analysis", "bulk"}
     return sorted(
         path
         for path in EXAMPLES.rglob("*.json")
