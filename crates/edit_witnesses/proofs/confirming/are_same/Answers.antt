@@ -1,7 +1,6 @@
-use Rattle.std.proofs.Common.{◌≡◌, IsTrue, ap, ◌∙◌, sym}
+use Rattle.std.proofs.Common.{ap, ◌∙◌, sym}
 use Rattle.policy_values.specs.Ties.{equal_of}
 use Rattle.schema_types.specs.Ty.{Ty, record_of, Attrs, no_attrs}
-use Rattle.schema_types.specs.declared.kinds.OpenTag.TheVariants.{ClosedAttributes}
 use Rattle.edit_witnesses.proofs.confirming.are_same.Goals as goal
 
 -- the attributes of a type of records

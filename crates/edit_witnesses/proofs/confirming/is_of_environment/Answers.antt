@@ -1,6 +1,5 @@
-use Rattle.std.proofs.Common.{◌≡◌, refl, ◌∙◌, sym, ap, Bool, true, Result, Ok, Err, IfOk, IsTrue}
+use Rattle.std.proofs.Common.{refl, ap, Bool, Result, Ok, Err, IfOk, IsTrue}
 use Rattle.schema_core.specs.RequestEnvs.{env_data_of}
-use Rattle.policy_compare.specs.Compared.{IsOfEnvironment}
 use Rattle.edit_witnesses.proofs.confirming.is_of_environment.Goals as goal
 
 -- what is answered says more
