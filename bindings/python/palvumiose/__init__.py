@@ -22,6 +22,7 @@ __all__ = ["Decision", "NotAccepted", "Policies", "Refused", "Slice"]
 
 _ROOM = 1 << 16
 _STACK = 8 << 20
+_MEMBERS = {"schema", "policies", "entities", "request", "requests"}
 
 
 class Refused(Exception):
@@ -144,9 +145,11 @@ class Policies:
     @classmethod
     def from_document(cls, document: Mapping[str, Any] | str | bytes) -> Policies:
         """The schema and the policies of a document, as `scripts/palvumiose document` makes it of Cedar's files. Of its
-        entities and its request nothing is kept."""
+        entities and its request nothing is kept. A member that a document has not is not passed over: `TypeError`."""
         parts = json.loads(document) if isinstance(document, (str, bytes)) else document
         parts = _object(parts, "document")
+        if "schema" not in parts or set(parts) - _MEMBERS:
+            raise TypeError("document: it has a schema, and no member that a document has not")
         return cls(parts["schema"], parts.get("policies", []))
 
     def decide(self, request: Mapping[str, Any], entities: Iterable[Mapping[str, Any]]) -> Decision:

@@ -109,6 +109,12 @@ class NoDecisions(unittest.TestCase):
             with self.assertRaises(TypeError, msg=repr(wrong)):
                 Policies(SCHEMA, wrong)
 
+    def test_what_is_no_document(self):
+        forbids = {"schema": SCHEMA, "policies": [ADULTS], "forbids": [BANNED]}
+        for wrong in forbids, {"policies": []}, {"schema": SCHEMA, "policies": None}, [], "[]":
+            with self.assertRaises(TypeError, msg=repr(wrong)):
+                Policies.from_document(wrong)
+
     def test_what_is_no_request(self):
         for wrong in None, [], "ann", [request("ann")]:
             with self.assertRaises(TypeError, msg=repr(wrong)):
