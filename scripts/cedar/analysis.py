@@ -47,4 +47,4 @@ def lines_of(program, asked, document):
     text = ran.stdout.decode(errors="replace")
     if checked(program, ran.returncode):
         raise Broken(ran.returncode, text.rstrip("\n") or f"{program} ended with {ran.returncode}")
-    return text.splitlines()
+    return text.removesuffix("\n").split("\n") if text else []
